@@ -1,0 +1,2 @@
+pub mod OverZeros
+pub mod Ascii

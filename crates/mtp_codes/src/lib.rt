@@ -1,0 +1,20 @@
+//! The vocabulary of modular plants: names, short texts, the states and commands of the service state machine with
+//! their codes, operation modes, and the values that modules report and take.
+//!
+//! It knows nothing of the state machine's edges, of permission, of descriptions or of any text form.
+//! Contracts see a `Name` and a `Short` as their bytes; a code is what the tables in `specs/Codes.antt` say.
+#![tactic(auto)]
+
+mod command;
+mod mode;
+mod name;
+mod short;
+mod state;
+mod value;
+
+pub use command::Command;
+pub use mode::{Forbid, Mode, Origin, Speaker};
+pub use name::Name;
+pub use short::Short;
+pub use state::State;
+pub use value::{Reading, Setting, Value};
