@@ -1,0 +1,94 @@
+-- The first line of a text, and the lines of the rest.
+use Rattle.std.proofs.Common.{ℕ, ◌<◌, ◌≡◌, List, [], ◌∷◌, ◌++◌, length, Bool, true, false, ◌||◌, IsTrue, Option, None, Some, ⊎_elim, append_assoc, append-nil, ap, ◌∙◌, sym, refl}
+use Rattle.pol_io.specs.Pieces.{pieces, is_whole, IsFirstLine, IsDone}
+use Rattle.pol_io.specs.Known.{Between, joined}
+use Rattle.pol_io.specs.Cuts.{Cuts, CutsLong}
+use Rattle.pol_io.proofs.Feeds.{or_left, either_way}
+use Rattle.pol_io.proofs.Pieces.{pieces-feed, pieces-no_feed, pieces-append, pieces-piece, line_of-feed, line_of-no_feed, whole-feed, whole-append}
+
+or_right : (a b : Bool) → b ≡ true → (a || b) ≡ true
+or_right true b h = refl
+or_right false b h = h
+
+-- a line that is cut from the front is the first line
+pub first_line : (ended : Bool) (line text rest : List ℕ) → (IsTrue ended → rest ≡ []) → Cuts ended line text rest → IsFirstLine ended line text rest
+first_line ended line text rest spent cuts =
+    ⊎_elim
+    (λ feed. record {
+      piece = line ++ 10 ∷ [];
+      cut = feed ∙ sym (append_assoc line (10 ∷ []) rest);
+      pieces_are = rw feed (pieces-feed line rest cuts.no_feed);
+      line_is = line_of-feed line cuts.no_feed;
+      whole = or_left (is_whole (line ++ 10 ∷ [])) ended (whole-feed line);
+      spent = spent;
+    })
+    (λ end. record {
+      piece = line;
+      cut = end.1 ∙ (sym (append-nil line) ∙ ap (λ r. line ++ r) (sym end.2));
+      pieces_are = rw (end.1, end.2) (pieces-no_feed line cuts.no_feed end.3);
+      line_is = line_of-no_feed line cuts.no_feed;
+      whole = or_right (is_whole line) ended end.0;
+      spent = spent;
+    })
+    cuts.cut
+
+-- what follows a fact about the rest, where nothing waits once the end was seen
+between_spent : (P Q : List ℕ → List ℕ → Type 0) (ended : Bool) (a left : Option (List ℕ)) (waiting : List ℕ) → ((t r : List ℕ) → (IsTrue ended → r ≡ []) → P t r → Q t r) → (IsTrue ended → waiting ≡ []) → Between P a (joined ended waiting left) → Between Q a (joined ended waiting left)
+between_spent P Q ended None left waiting step spent p = tt
+between_spent P Q true (Some t) left waiting step spent p = step t waiting spent p
+between_spent P Q false (Some t) None waiting step spent p = absurd p
+between_spent P Q false (Some t) (Some r) waiting step spent p = step t (waiting ++ r) (λ is. absurd (cc)) p
+
+pub first_line_known : (ended : Bool) (line : List ℕ) (a left : Option (List ℕ)) (waiting : List ℕ) → (IsTrue ended → waiting ≡ []) → Between (Cuts ended line) a (joined ended waiting left) → Between (λ t r. IsFirstLine ended line t r) a (joined ended waiting left)
+first_line_known ended line a left waiting spent cuts = between_spent (Cuts ended line) (λ t r. IsFirstLine ended line t r) ended a left waiting (first_line ended line) spent cuts
+
+pub long_line_known : (n : ℕ) (ended : Bool) (a left : Option (List ℕ)) (waiting : List ℕ) → (IsTrue ended → waiting ≡ []) → Between (CutsLong n ended) a (joined ended waiting left) → Between (λ t r. (line : List ℕ) × IsFirstLine ended line t r × (n < length line)) a (joined ended waiting left)
+long_line_known n ended a left waiting spent cuts = between_spent (CutsLong n ended) (λ t r. (line : List ℕ) × IsFirstLine ended line t r × (n < length line)) ended a left waiting (λ t r gone cut. (cut.line, first_line ended cut.line t r gone cut.cuts, cut.long)) spent cuts
+
+-- nothing is done yet
+pub done_none : (ended : Bool) (bytes : List ℕ) → ended ≡ false → IsDone ended bytes [] bytes
+done_none true bytes unended = absurd (cc)
+done_none false bytes unended = record { cut = refl; pieces_are = refl; whole = refl; spent = λ is. absurd (cc) }
+
+left_true : (a b : Bool) → IsTrue (a || b) → b ≡ false → a ≡ true
+left_true true b either off = refl
+left_true false b either off = absurd (cc)
+
+some_text : (text piece rest : List ℕ) → pieces text ≡ piece ∷ pieces rest → text ≡ [] → ⊥
+some_text text piece rest are none = let empty : pieces text ≡ [] = rw none in absurd (cc)
+
+still_whole : (a b ended : Bool) → (a ≡ true → b ≡ true) → IsTrue (a || ended) → IsTrue (b || ended)
+still_whole true b ended step either = or_left b ended (step refl)
+still_whole false b ended step either = or_right b ended either
+
+done_line : (ended : Bool) (bytes done text line rest : List ℕ) → bytes ≡ done ++ text → pieces bytes ≡ pieces done ++ pieces text → is_whole done ≡ true → (first : IsFirstLine ended line text rest) → IsDone ended bytes (done ++ first.piece) rest
+done_line ended bytes done text line rest cut are whole first =
+    let alone = pieces-piece text first.piece (pieces rest) first.pieces_are in
+    record {
+      cut = cut ∙ (ap (λ zs. done ++ zs) first.cut ∙ sym (append_assoc done first.piece rest));
+      pieces_are = are ∙ (ap (λ zs. pieces done ++ zs) first.pieces_are ∙ (sym (append_assoc (pieces done) (first.piece ∷ []) (pieces rest)) ∙ ap (λ zs. zs ++ pieces rest) (sym (pieces-append done first.piece whole ∙ ap (λ zs. pieces done ++ zs) alone))));
+      whole = still_whole (is_whole first.piece) (is_whole (done ++ first.piece)) ended (λ last. whole-append done first.piece whole last) first.whole;
+      spent = first.spent;
+    }
+
+-- one more line is done
+pub done_next : (before ended : Bool) (bytes done text line rest : List ℕ) → IsDone before bytes done text → (first : IsFirstLine ended line text rest) → IsDone ended bytes (done ++ first.piece) rest
+done_next before ended bytes done text line rest so_far first =
+    either_way before (IsDone ended bytes (done ++ first.piece) rest)
+    (λ at_end. absurd (some_text text first.piece rest first.pieces_are (so_far.spent at_end)))
+    (λ unended. done_line ended bytes done text line rest so_far.cut so_far.pieces_are (left_true (is_whole done) before so_far.whole unended) first)
+
+-- how many pieces are done then
+pub pieces_next : (before ended : Bool) (bytes done text line rest : List ℕ) → IsDone before bytes done text → (first : IsFirstLine ended line text rest) → pieces (done ++ first.piece) ≡ pieces done ++ first.piece ∷ []
+pieces_next before ended bytes done text line rest so_far first =
+    either_way before (pieces (done ++ first.piece) ≡ pieces done ++ first.piece ∷ [])
+    (λ at_end. absurd (some_text text first.piece rest first.pieces_are (so_far.spent at_end)))
+    (λ unended. pieces-append done first.piece (left_true (is_whole done) before so_far.whole unended) ∙ ap (λ zs. pieces done ++ zs) (pieces-piece text first.piece (pieces rest) first.pieces_are))
+
+-- all is done
+pub done_all : (ended : Bool) (bytes done rest : List ℕ) → IsDone ended bytes done rest → rest ≡ [] → done ≡ bytes
+done_all ended bytes done rest so_far none = sym (so_far.cut ∙ (ap (λ zs. done ++ zs) none ∙ append-nil done))
+
+-- whole lines were done where the end wasn't seen
+pub done_whole : (bytes done rest : List ℕ) (ended : Bool) → IsDone ended bytes done rest → ended ≡ false → IsTrue (is_whole done)
+done_whole bytes done rest ended so_far unended = left_true (is_whole done) ended so_far.whole unended

@@ -1,0 +1,9 @@
+pub mod Causes
+pub mod Cuts
+pub mod Edge
+pub mod Faults
+pub mod Known
+pub mod Pieces
+pub mod Reading
+pub mod Scripted
+pub mod Window

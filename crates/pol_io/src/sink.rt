@@ -1,0 +1,48 @@
+// Where bytes go.
+ghost use Rattle.std.specs.Prelude.{◌≡◌, ◌<◌, List, ℕ, [], length, take, IsOk, IfOk, OnOk, OnErr};
+ghost use Rattle.std.specs.declared.option.Option.{Option};
+ghost use Rattle.std.specs.Io.{WritesAtMost};
+ghost use Rattle.std.specs.Io.KnownBytes.{Appends, WriteAppends};
+ghost use Rattle.pol_io.specs.Causes.{HasCauseOf};
+
+/// Why a sink took nothing.
+#[derive(Clone, Copy, Debug, PartialEq, Eq)]
+pub enum SinkFault {
+    /// The sink failed.
+    Failed,
+    /// The sink found no memory.
+    Memory,
+}
+
+/// Where bytes go, in order.
+pub trait Sink {
+    /// The bytes that the sink holds, where it tells them.
+    ghost held: { Self → Option (List ℕ) };
+
+    /// How often the sink has failed; it never falls.
+    ghost faults: { Self → ℕ };
+
+    /// Takes bytes from the front of the piece, at least one where it has one, and says how many. After an `Err` it
+    /// took none. `Failed` comes only where the count of faults rose in this call.
+    fn write(&mut self, piece: &[u8]) -> Result<usize, SinkFault>
+        ensures bound { WritesAtMost result piece.now }
+        ensures progress { 0 < length piece.now → IfOk result (λ n. 0 < n) }
+        ensures bytes { WriteAppends (held self.old) (held self.new) result piece.now }
+        ensures cause { HasCauseOf SinkFault.Failed (faults self.old) (faults self.new) result };
+}
+
+/// Writes the whole piece, with further calls for its rest where the sink takes less. An empty piece makes no call.
+/// After an `Err` a prefix was taken that is shorter than the piece.
+pub fn write_all<K: Sink>(sink: &mut K, piece: &[u8]) -> Result<(), SinkFault>
+    ensures ok { OnOk result (Appends (K.held sink.old) (K.held sink.new) piece.now) }
+    ensures err { OnErr result ((n : ℕ) × (n < length piece.now)
+        × Appends (K.held sink.old) (K.held sink.new) (take n piece.now)) }
+    ensures empty { piece.now ≡ [] → IsOk result × (sink.new ≡ sink.old) }
+    ensures cause { HasCauseOf SinkFault.Failed (K.faults sink.old) (K.faults sink.new) result }
+{
+    let mut at = 0;
+    while at < piece.len() {
+        at += sink.write(&piece[at..])?;
+    }
+    Ok(())
+}

@@ -1,0 +1,26 @@
+// Where bytes come from.
+ghost use Rattle.std.specs.Prelude.{List, ℕ};
+ghost use Rattle.std.specs.declared.option.Option.{Option};
+ghost use Rattle.std.specs.Io.{ReadsAtMost};
+ghost use Rattle.std.specs.Io.KnownBytes.{ReadConsumes};
+ghost use Rattle.pol_io.specs.Causes.{HasCause};
+
+/// The source failed, and took nothing.
+#[derive(Clone, Copy, Debug, PartialEq, Eq)]
+pub struct Failed;
+
+/// Where bytes come from, in order.
+pub trait Source {
+    /// The bytes still to come, where the source tells them.
+    ghost left: { Self → Option (List ℕ) };
+
+    /// How often the source has failed; it never falls.
+    ghost faults: { Self → ℕ };
+
+    /// Fills the front of the slice with the next bytes, and says with how many. No byte for a slice with room is the
+    /// end of input. `Failed` comes only where the count of faults rose in this call, and then no byte is gone.
+    fn read(&mut self, into: &mut [u8]) -> Result<usize, Failed>
+        ensures bound { ReadsAtMost result into.new }
+        ensures bytes { ReadConsumes (left self.old) (left self.new) result into.new }
+        ensures cause { HasCause (faults self.old) (faults self.new) result };
+}

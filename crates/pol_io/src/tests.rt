@@ -1,0 +1,112 @@
+// Lines of small and of long inputs, calls that fail, and what readers and writers of std are as sources and sinks.
+use crate::{
+    IoFault, LONGEST_LINE, Line, Lines, MemorySink, MemorySource, ReaderSource, Sink, SinkFault,
+    Source, SureSink, SureSource, WriterSink, write_all,
+};
+use std::alloc::Global;
+use std::test::Fail;
+
+// The lines of a source, each with a bar behind it: `#` for one that is too long, `!` for a failed read.
+fn shown<S: Source>(alloc: Global, source: &mut S) -> Result<Vec<u8>, Fail> {
+    let mut lines = Lines::new(alloc)?;
+    let mut shown = Vec::new(alloc);
+    for _ in 0..20u32 {
+        if !lines.sound() {
+            break;
+        }
+        match lines.next_line(source) {
+            Ok(Line::Text(line)) => shown.extend_from_slice(line)?,
+            Ok(Line::TooLong) => shown.push(b'#')?,
+            Ok(Line::End) => break,
+            Err(IoFault::Read) => shown.push(b'!')?,
+            Err(IoFault::TooMuch) => shown.push(b'+')?,
+        }
+        shown.push(b'|')?;
+    }
+    Ok(shown)
+}
+
+#[test]
+fn lines_end_at_a_line_feed_or_at_the_end(rt: HostRuntime) -> Result<(), Fail> {
+    for (input, want) in [
+        ("", ""),
+        ("\n", "|"),
+        ("a", "a|"),
+        ("a\n", "a|"),
+        ("a\r\n\n \r\nb", "a\r|| \r|b|"),
+    ] {
+        let mut source = SureSource::new(Vec::from_slice(rt.alloc(), input.as_bytes())?);
+        let lines = shown(rt.alloc(), &mut source)?;
+        assert_eq!(rt; lines.as_slice(), want.as_bytes(), "of {input}");
+        let mut reader = ReaderSource::new(input.as_bytes());
+        let lines = shown(rt.alloc(), &mut reader)?;
+        assert_eq!(rt; lines.as_slice(), want.as_bytes(), "read of {input}");
+    }
+    Ok(())
+}
+
+#[test]
+fn a_line_over_the_limit_is_passed_over(rt: HostRuntime) -> Result<(), Fail> {
+    let mut input = vec![in rt.alloc(); b'x'; LONGEST_LINE]?;
+    input.extend_from_slice(b"\ny")?;
+    let lines = shown(rt.alloc(), &mut SureSource::new(input))?;
+    assert_eq!(rt; lines.len(), LONGEST_LINE + 3);
+    for (end, want) in [
+        ("", "#|"),
+        ("\n", "#|"),
+        ("\ny", "#|y|"),
+        ("x\n\ny\n", "#||y|"),
+    ] {
+        let mut input = vec![in rt.alloc(); b'x'; LONGEST_LINE + 1]?;
+        input.extend_from_slice(end.as_bytes())?;
+        let lines = shown(rt.alloc(), &mut SureSource::new(input))?;
+        assert_eq!(rt; lines.as_slice(), want.as_bytes(), "before {end}");
+    }
+    Ok(())
+}
+
+#[test]
+fn a_failed_read_ends_the_lines_and_the_end_is_asked_for_once(rt: HostRuntime) -> Result<(), Fail> {
+    for (input, failing, want) in [
+        ("a\nb\n", 1, "!|"),
+        ("a\nb\n", 2, "a|b|!|"),
+        ("a\nb\n", 3, "a|b|"),
+        ("a\nb", 2, "a|!|"),
+        ("a\nb", 3, "a|b|"),
+    ] {
+        let bytes = Vec::from_slice(rt.alloc(), input.as_bytes())?;
+        let mut source = MemorySource::new(bytes, vec![in rt.alloc(); failing]?);
+        let lines = shown(rt.alloc(), &mut source)?;
+        assert_eq!(rt;
+            lines.as_slice(),
+            want.as_bytes(),
+            "of {input} where call {failing} fails"
+        );
+    }
+    Ok(())
+}
+
+#[test]
+fn whole_pieces_are_written_until_the_sink_fails(rt: HostRuntime) -> Result<(), Fail> {
+    let mut sure = SureSink::new(rt.alloc());
+    assert_eq!(rt; write_all(&mut sure, b"ab"), Ok(()));
+    assert_eq!(rt; write_all(&mut sure, b""), Ok(()));
+    assert_eq!(rt; write_all(&mut sure, b"c"), Ok(()));
+    assert_eq!(rt; sure.bytes(), b"abc".as_slice());
+    let mut sink = MemorySink::new(rt.alloc(), vec![in rt.alloc(); 2]?);
+    assert_eq!(rt; write_all(&mut sink, b"ab"), Ok(()));
+    assert_eq!(rt; write_all(&mut sink, b""), Ok(()));
+    assert_eq!(rt; write_all(&mut sink, b"c"), Err(SinkFault::Failed));
+    assert_eq!(rt; sink.write(b"d"), Ok(1));
+    assert_eq!(rt; sink.bytes(), b"abd".as_slice());
+    Ok(())
+}
+
+#[test]
+fn a_writer_that_is_full_fails(rt: HostRuntime) {
+    let mut room = [0u8; 3];
+    let mut sink = WriterSink::new(room.as_mut_slice());
+    let wrote = write_all(&mut sink, b"abcd");
+    assert_eq!(rt; wrote, Err(SinkFault::Failed));
+    assert_eq!(rt; room.as_slice(), b"abc".as_slice());
+}
