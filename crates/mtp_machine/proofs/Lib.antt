@@ -1,0 +1,2 @@
+pub mod EveryState
+pub mod Bits

@@ -1,0 +1,15 @@
+//! Typed berths: a part is either docked or away for exchange, and the type says which.
+//!
+//! A docked part can be used; one that is away can only come back or be replaced, and either needs the ticket
+//! under which it left. A wrong ticket hands everything back. The crate knows nothing of modules, of descriptions
+//! or of what happens elsewhere between the two moments.
+#![tactic(auto)]
+
+mod away;
+mod docked;
+
+pub use away::{Away, WrongTicket};
+pub use docked::Docked;
+
+#[cfg(test)]
+mod tests;
