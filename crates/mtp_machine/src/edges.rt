@@ -73,8 +73,7 @@ pub fn edge(from: State, to: State) -> bool
 #[tactic(auto, unfolding(crate::specs::Machine::edge_count, crate::specs::Machine::is_edge))]
 pub fn edges_are_51()
     ensures { edge_count ≡ 51 }
-{
-}
+{}
 
 #[cfg(test)]
 mod tests {

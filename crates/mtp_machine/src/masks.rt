@@ -7,32 +7,56 @@ use mtp_codes::State;
 
 // The bits of the commands: their codes.
 const RESET: u32 = 2;
+
 const START: u32 = 4;
+
 const STOP: u32 = 8;
+
 const HOLD: u32 = 16;
+
 const UNHOLD: u32 = 32;
+
 const PAUSE: u32 = 64;
+
 const RESUME: u32 = 128;
+
 const ABORT: u32 = 256;
+
 const RESTART: u32 = 512;
+
 const COMPLETE: u32 = 1024;
 
 // The bits of the states: their codes.
 const STOPPED: u32 = 4;
+
 const STARTING: u32 = 8;
+
 const IDLE: u32 = 16;
+
 const PAUSED: u32 = 32;
+
 const EXECUTE: u32 = 64;
+
 const STOPPING: u32 = 128;
+
 const ABORTING: u32 = 256;
+
 const ABORTED: u32 = 512;
+
 const HOLDING: u32 = 1024;
+
 const HELD: u32 = 2048;
+
 const UNHOLDING: u32 = 4096;
+
 const PAUSING: u32 = 8192;
+
 const RESUMING: u32 = 16384;
+
 const RESETTING: u32 = 32768;
+
 const COMPLETING: u32 = 65536;
+
 const COMPLETED: u32 = 131072;
 
 /// The commands that leave the state, as the bits of `CommandEn`: the sum of their codes.

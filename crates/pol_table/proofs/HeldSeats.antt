@@ -1,0 +1,83 @@
+-- What the seats say of the holding of tags is what the berths say.
+use Rattle.std.proofs.Common.{◌≡◌, ℕ, Bool, true, false, List, [], ◌∷◌, length, Option, Some, None, refl, sym, ap, ◌∙◌, is_some}
+use Rattle.std.specs.Prelude.{if◌then◌else◌}
+use Rattle.std.specs.List.{IsDistinct}
+use Rattle.std.specs.Map.{lookup, keys_of}
+use Rattle.std.specs.Option.{option_map, option_and_then}
+use Rattle.std.specs.Str.{bytes_eq}
+use Rattle.pol_table.specs.Answers.{first_of, missing_at, busy_at}
+use Rattle.pol_table.specs.Berths.{Berth, look, held_by, is_among}
+use Rattle.pol_table.specs.Places.{part_at, berth_at, berths_of, seat_missing_at, seat_busy_at, seat_held_by, IsSound}
+use Rattle.pol_table.specs.declared.faults.HoldFault.TheVariants.{Busy, NoModule}
+use Rattle.pol_table.specs.declared.seat.Seat.{Seat}
+use Rattle.pol_table.proofs.Mapped.{sound-changed, look-changed}
+use Rattle.pol_table.proofs.Views.{look-berths_of, length-berths_of, holder-berths_of, some_of}
+
+-- answers that agree at each item agree on the first
+first-alike : {A B : Type 0} (one other : A → Option B) → ((item : A) → one item ≡ other item) → (items : List A) → first_of one items ≡ first_of other items
+first-alike one other same [] = refl
+first-alike one other same (item ∷ items) = rw (same item, first-alike one other same items) refl
+
+module _ {T : Type 0} (seats : List (List ℕ × Seat)) (parts : List (Option T)) (sound : IsSound seats parts) where
+  missing-alike : (tag : List ℕ) → seat_missing_at seats tag ≡ missing_at (berths_of seats parts) tag
+  missing-alike tag = rw (look-berths_of seats parts sound tag) (go (lookup (bytes_eq tag) seats) refl)
+    where
+      go : (found : Option Seat) → lookup (bytes_eq tag) seats ≡ found
+          → (if is_some found then None else Some (NoModule tag)) ≡ (if is_some (option_and_then (berth_at parts) found) then None else Some (NoModule tag))
+      go None is = refl
+      go (Some seat) is = step (some_of (part_at parts seat.place) (sound.occupied tag seat is))
+        where
+          step : (part : T) × (part_at parts seat.place ≡ Some part) → None ≡ (if is_some (berth_at parts seat) then None else Some (NoModule tag))
+          step (part, there) = rw there refl
+
+  busy-alike : (tag : List ℕ) → seat_busy_at seats tag ≡ busy_at (berths_of seats parts) tag
+  busy-alike tag = ap (λ holder. option_map (Busy tag) holder) (sym (holder-berths_of seats parts sound tag))
+
+  -- the first tag without a seat is the first that is not docked
+  pub first-missing : (tags : List (List ℕ)) → first_of (seat_missing_at seats) tags ≡ first_of (missing_at (berths_of seats parts)) tags
+  first-missing = first-alike (seat_missing_at seats) (missing_at (berths_of seats parts)) missing-alike
+
+  -- the first tag whose seat is held is the first that is held
+  pub first-busy : (tags : List (List ℕ)) → first_of (seat_busy_at seats) tags ≡ first_of (busy_at (berths_of seats parts)) tags
+  first-busy = first-alike (seat_busy_at seats) (busy_at (berths_of seats parts)) busy-alike
+
+-- some seats are held now, and nothing else changes
+pub record Holds {T : Type 0} (tags : List (List ℕ)) (batch : List ℕ) (old new : List (List ℕ × Seat)) (parts : List (Option T)) : Type 0 where
+  pub sound : IsSound old parts
+  pub held : (tag : List ℕ) → lookup (bytes_eq tag) new ≡ option_map (λ seat. if is_among tags tag then seat_held_by batch seat else seat) (lookup (bytes_eq tag) old)
+  pub len : length new ≡ length old
+  pub unique : IsDistinct bytes_eq (keys_of new)
+
+module _ {T : Type 0} (tags : List (List ℕ)) (batch : List ℕ) (old new : List (List ℕ × Seat)) (parts : List (Option T)) (holds : Holds tags batch old new parts) where
+  in_place : (tag : List ℕ) (seat : Seat) → (if is_among tags tag then seat_held_by batch seat else seat).place ≡ seat.place
+  in_place tag seat = go (is_among tags tag)
+    where
+      go : (among : Bool) → (if among then seat_held_by batch seat else seat).place ≡ seat.place
+      go true = refl
+      go false = refl
+
+  pub sound-held : IsSound new parts
+  sound-held =
+      sound-changed parts old new (λ tag seat. if is_among tags tag then seat_held_by batch seat else seat) in_place holds.held holds.sound
+      holds.unique (rw holds.len holds.sound.few)
+
+  alike : (among : Bool) (seat : Seat) (found : Option T)
+      → option_map (λ part. let berth : Berth T = record { part = part; holder = (if among then seat_held_by batch seat else seat).holder } in berth) found
+      ≡ option_map (λ berth. if among then held_by batch berth else berth) (option_map (λ part. let berth : Berth T = record { part = part; holder = seat.holder } in berth) found)
+  alike true seat None = refl
+  alike true seat (Some part) = refl
+  alike false seat None = refl
+  alike false seat (Some part) = refl
+
+  placed : (among : Bool) (seat : Seat) → part_at parts (if among then seat_held_by batch seat else seat).place ≡ part_at parts seat.place
+  placed true seat = refl
+  placed false seat = refl
+
+  pub look-held : (tag : List ℕ) → look tag (berths_of new parts) ≡ option_map (λ berth. if is_among tags tag then held_by batch berth else berth) (look tag (berths_of old parts))
+  look-held =
+      look-changed parts old new (λ tag seat. if is_among tags tag then seat_held_by batch seat else seat) in_place holds.held holds.sound sound-held
+      (λ tag berth. if is_among tags tag then held_by batch berth else berth)
+      (λ tag seat. rw (placed (is_among tags tag) seat) (alike (is_among tags tag) seat (part_at parts seat.place)))
+
+  pub length-held : length (berths_of new parts) ≡ length (berths_of old parts)
+  length-held = length-berths_of new parts sound-held ∙ holds.len ∙ sym (length-berths_of old parts holds.sound)

@@ -1,0 +1,9 @@
+pub mod Tags
+pub mod Views
+pub mod Steps
+pub mod Docking
+pub mod Leaving
+pub mod Mapped
+pub mod HeldSeats
+pub mod Freeing
+pub mod Parts

@@ -1,0 +1,46 @@
+-- A change of seats that leaves each in its place: berths change alike, and the table stays sound.
+use Rattle.std.proofs.Common.{◌≡◌, ℕ, ◌≤◌, List, length, Option, Some, None, refl, sym, ap, ◌∙◌, true≢false, is_some}
+use Rattle.std.proofs.lemmas.Option.{same_Some}
+use Rattle.std.specs.List.{IsDistinct}
+use Rattle.std.specs.Map.{lookup, keys_of}
+use Rattle.std.specs.Option.{option_map, option_and_then}
+use Rattle.std.specs.Str.{bytes_eq}
+use Rattle.pol_table.specs.Berths.{Berth, look}
+use Rattle.pol_table.specs.Places.{berth_at, berths_of, IsSound}
+use Rattle.pol_table.specs.declared.seat.Seat.{Seat}
+use Rattle.pol_table.proofs.Views.{look-berths_of}
+
+-- what is found after a change was found before it
+before : {A : Type 0} (change : A → A) (found : Option A) (value : A) → option_map change found ≡ Some value → (old : A) × (found ≡ Some old) × (change old ≡ value)
+before change None value is = absurd (true≢false (sym (ap is_some is)))
+before change (Some old) value is = (old, refl, same_Some _ _ is)
+
+module _ {T : Type 0} (parts : List (Option T)) (old new : List (List ℕ × Seat)) (change : List ℕ → Seat → Seat)
+    (in_place : (tag : List ℕ) (seat : Seat) → (change tag seat).place ≡ seat.place)
+    (changed : (tag : List ℕ) → lookup (bytes_eq tag) new ≡ option_map (change tag) (lookup (bytes_eq tag) old)) where
+  was : (tag : List ℕ) (seat : Seat) → lookup (bytes_eq tag) new ≡ Some seat → (first : Seat) × (lookup (bytes_eq tag) old ≡ Some first) × (first.place ≡ seat.place)
+  was tag seat found =
+      let back = before (change tag) (lookup (bytes_eq tag) old) seat (sym (changed tag) ∙ found) in
+      (back.0, back.1, sym (in_place tag back.0) ∙ ap (λ s. s.place) back.2)
+
+  pub sound-changed : IsSound old parts → IsDistinct bytes_eq (keys_of new) → length new ≤ 64 → IsSound new parts
+  sound-changed sound unique few = record {
+    unique = unique;
+    occupied = λ tag seat found. let back = was tag seat found in rw (← back.2) (sound.occupied tag back.0 back.1);
+    apart = λ tag other seat next found beside same.
+        let back = was tag seat found in
+        let far = was other next beside in
+        sound.apart tag other back.0 far.0 back.1 far.1 (back.2 ∙ same ∙ sym far.2);
+    few = few;
+  }
+
+  -- the berths change as the seats do
+  pub look-changed : IsSound old parts → IsSound new parts → (give : List ℕ → Berth T → Berth T)
+      → ((tag : List ℕ) (seat : Seat) → berth_at parts (change tag seat) ≡ option_map (give tag) (berth_at parts seat))
+      → (tag : List ℕ) → look tag (berths_of new parts) ≡ option_map (give tag) (look tag (berths_of old parts))
+  look-changed sound after give alike tag =
+      rw (look-berths_of new parts after tag, look-berths_of old parts sound tag, changed tag) (go (lookup (bytes_eq tag) old))
+    where
+      go : (found : Option Seat) → option_and_then (berth_at parts) (option_map (change tag) found) ≡ option_map (give tag) (option_and_then (berth_at parts) found)
+      go None = refl
+      go (Some seat) = alike tag seat

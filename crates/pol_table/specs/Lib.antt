@@ -1,0 +1,3 @@
+pub mod Berths
+pub mod Answers
+pub mod Places
