@@ -1,0 +1,5 @@
+pub mod Views
+pub mod Sound
+pub mod Again
+pub mod Depths
+pub mod Floats

@@ -1,0 +1,83 @@
+-- Every parameter, variable, procedure and service is in its form, by what its type keeps.
+use Rattle.std.proofs.Common.{◌≡◌, ◌&&◌, Bool, true, false, not, Ok, List, [], ◌∷◌, length, map, refl}
+use Rattle.std.proofs.lemmas.List.{length-map}
+use Rattle.std.specs.Prelude.{nat_le}
+use Rattle.std.specs.List.{list_all}
+use Rattle.mtp_assembly.specs.Kinds.{is_ordered}
+use Rattle.mtp_assembly.specs.Plain.{ParamForm, VariableForm, param_view, variable_view}
+use Rattle.mtp_assembly.specs.declared.param.Param.{Param}
+use Rattle.mtp_assembly.specs.declared.variable.View.{View}
+use Rattle.mtp_codes.specs.Names.{is_name}
+use Rattle.mtp_json.specs.Form.{repeats_by}
+use Rattle.mtp_json.specs.Leaf.{counts}
+use Rattle.mtp_desc.specs.declared.description.Description.{Description}
+use Rattle.mtp_desc.specs.declared.procedure.Procedure.{Procedure}
+use Rattle.mtp_desc.specs.declared.service.Service.{Service}
+use Rattle.mtp_desc.specs.DescriptionView.{description_view}
+use Rattle.mtp_desc.specs.Form.{has_one_default}
+use Rattle.mtp_desc.specs.Plain.{ProcedureForm, ServiceForm, DescriptionForm, same_param, same_procedure, same_service, same_variable}
+use Rattle.mtp_desc.specs.ProcedureView.{procedure_view}
+use Rattle.mtp_desc.specs.ServiceView.{service_view}
+use Rattle.mtp_desc.specs.Version.{version_of}
+
+-- the parameter has a name, and its range is in order
+abbrev pub is_param : ParamForm → Bool
+is_param param = is_name param.name && is_ordered param.kind
+
+-- the variable has a name
+abbrev pub is_variable : VariableForm → Bool
+is_variable variable = is_name variable.name
+
+-- the procedure has a number, and few parameters, no two of one name
+abbrev pub is_procedure : ProcedureForm → Bool
+is_procedure procedure =
+    counts 1 65535 procedure.number && (counts 0 32 (length procedure.params) && (list_all is_param procedure.params && not (repeats_by same_param procedure.params)))
+
+-- the service has a name, and some procedures, no two of one number and one of them the default
+abbrev pub is_service : ServiceForm → Bool
+is_service service =
+    is_name service.name && (counts 1 16 (length service.procedures) && (list_all is_procedure service.procedures && (not (repeats_by same_procedure service.procedures) && has_one_default service.procedures)))
+
+-- where every item is in its form, so is each of a list
+pub all_sound : {X Y : Type 0} (view : X → Y) (test : Y → Bool) → ((x : X) → test (view x) ≡ true) → (xs : List X) → list_all test (map view xs) ≡ true
+all_sound view test sound [] = refl
+all_sound view test sound (x ∷ xs) = rw (sound x, all_sound view test sound xs) refl
+
+pub param_sound : (param : Param) → is_param (param_view param) ≡ true
+param_sound param = rw (param.named, param.ordered) refl
+
+pub variable_sound : (variable : View) → is_variable (variable_view variable) ≡ true
+variable_sound variable = variable.named
+
+pub procedure_sound : (procedure : Procedure) → is_procedure (procedure_view procedure) ≡ true
+procedure_sound procedure =
+    rw (length-map procedure.params.items param_view, procedure.numbered, procedure.few, all_sound param_view is_param param_sound procedure.params.items, procedure.unlike) refl
+
+pub service_sound : (service : Service) → is_service (service_view service) ≡ true
+service_sound service =
+    rw (length-map service.procedures.items procedure_view, service.named, service.few, all_sound procedure_view is_procedure procedure_sound service.procedures.items, service.unlike, service.one_default) refl
+
+-- what a description is, beside being well formed in its parts
+pub record IsDescription (description : DescriptionForm) : Type 0 where
+  pub typed : is_name description.type_name ≡ true
+  pub short : nat_le (length description.version_text) 64 ≡ true
+  pub versioned : version_of description.version_text ≡ Ok description.version
+  pub some_services : counts 1 32 (length description.services) ≡ true
+  pub services : list_all is_service description.services ≡ true
+  pub unlike_services : repeats_by same_service description.services ≡ false
+  pub few_variables : counts 0 64 (length description.variables) ≡ true
+  pub variables : list_all is_variable description.variables ≡ true
+  pub unlike_variables : repeats_by same_variable description.variables ≡ false
+
+pub description_sound : (description : Description) → IsDescription (description_view description)
+description_sound description = record {
+  typed = description.typed;
+  short = description.short;
+  versioned = description.versioned;
+  some_services = rw (length-map description.services.items service_view) description.some_services;
+  services = all_sound service_view is_service service_sound description.services.items;
+  unlike_services = description.unlike_services;
+  few_variables = rw (length-map description.variables.items variable_view) description.few_variables;
+  variables = all_sound variable_view is_variable variable_sound description.variables.items;
+  unlike_variables = description.unlike_variables;
+}

@@ -1,0 +1,9 @@
+pub mod Plain
+pub mod ProcedureView
+pub mod ServiceView
+pub mod DescriptionView
+pub mod Words
+pub mod Version
+pub mod Form
+pub mod Written
+pub mod Lookup

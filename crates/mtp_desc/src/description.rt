@@ -1,0 +1,105 @@
+//! The description of a module.
+
+ghost use Rattle.std.specs.Prelude.{◌≡◌, false, find, length, map, nat_le, option_map, position, IsTrue, Ok};
+ghost use Rattle.std.specs.Str.{bytes_eq};
+ghost use Rattle.semver.specs.Identifiers.{parts_of};
+ghost use Rattle.mtp_assembly.specs.Plain.{variable_view};
+ghost use Rattle.mtp_codes.specs.Names.{is_name};
+ghost use Rattle.mtp_json.specs.Form.{repeats_by};
+ghost use Rattle.mtp_json.specs.Leaf.{counts};
+ghost use Rattle.mtp_desc.specs.Plain.{same_service, same_variable};
+ghost use Rattle.mtp_desc.specs.ServiceView.{service_view};
+ghost use Rattle.mtp_desc.specs.Version.{version_of};
+
+use crate::service::Service;
+use mtp_assembly::View;
+use mtp_codes::{Name, Short};
+use semver::Version;
+
+/// The description of a module: its type with its version, 1 to 32 services and at most 64 variables, no two services
+/// and no two variables of one name. `version` is what `semver` reads of `version_text`.
+#[derive(Drop)]
+pub struct Description {
+    pub type_name: Name,
+    pub version_text: Short,
+    pub version: Version,
+    pub services: Vec<Service>,
+    pub variables: Vec<View>,
+    ghost typed: { IsTrue (is_name type_name) },
+    ghost short: { IsTrue (nat_le (length version_text) 64) },
+    ghost versioned: { version_of version_text ≡ Ok (parts_of version) },
+    ghost some_services: { IsTrue (counts 1 32 (length services.items)) },
+    ghost few_variables: { IsTrue (counts 0 64 (length variables.items)) },
+    ghost unlike_services: { repeats_by same_service (map service_view services.items) ≡ false },
+    ghost unlike_variables: { repeats_by same_variable (map variable_view variables.items) ≡ false },
+}
+
+fn find_service(services: &[Service], name: Name) -> Option<&Service>
+    ensures { option_map (λ service. service.now) result ≡ find (λ service. bytes_eq service.name name) services.now }
+{
+    services.iter().find(|service| service.name == name)
+}
+
+fn place_of_service(services: &[Service], name: Name) -> Option<usize>
+    ensures { result ≡ position (λ service. bytes_eq service.name name) services.now }
+{
+    services.iter().position(|service| service.name == name)
+}
+
+fn find_variable(variables: &[View], name: Name) -> Option<&View>
+    ensures { option_map (λ variable. variable.now) result ≡ find (λ variable. bytes_eq variable.name name) variables.now }
+{
+    variables.iter().find(|variable| variable.name == name)
+}
+
+fn place_of_variable(variables: &[View], name: Name) -> Option<usize>
+    ensures { result ≡ position (λ variable. bytes_eq variable.name name) variables.now }
+{
+    variables.iter().position(|variable| variable.name == name)
+}
+
+impl Description {
+    ghost use Rattle.mtp_desc.specs.DescriptionView.{description_view};
+    ghost use Rattle.mtp_desc.specs.Lookup.{self_completes, service_named, service_place, variable_named, variable_place};
+
+    /// The service of this name.
+    pub fn service(&self, name: Name) -> Option<&Service>
+        ensures { option_map (λ service. service_view service.now) result ≡ service_named name (description_view self.now) }
+    {
+        find_service(&self.services, name)
+    }
+
+    /// The place of the service of this name among the services, from 0.
+    pub fn service_place(&self, name: Name) -> Option<usize>
+        ensures { result ≡ service_place name (description_view self.now) }
+    {
+        place_of_service(&self.services, name)
+    }
+
+    /// The variable of this name.
+    pub fn variable(&self, name: Name) -> Option<&View>
+        ensures { option_map (λ variable. variable_view variable.now) result ≡ variable_named name (description_view self.now) }
+    {
+        find_variable(&self.variables, name)
+    }
+
+    /// The place of the variable of this name among the variables, from 0.
+    pub fn variable_place(&self, name: Name) -> Option<usize>
+        ensures { result ≡ variable_place name (description_view self.now) }
+    {
+        place_of_variable(&self.variables, name)
+    }
+
+    /// Whether the procedure completes by itself; false where there is no such procedure.
+    pub fn self_completes(&self, service: Name, procedure: u16) -> bool
+        ensures { result ≡ self_completes service procedure (description_view self.now) }
+    {
+        match self.service(service) {
+            Some(service) => match service.procedure(procedure) {
+                Some(procedure) => procedure.self_completing,
+                None => false,
+            },
+            None => false,
+        }
+    }
+}

@@ -1,0 +1,42 @@
+//! A procedure of a service.
+
+ghost use Rattle.std.specs.Prelude.{◌≡◌, false, find, length, map, option_map, IsTrue};
+ghost use Rattle.std.specs.Str.{bytes_eq};
+ghost use Rattle.mtp_assembly.specs.Plain.{param_view};
+ghost use Rattle.mtp_json.specs.Form.{repeats_by};
+ghost use Rattle.mtp_json.specs.Leaf.{counts};
+ghost use Rattle.mtp_desc.specs.Plain.{same_param};
+
+use mtp_assembly::Param;
+use mtp_codes::Name;
+
+/// A procedure of a service: a number from 1 to 65535 and at most 32 parameters, no two of one name.
+#[derive(Drop)]
+pub struct Procedure {
+    pub number: u16,
+    pub is_default: bool,
+    /// Whether the procedure goes from Execute to Completing by itself (VDI/VDE/NAMUR 2658 part 4).
+    pub self_completing: bool,
+    pub params: Vec<Param>,
+    ghost numbered: { IsTrue (counts 1 65535 number) },
+    ghost few: { IsTrue (counts 0 32 (length params.items)) },
+    ghost unlike: { repeats_by same_param (map param_view params.items) ≡ false },
+}
+
+fn find_param(params: &[Param], name: Name) -> Option<&Param>
+    ensures { option_map (λ param. param.now) result ≡ find (λ param. bytes_eq param.name name) params.now }
+{
+    params.iter().find(|param| param.name == name)
+}
+
+impl Procedure {
+    ghost use Rattle.mtp_desc.specs.Lookup.{param_named};
+    ghost use Rattle.mtp_desc.specs.ProcedureView.{procedure_view};
+
+    /// The parameter of this name.
+    pub fn param(&self, name: Name) -> Option<&Param>
+        ensures { option_map (λ param. param_view param.now) result ≡ param_named name (procedure_view self.now) }
+    {
+        find_param(&self.params, name)
+    }
+}

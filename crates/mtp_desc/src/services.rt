@@ -1,0 +1,147 @@
+//! Services in JSON.
+
+ghost use Rattle.std.specs.Prelude.{◌≡◌, ◌∷◌, [], IfOk, IfSome, IsTrue, codes, length, map, option_map, unwrap_or};
+ghost use Rattle.serde_json.specs.Data.{member, no_members, object, string};
+ghost use Rattle.serde_json.specs.View.{view};
+ghost use Rattle.mtp_codes.specs.Names.{is_name};
+ghost use Rattle.mtp_json.specs.Gives.{Gives};
+ghost use Rattle.mtp_json.specs.Leaf.{counts};
+ghost use Rattle.mtp_desc.specs.Form.{has_one_default, only_procedure, ruled_service, service_of};
+ghost use Rattle.mtp_desc.specs.Plain.{ServiceForm, same_service};
+ghost use Rattle.mtp_desc.specs.ProcedureView.{procedure_view};
+ghost use Rattle.mtp_desc.specs.ServiceView.{service_view};
+ghost use Rattle.mtp_desc.specs.Written.{written_service};
+
+use crate::procedure::Procedure;
+use crate::procedures::ProcedureJson;
+use crate::service::Service;
+use mtp_codes::Name;
+use mtp_json::{
+    Alike, FaultKind, FromJson, JsonRefusal, ToJson, list_if_there, name_at, nothing_but,
+    object_here, refused_under, unlike_under, write_list,
+};
+use serde_json::{Value, json};
+use std::alloc::{AllocError, Global};
+
+/// The form of a service.
+pub struct ServiceJson;
+
+fn only_procedures(alloc: Global) -> Result<Vec<Procedure>, AllocError>
+    ensures { IfOk result (λ procedures. map procedure_view procedures.items ≡ only_procedure ∷ []) }
+{
+    let mut procedures = Vec::new(alloc);
+    procedures.push(Procedure {
+        number: 1,
+        is_default: true,
+        self_completing: false,
+        params: Vec::new(alloc),
+    })?;
+    Ok(procedures)
+}
+
+fn procedures_or(alloc: Global, found: Option<Vec<Procedure>>) -> Result<Vec<Procedure>, AllocError>
+    requires { IfSome found (λ list. IsTrue (counts 1 16 (length list.items))) }
+    ensures value { IfOk result (λ procedures. map procedure_view procedures.items ≡ unwrap_or (option_map (λ list. map procedure_view list.items) found) (only_procedure ∷ [])) }
+    ensures size { IfOk result (λ procedures. IsTrue (counts 1 16 (length procedures.items))) }
+{
+    match found {
+        Some(procedures) => Ok(procedures),
+        None => only_procedures(alloc),
+    }
+}
+
+#[tactic(auto, using(crate::proofs::Views::count_map))]
+fn has_one_default(procedures: &[Procedure]) -> bool
+    ensures { result ≡ has_one_default (map procedure_view procedures.now) }
+{
+    procedures
+        .iter()
+        .filter(|procedure| procedure.is_default)
+        .count()
+        == 1
+}
+
+#[tactic(auto, unfolding(crate::specs::Form::ruled_service))]
+fn ruled_service(
+    alloc: Global,
+    name: Name,
+    procedures: Vec<Procedure>,
+) -> Result<Service, JsonRefusal>
+    requires name { IsTrue (is_name name) }
+    requires size { IsTrue (counts 1 16 (length procedures.items)) }
+    ensures { Gives service_view result (ruled_service name (map procedure_view procedures.items)) }
+{
+    unlike_under::<ProcedureJson>(alloc, "procedures", &procedures)?;
+    let lacks_default = !has_one_default(&procedures);
+    refused_under(alloc, "procedures", lacks_default, FaultKind::Unsound)?;
+    Ok(Service { name, procedures })
+}
+
+#[tactic(auto, unfolding(crate::specs::Form::service_of))]
+fn read_service(alloc: Global, value: &Value) -> Result<Service, JsonRefusal>
+    ensures { Gives service_view result (service_of (view value.now)) }
+{
+    object_here(alloc, value)?;
+    let name = name_at(alloc, value, "name")?;
+    let found = list_if_there::<ProcedureJson>(alloc, value, "procedures", 1, 16)?;
+    nothing_but(alloc, value, "name procedures")?;
+    let procedures = procedures_or(alloc, found)?;
+    ruled_service(alloc, name, procedures)
+}
+
+impl FromJson for ServiceJson {
+    type Item = Service;
+
+    ghost Form = { ServiceForm };
+
+    ghost plain = { service_view };
+
+    ghost form = { service_of };
+
+    fn read(alloc: Global, value: &Value) -> Result<Service, JsonRefusal> {
+        read_service(alloc, value)
+    }
+}
+
+impl Alike for ServiceJson {
+    type Item = Service;
+
+    ghost Form = { ServiceForm };
+
+    ghost plain = { service_view };
+
+    ghost same = { same_service };
+
+    fn is_like(item: &Service, other: &Service) -> bool {
+        item.name == other.name
+    }
+}
+
+fn service_object(alloc: Global, name: Name, procedures: Value) -> Result<Value, AllocError>
+    ensures { IfOk result (λ value. view value ≡ object (member (codes "name") (string name) (member (codes "procedures") (view procedures) no_members))) }
+{
+    let name = name.as_str();
+    json!(in alloc; {"name": name, "procedures": procedures})
+}
+
+#[tactic(auto, unfolding(crate::specs::Written::written_service))]
+fn write_service(alloc: Global, service: &Service) -> Result<Value, AllocError>
+    ensures { IfOk result (λ value. view value ≡ written_service (service_view service.now)) }
+{
+    let procedures = write_list::<ProcedureJson>(alloc, &service.procedures)?;
+    service_object(alloc, service.name, procedures)
+}
+
+impl ToJson for ServiceJson {
+    type Item = Service;
+
+    ghost Form = { ServiceForm };
+
+    ghost plain = { service_view };
+
+    ghost written = { written_service };
+
+    fn write(alloc: Global, item: &Service) -> Result<Value, AllocError> {
+        write_service(alloc, item)
+    }
+}

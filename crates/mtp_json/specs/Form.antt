@@ -1,0 +1,154 @@
+-- How the form of an object is read: its fields in order, then its other keys, then its own rules.
+use Rattle.std.specs.Prelude.{ℕ, suc, ◌&&◌, ◌||◌, ◌==◌, List, [], ◌∷◌, Bool, true, false, Option, Some, None, Ok, Err, if◌then◌else◌, ⊤}
+use Rattle.std.specs.List.{list_any, slice_split}
+use Rattle.std.specs.Str.{bytes_eq}
+use Rattle.serde_json.specs.Data.{Data, Items, no_items, item, Members, no_members, member}
+use Rattle.serde_json.specs.Find.{get, as_object}
+use Rattle.mtp_json.specs.declared.fault.FaultKind.{FaultKind}
+use Rattle.mtp_json.specs.declared.fault.FaultKind.TheVariants.{Missing, WrongKind, Unknown}
+use Rattle.mtp_json.specs.Leaf.{anything, items_in}
+use Rattle.mtp_json.specs.Reading.{Finding, Reading, ◌>>=◌, here, under, in_place}
+
+-- ---- one field
+
+-- a value by its form, if its key is there: it has to be
+abbrev pub present : {A : Type 0} → (Data → Finding A) → Option Data → Finding A
+present form None = Err Missing
+present form (Some value) = form value
+
+-- the value at a key that must be there
+abbrev pub field : {A : Type 0} → List ℕ → (Data → Finding A) → Data → Finding A
+field key form value = present form (get key value)
+
+-- the same, with the path
+abbrev pub need : {A : Type 0} → List ℕ → (Data → Finding A) → Data → Reading A
+need key form value = under key (here (field key form value))
+
+-- what was found, as a value that is there
+abbrev pub some : {A : Type 0} → Finding A → Finding (Option A)
+some (Ok value) = Ok (Some value)
+some (Err kind) = Err kind
+
+-- a value by its form, if its key is there
+abbrev pub if_present : {A : Type 0} → (Data → Finding A) → Option Data → Finding (Option A)
+if_present form None = Ok None
+if_present form (Some value) = some (form value)
+
+-- the value at a key, if the key is there
+abbrev pub optional : {A : Type 0} → List ℕ → (Data → Finding A) → Data → Reading (Option A)
+optional key form value = under key (here (if_present form (get key value)))
+
+-- a value by its form, or what stands for it
+abbrev pub present_or : {A : Type 0} → A → (Data → Finding A) → Option Data → Finding A
+present_or absent form None = Ok absent
+present_or absent form (Some value) = form value
+
+-- the value at a key, or what stands for it where the key is absent
+abbrev pub need_or : {A : Type 0} → List ℕ → A → (Data → Finding A) → Data → Reading A
+need_or key absent form value = under key (here (present_or absent form (get key value)))
+
+-- ---- a field that has a form of its own
+
+-- the value at a key that must be there, by a form
+abbrev pub inside : {A : Type 0} → List ℕ → (Data → Reading A) → Data → Reading A
+inside key form value =
+    need key anything value >>= λ inner.
+    under key (form inner)
+
+-- the same with a form of its own
+abbrev pub by_form : {A : Type 0} → (Data → Reading A) → Option Data → Reading (Option A)
+by_form form None = Ok None
+by_form form (Some value) = form value >>= λ found. Ok (Some found)
+
+-- the value at a key by a form, if the key is there
+abbrev pub inside_if_there : {A : Type 0} → List ℕ → (Data → Reading A) → Data → Reading (Option A)
+inside_if_there key form value = under key (by_form form (get key value))
+
+-- ---- lists
+
+-- each item by the form, from first to last, the first at this place
+unfoldable pub each : {A : Type 0} → (Data → Reading A) → ℕ → Items → Reading (List A)
+each form place no_items = Ok []
+each form place (item value rest) =
+    in_place place (form value) >>= λ first.
+    each form (suc place) rest >>= λ others.
+    Ok (first ∷ others)
+
+-- a list of low to high items at a key that must be there, each by the form
+abbrev pub list : {A : Type 0} → List ℕ → ℕ → ℕ → (Data → Reading A) → Data → Reading (List A)
+list key low high form value =
+    need key (items_in low high) value >>= λ values.
+    under key (each form 0 values)
+
+-- each item of a list that is there, and none of one that is absent
+abbrev pub each_or_none : {A : Type 0} → List ℕ → (Data → Reading A) → Option Items → Reading (List A)
+each_or_none key form None = Ok []
+each_or_none key form (Some values) = under key (each form 0 values)
+
+-- the same at a key that may be absent, and then the list is empty
+abbrev pub list_or_none : {A : Type 0} → List ℕ → ℕ → ℕ → (Data → Reading A) → Data → Reading (List A)
+list_or_none key low high form value =
+    optional key (items_in low high) value >>= λ values.
+    each_or_none key form values
+
+-- each item of a list, if the list is there
+abbrev pub each_if_there : {A : Type 0} → List ℕ → (Data → Reading A) → Option Items → Reading (Option (List A))
+each_if_there key form None = Ok None
+each_if_there key form (Some values) =
+    under key (each form 0 values) >>= λ found.
+    Ok (Some found)
+
+-- the same at a key that may be absent, and then there is no list
+abbrev pub list_if_there : {A : Type 0} → List ℕ → ℕ → ℕ → (Data → Reading A) → Data → Reading (Option (List A))
+list_if_there key low high form value =
+    optional key (items_in low high) value >>= λ values.
+    each_if_there key form values
+
+-- ---- the object as a whole
+
+-- the members of an object, or none
+abbrev pub some_object : Option Members → Reading ⊤
+some_object None = here (Err WrongKind)
+some_object (Some _) = Ok tt
+
+-- the value is an object
+abbrev pub object_here : Data → Reading ⊤
+object_here value = some_object (as_object value)
+
+-- the words of a text with one space between neighbours
+abbrev pub words : List ℕ → List (List ℕ)
+words keys = slice_split (λ byte. byte == 32) keys
+
+-- the key is one of these words
+abbrev pub is_listed : List ℕ → List ℕ → Bool
+is_listed keys key = list_any (λ word. bytes_eq word key) (words keys)
+
+-- each key of the members is one of these words
+abbrev pub all_listed : List ℕ → Members → Bool
+all_listed keys no_members = true
+all_listed keys (member key value rest) = is_listed keys key && all_listed keys rest
+
+-- members that were found, or none, against the keys that may stand there
+abbrev pub listed_members : List ℕ → Option Members → Finding ⊤
+listed_members keys None = Err WrongKind
+listed_members keys (Some members) = if all_listed keys members then Ok tt else Err Unknown
+
+-- an object with no key but these, which stand in one text
+abbrev pub only_keys : List ℕ → Data → Finding ⊤
+only_keys keys value = listed_members keys (as_object value)
+
+-- the same as a step of reading
+abbrev pub nothing_but : List ℕ → Data → Reading ⊤
+nothing_but keys value = here (only_keys keys value)
+
+-- ---- a form's own rules
+
+-- a fault of this kind where the rule is broken
+abbrev pub refused_if : Bool → FaultKind → Reading ⊤
+refused_if true kind = here (Err kind)
+refused_if false kind = Ok tt
+
+-- some item of the list is like a later one
+abbrev pub repeats_by : {A : Type 0} → (A → A → Bool) → List A → Bool
+repeats_by same [] = false
+repeats_by same (first ∷ others) = list_any (same first) others || repeats_by same others
