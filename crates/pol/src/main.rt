@@ -1,0 +1,46 @@
+//! The program `pol`: a process orchestration layer for modular plants. It makes the real source and sink, does what its
+//! words ask for (`pol_cli::top`), says on standard error how it ended where not all is good, and ends with the
+//! status's number.
+#![tactic(auto)]
+
+use pol_cli::{Status, top};
+use pol_io::{ReaderSource, WriterSink};
+use std::process::ExitCode;
+use std::{env, io};
+
+fn words(rt: &HostRuntime) -> io::Result<Vec<String>> {
+    let mut words = Vec::new(rt.alloc());
+    for word in env::args(rt)? {
+        words.push(word)?;
+    }
+    Ok(words)
+}
+
+fn run(rt: &HostRuntime) -> Status {
+    let Ok(words) = words(rt) else {
+        return Status::OutOfMemory;
+    };
+    let mut source = ReaderSource::new(rt.reader());
+    let mut sink = WriterSink::new(io::writer(rt));
+    top(rt.alloc(), &words, &mut source, &mut sink)
+}
+
+// Says how the job ended, where not all is good. That standard error takes it is not asked.
+fn say(rt: &HostRuntime, status: &Status) {
+    if *status == Status::Good {
+        return;
+    }
+    let _said = match status.text(rt.alloc()) {
+        Ok(text) => match str::from_utf8(&text) {
+            Ok(text) => eprintln!(rt; "{text}"),
+            Err(_) => Ok(()),
+        },
+        Err(_) => eprintln!(rt; "pol: out of memory"),
+    };
+}
+
+fn main(rt: HostRuntime) -> ExitCode {
+    let status = run(&rt);
+    say(&rt, &status);
+    ExitCode::from(status.number())
+}

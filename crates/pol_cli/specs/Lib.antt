@@ -1,0 +1,4 @@
+pub mod Sayings
+pub mod Served
+pub mod Jobs
+pub mod Statuses

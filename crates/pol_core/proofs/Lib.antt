@@ -1,0 +1,3 @@
+pub mod Docked
+pub mod Kept
+pub mod Answered

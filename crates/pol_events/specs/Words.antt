@@ -1,0 +1,20 @@
+-- The words of an event line.
+use Rattle.std.specs.Prelude.{ℕ, List, [], ◌∷◌, codes}
+use Rattle.mtp_codes.specs.declared.mode.Mode.{Mode}
+use Rattle.mtp_codes.specs.declared.mode.Mode.TheVariants.{Off, Operator, Automatic}
+use Rattle.mtp_codes.specs.declared.mode.Origin.{Origin}
+use Rattle.mtp_codes.specs.declared.mode.Origin.TheVariants.{Internal, External}
+use Rattle.pol_events.specs.declared.kind.EventKind.{EventKind}
+use Rattle.pol_events.specs.declared.kind.EventKind.TheVariants.{Plug, Report}
+
+-- the words of `ev`
+abbrev pub kind_words : List (List ℕ × EventKind)
+kind_words = (codes "plug", Plug) ∷ (codes "report", Report) ∷ []
+
+-- the words of `Mode`
+abbrev pub mode_words : List (List ℕ × Mode)
+mode_words = (codes "Off", Off) ∷ (codes "Operator", Operator) ∷ (codes "Automatic", Automatic) ∷ []
+
+-- the words of `Src`
+abbrev pub origin_words : List (List ℕ × Origin)
+origin_words = (codes "Internal", Internal) ∷ (codes "External", External) ∷ []

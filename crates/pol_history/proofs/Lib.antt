@@ -1,0 +1,10 @@
+pub mod Filters
+pub mod Names
+pub mod Paths
+pub mod Sparing
+pub mod Alike
+pub mod Falling
+pub mod Induction
+pub mod Pieces
+pub mod Outputs
+pub mod Appending

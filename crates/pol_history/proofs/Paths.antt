@@ -1,0 +1,141 @@
+-- The reported states of a service are a path.
+use Rattle.std.proofs.Common.{◌≡◌, ℕ, Bool, true, false, cond, not, List, [], ◌∷◌, refl, ap, Option, Some, None, sym, ◌∙◌, subst, reverse, ◌++◌}
+use Rattle.std.specs.Prelude.{◌&&◌}
+use Rattle.std.specs.Option.{option_or}
+use Rattle.std.specs.Str.{bytes_eq}
+use Rattle.std.proofs.lemmas.Bool.{and_parts, and_from}
+use Rattle.std.proofs.lemmas.List.{reverse-append}
+use Rattle.mtp_codes.specs.declared.state.State.{State}
+use Rattle.mtp_assembly.specs.declared.control.ServiceControl.{ServiceControl}
+use Rattle.pol_events.specs.Events.{EventForm, plug, report, EntryForm}
+use Rattle.pol_events.specs.declared.answer.Rule.{Rule}
+use Rattle.pol_events.specs.declared.answer.Rule.TheVariants.{NotAnEdge, HistoryFull}
+use Rattle.pol_events.specs.declared.answer.Answer.{Answer}
+use Rattle.pol_events.specs.declared.answer.Answer.TheVariants.{Done}
+use Rattle.pol_events.specs.Refusals.{when, may_follow, not_an_edge}
+use Rattle.mtp_machine.specs.Machine.{is_path}
+use Rattle.pol_history.specs.Looking.{History, subject, is_module, is_accepted, is_accepted_of, past, last_of}
+use Rattle.pol_history.specs.Modules.{reported, since_docking, states_in, control_by}
+use Rattle.pol_history.specs.Rules.{rules, first_rule, is_full, answer_of}
+use Rattle.pol_history.specs.Runs.{entry_of, IsLegal}
+use Rattle.pol_history.specs.Paths.{ReportsArePaths}
+use Rattle.pol_history.proofs.Names.{same-true}
+
+-- an accepted event meets none of its rules
+abbrev NoneHolds : List (Option Rule) → Type 0
+NoneHolds [] = Unit {0}
+NoneHolds (rule ∷ rules) = (rule ≡ None) × NoneHolds rules
+
+none-holds : (rules : List (Option Rule)) (answer : Answer) → is_accepted (first_rule rules answer) ≡ true → NoneHolds rules
+none-holds [] answer accepted = tt
+none-holds (Some rule ∷ rules) answer accepted = cc
+none-holds (None ∷ rules) answer accepted = (refl, none-holds rules answer accepted)
+
+-- the same from the newest state on: each may follow the one after it
+abbrev is_path_back : List State → Bool
+is_path_back [] = true
+is_path_back (new ∷ []) = true
+is_path_back (new ∷ old ∷ older) = may_follow old new && is_path_back (old ∷ older)
+
+-- the state may come after the last control, if there is one
+abbrev comes_after : Option ServiceControl → State → Bool
+comes_after None state = true
+comes_after (Some control) state = may_follow control.state state
+
+-- a state that may come after the last one makes the path longer
+longer : (service : List ℕ) (state : State) (entries : History) →
+    comes_after (last_of (λ entry. reported service entry.event) entries) state ≡ true → is_path_back (states_in service entries) ≡ true →
+    is_path_back (state ∷ states_in service entries) ≡ true
+longer service state [] next path = refl
+longer service state (entry ∷ older) next path = go (reported service entry.event) refl next path (longer service state older)
+  where
+    go : (control : Option ServiceControl) → reported service entry.event ≡ control →
+        comes_after (option_or (reported service entry.event) (last_of (λ entry. reported service entry.event) older)) state ≡ true →
+        is_path_back (states_in service (entry ∷ older)) ≡ true →
+        (comes_after (last_of (λ entry. reported service entry.event) older) state ≡ true → is_path_back (states_in service older) ≡ true →
+        is_path_back (state ∷ states_in service older) ≡ true) →
+        is_path_back (state ∷ states_in service (entry ∷ older)) ≡ true
+    go None is next path rest = rw is (rest (rw is at next) (rw is at path))
+    go (Some control) is next path rest =
+        rw is (and_from (may_follow control.state state) (is_path_back (control.state ∷ states_in service older)) (rw is at next) (rw is at path))
+
+allowed : (state : State) (last : Option ServiceControl) → not_an_edge state last ≡ None → comes_after last state ≡ true
+allowed state None none = refl
+allowed state (Some control) none = go (may_follow control.state state) none
+  where
+    go : (follows : Bool) → when (not follows) (NotAnEdge control.state state) ≡ None → follows ≡ true
+    go true none = refl
+    go false none = cc
+
+-- an accepted event of the module keeps the path
+step : (history : History) (tag service : List ℕ) (event : EventForm) → is_module tag (subject event) ≡ true →
+    is_accepted (answer_of history event) ≡ true → is_path_back (states_in service (since_docking (past tag history))) ≡ true →
+    is_path_back (states_in service (since_docking (entry_of history event ∷ past tag history))) ≡ true
+step history tag service (plug at other description) of_tag accepted path = refl
+step history tag service (report at other named control) of_tag accepted path = go (bytes_eq named service) refl
+  where
+    passed : comes_after (control_by named (past other history)) control.state ≡ true
+    passed = allowed control.state (control_by named (past other history))
+        (none-holds (when (is_full history) HistoryFull ∷ rules history (report at other named control)) Done accepted).1.1.1.0
+
+    go : (same : Bool) → bytes_eq named service ≡ same → is_path_back (states_in service (since_docking (entry_of history (report at other named control) ∷ past tag history))) ≡ true
+    go false is = rw is path
+    go true is =
+        let here : comes_after (control_by service (past tag history)) control.state ≡ true =
+        ap (λ name. comes_after (control_by service (past name history)) control.state) (sym (same-true other tag of_tag))
+        ∙ ap (λ name. comes_after (control_by name (past other history)) control.state) (sym (same-true named service is)) ∙ passed in
+        rw is (longer service control.state (since_docking (past tag history)) here path)
+
+more : (history : History) (tag service : List ℕ) (event : EventForm) → is_path_back (states_in service (since_docking (past tag history))) ≡ true →
+    is_path_back (states_in service (since_docking (past tag (entry_of history event ∷ history)))) ≡ true
+more history tag service event path = go (is_accepted_of tag (entry_of history event)) refl
+  where
+    go : (kept : Bool) → is_accepted_of tag (entry_of history event) ≡ kept →
+        is_path_back (states_in service (since_docking (cond kept (entry_of history event ∷ past tag history) (past tag history)))) ≡ true
+    go true is =
+        let parts = and_parts (is_module tag (subject event)) (is_accepted (answer_of history event)) is in
+        step history tag service event parts.0 parts.1 path
+    go false is = path
+
+abbrev paired : EventForm → Answer → EntryForm
+paired event answer = record { event = event; answer = answer }
+
+paths-back : (history : History) → IsLegal history → (tag service : List ℕ) → is_path_back (states_in service (since_docking (past tag history))) ≡ true
+paths-back [] legal tag service = refl
+paths-back (entry ∷ history) legal tag service =
+    let P : EntryForm → Type 0 = λ newest. is_path_back (states_in service (since_docking (past tag (newest ∷ history)))) ≡ true in
+    subst P (ap (paired entry.event) (sym legal.0)) (more history tag service entry.event (paths-back history legal.2 tag service))
+
+-- the last of the states may be followed by this one
+abbrev ends_before : List State → State → Bool
+ends_before [] state = true
+ends_before (last ∷ []) state = may_follow last state
+ends_before (first ∷ next ∷ states) state = ends_before (next ∷ states) state
+
+path-pushed : (states : List State) (state : State) → is_path states ≡ true → ends_before states state ≡ true → is_path (states ++ state ∷ []) ≡ true
+path-pushed [] state path ends = refl
+path-pushed (last ∷ []) state path ends = and_from (may_follow last state) true ends refl
+path-pushed (first ∷ next ∷ states) state path ends =
+    let parts = and_parts (may_follow first next) (is_path (next ∷ states)) path in
+    and_from (may_follow first next) (is_path (next ∷ states ++ state ∷ [])) parts.0 (path-pushed (next ∷ states) state parts.1 ends)
+
+ends-pushed : (states : List State) (last state : State) → ends_before (states ++ last ∷ []) state ≡ may_follow last state
+ends-pushed [] last state = refl
+ends-pushed (first ∷ []) last state = refl
+ends-pushed (first ∷ next ∷ states) last state = ends-pushed (next ∷ states) last state
+
+reversed : (state : State) (states : List State) → reverse (state ∷ states) ≡ reverse states ++ state ∷ []
+reversed state states = reverse-append (state ∷ []) states
+
+-- a path read from its end is a path
+path-reversed : (states : List State) → is_path_back states ≡ true → is_path (reverse states) ≡ true
+path-reversed [] path = refl
+path-reversed (new ∷ []) path = refl
+path-reversed (new ∷ old ∷ older) path =
+    let parts = and_parts (may_follow old new) (is_path_back (old ∷ older)) path in
+    let ends : ends_before (reverse (old ∷ older)) new ≡ true =
+    ap (λ states. ends_before states new) (reversed old older) ∙ ends-pushed (reverse older) old new ∙ parts.0 in
+    rw (reversed new (old ∷ older)) (path-pushed (reverse (old ∷ older)) new (path-reversed (old ∷ older) parts.1) ends)
+
+pub reports_follow_paths : ReportsArePaths
+reports_follow_paths history legal tag service = path-reversed (states_in service (since_docking (past tag history))) (paths-back history legal tag service)

@@ -1,0 +1,61 @@
+-- A history, and looking back in it. A history lists the newest entry first.
+use Rattle.std.specs.Prelude.{ℕ, Bool, true, false, ◌&&◌, List, [], ◌∷◌, filter, Option, None, if◌then◌else◌}
+use Rattle.std.specs.List.{list_any}
+use Rattle.std.specs.Option.{option_or}
+use Rattle.std.specs.Str.{bytes_eq}
+use Rattle.pol_events.specs.Events.{EventForm, plug, report, EntryForm}
+use Rattle.pol_events.specs.declared.answer.Answer.{Answer}
+use Rattle.pol_events.specs.declared.answer.Answer.TheVariants.{Refused}
+
+-- the events with their answers, the newest first
+abbrev pub History : Type 0
+History = List EntryForm
+
+-- the name is one of these
+abbrev pub is_among : List (List ℕ) → List ℕ → Bool
+is_among names name = list_any (λ each. bytes_eq each name) names
+
+-- whom an event is of
+pub data Subject : Type 0 where
+  of_module : (tag : List ℕ) → Subject
+  of_batch : (batch : List ℕ) → Subject
+  of_recipe : (recipe : List ℕ) → Subject
+
+-- the module, batch or recipe that an event is of
+abbrev pub subject : EventForm → Subject
+subject (plug at tag description) = of_module tag
+subject (report at tag service control) = of_module tag
+
+-- the answer is no refusal
+abbrev pub is_accepted : Answer → Bool
+is_accepted (Refused rule) = false
+is_accepted _ = true
+
+-- the subject is this module
+abbrev pub is_module : List ℕ → Subject → Bool
+is_module tag (of_module other) = bytes_eq other tag
+is_module tag (of_batch batch) = false
+is_module tag (of_recipe recipe) = false
+
+-- an accepted event of the module
+abbrev pub is_accepted_of : List ℕ → EntryForm → Bool
+is_accepted_of tag entry = is_module tag (subject entry.event) && is_accepted entry.answer
+
+-- the accepted events of a module: its past
+abbrev pub past : List ℕ → History → History
+past tag history = filter (is_accepted_of tag) history
+
+-- what the newest entry says that says something
+abbrev pub last_of : {A : Type 0} → (EntryForm → Option A) → History → Option A
+last_of says [] = None
+last_of says (entry ∷ older) = option_or (says entry) (last_of says older)
+
+-- the entries since the newest one that passes the test, that one included
+abbrev pub since : (EntryForm → Bool) → History → History
+since test [] = []
+since test (entry ∷ older) = if test entry then entry ∷ [] else entry ∷ since test older
+
+-- the entries after the newest one that passes the test
+abbrev pub after_last : (EntryForm → Bool) → History → History
+after_last test [] = []
+after_last test (entry ∷ older) = if test entry then [] else entry ∷ after_last test older

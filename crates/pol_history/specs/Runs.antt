@@ -1,0 +1,40 @@
+-- Runs of events, and legal histories.
+use Rattle.std.specs.Prelude.{Bool, true, false, ◌≡◌, List, [], ◌∷◌, if◌then◌else◌}
+use Rattle.pol_events.specs.Events.{EventForm, EntryForm}
+use Rattle.pol_events.specs.declared.answer.Answer.{Answer}
+use Rattle.pol_events.specs.declared.answer.Answer.TheVariants.{Refused}
+use Rattle.pol_events.specs.declared.answer.Rule.TheVariants.{HistoryFull}
+use Rattle.pol_history.specs.Looking.{History}
+use Rattle.pol_history.specs.Rules.{answer_of}
+
+-- the event with its answer
+abbrev pub entry_of : History → EventForm → EntryForm
+entry_of history event = record { event = event; answer = answer_of history event }
+
+-- an answer stands in the history, unless the history is full
+abbrev pub is_recorded : Answer → Bool
+is_recorded (Refused HistoryFull) = false
+is_recorded _ = true
+
+-- the history after the entry
+abbrev pub recorded : EntryForm → History → History
+recorded entry history = if is_recorded entry.answer then entry ∷ history else history
+
+-- the entries of the events in their order, after a history
+abbrev pub run_after : History → List EventForm → List EntryForm
+run_after history [] = []
+run_after history (event ∷ events) = entry_of history event ∷ run_after (recorded (entry_of history event) history) events
+
+-- the entries of the events in their order
+abbrev pub run_of : List EventForm → List EntryForm
+run_of events = run_after [] events
+
+-- the history after the events
+abbrev pub history_after : History → List EventForm → History
+history_after history [] = history
+history_after history (event ∷ events) = history_after (recorded (entry_of history event) history) events
+
+-- each answer is the one that the entries before it give
+abbrev pub IsLegal : History → Type 0
+IsLegal [] = Unit {0}
+IsLegal (entry ∷ history) = (entry.answer ≡ answer_of history entry.event) × (is_recorded entry.answer ≡ true) × IsLegal history
