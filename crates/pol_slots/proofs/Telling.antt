@@ -36,8 +36,8 @@ pub tells_set : (slot new : Slot) (service : List ℕ) (place : ℕ) (control : 
 unfolding last_control
 tells_set slot new service place control is controls description other =
     ap (λ described. at_place new.controls.items (service_place other described)) description
-      ∙ ap (λ items. at_place items (service_place other (slot_description slot))) controls
-      ∙ value_at-set service other (slot_description slot).services slot.controls.items place control slot.one_each is
+    ∙ ap (λ items. at_place items (service_place other (slot_description slot))) controls
+    ∙ value_at-set service other (slot_description slot).services slot.controls.items place control slot.one_each is
 
 pub on_ok : {T E : Type 0} (result : Result T E) (P : Type 0) → P → OnOk result P
 on_ok (Ok value) P holds = holds
