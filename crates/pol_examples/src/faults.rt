@@ -1,0 +1,57 @@
+//! Faults of the source, of the sink and of the input's size.
+use super::runs::{run_failing, words_of};
+use pol_cli::{Status, top};
+use pol_io::{SureSink, SureSource};
+use std::test::Fail;
+
+const PLUG_AND_REPORT: &str =
+    "{\"at\":1,\"desc\":{\"services\":[{\"name\":\"dose\"}],\"type\":\"Doser\",\"version\":\"1.0.0\"},\"ev\":\"plug\",\"tag\":\"M1\"}\n{\"CommandEn\":4,\"Mode\":\"Automatic\",\"ProcedureCur\":0,\"Src\":\"External\",\"StateCur\":16,\"at\":2,\"ev\":\"report\",\"service\":\"dose\",\"tag\":\"M1\"}\n";
+
+#[test]
+fn a_read_that_fails_writes_nothing(rt: HostRuntime) -> Result<(), Fail> {
+    let (status, same) = run_failing(rt.alloc(), PLUG_AND_REPORT, 1, 0, "")?;
+    assert_eq!(rt; status, Status::ReadFault);
+    assert!(rt; same);
+    Ok(())
+}
+
+#[test]
+fn a_write_that_fails_keeps_the_lines_before_it(rt: HostRuntime) -> Result<(), Fail> {
+    let cases: [(u32, &str); 3] = [
+        (1, ""),
+        (2, "{\"done\":true}\n"),
+        (3, "{\"done\":true}\n{\"done\":true}\n"),
+    ];
+    for (write, output) in cases {
+        let (status, same) = run_failing(rt.alloc(), PLUG_AND_REPORT, 0, write, output)?;
+        assert_eq!(rt; status, Status::WriteFault);
+        assert!(rt; same);
+    }
+    Ok(())
+}
+
+#[test]
+fn a_line_too_long_is_told_and_skipped(rt: HostRuntime) -> Result<(), Fail> {
+    let mut input = vec![in rt.alloc(); b'a'; 1_048_577]?;
+    input.extend_from_slice(b"\n[]\n")?;
+    let words = words_of(rt.alloc(), "pol --job replay")?;
+    let mut source = SureSource::new(input);
+    let mut sink = SureSink::new(rt.alloc());
+    let status = top(rt.alloc(), &words, &mut source, &mut sink);
+    let output =
+        "{\"bad\":\"TooLong\",\"path\":\"\"}\n{\"bad\":\"WrongKind\",\"path\":\"\"}\n{\"end\":true}\n";
+    assert_eq!(rt; status, Status::Good);
+    assert!(rt; sink.bytes() == output.as_bytes());
+    Ok(())
+}
+
+#[test]
+fn too_much_input_is_a_status(rt: HostRuntime) -> Result<(), Fail> {
+    let words = words_of(rt.alloc(), "pol --job replay")?;
+    let mut source = SureSource::new(vec![in rt.alloc(); b' '; 268_435_457]?);
+    let mut sink = SureSink::new(rt.alloc());
+    let status = top(rt.alloc(), &words, &mut source, &mut sink);
+    assert_eq!(rt; status, Status::TooMuchInput);
+    assert!(rt; sink.bytes().is_empty());
+    Ok(())
+}

@@ -1,0 +1,44 @@
+//! Running the program's jobs over memory.
+use pol_cli::{Status, top};
+use pol_io::{MemorySink, MemorySource, SureSink, SureSource};
+use std::alloc::{AllocError, Global};
+
+/// The words of a command line, cut at its spaces.
+pub fn words_of(alloc: Global, line: &str) -> Result<Vec<String>, AllocError> {
+    let mut words = Vec::new(alloc);
+    for word in line.split(' ') {
+        words.push(word.to_string(alloc)?)?;
+    }
+    Ok(words)
+}
+
+/// The status of a run, and whether this is its output.
+pub fn run(
+    alloc: Global,
+    line: &str,
+    journal: &str,
+    output: &str,
+) -> Result<(Status, bool), AllocError> {
+    let words = words_of(alloc, line)?;
+    let mut source = SureSource::new(journal.as_bytes().to_vec(alloc)?);
+    let mut sink = SureSink::new(alloc);
+    let status = top(alloc, &words, &mut source, &mut sink);
+    Ok((status, sink.bytes() == output.as_bytes()))
+}
+
+/// The same with a source whose call `read` fails and a sink whose call `write` fails, both counted from 1; no call has
+/// the number 0.
+pub fn run_failing(
+    alloc: Global,
+    journal: &str,
+    read: u32,
+    write: u32,
+    output: &str,
+) -> Result<(Status, bool), AllocError> {
+    let words = words_of(alloc, "pol --job replay")?;
+    let bytes = journal.as_bytes().to_vec(alloc)?;
+    let mut source = MemorySource::new(bytes, vec![in alloc; read]?);
+    let mut sink = MemorySink::new(alloc, vec![in alloc; write]?);
+    let status = top(alloc, &words, &mut source, &mut sink);
+    Ok((status, sink.bytes() == output.as_bytes()))
+}
