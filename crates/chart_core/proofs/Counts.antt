@@ -1,0 +1,16 @@
+-- Counting arms, and counting down past a tree.
+use Rattle.std.specs.Prelude.{ℕ, ◌≡◌, ◌≢◌, ◌+◌, ◌-◌, false, nat_lt, suc, List, [], ◌∷◌, length, refl}
+use Rattle.std.proofs.Common.{arith, ap}
+use Rattle.chart_core.specs.Trees.{arms, arm_count}
+use Rattle.chart_core.specs.declared.node.Arm.{Arm}
+use Rattle.std.proofs.lemmas.Bool.Decides.{nat_tests}
+
+pub still_left : (place size : ℕ) → ((place + 1) - size) - 1 ≡ place - size
+still_left place size = omega arith
+
+pub not_below : (place size : ℕ) → (place + 1) - size ≢ 0 → nat_lt place size ≡ false
+not_below place size beyond = grind (arith, nat_tests)
+
+pub count_arms : (each : List Arm) → arm_count (arms each) ≡ length each
+count_arms [] = refl
+count_arms (arm ∷ each) = ap suc (count_arms each)

@@ -1,0 +1,16 @@
+-- A valid chart has few nodes.
+use Rattle.std.specs.Prelude.{◌≡◌, ◌≤◌, ◌<◌, ◌^◌, List, length}
+use Rattle.std.proofs.Common.{arith}
+use Rattle.chart_core.specs.Trees.{tree, size}
+use Rattle.chart_core.specs.Charts.{plan}
+use Rattle.chart_core.specs.Valid.{IsValid}
+use Rattle.chart_core.specs.declared.chart.Chart.{Chart}
+use Rattle.chart_core.specs.declared.progress.Progress.{Progress}
+use Rattle.chart_core.proofs.Validity.{valid_small}
+
+pub few_nodes : (chart : Chart) → IsValid (plan chart) → size (tree chart.root) ≤ 4096
+few_nodes chart valid = valid_small (plan chart) chart.form valid
+
+-- and so few marks
+pub few_marks : (chart : Chart) (marks : List Progress) → IsValid (plan chart) → length marks ≡ size (tree chart.root) → length marks < 2 ^ 32
+few_marks chart marks valid room = let small = few_nodes chart valid in omega arith

@@ -1,0 +1,16 @@
+pub mod Tests
+pub mod Counts
+pub mod Items
+pub mod Growing
+pub mod Formed
+pub mod Walking
+pub mod Cuts
+pub mod Relations
+pub mod Link
+pub mod Onward
+pub mod Changing
+pub mod Apart
+pub mod Validity
+pub mod Fronts
+pub mod Logs
+pub mod Few

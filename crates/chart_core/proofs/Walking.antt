@@ -1,0 +1,143 @@
+-- A walk through a chart finds the first fault in chart order.
+use Rattle.std.specs.Prelude.{ℕ, ◌≡◌, ◌+◌, List, [], ◌∷◌, ◌++◌, Option, Some, None, Ok, Err, refl}
+use Rattle.std.proofs.Common.{ap, sym, ◌∙◌, arith}
+use Rattle.chart_core.specs.Trees.{Tree, Trees, Arms, leaf, seq, par, choice, loop, no_trees, more_trees, no_arms, more_arms, size, sizes, arm_sizes}
+use Rattle.chart_core.specs.Roles.{ChartPlan}
+use Rattle.chart_core.specs.Valid.{Visit, visit, visits, all_visits, arm_visits, step_count, step_counts, arm_step_counts, or_else, node_fault, first_fault, chart_fault}
+use Rattle.chart_core.specs.Walks.{Walk, stop_at, and_on, one_on, walked, walked_all, walked_arms, ended}
+use Rattle.chart_core.specs.declared.fault.ChartFault.{ChartFault}
+use Rattle.chart_core.specs.declared.valid.Reached.{Reached}
+
+or_else_assoc : (one other third : Option ChartFault) → or_else (or_else one other) third ≡ or_else one (or_else other third)
+or_else_assoc None other third = refl
+or_else_assoc (Some fault) other third = refl
+
+pub first_fault-append :
+    (chart : ChartPlan) (front back : List Visit)
+    → first_fault chart (front ++ back) ≡ or_else (first_fault chart front) (first_fault chart back)
+first_fault-append chart [] back = refl
+first_fault-append chart (node ∷ front) back =
+    ap (or_else (node_fault chart node)) (first_fault-append chart front back)
+    ∙ sym (or_else_assoc (node_fault chart node) (first_fault chart front) (first_fault chart back))
+
+stop_ended : (one other : Option ChartFault) (there : Reached) → stop_at one (ended other there) ≡ ended (or_else one other) there
+stop_ended None other there = refl
+stop_ended (Some fault) other there = refl
+
+on_ended :
+    (one other : Option ChartFault) (there last : Reached) (onward : Reached → Walk)
+    → onward there ≡ ended other last → and_on (ended one there) onward ≡ ended (or_else one other) last
+on_ended None other there last onward h = h
+on_ended (Some fault) other there last onward h = refl
+
+-- behind a tree of so many nodes and steps
+abbrev behind : Reached → ℕ → ℕ → Reached
+behind here nodes steps = record { number = here.number + nodes; steps = here.steps + steps }
+
+behind_one : (here : Reached) (nodes steps : ℕ) → behind (one_on here) nodes steps ≡ behind here (1 + nodes) steps
+behind_one here nodes steps =
+    ap (λ n. record { number = n; steps = here.steps + steps }) (let e : here.number + 1 + nodes ≡ here.number + (1 + nodes) = omega arith in e)
+
+behind_both :
+    (here : Reached) (nodes steps nodes1 steps1 : ℕ)
+    → behind (behind here nodes steps) nodes1 steps1 ≡ behind here (nodes + nodes1) (steps + steps1)
+behind_both here nodes steps nodes1 steps1 =
+    let n : here.number + nodes + nodes1 ≡ here.number + (nodes + nodes1) = omega arith in
+    let k : here.steps + steps + steps1 ≡ here.steps + (steps + steps1) = omega arith in
+    ap (λ m. record { number = m; steps = here.steps + steps + steps1 }) n ∙ ap (λ m. record { number = here.number + (nodes + nodes1); steps = m }) k
+
+-- from a node down to its children
+down :
+    (chart : ChartPlan) (node : Visit) (below : List Visit) (onward : Walk) (here : Reached) (nodes steps : ℕ)
+    → onward ≡ ended (first_fault chart below) (behind (one_on here) nodes steps)
+    → stop_at (node_fault chart node) onward ≡ ended (first_fault chart (node ∷ below)) (behind here (1 + nodes) steps)
+down chart node below onward here nodes steps h =
+    ap (stop_at (node_fault chart node)) h
+    ∙ stop_ended (node_fault chart node) (first_fault chart below) (behind (one_on here) nodes steps)
+    ∙ ap (ended (or_else (node_fault chart node) (first_fault chart below))) (behind_one here nodes steps)
+
+-- from one tree to those behind it
+across :
+    (chart : ChartPlan) (front back : List Visit) (one : Walk) (onward : Reached → Walk) (here : Reached) (nodes steps nodes1 steps1 : ℕ)
+    → one ≡ ended (first_fault chart front) (behind here nodes steps)
+    → onward (behind here nodes steps) ≡ ended (first_fault chart back) (behind (behind here nodes steps) nodes1 steps1)
+    → and_on one onward ≡ ended (first_fault chart (front ++ back)) (behind here (nodes + nodes1) (steps + steps1))
+across chart front back one onward here nodes steps nodes1 steps1 h k =
+    ap (λ walk. and_on walk onward) h
+    ∙ on_ended (first_fault chart front) (first_fault chart back) (behind here nodes steps) (behind here (nodes + nodes1) (steps + steps1)) onward
+    (k ∙ ap (ended (first_fault chart back)) (behind_both here nodes steps nodes1 steps1))
+    ∙ ap (λ fault. ended fault (behind here (nodes + nodes1) (steps + steps1))) (sym (first_fault-append chart front back))
+
+none_behind : (here : Reached) → here ≡ behind here 0 0
+none_behind here =
+    let n : here.number ≡ here.number + 0 = omega arith in
+    let k : here.steps ≡ here.steps + 0 = omega arith in
+    ap (λ m. record { number = m; steps = here.steps }) n ∙ ap (λ m. record { number = here.number + 0; steps = m }) k
+
+mutual
+  pub walk_ends :
+      (chart : ChartPlan) (each : Tree) (depth : ℕ) (here : Reached)
+      → walked chart each depth here ≡ ended (first_fault chart (visits each here.number depth here.steps)) (behind here (size each) (step_count each))
+  walk_ends chart (leaf step) depth here =
+      stop_ended (node_fault chart (visit (leaf step) here.number depth here.steps)) None (behind here 1 1)
+  walk_ends chart (seq each) depth here =
+      down chart (visit (seq each) here.number depth here.steps) (all_visits each (here.number + 1) (depth + 1) here.steps)
+      (walked_all chart each (depth + 1) (one_on here)) here (sizes each) (step_counts each)
+      (walk_all_ends chart each (depth + 1) (one_on here))
+  walk_ends chart (par each) depth here =
+      down chart (visit (par each) here.number depth here.steps) (all_visits each (here.number + 1) (depth + 1) here.steps)
+      (walked_all chart each (depth + 1) (one_on here)) here (sizes each) (step_counts each)
+      (walk_all_ends chart each (depth + 1) (one_on here))
+  walk_ends chart (choice each) depth here =
+      down chart (visit (choice each) here.number depth here.steps) (arm_visits each (here.number + 1) (depth + 1) here.steps)
+      (walked_arms chart each (depth + 1) (one_on here)) here (arm_sizes each) (arm_step_counts each)
+      (walk_arms_ends chart each (depth + 1) (one_on here))
+  walk_ends chart (loop body until) depth here =
+      down chart (visit (loop body until) here.number depth here.steps) (visits body (here.number + 1) (depth + 1) here.steps)
+      (walked chart body (depth + 1) (one_on here)) here (size body) (step_count body)
+      (walk_ends chart body (depth + 1) (one_on here))
+
+  pub walk_all_ends :
+      (chart : ChartPlan) (each : Trees) (depth : ℕ) (here : Reached)
+      → walked_all chart each depth here ≡ ended (first_fault chart (all_visits each here.number depth here.steps)) (behind here (sizes each) (step_counts each))
+  walk_all_ends chart no_trees depth here = ap Ok (none_behind here)
+  walk_all_ends chart (more_trees each others) depth here =
+      across chart (visits each here.number depth here.steps)
+      (all_visits others (here.number + size each) depth (here.steps + step_count each))
+      (walked chart each depth here) (walked_all chart others depth) here (size each) (step_count each) (sizes others) (step_counts others)
+      (walk_ends chart each depth here) (walk_all_ends chart others depth (behind here (size each) (step_count each)))
+
+  pub walk_arms_ends :
+      (chart : ChartPlan) (each : Arms) (depth : ℕ) (here : Reached)
+      → walked_arms chart each depth here ≡ ended (first_fault chart (arm_visits each here.number depth here.steps)) (behind here (arm_sizes each) (arm_step_counts each))
+  walk_arms_ends chart no_arms depth here = ap Ok (none_behind here)
+  walk_arms_ends chart (more_arms when each others) depth here =
+      across chart (visits each here.number depth here.steps)
+      (arm_visits others (here.number + size each) depth (here.steps + step_count each))
+      (walked chart each depth here) (walked_arms chart others depth) here (size each) (step_count each) (arm_sizes others) (arm_step_counts others)
+      (walk_ends chart each depth here) (walk_arms_ends chart others depth (behind here (size each) (step_count each)))
+
+clear : (one : Option ChartFault) (there : Reached) (last : Reached) → ended one there ≡ Ok last → one ≡ None
+clear None there last h = refl
+clear (Some fault) there last h = cc
+
+stopped : (one : Option ChartFault) (there : Reached) (fault : ChartFault) → ended one there ≡ Err fault → one ≡ Some fault
+stopped None there fault h = cc
+stopped (Some found) there fault h = cc
+
+-- where the walk through the whole chart comes to its end, the chart has no fault
+pub walk_clear :
+    (chart : ChartPlan) (here last : Reached) → here.number ≡ 0 → here.steps ≡ 0 → walked chart chart.root 1 here ≡ Ok last → chart_fault chart ≡ None
+walk_clear chart here last n k h =
+    let same : chart_fault chart ≡ first_fault chart (visits chart.root here.number 1 here.steps)
+    = ap (λ m. first_fault chart (visits chart.root m 1 0)) (sym n) ∙ ap (λ m. first_fault chart (visits chart.root here.number 1 m)) (sym k) in
+    same ∙ clear _ (behind here (size chart.root) (step_count chart.root)) last (sym (walk_ends chart chart.root 1 here) ∙ h)
+
+-- where it stops at a fault, this is the chart's first
+pub walk_stopped :
+    (chart : ChartPlan) (here : Reached) (fault : ChartFault) → here.number ≡ 0 → here.steps ≡ 0 → walked chart chart.root 1 here ≡ Err fault
+    → chart_fault chart ≡ Some fault
+walk_stopped chart here fault n k h =
+    let same : chart_fault chart ≡ first_fault chart (visits chart.root here.number 1 here.steps)
+    = ap (λ m. first_fault chart (visits chart.root m 1 0)) (sym n) ∙ ap (λ m. first_fault chart (visits chart.root here.number 1 m)) (sym k) in
+    same ∙ stopped _ (behind here (size chart.root) (step_count chart.root)) fault (sym (walk_ends chart chart.root 1 here) ∙ h)

@@ -1,0 +1,20 @@
+use Rattle.std.proofs.Common.{sym, ◌∙◌}
+use Rattle.chart_core.specs.Charts.{plan}
+use Rattle.chart_core.proofs.Few.{few_marks}
+use Rattle.chart_core.proofs.Logs.{step_stands, stuck}
+use Rattle.chart_core.proofs.marks.take_entry.Goals as goal
+
+pub follow-requires-clause-short : goal.follow-requires-clause-short
+follow-requires-clause-short c = few_marks c.args.chart.now c.args.marks.now c.requires.valid c.requires.room
+
+pub returns-in-Some-clause-taken : goal.returns-in-Some-clause-taken
+returns-in-Some-clause-taken c =
+    λ _ log stands.
+    step_stands (plan c.args.chart.now) c.args.marks.now c.make.new.marks log c.args.entry.now c.in-Some.change c.requires.valid stands
+    (sym c.follow.ensures.change ∙ c.in-Some.is) c.make.ensures
+
+pub returns-in-None-clause-refused : goal.returns-in-None-clause-refused
+returns-in-None-clause-refused c =
+    λ _ log back stands partial.
+    stuck (plan c.args.chart.now) c.args.marks.now log c.args.entry.now back c.requires.valid stands
+    (sym c.follow.ensures.change ∙ c.in-None.is) partial

@@ -1,0 +1,24 @@
+use Rattle.std.proofs.Common.{◌≡◌, ◌+◌, ◌*◌, ◌<◌, ◌≤◌, drop, IsTrue}
+use Rattle.chart_core.specs.Trees.{trees, arms}
+use Rattle.chart_core.specs.Form.{are_trees_formed, are_arms_formed}
+use Rattle.chart_core.specs.Charts.{plan}
+use Rattle.chart_core.specs.Walks.{walked_all, walked_arms}
+use Rattle.chart_core.proofs.valid.+walk.Given as goal
+
+abbrev pub invariant-walk_all-loop-kid : goal.invariant-walk_all-loop-kid
+invariant-walk_all-loop-kid l = record {
+  formed : IsTrue (are_trees_formed (trees (drop l.kid-index l.kids)));
+  near : l.here.number < 16 * l.here.steps + l.depth;
+  behind : 0 < l.kid-index → l.here.number ≤ 16 * l.here.steps;
+  few : l.here.steps ≤ 256;
+  rest : walked_all (plan l.chart) (trees (drop l.kid-index l.kids)) l.depth l.here ≡ walked_all (plan l.chart) (trees l.kids) l.depth l.fn.first;
+}
+
+abbrev pub invariant-walk_arms-loop-arm : goal.invariant-walk_arms-loop-arm
+invariant-walk_arms-loop-arm l = record {
+  formed : IsTrue (are_arms_formed (arms (drop l.arm-index l.each)));
+  near : l.here.number < 16 * l.here.steps + l.depth;
+  behind : 0 < l.arm-index → l.here.number ≤ 16 * l.here.steps;
+  few : l.here.steps ≤ 256;
+  rest : walked_arms (plan l.chart) (arms (drop l.arm-index l.each)) l.depth l.here ≡ walked_arms (plan l.chart) (arms l.each) l.depth l.fn.first;
+}

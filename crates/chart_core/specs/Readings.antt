@@ -1,0 +1,22 @@
+-- How at most four readings are kept inline.
+use Rattle.std.specs.Prelude.{ℕ, List, length, ◌≡◌, ◌≤◌, ◌-◌, ◌++◌, take, drop, replicate, false}
+use Rattle.std.proofs.Common.{take-append-drop, arith}
+use Rattle.std.proofs.lemmas.List.{length-take-le}
+use Rattle.mtp_codes.specs.declared.value.Reading.{Reading}
+use Rattle.mtp_codes.specs.declared.value.Reading.TheVariants.{Bit}
+
+-- the first `len` items are in use, and the others are blank
+pub record IsKept (items : List Reading) (len : ℕ) : Type 0 where
+  pub whole : length items ≡ 4
+  pub fits : len ≤ 4
+  pub blanks : drop len items ≡ replicate (4 - len) (Bit false)
+
+-- these readings with blanks behind them
+abbrev pub filled_up : List Reading → List Reading
+filled_up used = used ++ replicate (4 - length used) (Bit false)
+
+pub length-used : (items : List Reading) (len : ℕ) → IsKept items len → length (take len items) ≡ len
+length-used items len kept = let inside : len ≤ length items = omega arith in length-take-le len items inside
+
+pub filled_up-used : (items : List Reading) (len : ℕ) → IsKept items len → filled_up (take len items) ≡ items
+filled_up-used items len kept = rw (length-used items len kept, ← kept.blanks, take-append-drop len items)

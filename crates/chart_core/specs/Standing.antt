@@ -1,0 +1,11 @@
+-- Which logs the marks of a chart stand for.
+use Rattle.std.specs.Prelude.{List}
+use Rattle.chart_core.specs.Roles.{ChartPlan}
+use Rattle.chart_core.specs.Runs.{course_of, word}
+use Rattle.chart_core.specs.Progress.{Stands, marks_of}
+use Rattle.chart_core.specs.declared.progress.Progress.{Progress}
+use Rattle.chart_core.specs.declared.entry.LogEntry.{LogEntry}
+
+-- the marks, one for each node, stand for the log: how far each node has come after it
+abbrev pub StandsFor : ChartPlan → List Progress → List LogEntry → Type 0
+StandsFor chart marks log = Stands (course_of chart) (marks_of marks) (word log)

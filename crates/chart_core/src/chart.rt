@@ -1,0 +1,17 @@
+//! Charts with their roles.
+ghost use Rattle.std.specs.Prelude.{IsTrue};
+ghost use Rattle.chart_core.specs.Roles.{has_form};
+
+use super::node::Node;
+use super::role::Role;
+
+/// A chart: its roles, and its nodes under one root.
+///
+/// It has 1 to 64 distinct roles, each list of nodes, arms, settings and conditions is as long as its kind allows, and
+/// procedures are from 1: `specs/Form.antt` says it. Whether the chart is valid is asked beside this.
+#[derive(Drop)]
+pub struct Chart {
+    pub roles: Vec<Role>,
+    pub root: Node,
+    pub ghost form: { IsTrue (has_form roles.items root) },
+}

@@ -1,0 +1,39 @@
+//! Recipe charts: procedures of steps in sequence, in parallel, by choice and in loops (after the procedure function
+//! charts of ISA-88, IEC 61512-2), the entries of a batch's log, and which words of entries are runs of a chart.
+//!
+//! It knows nothing of modules, plants or any text form. `Chart::valid` answers exactly the first fault of a chart.
+//! The definitions of complete and partial runs (`specs/Runs.antt`) and how far each node has come stand here for the
+//! crates that ask a word and that follow one.
+#![tactic(auto)]
+
+mod chart;
+mod condition;
+mod entry;
+mod fault;
+mod following;
+mod marks;
+mod node;
+mod progress;
+mod readings;
+mod reads;
+mod role;
+mod size;
+mod steps;
+mod truth;
+mod valid;
+mod why;
+
+pub use chart::Chart;
+pub use condition::{Condition, Op};
+pub use entry::LogEntry;
+pub use fault::ChartFault;
+pub use following::{Followed, follow};
+pub use marks::{chart_size, is_done, take_entry, untouched};
+pub use node::{Arm, Node, Step};
+pub use progress::{Change, Progress};
+pub use readings::Readings;
+pub use reads::{Read, Reads, place_among, reads_of_arms, reads_of_condition};
+pub use role::Role;
+pub use size::{arms_count, node_count};
+pub use truth::{is_true, passes};
+pub use why::Why;

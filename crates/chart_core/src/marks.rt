@@ -1,0 +1,85 @@
+//! The marks of a chart: one for each node, which says how far it has come.
+ghost use Rattle.std.specs.Prelude.{◌≡◌, ◌≤◌, ◌<◌, ◌^◌, ◌++◌, ◌∷◌, [], ℕ, List, length, IsTrue, IsFalse, IfOk};
+ghost use Rattle.chart_core.specs.Trees.{tree, size};
+ghost use Rattle.chart_core.specs.Charts.{plan};
+ghost use Rattle.chart_core.specs.Valid.{IsValid};
+ghost use Rattle.chart_core.specs.Runs.{IsPartial, IsComplete};
+ghost use Rattle.chart_core.specs.Progress.{marks_of};
+ghost use Rattle.chart_core.specs.Changes.{changed, FitsIn};
+ghost use Rattle.chart_core.specs.Standing.{StandsFor};
+ghost use Rattle.chart_core.specs.declared.entry.LogEntry.{LogEntry};
+
+use super::chart::Chart;
+use super::entry::LogEntry;
+use super::following::follow;
+use super::progress::{Change, Progress};
+use super::size::node_count;
+use std::alloc::{AllocError, Global};
+
+fn make(marks: &mut [Progress], change: Change)
+    requires { FitsIn (length marks.old) change }
+    ensures { (i : ℕ) → marks_of marks.new i ≡ changed change (marks_of marks.old) i }
+{
+    match change {
+        Change::Put { place, to } => marks[place as usize] = to,
+        Change::Clear { above, below } => {
+            for i in above as usize + 1..below as usize {
+                marks[i] = Progress::Untouched;
+            }
+        }
+    }
+}
+
+/// How many nodes a valid chart has: at most 4,096.
+pub fn chart_size(chart: &Chart) -> u32
+    requires { IsValid (plan chart.now) }
+    ensures size { result ≡ size (tree chart.now.root) }
+    ensures small { result ≤ 4096 }
+{
+    node_count(&chart.root)
+}
+
+/// The marks of a valid chart of which nothing was done: they stand for the empty log.
+pub fn untouched(alloc: Global, chart: &Chart) -> Result<Vec<Progress>, AllocError>
+    requires { IsValid (plan chart.now) }
+    ensures room { IfOk result (λ marks. length marks.items ≡ size (tree chart.now.root)) }
+    ensures empty { IfOk result (λ marks. StandsFor (plan chart.now) marks.items []) }
+{
+    let mut marks = Vec::new(alloc);
+    for _ in 0..chart_size(chart) {
+        marks.push(Progress::Untouched)?;
+    }
+    Ok(marks)
+}
+
+/// Takes the entry, where it may come next in a run of the valid chart: for each log that the marks stand for, they
+/// stand for it with the entry at its end afterwards. False where it may not come next; the marks are then unchanged.
+/// Walks the chart's nodes once, and takes no memory.
+pub fn take_entry(chart: &Chart, marks: &mut [Progress], entry: &LogEntry) -> bool
+    requires valid { IsValid (plan chart.now) }
+    requires room { length marks.old ≡ size (tree chart.now.root) }
+    ensures taken { IsTrue result → (log : List LogEntry) → StandsFor (plan chart.now) marks.old log
+        → StandsFor (plan chart.now) marks.new (log ++ (entry.now ∷ [])) }
+    ensures refused { IsFalse result → (log back : List LogEntry) → StandsFor (plan chart.now) marks.old log
+        → IsPartial (plan chart.now) (log ++ (entry.now ∷ back)) → ⊥ }
+    ensures unchanged { IsFalse result → marks.new ≡ marks.old }
+{
+    match follow(&chart.root, 0, marks, entry).change {
+        Some(change) => {
+            make(marks, change);
+            true
+        }
+        None => false,
+    }
+}
+
+/// Whether the valid chart is done: exactly where each log that the marks stand for is a complete run.
+pub fn is_done(chart: &Chart, marks: &[Progress]) -> bool
+    requires valid { IsValid (plan chart.now) }
+    requires room { length marks.now ≡ size (tree chart.now.root) }
+    ensures done { IsTrue result → (log : List LogEntry) → StandsFor (plan chart.now) marks.now log → IsComplete (plan chart.now) log }
+    ensures complete { (log : List LogEntry) → StandsFor (plan chart.now) marks.now log → IsComplete (plan chart.now) log → IsTrue result }
+{
+    // Asked with an entry that is of no node.
+    follow(&chart.root, 0, marks, &LogEntry::StopAsked).done
+}

@@ -1,0 +1,85 @@
+//! The readings by which a node decided.
+ghost use Rattle.std.specs.Prelude.{◌≡◌, ◌≤◌, ◌<◌, ◌++◌, ◌∷◌, [], length, nat_le, Some, None, if◌then◌else◌};
+
+use mtp_codes::Reading;
+use std::fmt;
+use std::marker::Model;
+
+/// A list of at most four readings, held inline.
+#[derive(Clone, Copy, PartialEq, Eq)]
+pub struct Readings {
+    items: [Reading; 4],
+    len: usize,
+}
+
+impl Model for Readings {
+    ghost use Rattle.std.specs.Prelude.{List, take};
+    ghost use Rattle.mtp_codes.specs.declared.value.Reading.{Reading};
+
+    ghost Value = { List Reading };
+
+    ghost use Rattle.chart_core.specs.Readings.{IsKept};
+    ghost use Rattle.chart_core.specs.ReadingsFields.{fields_of, fields_of-kept};
+
+    ghost view = { λ readings. take readings.len readings.items };
+
+    ghost invariant = { λ readings. IsKept readings.items readings.len };
+
+    ghost inverse = { fields_of };
+
+    ghost inverse_ok = { fields_of-kept };
+}
+
+impl Readings {
+    /// No reading.
+    pub fn new() -> Readings
+        ensures { result ≡ [] }
+    {
+        Readings {
+            items: [Reading::Bit(false); 4],
+            len: 0,
+        }
+    }
+
+    /// These readings; None exactly where they are more than four.
+    pub fn of_list(list: &[Reading]) -> Option<Readings>
+        ensures { result ≡ if nat_le (length list.now) 4 then Some list.now else None }
+    {
+        if list.len() > 4 {
+            return None;
+        }
+        let mut items = [Reading::Bit(false); 4];
+        items[..list.len()].copy_from_slice(list);
+        Some(Readings {
+            items,
+            len: list.len(),
+        })
+    }
+
+    /// These readings with one more behind them.
+    pub fn with(self, reading: Reading) -> Readings
+        requires { length self < 4 }
+        ensures { result ≡ self ++ (reading ∷ []) }
+    {
+        let mut items = self.items;
+        items[self.len] = reading;
+        Readings {
+            items,
+            len: self.len + 1,
+        }
+    }
+
+    /// The readings.
+    pub fn as_list(&self) -> &[Reading]
+        ensures list { result.now ≡ self.now }
+        ensures few { length self.now ≤ 4 }
+    {
+        &self.items[..self.len]
+    }
+}
+
+impl fmt::Debug for Readings {
+    fn fmt<W: fmt::Write>(&self, f: &mut fmt::Formatter<W>) -> fmt::Result {
+        fmt::Debug::fmt(self.as_list(), f)
+    }
+}

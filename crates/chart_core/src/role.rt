@@ -1,0 +1,16 @@
+//! Roles of a chart.
+ghost use Rattle.chart_core.specs.Requirements.{IsReadTo};
+
+use mtp_codes::{Name, Short};
+use semver::VersionReq;
+
+/// A role of a chart: which type of module may play it, and in which versions. `req` is what the text `wants` reads to,
+/// as `semver` reads a requirement.
+#[derive(Drop)]
+pub struct Role {
+    pub role: Name,
+    pub type_name: Name,
+    pub wants: Short,
+    pub req: VersionReq,
+    pub ghost reads: { IsReadTo wants req },
+}

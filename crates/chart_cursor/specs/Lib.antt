@@ -1,0 +1,6 @@
+pub mod Sights
+pub mod Ready
+pub mod Spots
+pub mod Next
+pub mod Kept
+pub mod Running

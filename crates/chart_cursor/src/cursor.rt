@@ -1,0 +1,111 @@
+//! A cursor over a chart.
+ghost use Rattle.std.specs.Prelude.{◌≡◌, ◌++◌, ◌∷◌, [], List, IfOk, Some, None};
+ghost use Rattle.chart_core.specs.Active.{active_steps};
+ghost use Rattle.chart_core.specs.Charts.{plan};
+ghost use Rattle.chart_core.specs.Valid.{IsValid};
+ghost use Rattle.chart_core.specs.Runs.{IsPartial, IsComplete};
+ghost use Rattle.chart_core.specs.Progress.{marks_of};
+ghost use Rattle.chart_core.specs.Standing.{StandsFor};
+ghost use Rattle.chart_core.specs.declared.entry.LogEntry.{LogEntry};
+ghost use Rattle.chart_cursor.specs.declared.next.CursorNext.TheVariants.{Whole};
+ghost use Rattle.chart_core.specs.Trees.{tree};
+ghost use Rattle.chart_cursor.specs.Spots.{spots};
+ghost use Rattle.chart_cursor.specs.Running.{is_wanted, first_placed, first_running, name_of};
+ghost use Rattle.chart_cursor.specs.Next.{IsNext, ready_after, next_after};
+
+use super::next::CursorNext;
+use super::running::{Wanted, name_alone, run};
+use super::scanning::scan;
+use super::sight::Seen;
+use chart_core::{Chart, LogEntry, Progress, take_entry, untouched};
+use mtp_codes::Name;
+use std::alloc::{AllocError, Global};
+use std::marker::Model;
+use std::sync::Arc;
+
+/// How far a run of a valid chart has come: for each node, by its number. A cursor doesn't keep the entries that it took;
+/// it stands for a word of entries by the relation `StandsFor`.
+#[derive(Drop)]
+pub struct Cursor {
+    chart: Arc<Chart>,
+    marks: Vec<Progress>,
+}
+
+impl Model for Cursor {
+    ghost use Rattle.chart_cursor.specs.Kept.{Kept, IsKept};
+    ghost use Rattle.chart_core.specs.contracts.chart.Chart as chart_type;
+    ghost use Rattle.chart_core.specs.contracts.progress.Progress as progress_type;
+    ghost use Rattle.std.specs.Coded.{codes};
+
+    ghost Value = { Kept };
+
+    ghost coded = { Prim.hlevel (codes, chart_type.the_row.coded, progress_type.the_row.coded) };
+
+    ghost view = { λ cursor. record { chart = cursor.chart.value; marks = cursor.marks.items } };
+
+    ghost invariant = { λ cursor. IsKept (record { chart = cursor.chart.value; marks = cursor.marks.items }) };
+}
+
+impl Cursor {
+    /// A cursor at the start of the valid chart: it stands for the empty word.
+    ///
+    /// # Errors
+    ///
+    /// AllocError where memory is wanting for one mark for each node.
+    pub fn new(alloc: Global, chart: Arc<Chart>) -> Result<Cursor, AllocError>
+        requires { IsValid (plan chart.value) }
+        ensures chart { IfOk result (λ cursor. cursor.chart ≡ chart.value) }
+        ensures empty { IfOk result (λ cursor. StandsFor (plan cursor.chart) cursor.marks []) }
+    {
+        let marks = untouched(alloc, &chart)?;
+        Ok(Cursor { chart, marks })
+    }
+
+    /// Takes the entry, which goes on a word that the cursor stands for: afterwards the cursor stands for each such word
+    /// with the entry at its end. Walks the chart's nodes once, and takes no memory.
+    pub fn take(&mut self, entry: LogEntry)
+        requires { (word : List LogEntry) × StandsFor (plan self.old.chart) self.old.marks word
+            × IsPartial (plan self.old.chart) (word ++ (entry ∷ [])) }
+        ensures chart { self.new.chart ≡ self.old.chart }
+        ensures word { (word : List LogEntry) → StandsFor (plan self.old.chart) self.old.marks word
+            → StandsFor (plan self.new.chart) self.new.marks (word ++ (entry ∷ [])) }
+    {
+        let _ = take_entry(&self.chart, &mut self.marks, &entry);
+    }
+
+    /// What comes next, by what is seen of the modules: the entry of the first awaited node in chart order that is ready;
+    /// where none is, the first obstacle of the first awaited node; Whole exactly where the word is a complete run.
+    /// Walks the chart's nodes once, and takes no memory.
+    pub fn first_ready<S: Seen>(&self, seen: &S) -> CursorNext
+        ensures next { (word : List LogEntry) → StandsFor (plan self.now.chart) self.now.marks word
+            → IsNext (plan self.now.chart) word (ready_after (plan self.now.chart) word (S.sights seen.now)) result }
+        ensures same { (word : List LogEntry) → StandsFor (plan self.now.chart) self.now.marks word → result ≡ next_after (plan self.now.chart) word (S.sights seen.now) }
+        ensures whole { (word : List LogEntry) → StandsFor (plan self.now.chart) self.now.marks word → IsComplete (plan self.now.chart) word → result ≡ Whole }
+    {
+        scan(&self.chart.root, 0, &self.marks, seen).next
+    }
+
+    /// The first active step whose node is at least `from`, with the node's number; None where there is no such active
+    /// step. Walks the chart's nodes once, and takes no memory.
+    pub fn next_active(&self, from: u32) -> Option<(u32, Name)>
+        ensures marks { result ≡ first_running (is_wanted from None) (spots (tree self.now.chart.root) 0 (marks_of self.now.marks)) }
+        ensures word { (word : List LogEntry) → StandsFor (plan self.now.chart) self.now.marks word
+            → result ≡ first_placed (is_wanted from None) (active_steps (plan self.now.chart) word) }
+    {
+        let wanted = Wanted { from, role: None };
+        run(&self.chart.root, 0, &self.marks, &wanted).found
+    }
+
+    /// The first active step of the role; None where there is none. Walks the chart's nodes once, and takes no memory.
+    pub fn active_on(&self, role: Name) -> Option<Name>
+        ensures marks { result ≡ name_of (first_running (is_wanted 0 (Some role)) (spots (tree self.now.chart.root) 0 (marks_of self.now.marks))) }
+        ensures word { (word : List LogEntry) → StandsFor (plan self.now.chart) self.now.marks word
+            → result ≡ name_of (first_placed (is_wanted 0 (Some role)) (active_steps (plan self.now.chart) word)) }
+    {
+        let wanted = Wanted {
+            from: 0,
+            role: Some(role),
+        };
+        name_alone(run(&self.chart.root, 0, &self.marks, &wanted).found)
+    }
+}
