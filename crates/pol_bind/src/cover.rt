@@ -1,0 +1,72 @@
+//! Whether a description covers a role of a chart.
+
+ghost use Rattle.std.specs.Prelude.{◌≡◌, find, option_map, Some};
+ghost use Rattle.std.specs.Str.{bytes_eq};
+ghost use Rattle.semver.specs.Identifiers.{parts_of};
+ghost use Rattle.semver.specs.Parse.{req_of};
+ghost use Rattle.mtp_assembly.specs.Fits.{answer_to};
+ghost use Rattle.mtp_desc.specs.DescriptionView.{description_view};
+ghost use Rattle.chart_core.specs.Charts.{plan};
+ghost use Rattle.chart_core.specs.Roles.{role_plan};
+ghost use Rattle.mtp_procs.specs.Covers.{cover_fault, meets, role_fault, role_named};
+
+use crate::steps::refused_step;
+use crate::variables::refused_variable;
+use chart_core::{Chart, Role};
+use mtp_codes::Name;
+use mtp_desc::Description;
+use mtp_procs::CoverFault;
+use semver::Version;
+
+fn find_role(roles: &[Role], name: Name) -> Option<&Role>
+    ensures { option_map (λ role. role.now) result ≡ find (λ role. bytes_eq role.role name) roles.now }
+{
+    roles.iter().find(|role| role.role == name)
+}
+
+fn role_of(chart: &Chart, name: Name) -> Option<&Role>
+    ensures { option_map (λ role. role_plan role.now) result ≡ role_named name (plan chart.now) }
+{
+    find_role(&chart.roles, name)
+}
+
+// Whether the role's requirement matches the version.
+fn is_met(role: &Role, version: &Version) -> bool
+    ensures { result ≡ meets (parts_of version.now) (req_of role.now.wants) }
+{
+    role.req.matches(version)
+}
+
+fn check_role(role: &Role, description: &Description) -> Result<(), CoverFault>
+    ensures { result ≡ answer_to (role_fault (description_view description.now) (Some (role_plan role.now))) }
+{
+    if role.type_name != description.type_name {
+        return Err(CoverFault::WrongType);
+    }
+    if !is_met(role, &description.version) {
+        return Err(CoverFault::WrongVersion);
+    }
+    Ok(())
+}
+
+/// Whether a module with this description can play the role of the chart. WrongType exactly where its type isn't the
+/// role's (or the chart hasn't the role); else WrongVersion exactly where `semver` says that the role's requirement
+/// doesn't match; else NotCovered with the first step of the role in chart order that `check_step` refuses, or else with
+/// the first variable, in order of first appearance, that the chart reads of the role and that is missing, is a text, or
+/// is a number tested against a truth value or the other way round. Takes no memory. Where all fits, its time grows with
+/// the chart's tests; else at most with their square.
+pub fn covers(chart: &Chart, role: Name, description: &Description) -> Result<(), CoverFault>
+    ensures { result ≡ answer_to (cover_fault (plan chart.now) role (description_view description.now)) }
+{
+    let Some(wanted) = role_of(chart, role) else {
+        return Err(CoverFault::WrongType);
+    };
+    check_role(wanted, description)?;
+    if let Some(step) = refused_step(&chart.root, role, description) {
+        return Err(CoverFault::NotCovered(step));
+    }
+    match refused_variable(&chart.root, role, description) {
+        Some(variable) => Err(CoverFault::NotCovered(variable)),
+        None => Ok(()),
+    }
+}

@@ -1,0 +1,15 @@
+//! Whether a module can play a role of a chart, by its description.
+//!
+//! It knows nothing of a plant's state: whether the module is docked, idle or held is asked elsewhere. `covers` answers
+//! exactly the first fault that the definition `cover_fault` of mtp_procs names, and takes no memory.
+#![tactic(auto)]
+
+mod cover;
+mod picks;
+mod steps;
+mod variables;
+
+pub use cover::covers;
+
+#[cfg(test)]
+mod tests;
