@@ -14,3 +14,6 @@ mod sight;
 pub use cursor::Cursor;
 pub use next::CursorNext;
 pub use sight::{ReadingSight, Seen, Sight};
+
+#[cfg(test)]
+mod tests;
