@@ -19,70 +19,55 @@ fn named(text: &str) -> Result<Name, Fail> {
     Ok(Name::of_bytes(text.as_bytes()).ok_or("no name")?)
 }
 
+// What `check_step` answers where the doser's service is to set one parameter.
+fn answer(
+    description: &Description,
+    service: &str,
+    procedure: u16,
+    setting: Setting,
+    finishes: bool,
+) -> Result<Result<(), StepFault>, Fail> {
+    let settings = [setting];
+    let demand = StepDemand {
+        service: named(service)?,
+        procedure,
+        settings: &settings,
+        finishes,
+    };
+    Ok(check_step(description, &demand))
+}
+
 #[test]
 fn the_first_fault_of_a_demand_is_told(rt: HostRuntime) -> Result<(), Fail> {
     let alloc = rt.alloc();
     let description = doser(alloc).ok().ok_or("no description")?;
-    let dose = named("dose")?;
-    let stir = named("stir")?;
-    let amount = named("amount")?;
-    let note = named("note")?;
-    let speed = named("speed")?;
+    let one = Value::Whole(1);
     let text = Value::Text(Short::of_text("slowly").ok_or("no text")?);
+    let missing = Err(StepFault::NotCovered);
     let rows = [
-        (dose, 1, amount, Value::Whole(5000), false, Ok(())),
-        (dose, 1, note, text, false, Ok(())),
+        ("dose", 1, "amount", Value::Whole(5000), false, Ok(())),
+        ("dose", 1, "note", text, false, Ok(())),
+        ("stir", 1, "amount", one, false, missing),
+        ("dose", 2, "amount", one, false, missing),
+        ("dose", 1, "speed", one, false, missing),
+        ("dose", 1, "amount", one, true, missing),
+        ("dose", 1, "amount", text, false, Err(StepFault::WrongKind)),
         (
-            stir,
+            "dose",
             1,
-            amount,
-            Value::Whole(1),
-            false,
-            Err(StepFault::NotCovered),
-        ),
-        (
-            dose,
-            2,
-            amount,
-            Value::Whole(1),
-            false,
-            Err(StepFault::NotCovered),
-        ),
-        (
-            dose,
-            1,
-            speed,
-            Value::Whole(1),
-            false,
-            Err(StepFault::NotCovered),
-        ),
-        (
-            dose,
-            1,
-            amount,
-            Value::Whole(1),
-            true,
-            Err(StepFault::NotCovered),
-        ),
-        (dose, 1, amount, text, false, Err(StepFault::WrongKind)),
-        (
-            dose,
-            1,
-            amount,
+            "amount",
             Value::Whole(5001),
             false,
             Err(StepFault::OutOfRange),
         ),
     ];
-    for (service, procedure, name, value, finishes, answer) in rows {
-        let settings = [Setting { name, value }];
-        let demand = StepDemand {
-            service,
-            procedure,
-            settings: &settings,
-            finishes,
-        };
-        assert_eq!(rt; check_step(&description, &demand), answer);
+    for (service, procedure, name, value, finishes, told) in rows {
+        let name = named(name)?;
+        let setting = Setting { name, value };
+        assert_eq!(rt;
+            answer(&description, service, procedure, setting, finishes)?,
+            told
+        );
     }
     Ok(())
 }
