@@ -47,60 +47,38 @@ fn is_first(each: &[Arm], place: u32, reads: &[Read], values: &[Reading]) -> boo
 fn step_next(step: &Step, progress: Progress, entry: &LogEntry) -> Option<Progress>
     ensures { result ≡ next_progress (is_some (step_plan step.now).finish) progress (stage_of (step_plan step.now) (chart_entry entry.now)) }
 {
-    match entry {
-        LogEntry::Start {
-            step: name,
-            service,
-            procedure,
-            ..
-        } => {
-            if *name == step.name && *service == step.service && *procedure == step.procedure {
-                match progress {
-                    Progress::Untouched => Some(Progress::Begun),
-                    _ => None,
-                }
-            } else {
-                None
-            }
+    match (entry, progress) {
+        (
+            LogEntry::Start {
+                step: name,
+                service,
+                procedure,
+                ..
+            },
+            Progress::Untouched,
+        ) if *name == step.name && *service == step.service && *procedure == step.procedure => {
+            Some(Progress::Begun)
         }
-        LogEntry::Finish {
-            step: name,
-            service,
-            ..
-        } => {
-            if *name == step.name && *service == step.service && step.finish.is_some() {
-                match progress {
-                    Progress::Begun => Some(Progress::Finished),
-                    _ => None,
-                }
-            } else {
-                None
-            }
+        (
+            LogEntry::Finish {
+                step: name,
+                service,
+                ..
+            },
+            Progress::Begun,
+        ) if *name == step.name && *service == step.service && step.finish.is_some() => {
+            Some(Progress::Finished)
         }
-        LogEntry::Reset {
-            step: name,
-            service,
-            ..
-        } => {
-            if *name == step.name && *service == step.service {
-                match progress {
-                    Progress::Begun => Some(Progress::WasReset),
-                    Progress::Finished => Some(Progress::WasReset),
-                    _ => None,
-                }
-            } else {
-                None
-            }
-        }
-        LogEntry::End { step: name } => {
-            if *name == step.name {
-                match progress {
-                    Progress::WasReset => Some(Progress::Ended),
-                    _ => None,
-                }
-            } else {
-                None
-            }
+        (
+            LogEntry::Reset {
+                step: name,
+                service,
+                ..
+            },
+            Progress::Begun | Progress::Finished,
+        ) if *name == step.name && *service == step.service => { Some(Progress::WasReset) }
+        (LogEntry::End { step: name }, Progress::WasReset) if *name == step.name => {
+            Some(Progress::Ended)
         }
         _ => None,
     }
