@@ -13,7 +13,7 @@ use Rattle.chart_core.specs.Progress.{Has}
 use Rattle.chart_core.specs.Runs.{Judged, right_arm, right_choice, turns_rightly, leaves_rightly, arm_reads, loop_reads, decision_at, course, in_turn, at_once, arm_at}
 use Rattle.chart_core.specs.Names.{names, all_names, arm_names, In, Distinct}
 use Rattle.chart_core.proofs.Relations.{Sound}
-use Rattle.chart_core.proofs.Tests.{or_split, and_left, lt_told}
+use Rattle.chart_core.proofs.Joined.{or_split, and_left, lt_told}
 
 -- the entry names one of the steps, or a number from n on and below m
 abbrev pub Within : List (List ℕ) → ℕ → ℕ → Option ChartEntry → Type 0

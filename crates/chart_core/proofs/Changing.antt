@@ -13,7 +13,7 @@ use Rattle.chart_core.proofs.Relations.{Puts, Clears, Next, to_begun, to_finishe
 use Rattle.chart_core.specs.Changes.{is_ended, is_left, has_chosen, is_done, next_progress, put_at, choose_at, either_change, change_in_arm, while_untouched, change_by, changed}
 use Rattle.chart_core.specs.declared.progress.Change.{Change}
 use Rattle.chart_core.specs.declared.progress.Change.TheVariants.{Put, Clear}
-use Rattle.chart_core.proofs.Tests.{and_left, and_right, and_both, not_true, lt_holds, lt_told}
+use Rattle.chart_core.proofs.Joined.{and_left, and_right, and_both, not_true, lt_holds, lt_told}
 use Rattle.chart_core.proofs.Link.{move_await, await_of, done_no_await}
 
 pub ended_of : (m : Progress) → is_ended m ≡ true → m ≡ Ended

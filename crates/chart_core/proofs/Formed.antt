@@ -3,7 +3,7 @@ use Rattle.std.specs.Prelude.{IsTrue}
 use Rattle.chart_core.specs.Formulas.{Formula}
 use Rattle.chart_core.specs.Trees.{Tree, Arms, more_arms}
 use Rattle.chart_core.specs.Form.{is_formula_formed, is_tree_formed, are_arms_formed}
-use Rattle.chart_core.proofs.Tests.{and_left, and_right}
+use Rattle.chart_core.proofs.Joined.{and_left, and_right}
 
 pub arm_formed : (when : Formula) (body : Tree) (others : Arms) → IsTrue (are_arms_formed (more_arms when body others)) → IsTrue (is_tree_formed body)
 arm_formed when body others h = and_left (is_tree_formed body) _ h

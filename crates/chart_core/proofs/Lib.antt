@@ -1,4 +1,4 @@
-pub mod Tests
+pub mod Joined
 pub mod Counts
 pub mod Items
 pub mod Growing
@@ -14,3 +14,5 @@ pub mod Validity
 pub mod Fronts
 pub mod Logs
 pub mod Few
+pub mod Lawful
+pub mod Ordered

@@ -10,7 +10,7 @@ use Rattle.chart_core.specs.declared.progress.Progress.{Progress}
 use Rattle.chart_core.specs.declared.progress.Progress.TheVariants.{Untouched, Begun, Finished, WasReset, Ended}
 use Rattle.chart_core.specs.Progress.{Marks, Has, Fresh, Done, Had, had_nothing, had_begin, had_finish, had_reset, had_both, had_end, had_all, Stands}
 use Rattle.chart_core.proofs.Relations.{Next, to_begun, to_finished, reset_begun, reset_finished, to_ended, Moves, Awaits, Sound}
-use Rattle.chart_core.proofs.Tests.{or_left, or_right}
+use Rattle.chart_core.proofs.Joined.{or_left, or_right}
 use Rattle.chart_core.proofs.Cuts.{All-append, All-mono}
 
 -- Laps

@@ -6,7 +6,7 @@ use Rattle.std.proofs.lemmas.List.{append-nil, map-append}
 use Rattle.chart_core.specs.Courses.{Course, nothing, step, chain, beside, select, repeat, is_of, All, StepRun, Rounds, last, round, Closing, Complete, Partial}
 use Rattle.chart_core.specs.Progress.{Marks, Has, Done, Had, Stands}
 use Rattle.chart_core.proofs.Relations.{Moves, Awaits, Sound}
-use Rattle.chart_core.proofs.Tests.{or_left, or_right, or_split, not_true}
+use Rattle.chart_core.proofs.Joined.{or_left, or_right, or_split, not_true}
 use Rattle.chart_core.proofs.Cuts.{All-append, All-front, All-back, snoc_not_nil, snoc_same, none_both, cut_unique, turn_unique, snoc_cut}
 use Rattle.chart_core.proofs.Link.{had_ended, had_next, had_awaits, agree_done, agree_fresh, agree_stands, move_frame, fresh_stands, complete_partial, done_complete, stands_partial, partial_of, stands_of, move_await, await_of, done_no_await, filter_in, filter_out, rounds_snoc, rounds_turn}
 

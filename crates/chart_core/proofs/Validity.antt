@@ -1,18 +1,18 @@
 -- What a valid chart has: distinct step names, and few nodes.
-use Rattle.std.specs.Prelude.{ℕ, ◌≡◌, ◌<◌, ◌≤◌, ◌+◌, ◌-◌, ◌*◌, Bool, true, false, ◌||◌, ◌&&◌, nat_lt, nat_le, List, [], ◌∷◌, ◌++◌, map, Option, Some, None, refl, IsTrue}
+use Rattle.std.specs.Prelude.{ℕ, ◌≡◌, ◌<◌, ◌≤◌, ◌+◌, ◌-◌, ◌*◌, Bool, true, false, not, ◌||◌, ◌&&◌, nat_lt, nat_le, List, [], ◌∷◌, ◌++◌, map, Option, Some, None, refl, IsTrue}
 use Rattle.std.proofs.Common.{sym, ◌∙◌, ap, subst, inl, inr, arith}
 use Rattle.std.proofs.lemmas.List.{map-append}
 use Rattle.std.proofs.lemmas.Bool.Decides.{nat_tests}
 use Rattle.std.proofs.lemmas.Cmp.{nat_list_eq_equiv}
-use Rattle.chart_core.specs.Same.{same_name}
+use Rattle.chart_core.specs.Same.{same_name, is_among}
 use Rattle.chart_core.specs.Form.{is_between, is_tree_formed, are_trees_formed, are_arms_formed, is_formula_formed, tree_count}
-use Rattle.chart_core.specs.Roles.{ChartPlan, are_roles_formed, is_chart_form}
+use Rattle.chart_core.specs.Roles.{ChartPlan, role_names, are_roles_formed, is_chart_form}
 use Rattle.chart_core.specs.Trees.{StepPlan, Placed, Tree, Trees, Arms, leaf, seq, par, choice, loop, no_trees, more_trees, no_arms, more_arms, size, sizes, arm_sizes, arm_count, steps, all_steps, arm_steps}
 use Rattle.chart_core.specs.Names.{names, all_names, arm_names, In, Distinct}
 use Rattle.chart_core.specs.Valid.{Visit, visit, visits, all_visits, arm_visits, step_count, step_counts, arm_step_counts, has_name, some_has_name, arm_has_name, fault_where, or_else, first_of, node_faults, node_fault, first_fault, IsValid}
 use Rattle.chart_core.specs.declared.fault.ChartFault.{ChartFault}
-use Rattle.chart_core.specs.declared.fault.ChartFault.TheVariants.{TooDeep, TooManySteps, StepTwice}
-use Rattle.chart_core.proofs.Tests.{or_left, or_right, and_left, and_right, lt_holds}
+use Rattle.chart_core.specs.declared.fault.ChartFault.TheVariants.{TooDeep, TooManySteps, StepTwice, UnknownRole}
+use Rattle.chart_core.proofs.Joined.{or_left, or_right, and_left, and_right, lt_holds}
 
 -- each member has the property
 abbrev pub Each : {A : Type 0} → (A → Type 0) → List A → Type 0
@@ -27,11 +27,11 @@ each_back : {A : Type 0} (P : A → Type 0) (xs ys : List A) → Each P (xs ++ y
 each_back P [] ys h = h
 each_back P (x ∷ xs) ys (h, k) = each_back P xs ys k
 
-each_append : {A : Type 0} (P : A → Type 0) (xs ys : List A) → Each P xs → Each P ys → Each P (xs ++ ys)
+pub each_append : {A : Type 0} (P : A → Type 0) (xs ys : List A) → Each P xs → Each P ys → Each P (xs ++ ys)
 each_append P [] ys h k = k
 each_append P (x ∷ xs) ys (h, l) k = (h, each_append P xs ys l k)
 
-each_map : {A : Type 0} (P Q : A → Type 0) → ((x : A) → P x → Q x) → (xs : List A) → Each P xs → Each Q xs
+pub each_map : {A : Type 0} (P Q : A → Type 0) → ((x : A) → P x → Q x) → (xs : List A) → Each P xs → Each Q xs
 each_map P Q f [] h = tt
 each_map P Q f (x ∷ xs) (h, k) = (f x h, each_map P Q f xs k)
 
@@ -62,11 +62,16 @@ shallow_told depth h = grind (arith, nat_tests)
 few_told : (earlier : ℕ) → nat_le 256 earlier ≡ false → earlier < 256
 few_told earlier h = grind (arith, nat_tests)
 
+among_told : (known reads : Bool) → not known || reads ≡ false → known ≡ true
+among_told true reads h = refl
+among_told false reads h = cc
+
 -- what no fault of a step says
 record StepClear (chart : ChartPlan) (step : StepPlan) (n depth earlier : ℕ) : Type 0 where
   pub shallow : depth ≤ 16
   pub few : earlier < 256
   pub new_name : has_name chart.root n step.name ≡ false
+  pub known_role : is_among step.role (role_names chart) ≡ true
 
 step_clear : (chart : ChartPlan) (step : StepPlan) (n depth earlier : ℕ) → IsClear chart (visit (leaf step) n depth earlier) → StepClear chart step n depth earlier
 step_clear chart step n depth earlier h =
@@ -75,6 +80,7 @@ step_clear chart step n depth earlier h =
       shallow = shallow_told depth (no_fault (nat_lt 16 depth) (TooDeep n) none.0);
       few = few_told earlier (no_fault (nat_le 256 earlier) (TooManySteps n) none.1.0);
       new_name = no_fault (has_name chart.root n step.name) (StepTwice n) none.1.1.0;
+      known_role = among_told _ _ (no_fault _ (UnknownRole n) none.1.1.1.0);
     }
 
 -- Names
@@ -84,27 +90,34 @@ abbrev HasNewName : ChartPlan → Placed → Type 0
 HasNewName chart placed = has_name chart.root placed.number placed.step.name ≡ false
 
 mutual
-  new_names : (chart : ChartPlan) (t : Tree) (n d k : ℕ) → Each (IsClear chart) (visits t n d k) → Each (HasNewName chart) (steps t n)
-  new_names chart (leaf step) n d k h = ((step_clear chart step n d k h.0).new_name, tt)
-  new_names chart (seq each) n d k h = all_new_names chart each (n + 1) (d + 1) k h.1
-  new_names chart (par each) n d k h = all_new_names chart each (n + 1) (d + 1) k h.1
-  new_names chart (choice each) n d k h = arm_new_names chart each (n + 1) (d + 1) k h.1
-  new_names chart (loop body until) n d k h = new_names chart body (n + 1) (d + 1) k h.1
+  -- what no fault of a step says holds of each step of a tree without faults
+  on_steps :
+      (chart : ChartPlan) (P : Placed → Type 0) → ((step : StepPlan) (n d k : ℕ) → StepClear chart step n d k → P (record { number = n; step = step }))
+      → (t : Tree) (n d k : ℕ) → Each (IsClear chart) (visits t n d k) → Each P (steps t n)
+  on_steps chart P f (leaf step) n d k h = (f step n d k (step_clear chart step n d k h.0), tt)
+  on_steps chart P f (seq each) n d k h = on_all_steps chart P f each (n + 1) (d + 1) k h.1
+  on_steps chart P f (par each) n d k h = on_all_steps chart P f each (n + 1) (d + 1) k h.1
+  on_steps chart P f (choice each) n d k h = on_arm_steps chart P f each (n + 1) (d + 1) k h.1
+  on_steps chart P f (loop body until) n d k h = on_steps chart P f body (n + 1) (d + 1) k h.1
 
-  all_new_names : (chart : ChartPlan) (ts : Trees) (n d k : ℕ) → Each (IsClear chart) (all_visits ts n d k) → Each (HasNewName chart) (all_steps ts n)
-  all_new_names chart no_trees n d k h = tt
-  all_new_names chart (more_trees t ts) n d k h =
-      each_append (HasNewName chart) (steps t n) (all_steps ts (n + size t))
-      (new_names chart t n d k (each_front (IsClear chart) (visits t n d k) (all_visits ts (n + size t) d (k + step_count t)) h))
-      (all_new_names chart ts (n + size t) d (k + step_count t)
+  on_all_steps :
+      (chart : ChartPlan) (P : Placed → Type 0) → ((step : StepPlan) (n d k : ℕ) → StepClear chart step n d k → P (record { number = n; step = step }))
+      → (ts : Trees) (n d k : ℕ) → Each (IsClear chart) (all_visits ts n d k) → Each P (all_steps ts n)
+  on_all_steps chart P f no_trees n d k h = tt
+  on_all_steps chart P f (more_trees t ts) n d k h =
+      each_append P (steps t n) (all_steps ts (n + size t))
+      (on_steps chart P f t n d k (each_front (IsClear chart) (visits t n d k) (all_visits ts (n + size t) d (k + step_count t)) h))
+      (on_all_steps chart P f ts (n + size t) d (k + step_count t)
       (each_back (IsClear chart) (visits t n d k) (all_visits ts (n + size t) d (k + step_count t)) h))
 
-  arm_new_names : (chart : ChartPlan) (ts : Arms) (n d k : ℕ) → Each (IsClear chart) (arm_visits ts n d k) → Each (HasNewName chart) (arm_steps ts n)
-  arm_new_names chart no_arms n d k h = tt
-  arm_new_names chart (more_arms when t ts) n d k h =
-      each_append (HasNewName chart) (steps t n) (arm_steps ts (n + size t))
-      (new_names chart t n d k (each_front (IsClear chart) (visits t n d k) (arm_visits ts (n + size t) d (k + step_count t)) h))
-      (arm_new_names chart ts (n + size t) d (k + step_count t)
+  on_arm_steps :
+      (chart : ChartPlan) (P : Placed → Type 0) → ((step : StepPlan) (n d k : ℕ) → StepClear chart step n d k → P (record { number = n; step = step }))
+      → (ts : Arms) (n d k : ℕ) → Each (IsClear chart) (arm_visits ts n d k) → Each P (arm_steps ts n)
+  on_arm_steps chart P f no_arms n d k h = tt
+  on_arm_steps chart P f (more_arms when t ts) n d k h =
+      each_append P (steps t n) (arm_steps ts (n + size t))
+      (on_steps chart P f t n d k (each_front (IsClear chart) (visits t n d k) (arm_visits ts (n + size t) d (k + step_count t)) h))
+      (on_arm_steps chart P f ts (n + size t) d (k + step_count t)
       (each_back (IsClear chart) (visits t n d k) (arm_visits ts (n + size t) d (k + step_count t)) h))
 
 -- a step of this name is found from its number on
@@ -190,11 +203,11 @@ mutual
       (rise_wider (n + size t) (n + size t + arm_sizes ts) (n + size t) (n + (size t + arm_sizes ts)) (arm_steps ts (n + size t)) (omega arith) (omega arith) (arms_rise ts (n + size t)))
 
 -- the step's name
-abbrev name_of : Placed → List ℕ
+abbrev pub name_of : Placed → List ℕ
 name_of placed = placed.step.name
 
 mutual
-  names_are : (t : Tree) (n : ℕ) → names t ≡ map name_of (steps t n)
+  pub names_are : (t : Tree) (n : ℕ) → names t ≡ map name_of (steps t n)
   names_are (leaf step) n = refl
   names_are (seq each) n = all_names_are each (n + 1)
   names_are (par each) n = all_names_are each (n + 1)
@@ -240,7 +253,13 @@ pub valid_distinct : (chart : ChartPlan) → IsValid chart → Distinct (names c
 valid_distinct chart valid =
     subst Distinct (sym (names_are chart.root 0))
     (distinct_names chart 0 (0 + size chart.root) (steps chart.root 0) (steps_rise chart.root 0) (found chart.root 0)
-    (new_names chart chart.root 0 1 0 (all_clear chart (visits chart.root 0 1 0) valid)))
+    (on_steps chart (HasNewName chart) (λ step n d k clear. clear.new_name) chart.root 0 1 0 (all_clear chart (visits chart.root 0 1 0) valid)))
+
+-- In a valid chart the role of each step is one of the chart's.
+pub valid_roles : (chart : ChartPlan) → IsValid chart → Each (λ placed. is_among placed.step.role (role_names chart) ≡ true) (steps chart.root 0)
+valid_roles chart valid =
+    on_steps chart (λ placed. is_among placed.step.role (role_names chart) ≡ true) (λ step n d k clear. clear.known_role) chart.root 0 1 0
+    (all_clear chart (visits chart.root 0 1 0) valid)
 
 -- Sizes
 

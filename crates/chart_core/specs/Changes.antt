@@ -1,5 +1,5 @@
 -- What one more entry changes of the marks.
-use Rattle.std.specs.Prelude.{ℕ, ◌<◌, ◌≤◌, ◌==◌, Bool, true, false, ◌&&◌, nat_lt, Option, Some, None, if◌then◌else◌}
+use Rattle.std.specs.Prelude.{ℕ, ◌<◌, ◌≤◌, ◌==◌, List, [], ◌∷◌, Bool, true, false, ◌&&◌, nat_lt, Option, Some, None, if◌then◌else◌}
 use Rattle.chart_core.specs.Entries.{Stage, begin, finish, reset, end}
 use Rattle.chart_core.specs.Courses.{Course, nothing, step, chain, beside, select, repeat}
 use Rattle.chart_core.specs.Progress.{Marks}
@@ -105,6 +105,16 @@ change_by (repeat n after body own turns leaves) marks e =
 abbrev pub changed : Change → Marks → Marks
 changed (Put place to) marks i = if i == place then to else marks i
 changed (Clear above below) marks i = if nat_lt above i && nat_lt i below then Untouched else marks i
+
+-- the marks after a change, where there is one
+abbrev pub moved : Marks → Option Change → Marks
+moved marks None = marks
+moved marks (Some change) = changed change marks
+
+-- the marks after each entry of a word in order; an entry that may not come next changes nothing
+abbrev pub marks_along : {E : Type 0} → Course E → Marks → List E → Marks
+marks_along course marks [] = marks
+marks_along course marks (e ∷ later) = marks_along course (moved marks (change_by course marks e)) later
 
 -- the change touches numbers below n alone
 abbrev pub FitsIn : ℕ → Change → Type 0

@@ -19,3 +19,5 @@ pub mod Names
 pub mod Standing
 pub mod Deciding
 pub mod Active
+pub mod Laws
+pub mod Order

@@ -1,4 +1,7 @@
 //! The entries of a batch's log.
+ghost use Rattle.std.specs.Prelude.{◌≡◌, is_some};
+ghost use Rattle.chart_core.specs.Entries.{chart_entry};
+
 use super::readings::Readings;
 use mtp_codes::{Command, Name, State};
 
@@ -59,4 +62,20 @@ pub enum LogEntry {
         service: Name,
         command: Command,
     },
+}
+
+impl LogEntry {
+    /// Whether the entry is one of a run of a chart: Start, Finish, Reset, End, Chose, Turn or Leave.
+    pub fn is_of_chart(&self) -> bool
+        ensures { result ≡ is_some (chart_entry self.now) }
+    {
+        !matches!(
+            self,
+            LogEntry::Stop { .. }
+                | LogEntry::Broke { .. }
+                | LogEntry::Left { .. }
+                | LogEntry::StopAsked
+                | LogEntry::Asked { .. }
+        )
+    }
 }

@@ -3,7 +3,7 @@
 //!
 //! It knows nothing of modules, plants or any text form. `Chart::valid` answers exactly the first fault of a chart.
 //! The definitions of complete and partial runs (`specs/Runs.antt`) and how far each node has come stand here for the
-//! crates that ask a word and that follow one.
+//! crates that ask a word and that follow one, with the laws of valid charts.
 #![tactic(auto)]
 
 mod chart;
@@ -11,8 +11,10 @@ mod condition;
 mod entry;
 mod fault;
 mod following;
+mod laws;
 mod marks;
 mod node;
+mod order;
 mod progress;
 mod readings;
 mod reads;
@@ -28,8 +30,10 @@ pub use condition::{Condition, Op};
 pub use entry::LogEntry;
 pub use fault::ChartFault;
 pub use following::{Followed, follow};
+pub use laws::{names_are_distinct, nothing_is_partial, steps_have_roles};
 pub use marks::{chart_size, is_done, take_entry, untouched};
 pub use node::{Arm, Node, Step};
+pub use order::{is_active, steps_in_order};
 pub use progress::{Change, Progress};
 pub use readings::Readings;
 pub use reads::{Read, Reads, place_among, reads_of_arms, reads_of_condition};
@@ -37,3 +41,6 @@ pub use role::Role;
 pub use size::{arms_count, node_count};
 pub use truth::{is_true, passes};
 pub use why::Why;
+
+#[cfg(test)]
+mod tests;

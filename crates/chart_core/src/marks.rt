@@ -3,11 +3,12 @@ ghost use Rattle.std.specs.Prelude.{◌≡◌, ◌≤◌, ◌<◌, ◌^◌, ◌+
 ghost use Rattle.chart_core.specs.Trees.{tree, size};
 ghost use Rattle.chart_core.specs.Charts.{plan};
 ghost use Rattle.chart_core.specs.Valid.{IsValid};
-ghost use Rattle.chart_core.specs.Runs.{IsPartial, IsComplete};
+ghost use Rattle.chart_core.specs.Runs.{judged, course_of, IsPartial, IsComplete};
 ghost use Rattle.chart_core.specs.Progress.{marks_of};
-ghost use Rattle.chart_core.specs.Changes.{changed, FitsIn};
+ghost use Rattle.chart_core.specs.Changes.{change_by, changed, moved, FitsIn};
 ghost use Rattle.chart_core.specs.Standing.{StandsFor};
 ghost use Rattle.chart_core.specs.declared.entry.LogEntry.{LogEntry};
+ghost use Rattle.chart_core.specs.declared.progress.Progress.TheVariants.{Untouched};
 
 use super::chart::Chart;
 use super::entry::LogEntry;
@@ -43,6 +44,7 @@ pub fn chart_size(chart: &Chart) -> u32
 pub fn untouched(alloc: Global, chart: &Chart) -> Result<Vec<Progress>, AllocError>
     requires { IsValid (plan chart.now) }
     ensures room { IfOk result (λ marks. length marks.items ≡ size (tree chart.now.root)) }
+    ensures fresh { IfOk result (λ marks. (i : ℕ) → marks_of marks.items i ≡ Untouched) }
     ensures empty { IfOk result (λ marks. StandsFor (plan chart.now) marks.items []) }
 {
     let mut marks = Vec::new(alloc);
@@ -54,6 +56,7 @@ pub fn untouched(alloc: Global, chart: &Chart) -> Result<Vec<Progress>, AllocErr
 
 /// Takes the entry, where it may come next in a run of the valid chart: for each log that the marks stand for, they
 /// stand for it with the entry at its end afterwards. False where it may not come next; the marks are then unchanged.
+/// Whatever log they stand for, if any, the marks move as the definition `change_by` says.
 /// Walks the chart's nodes once, and takes no memory.
 pub fn take_entry(chart: &Chart, marks: &mut [Progress], entry: &LogEntry) -> bool
     requires valid { IsValid (plan chart.now) }
@@ -63,6 +66,7 @@ pub fn take_entry(chart: &Chart, marks: &mut [Progress], entry: &LogEntry) -> bo
     ensures refused { IsFalse result → (log back : List LogEntry) → StandsFor (plan chart.now) marks.old log
         → IsPartial (plan chart.now) (log ++ (entry.now ∷ back)) → ⊥ }
     ensures unchanged { IsFalse result → marks.new ≡ marks.old }
+    ensures moves { (i : ℕ) → marks_of marks.new i ≡ moved (marks_of marks.old) (change_by (course_of (plan chart.now)) (marks_of marks.old) (judged entry.now)) i }
 {
     match follow(&chart.root, 0, marks, entry).change {
         Some(change) => {

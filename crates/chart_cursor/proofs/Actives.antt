@@ -20,7 +20,7 @@ use Rattle.chart_core.proofs.Link.{fresh_stands, stands_of, done_complete}
 use Rattle.chart_core.proofs.Changing.{done_of, of_done}
 use Rattle.chart_core.proofs.Apart.{in_left, in_right, distinct_front, distinct_back, distinct_apart, sound, turn_sound, arm_sound, arm_within}
 use Rattle.chart_core.proofs.Logs.{chart_sound}
-use Rattle.chart_core.proofs.Validity.{Each, valid_distinct}
+use Rattle.chart_core.proofs.Validity.{Each, each_append, valid_distinct}
 use Rattle.chart_cursor.specs.Spots.{Spot, phase_of, step_spots, choice_spots, loop_spots, spots, turn_spots, once_spots, arm_spots}
 use Rattle.chart_cursor.specs.Running.{running_node, or_later, first_running, first_placed}
 use Rattle.chart_cursor.proofs.Phases.{word_phase, silent, phase_filter, unnamed, all_swap, tree_silent, turn_silent, once_silent, arm_says, phase_front, phase_back, phase_head, leaf_phase, had_phase, complete_idle, turns_says, rounds_last_phase}
@@ -47,10 +47,6 @@ runs_append [] ys = refl
 runs_append (s ∷ ss) ys =
     ap (λ ps. run_of s.number s.node (phase_of s.progress) ++ ps) (runs_append ss ys) ∙ sym (append_assoc (run_of s.number s.node (phase_of s.progress)) (runs ss) (runs ys))
 
-each_join : (P : Placed → Type 0) (xs ys : List Placed) → Each P xs → Each P ys → Each P (xs ++ ys)
-each_join P [] ys h k = k
-each_join P (x ∷ xs) ys (h, l) k = (h, each_join P xs ys l k)
-
 -- what holds of each name of a tree holds of the names of its steps
 mutual
   on_names : (t : Tree) (n : ℕ) (P : List ℕ → Type 0) → ((x : List ℕ) → In x (names t) → P x) → Each (λ p. P p.step.name) (steps t n)
@@ -63,13 +59,13 @@ mutual
   on_all_names : (ts : Trees) (n : ℕ) (P : List ℕ → Type 0) → ((x : List ℕ) → In x (all_names ts) → P x) → Each (λ p. P p.step.name) (all_steps ts n)
   on_all_names no_trees n P h = tt
   on_all_names (more_trees t ts) n P h =
-      each_join (λ p. P p.step.name) (steps t n) (all_steps ts (n + size t))
+      each_append (λ p. P p.step.name) (steps t n) (all_steps ts (n + size t))
       (on_names t n P (λ x i. h x (in_left x (names t) (all_names ts) i))) (on_all_names ts (n + size t) P (λ x i. h x (in_right x (names t) (all_names ts) i)))
 
   on_arm_names : (each : Arms) (n : ℕ) (P : List ℕ → Type 0) → ((x : List ℕ) → In x (arm_names each) → P x) → Each (λ p. P p.step.name) (arm_steps each n)
   on_arm_names no_arms n P h = tt
   on_arm_names (more_arms c t each) n P h =
-      each_join (λ p. P p.step.name) (steps t n) (arm_steps each (n + size t))
+      each_append (λ p. P p.step.name) (steps t n) (arm_steps each (n + size t))
       (on_names t n P (λ x i. h x (in_left x (names t) (arm_names each) i))) (on_arm_names each (n + size t) P (λ x i. h x (in_right x (names t) (arm_names each) i)))
 
 -- a word leaves a step idle

@@ -17,23 +17,25 @@ use Rattle.chart_core.specs.Courses.{is_of, All, Rounds, last, round, Partial}
 use Rattle.chart_core.specs.Runs.{Judged, judged, loose, word, course, in_turn, at_once, arm_at, course_of, IsPartial, IsComplete}
 use Rattle.chart_core.specs.Valid.{IsValid}
 use Rattle.chart_core.specs.Progress.{Marks, Stands, Done, Had, had_nothing, had_begin, had_finish, had_reset, had_both, had_end, had_all}
-use Rattle.chart_core.specs.Changes.{is_done, changed}
+use Rattle.chart_core.specs.Changes.{is_done, changed, moved, marks_along}
+use Rattle.chart_core.specs.Standing.{marks_after}
 use Rattle.chart_core.specs.Names.{names}
 use Rattle.chart_core.specs.Active.{or_earlier, last_of, phase_by, entry_phase, or_idle}
-use Rattle.chart_core.proofs.Tests.{lt_holds}
+use Rattle.chart_core.proofs.Joined.{lt_holds}
 use Rattle.chart_core.proofs.Relations.{Sound}
 use Rattle.chart_core.proofs.Link.{fresh_stands, done_no_await, stands_of, done_complete, stands_partial}
 use Rattle.chart_core.proofs.Changing.{done_of, of_done, change_moves, await_change}
 use Rattle.chart_core.proofs.Onward.{take_stands, partial_awaits, complete_done}
 use Rattle.chart_core.proofs.Fronts.{partial_front}
 use Rattle.chart_core.proofs.Apart.{Within, of_within}
-use Rattle.chart_core.proofs.Validity.{Each, valid_distinct}
-use Rattle.chart_core.proofs.Logs.{chart_sound}
+use Rattle.chart_core.proofs.Validity.{Each, valid_distinct, form_tree}
+use Rattle.chart_core.proofs.Logs.{chart_sound, complete_is_partial}
 use Rattle.chart_cursor.specs.declared.next.CursorNext.{CursorNext}
 use Rattle.chart_cursor.specs.declared.next.CursorNext.TheVariants.{Entry, Wait, Whole}
 use Rattle.chart_cursor.specs.Sights.{Sights}
 use Rattle.chart_cursor.specs.Spots.{Spot, phase_of, step_spots, choice_spots, loop_spots, spots, turn_spots, once_spots, arm_spots, spot_ready, first_next, first_among}
-use Rattle.chart_cursor.specs.Next.{node_at, node_among, node_in_arms, found_ready, node_phase, ready_after, moved, marks_along, marks_after, next_after, IsObstacle, IsNext}
+use Rattle.chart_cursor.specs.Next.{node_at, node_among, node_in_arms, found_ready, node_phase, ready_after, next_after, IsObstacle, IsNext}
+use Rattle.chart_cursor.specs.Laws.{NextFollowsTheChart, CompleteIsWhole}
 use Rattle.chart_cursor.proofs.Told.{may_wait, node_told}
 use Rattle.chart_cursor.specs.Ready.{step_ready, node_ready}
 use Rattle.chart_cursor.proofs.Phases.{word_phase, IsPhased, Phased, phased}
@@ -431,11 +433,15 @@ after_stands chart log valid partial =
     along_stands chart (λ i. Untouched) [] (word log) valid (fresh_stands (course_of chart) (λ i. Untouched) (chart_sound chart valid) (λ i k. refl)) partial
 
 -- what is worked out along a partial run is what comes next
-pub next_after_is :
-    (chart : ChartPlan) (seen : Sights) (log : List LogEntry) → IsValid chart → is_tree_formed chart.root ≡ true → IsPartial chart log
-    → IsNext chart log (ready_after chart log seen) (next_after chart log seen)
-next_after_is chart seen log valid formed partial =
-    next_is chart (marks_after chart log) seen log valid formed (after_stands chart log valid partial)
+pub next_follows : NextFollowsTheChart
+next_follows chart log seen form valid partial =
+    next_is chart (marks_after chart log) seen log valid (form_tree chart form) (after_stands chart log valid partial)
+
+-- and along a complete run nothing
+pub complete_is_whole : CompleteIsWhole
+complete_is_whole chart log seen form valid complete =
+    let stands = after_stands chart log valid (complete_is_partial chart log complete) in
+    complete_whole chart (marks_after chart log) seen log valid (form_tree chart form) stands complete
 
 -- the answer over any marks that stand for the log is what is worked out along it
 pub next_same :

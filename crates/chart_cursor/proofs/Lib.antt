@@ -1,8 +1,12 @@
 pub mod Looking
 pub mod Joining
+pub mod OpenNodes
 pub mod Opened
 pub mod Told
 pub mod Firsts
 pub mod RunningParts
 pub mod Phases
 pub mod Actives
+pub mod Sending
+pub mod Keeping
+pub mod Commanding

@@ -17,7 +17,7 @@ use Rattle.chart_core.specs.Names.{names, all_names, arm_names, Distinct}
 use Rattle.chart_core.specs.Valid.{IsValid}
 use Rattle.chart_core.specs.Progress.{Marks, Stands}
 use Rattle.chart_core.specs.Changes.{is_done, changed}
-use Rattle.chart_core.proofs.Tests.{and_left, and_right, not_true, lt_holds}
+use Rattle.chart_core.proofs.Joined.{and_left, and_right, not_true, lt_holds}
 use Rattle.chart_core.proofs.Relations.{Next, to_begun, to_finished, reset_begun, reset_finished, to_ended, Awaits}
 use Rattle.chart_core.proofs.Link.{next_staged, done_no_await}
 use Rattle.chart_core.proofs.Onward.{partial_awaits, awaits_partial}
@@ -49,13 +49,13 @@ in_second i (x ∷ xs) ys h = inr (in_second i xs ys h)
 same_number : (n : ℕ) → (n == n) ≡ true
 same_number n = eq-eqb n n refl
 
-start_stage : (s : StepPlan) → stage_of s (Some (of_step begin s.name (Some s.service) (Some s.procedure))) ≡ Some begin
+pub start_stage : (s : StepPlan) → stage_of s (Some (of_step begin s.name (Some s.service) (Some s.procedure))) ≡ Some begin
 start_stage s = rw (same_itself s.name, same_itself s.service, same_number s.procedure) refl
 
-reset_stage : (s : StepPlan) → stage_of s (Some (of_step reset s.name (Some s.service) None)) ≡ Some reset
-reset_stage s = rw (same_itself s.name, same_itself s.service) refl
+pub service_stage : (s : StepPlan) (stage : Stage) → stage_of s (Some (of_step stage s.name (Some s.service) None)) ≡ Some stage
+service_stage s stage = rw (same_itself s.name, same_itself s.service) refl
 
-end_stage : (s : StepPlan) → stage_of s (Some (of_step end s.name None None)) ≡ Some end
+pub end_stage : (s : StepPlan) → stage_of s (Some (of_step end s.name None None)) ≡ Some end
 end_stage s = rw (same_itself s.name) refl
 
 step_open :
@@ -65,10 +65,10 @@ step_open s node n i b Untouched (inl h) =
     let q = start_stage s in
     (of_step begin s.name (Some s.service) (Some s.procedure), h, ap is_some q, (Begun, subst (λ t. Next b Untouched t Begun) (sym q) to_begun))
 step_open s node n i b Begun (inl h) =
-    let q = reset_stage s in
+    let q = service_stage s reset in
     (of_step reset s.name (Some s.service) None, h, ap is_some q, (WasReset, subst (λ t. Next b Begun t WasReset) (sym q) reset_begun))
 step_open s node n i b Finished (inl h) =
-    let q = reset_stage s in
+    let q = service_stage s reset in
     (of_step reset s.name (Some s.service) None, h, ap is_some q, (WasReset, subst (λ t. Next b Finished t WasReset) (sym q) reset_finished))
 step_open s node n i b WasReset (inl h) =
     let q = end_stage s in
@@ -108,12 +108,17 @@ if_open : (i : ℕ) (d : Bool) (xs ys : List Spot) → InSpots i (if d then xs e
 if_open i true xs ys h = inl (refl, h)
 if_open i false xs ys h = inr h
 
+-- an entry with as many readings as there are reads decides at its node
+pub decided_by : (n k : ℕ) (decision : Decision) (values : List Reading) → length values ≡ k
+    → decided_at n k (Some (of_node n decision values)) ≡ Some (record { decision = decision; values = values })
+decided_by n k decision values h = rw (same_number n, h, same_number k) refl
+
 -- as many readings as there are reads
 abbrev blanks : ℕ → List Reading
 blanks k = replicate k (Bit false)
 
 decides : (n k : ℕ) (decision : Decision) → decided_at n k (Some (of_node n decision (blanks k))) ≡ Some (record { decision = decision; values = blanks k })
-decides n k decision = rw (same_number n, length-replicate k (Bit false), same_number k) refl
+decides n k decision = decided_by n k decision (blanks k) (length-replicate k (Bit false))
 
 some_arm : (count : ℕ) → is_between 1 16 count ≡ true → 0 < count
 some_arm count h = let one = and_left (nat_le 1 count) (nat_le count 16) h in grind (arith, nat_tests)

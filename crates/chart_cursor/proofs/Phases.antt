@@ -4,7 +4,7 @@ use Rattle.std.proofs.Common.{sym, ◌∙◌, ap, subst, inl, inr}
 use Rattle.std.specs.List.{filter}
 use Rattle.std.specs.Cmp.Lexicographic.{same_text}
 use Rattle.chart_core.specs.declared.progress.Progress.{Progress}
-use Rattle.chart_core.specs.declared.progress.Progress.TheVariants.{Untouched, Begun, Finished, WasReset, Ended, Chosen, Left}
+use Rattle.chart_core.specs.declared.progress.Progress.TheVariants.{Untouched, Chosen, Left}
 use Rattle.chart_core.specs.Same.{same_name}
 use Rattle.chart_core.specs.Formulas.{Formula}
 use Rattle.chart_core.specs.Trees.{StepPlan, Tree, Trees, Arms, leaf, seq, par, choice, loop, no_trees, more_trees, no_arms, more_arms, size, sizes, arm_sizes}
@@ -15,12 +15,13 @@ use Rattle.chart_core.specs.Runs.{Judged, course, in_turn, at_once, arm_at, righ
 use Rattle.chart_core.specs.Progress.{Marks, Had, had_nothing, had_begin, had_finish, had_reset, had_both, had_end, had_all, Stands}
 use Rattle.chart_core.specs.Changes.{is_done}
 use Rattle.chart_core.specs.Active.{Phase, idle, or_earlier, last_of, phase_where, stage_phase, entry_phase, or_idle}
-use Rattle.chart_core.proofs.Tests.{and_left, not_true, or_split}
+use Rattle.chart_core.proofs.Joined.{and_left, not_true, or_split}
 use Rattle.chart_core.proofs.Link.{fresh_stands, stands_of, partial_of, complete_partial}
 use Rattle.chart_core.proofs.Changing.{of_done}
 use Rattle.chart_core.proofs.Apart.{Within, in_left, in_right, distinct_front, distinct_back, distinct_apart, of_within, turn_within, once_within, arm_within, sound, turn_sound, arm_sound, arm_decided, turn_decided, leave_decided, some_if_is, decided_number, AtNumber}
-use Rattle.chart_core.proofs.Validity.{Each}
-use Rattle.chart_cursor.specs.Spots.{Spot, phase_of, step_spots, choice_spots, loop_spots, spots, turn_spots, once_spots, arm_spots}
+use Rattle.chart_core.proofs.Validity.{Each, each_append}
+use Rattle.chart_cursor.proofs.OpenNodes.{step_each, choice_each, loop_each, if_each}
+use Rattle.chart_cursor.specs.Spots.{Spot, phase_of, spots, turn_spots, once_spots, arm_spots}
 
 -- what an entry of a word says of a step
 abbrev pub says : List ℕ → Judged → Option Phase
@@ -288,45 +289,6 @@ carry :
 carry ns ms v w [] f g h = tt
 carry ns ms v w (s ∷ ss) f g (h, k) = (carry_node ns ms v w s.node s.progress f g h, carry ns ms v w ss f g k)
 
-each_both : (P : Spot → Type 0) (xs ys : List Spot) → Each P xs → Each P ys → Each P (xs ++ ys)
-each_both P [] ys h k = k
-each_both P (x ∷ xs) ys (h, l) k = (h, each_both P xs ys l k)
-
-step_phased : (s : StepPlan) (w : List Judged) (n : ℕ) (m : Progress) → or_idle (word_phase s.name w) ≡ phase_of m → Each (Phased (s.name ∷ []) w) (step_spots n (leaf s) m)
-step_phased s w n Untouched h = ((inl refl, h), tt)
-step_phased s w n Begun h = ((inl refl, h), tt)
-step_phased s w n Finished h = ((inl refl, h), tt)
-step_phased s w n WasReset h = ((inl refl, h), tt)
-step_phased s w n Ended h = tt
-step_phased s w n (Chosen a) h = tt
-step_phased s w n Left h = tt
-
-choice_phased : (ns : List (List ℕ)) (w : List Judged) (n : ℕ) (each : Arms) (arm : ℕ → List Spot) (m : Progress)
-    → ((a : ℕ) → m ≡ Chosen a → Each (Phased ns w) (arm a)) → Each (Phased ns w) (choice_spots n (choice each) arm m)
-choice_phased ns w n each arm Untouched h = (tt, tt)
-choice_phased ns w n each arm Begun h = tt
-choice_phased ns w n each arm Finished h = tt
-choice_phased ns w n each arm WasReset h = tt
-choice_phased ns w n each arm Ended h = tt
-choice_phased ns w n each arm (Chosen a) h = h a refl
-choice_phased ns w n each arm Left h = tt
-
-loop_phased : (ns : List (List ℕ)) (w : List Judged) (n : ℕ) (t : Tree) (until : Formula) (d : Bool) (body : List Spot) (m : Progress)
-    → (m ≡ Untouched → Each (Phased ns w) body) → Each (Phased ns w) (loop_spots n (loop t until) d body m)
-loop_phased ns w n t until true body Untouched h = (tt, tt)
-loop_phased ns w n t until false body Untouched h = h refl
-loop_phased ns w n t until d body Begun h = tt
-loop_phased ns w n t until d body Finished h = tt
-loop_phased ns w n t until d body WasReset h = tt
-loop_phased ns w n t until d body Ended h = tt
-loop_phased ns w n t until d body (Chosen a) h = tt
-loop_phased ns w n t until d body Left h = tt
-
-if_phased : (ns : List (List ℕ)) (w : List Judged) (d : Bool) (xs ys : List Spot) → (d ≡ true → Each (Phased ns w) xs) → (d ≡ false → Each (Phased ns w) ys)
-    → Each (Phased ns w) (if d then xs else ys)
-if_phased ns w true xs ys h k = h refl
-if_phased ns w false xs ys h k = k refl
-
 or_idle_early : (x y : Option Phase) → or_idle y ≡ idle → or_idle (or_earlier x y) ≡ or_idle x
 or_idle_early None y z = z
 or_idle_early (Some x) y z = refl
@@ -363,32 +325,32 @@ rounds_last_phase t n f turns d s w (round u e v q b k r) =
 mutual
   pub phased : (t : Tree) (n : ℕ) (f : Marks) (w : List Judged) → Distinct (names t) → Stands (course t n) f w → Each (Phased (names t) w) (spots t n f)
   phased (leaf s) n f w d h =
-      step_phased s w n (f n)
-      (ap or_idle (leaf_phase s n s.name w refl (stands_of (course (leaf s) n) f w tt h)) ∙ had_phase (is_some s.finish) (f n) _ h)
+      step_each _ n (leaf s) (f n)
+      (λ o. (inl refl, ap or_idle (leaf_phase s n s.name w refl (stands_of (course (leaf s) n) f w tt h)) ∙ had_phase (is_some s.finish) (f n) _ h))
   phased (seq ts) n f w d h = turn_phased ts (n + 1) f w d h
   phased (par ts) n f w d h = once_phased ts (n + 1) f w d h
   phased (choice each) n f w d (inl (q, z, r)) =
-      choice_phased (arm_names each) w n each (λ a. arm_spots each (n + 1) a f) (f n) (λ a k. let no : Untouched ≡ Chosen a = sym q ∙ k in cc)
+      choice_each (Phased (arm_names each) w) n (choice each) (λ a. arm_spots each (n + 1) a f) (f n) (λ q. tt) (λ a k. let no : Untouched ≡ Chosen a = sym q ∙ k in cc)
   phased (choice each) n f w d (inr (a, e, v, q, l, c, x, y)) =
-      choice_phased (arm_names each) w n each (λ a. arm_spots each (n + 1) a f) (f n)
+      choice_each (Phased (arm_names each) w) n (choice each) (λ a. arm_spots each (n + 1) a f) (f n) (λ q. tt)
       (λ b k.
       let same : a ≡ b = (let z : Chosen a ≡ Chosen b = sym x ∙ k in cc) in
       subst (λ b. Each (Phased (arm_names each) w) (arm_spots each (n + 1) b f)) same
       (carry (arm_names each) (arm_names each) v w (arm_spots each (n + 1) a f) (λ x i. i)
       (λ name i. ap or_idle (phase_head name e v w q (arm_says each n name e a c))) (arm_phased each (n + 1) a f v d y)))
   phased (loop t until) n f w d (inl (x, y)) =
-      loop_phased (names t) w n t until (is_done (course t (n + 1)) f) (spots t (n + 1) f) (f n)
+      loop_each (Phased (names t) w) n (loop t until) (is_done (course t (n + 1)) f) (spots t (n + 1) f) (f n) (λ q d. tt)
       (λ _. rounds_phased t (n + 1) f (λ e. turns_rightly until e.aside (decision_at n (loop_reads until) e)) d (λ name e k. turns_says until n name e k)
       (λ v z. phased t (n + 1) f v d z) w y)
   phased (loop t until) n f w d (inr (x, y)) =
-      loop_phased (names t) w n t until (is_done (course t (n + 1)) f) (spots t (n + 1) f) (f n) (λ k. let no : Left ≡ Untouched = sym x ∙ k in cc)
+      loop_each (Phased (names t) w) n (loop t until) (is_done (course t (n + 1)) f) (spots t (n + 1) f) (f n) (λ q d. tt) (λ k. let no : Left ≡ Untouched = sym x ∙ k in cc)
 
   pub turn_phased : (ts : Trees) (n : ℕ) (f : Marks) (w : List Judged) → Distinct (all_names ts) → Stands (in_turn ts n) f w → Each (Phased (all_names ts) w) (turn_spots ts n f)
   turn_phased no_trees n f w d h = tt
   turn_phased (more_trees t ts) n f w d (inl (x, r)) =
       let front = distinct_front (names t) (all_names ts) d in
       let back = distinct_back (names t) (all_names ts) d in
-      if_phased (all_names (more_trees t ts)) w (is_done (course t n) f) (turn_spots ts (n + size t) f) (spots t n f)
+      if_each (Phased (all_names (more_trees t ts)) w) (is_done (course t n) f) (turn_spots ts (n + size t) f) (spots t n f)
       (λ _. carry (all_names ts) (all_names (more_trees t ts)) [] w (turn_spots ts (n + size t) f) (λ x i. in_right x (names t) (all_names ts) i)
       (λ name i. ap or_idle (silent name (is_of (course t n)) w (tree_silent t n name (λ j. distinct_apart name (names t) (all_names ts) d j i))
       (stands_of (course t n) f w (sound t n front) x)))
@@ -397,7 +359,7 @@ mutual
   turn_phased (more_trees t ts) n f w d (inr (u, v, q, g, x, y)) =
       let front = distinct_front (names t) (all_names ts) d in
       let back = distinct_back (names t) (all_names ts) d in
-      if_phased (all_names (more_trees t ts)) w (is_done (course t n) f) (turn_spots ts (n + size t) f) (spots t n f)
+      if_each (Phased (all_names (more_trees t ts)) w) (is_done (course t n) f) (turn_spots ts (n + size t) f) (spots t n f)
       (λ _. carry (all_names ts) (all_names (more_trees t ts)) v w (turn_spots ts (n + size t) f) (λ x i. in_right x (names t) (all_names ts) i)
       (λ name i. ap or_idle (phase_back name u v w q
       (silent name (is_of (course t n)) u (tree_silent t n name (λ j. distinct_apart name (names t) (all_names ts) d j i))
@@ -410,7 +372,7 @@ mutual
   once_phased (more_trees t ts) n f w d (l, x, y) =
       let front = distinct_front (names t) (all_names ts) d in
       let back = distinct_back (names t) (all_names ts) d in
-      each_both (Phased (all_names (more_trees t ts)) w) (spots t n f) (once_spots ts (n + size t) f)
+      each_append (Phased (all_names (more_trees t ts)) w) (spots t n f) (once_spots ts (n + size t) f)
       (carry (names t) (all_names (more_trees t ts)) (filter (is_of (course t n)) w) w (spots t n f) (λ x i. in_left x (names t) (all_names ts) i)
       (λ name i. ap or_idle (sym (phase_filter name (is_of (course t n)) (is_of (at_once ts (n + size t))) w
       (once_silent ts (n + size t) name (λ j. distinct_apart name (names t) (all_names ts) d i j)) l)))

@@ -4,3 +4,5 @@ pub mod Spots
 pub mod Next
 pub mod Kept
 pub mod Running
+pub mod Commands
+pub mod Laws

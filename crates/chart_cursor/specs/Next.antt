@@ -1,16 +1,12 @@
 -- What comes next after a log.
-use Rattle.std.specs.Prelude.{ℕ, ◌+◌, ◌≡◌, ◌<◌, ◌==◌, List, [], ◌∷◌, Option, Some, None, nat_lt, if◌then◌else◌}
+use Rattle.std.specs.Prelude.{ℕ, ◌+◌, ◌≡◌, ◌<◌, ◌==◌, List, Option, Some, None, nat_lt, if◌then◌else◌}
 use Rattle.chart_core.specs.declared.entry.LogEntry.{LogEntry}
 use Rattle.chart_core.specs.declared.why.Why.{Why}
 use Rattle.chart_core.specs.Trees.{Tree, Trees, Arms, leaf, seq, par, choice, loop, no_trees, more_trees, no_arms, more_arms, size}
 use Rattle.chart_core.specs.Roles.{ChartPlan}
-use Rattle.chart_core.specs.Runs.{Judged, IsComplete, IsAwaited, course_of, word}
+use Rattle.chart_core.specs.Runs.{IsComplete, IsAwaited}
 use Rattle.chart_core.specs.Active.{Phase, idle, phase_after}
-use Rattle.chart_core.specs.Courses.{Course}
-use Rattle.chart_core.specs.declared.progress.Progress.TheVariants.{Untouched}
-use Rattle.chart_core.specs.declared.progress.Change.{Change}
-use Rattle.chart_core.specs.Changes.{change_by, changed}
-use Rattle.chart_core.specs.Progress.{Marks}
+use Rattle.chart_core.specs.Standing.{marks_after}
 use Rattle.chart_cursor.specs.declared.next.CursorNext.{CursorNext}
 use Rattle.chart_cursor.specs.declared.next.CursorNext.TheVariants.{Entry, Wait, Whole}
 use Rattle.chart_cursor.specs.Sights.{Sights}
@@ -68,19 +64,6 @@ node_phase log (Some (loop body until)) = idle
 -- what the node with this number is ready for after the log, or its obstacle
 abbrev pub ready_after : ChartPlan → List LogEntry → Sights → ℕ → CursorNext
 ready_after chart log seen i = ready_entry chart seen i (node_phase log (node_at chart.root 0 i))
-
-abbrev pub moved : Marks → Option Change → Marks
-moved marks None = marks
-moved marks (Some change) = changed change marks
-
--- the marks after each entry of a word in order; an entry that may not come next changes nothing
-abbrev pub marks_along : Course Judged → Marks → List Judged → Marks
-marks_along course marks [] = marks
-marks_along course marks (e ∷ later) = marks_along course (moved marks (change_by course marks e)) later
-
--- how far each node has come after the log
-abbrev pub marks_after : ChartPlan → List LogEntry → Marks
-marks_after chart log = marks_along (course_of chart) (λ i. Untouched) (word log)
 
 -- What comes next after the log, worked out. For a partial run of a valid chart it is what `IsNext` says.
 abbrev pub next_after : ChartPlan → List LogEntry → Sights → CursorNext

@@ -1,10 +1,14 @@
 //! The next entry of a run of a chart: a cursor keeps how far each node has come, and tells which awaited node is ready.
 //!
 //! It knows nothing of plants, batches or logs: what is seen of modules comes through the trait `Seen`. A cursor stands
-//! for words by a relation; where a clause speaks of the word, it holds of every word that the cursor stands for.
+//! for words by a relation; where a clause speaks of the word, it holds of every word that the cursor stands for. What
+//! comes next is worked out by `next_after` (`specs/Next.antt`); the laws in `laws` say that it is the defined next
+//! entry, that it keeps a run a run, and that it commands only what a recipe may give.
 #![tactic(auto)]
 
 mod cursor;
+mod following;
+mod laws;
 mod next;
 mod ready;
 mod running;
@@ -12,6 +16,10 @@ mod scanning;
 mod sight;
 
 pub use cursor::Cursor;
+pub use following::next_of_log;
+pub use laws::{
+    next_commands_are_permitted, next_follows_the_chart, next_keeps_the_run, steps_are_of_the_chart,
+};
 pub use next::CursorNext;
 pub use sight::{ReadingSight, Seen, Sight};
 

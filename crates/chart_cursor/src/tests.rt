@@ -4,8 +4,8 @@ ghost use Rattle.std.specs.Prelude.{◌≤◌, length, IfOk, Some};
 ghost use Rattle.chart_cursor.specs.declared.sight.Sight.TheVariants as sight;
 ghost use Rattle.chart_cursor.specs.declared.sight.ReadingSight.TheVariants as reading;
 
-use crate::{Cursor, CursorNext, ReadingSight, Seen, Sight};
-use chart_core::{Chart, Condition, LogEntry, Node, Op, Role, Step, Why};
+use crate::{Cursor, CursorNext, ReadingSight, Seen, Sight, next_of_log};
+use chart_core::{Chart, Condition, LogEntry, Node, Op, Readings, Role, Step, Why};
 use mtp_assembly::ServiceControl;
 use mtp_codes::{Command, Forbid, Mode, Name, Origin, Reading, Short, State};
 use mtp_modes::ServiceView;
@@ -96,21 +96,23 @@ fn a_run_begins_where_its_module_can_start(rt: HostRuntime) -> Result<(), Fail> 
     let alloc = rt.alloc();
     let chart = dosing(alloc)?;
     chart.valid().ok().ok_or("not valid")?;
-    let cursor = Cursor::new(alloc, Arc::new(alloc, chart)?)?;
+    let chart = Arc::new(alloc, chart)?;
+    let cursor = Cursor::new(alloc, chart.clone()?)?;
     let step = named("s1")?;
     let tag = named("T1")?;
-    let start = CursorNext::Entry(LogEntry::Start {
+    let service = named("dose")?;
+    let start = LogEntry::Start {
         step,
         tag,
-        service: named("dose")?,
+        service,
         procedure: 1,
-    });
+    };
     let by = Forbid::ModeForbids;
     let forbidden = CursorNext::Wait(Why::Forbidden { step, by });
     let state = State::Execute;
     let busy = CursorNext::Wait(Why::InState { step, state });
     let rows = [
-        (State::Idle, Mode::Automatic, start),
+        (State::Idle, Mode::Automatic, CursorNext::Entry(start)),
         (State::Idle, Mode::Operator, forbidden),
         (State::Execute, Mode::Automatic, busy),
     ];
@@ -124,7 +126,55 @@ fn a_run_begins_where_its_module_can_start(rt: HostRuntime) -> Result<(), Fail> 
             level: Reading::Whole(7),
         };
         assert_eq!(rt; cursor.first_ready(&module), next);
+        assert_eq!(rt; next_of_log(alloc, &chart, &[], &module)?, next);
     }
     assert_eq!(rt; cursor.next_active(0), None);
+    Ok(())
+}
+
+#[test]
+fn a_loop_is_left_where_its_condition_holds(rt: HostRuntime) -> Result<(), Fail> {
+    let alloc = rt.alloc();
+    let chart = dosing(alloc)?;
+    chart.valid().ok().ok_or("not valid")?;
+    let step = named("s1")?;
+    let tag = named("T1")?;
+    let service = named("dose")?;
+    let start = LogEntry::Start {
+        step,
+        tag,
+        service,
+        procedure: 1,
+    };
+    let reset = LogEntry::Reset { step, tag, service };
+    let log = [start, reset, LogEntry::End { step }];
+    let low = Readings::of_list(&[Reading::Whole(5)]).ok_or("too many")?;
+    let full = Readings::of_list(&[Reading::Whole(7)]).ok_or("too many")?;
+    let turn = CursorNext::Entry(LogEntry::Turn {
+        node: 0,
+        values: low,
+    });
+    let leave = CursorNext::Entry(LogEntry::Leave {
+        node: 0,
+        values: full,
+    });
+    let state = State::Idle;
+    let waits = CursorNext::Wait(Why::InState { step, state });
+    let rows: [(&[LogEntry], i64, CursorNext); 3] = [
+        (&log[..1], 7, waits),
+        (&log, 5, turn),
+        (&log, 7, leave),
+    ];
+    for (log, level, next) in rows {
+        let module = OneModule {
+            tag,
+            view: ServiceView {
+                control: control(state, Mode::Automatic),
+                self_completes: true,
+            },
+            level: Reading::Whole(level),
+        };
+        assert_eq!(rt; next_of_log(alloc, &chart, log, &module)?, next);
+    }
     Ok(())
 }

@@ -6,6 +6,7 @@
 #![tactic(auto)]
 
 mod command;
+mod cover;
 mod mode;
 mod name;
 mod short;
@@ -13,6 +14,7 @@ mod state;
 mod value;
 
 pub use command::Command;
+pub use cover::CoverFault;
 pub use mode::{Forbid, Mode, Origin, Speaker};
 pub use name::Name;
 pub use short::Short;

@@ -222,8 +222,9 @@ pub fn value_at<'a>(alloc: Global, object: &'a Value, key: &str) -> Result<&'a V
     keyed(alloc, key, object.get(key).ok_or(FaultKind::Missing))
 }
 
+/// The items of a list of `low` to `high` items: WrongKind for what is no list, OutOfRange for one of another size.
 #[tactic(auto, using(crate::proofs::Lists::length_of_view))]
-fn list_in<'a>(value: &'a Value, low: usize, high: usize) -> Result<&'a [Value], FaultKind>
+pub fn list_in<'a>(value: &'a Value, low: usize, high: usize) -> Result<&'a [Value], FaultKind>
     ensures value { seen (λ list. items_view list.now) result ≡ items_in low high (view value.now) }
     ensures size { IfOk result (λ list. IsTrue (counts low high (length list.now))) }
 {

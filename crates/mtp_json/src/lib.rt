@@ -21,8 +21,8 @@ mod written;
 
 pub use alike::{Alike, repeats, unlike_under};
 pub use at_key::{
-    command_at, i32_at, i64_at, list_at, list_if, name_at, scalar_at, short_at, state_at, text_at,
-    truth_at, truth_or, u16_at, u32_at, u64_at, value_at, whole_at, word_at,
+    command_at, i32_at, i64_at, list_at, list_if, list_in, name_at, scalar_at, short_at, state_at,
+    text_at, truth_at, truth_or, u16_at, u32_at, u64_at, value_at, whole_at, word_at,
 };
 pub use every::{
     FromJson, form_at, form_if_there, list_if_there, list_of, list_or_none, read_every,

@@ -1,6 +1,7 @@
 //! Where in a JSON value a part of it stands.
 
 ghost use Rattle.std.specs.Prelude.{◌≡◌, ◌++◌, ◌∷◌, [], IfOk, OnOk, OnErr, decimal};
+ghost use Rattle.std.specs.Str.{IsUtf8};
 ghost use Rattle.mtp_json.specs.PathText.{part_text, path_text, with_dot};
 
 use mtp_codes::Name;
@@ -29,33 +30,44 @@ impl Model for Path {
     ghost view = { λ path. path.parts.items };
 }
 
+fn put_text(out: &mut Vec<u8>, text: &str) -> Result<(), AllocError>
+    ensures bytes { OnOk result (out.new.items ≡ out.old.items ++ text.now) }
+    ensures utf8 { OnOk result (IsUtf8 out.old.items → IsUtf8 out.new.items) }
+{
+    out.extend_from_slice(text.as_bytes())
+}
+
 fn put_number(out: &mut Vec<u8>, number: u64) -> Result<(), AllocError>
-    ensures { OnOk result (out.new.items ≡ out.old.items ++ decimal number) }
+    ensures bytes { OnOk result (out.new.items ≡ out.old.items ++ decimal number) }
+    ensures utf8 { OnOk result (IsUtf8 out.old.items → IsUtf8 out.new.items) }
 {
     let mut buffer = itoa::Buffer::new();
-    out.extend_from_slice(buffer.format(number).as_bytes())
+    put_text(out, buffer.format(number))
 }
 
 fn put_part(out: &mut Vec<u8>, part: &PathPart) -> Result<(), AllocError>
-    ensures { OnOk result (out.new.items ≡ out.old.items ++ part_text part.now) }
+    ensures bytes { OnOk result (out.new.items ≡ out.old.items ++ part_text part.now) }
+    ensures utf8 { OnOk result (IsUtf8 out.old.items → IsUtf8 out.new.items) }
 {
     match part {
-        PathPart::Key(name) => out.extend_from_slice(name.as_bytes()),
+        PathPart::Key(name) => put_text(out, name.as_str()),
         PathPart::Place(place) => put_number(out, *place),
     }
 }
 
 fn put_step(out: &mut Vec<u8>, count: usize, part: &PathPart) -> Result<(), AllocError>
-    ensures { OnOk result (out.new.items ≡ with_dot count out.old.items ++ part_text part.now) }
+    ensures bytes { OnOk result (out.new.items ≡ with_dot count out.old.items ++ part_text part.now) }
+    ensures utf8 { OnOk result (IsUtf8 out.old.items → IsUtf8 out.new.items) }
 {
     if count != 0 {
-        out.push(b'.')?;
+        put_text(out, ".")?;
     }
     put_part(out, part)
 }
 
 fn parts_text(alloc: Global, parts: &[PathPart]) -> Result<Vec<u8>, AllocError>
-    ensures { IfOk result (λ text. text.items ≡ path_text parts.now) }
+    ensures bytes { IfOk result (λ text. text.items ≡ path_text parts.now) }
+    ensures utf8 { IfOk result (λ text. IsUtf8 text.items) }
 {
     let mut out = Vec::new(alloc);
     for (i, part) in parts.iter().enumerate() {
@@ -92,9 +104,10 @@ impl Path {
         Ok(())
     }
 
-    /// The parts joined with `.`, a place in decimal; the empty path has the empty text.
+    /// The parts joined with `.`, a place in decimal; the empty path has the empty text. The bytes are UTF-8.
     pub fn text(&self, alloc: Global) -> Result<Vec<u8>, AllocError>
-        ensures { IfOk result (λ text. text.items ≡ path_text self.now) }
+        ensures bytes { IfOk result (λ text. text.items ≡ path_text self.now) }
+        ensures utf8 { IfOk result (λ text. IsUtf8 text.items) }
     {
         parts_text(alloc, &self.parts)
     }

@@ -1,7 +1,7 @@
 //! Values as JSON.
 
-ghost use Rattle.std.specs.Prelude.{◌≡◌, List, map, IfOk};
-ghost use Rattle.mtp_json.specs.Written.{scalar_data};
+ghost use Rattle.std.specs.Prelude.{◌≡◌, List, map, IfOk, IsTrue};
+ghost use Rattle.mtp_json.specs.Written.{is_scalar, scalar_data};
 ghost use Rattle.serde_json.specs.Data.{Data, array};
 ghost use Rattle.serde_json.specs.View.{items_of, items_view, view};
 
@@ -42,7 +42,8 @@ pub fn write_list<T: ToJson>(alloc: Global, items: &[T::Item]) -> Result<Value, 
 
 /// A value of a variable or of a parameter as JSON.
 pub fn write_scalar(alloc: Global, scalar: &mtp_codes::Value) -> Result<Value, AllocError>
-    ensures { IfOk result (λ value. view value ≡ scalar_data scalar.now) }
+    ensures value { IfOk result (λ value. view value ≡ scalar_data scalar.now) }
+    ensures form { IfOk result (λ _. IsTrue (is_scalar scalar.now)) }
 {
     match scalar {
         mtp_codes::Value::Whole(number) => json!(in alloc; *number),

@@ -5,6 +5,8 @@ use Rattle.std.specs.Option.{option_or}
 use Rattle.semver.specs.EvalViews.{matches_views}
 use Rattle.semver.specs.Parse.{Parts, Held, req_of}
 use Rattle.semver.specs.declared.error.Error.{Error}
+use Rattle.mtp_codes.specs.declared.cover.CoverFault.{CoverFault}
+use Rattle.mtp_codes.specs.declared.cover.CoverFault.TheVariants.{WrongType, WrongVersion, NotCovered}
 use Rattle.mtp_codes.specs.declared.value.Reading.{Reading}
 use Rattle.mtp_codes.specs.declared.value.Reading.TheVariants as reading
 use Rattle.mtp_assembly.specs.Plain.{VariableForm}
@@ -17,8 +19,6 @@ use Rattle.chart_core.specs.Trees.{StepPlan, Placed, Tree, steps}
 use Rattle.chart_core.specs.Roles.{RolePlan, ChartPlan}
 use Rattle.mtp_procs.specs.Demands.{step_fault}
 use Rattle.mtp_procs.specs.Tests.{TestPlan, tests_in}
-use Rattle.mtp_procs.specs.declared.cover.CoverFault.{CoverFault}
-use Rattle.mtp_procs.specs.declared.cover.CoverFault.TheVariants.{WrongType, WrongVersion, NotCovered}
 
 -- the chart's role of this name, if there is one
 abbrev pub role_named : List ℕ → ChartPlan → Option RolePlan
@@ -96,3 +96,9 @@ cover_fault chart role description =
     option_or
     (role_fault description (role_named role chart))
     (option_map NotCovered (option_or (refused_step chart role description) (refused_variable chart role description)))
+
+-- what is missing, by a fault: the role itself where the type or the version is wrong
+abbrev pub missing_by : List ℕ → CoverFault → List ℕ
+missing_by role WrongType = role
+missing_by role WrongVersion = role
+missing_by role (NotCovered missing) = missing

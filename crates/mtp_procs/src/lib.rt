@@ -5,11 +5,9 @@
 #![tactic(auto)]
 
 mod check;
-mod cover;
 mod demand;
 
 pub use check::check_step;
-pub use cover::CoverFault;
 pub use demand::{StepDemand, StepFault};
 
 #[cfg(test)]

@@ -8,14 +8,15 @@ ghost use Rattle.mtp_assembly.specs.Fits.{answer_to};
 ghost use Rattle.mtp_desc.specs.DescriptionView.{description_view};
 ghost use Rattle.chart_core.specs.Charts.{plan};
 ghost use Rattle.chart_core.specs.Roles.{role_plan};
-ghost use Rattle.mtp_procs.specs.Covers.{cover_fault, meets, role_fault, role_named};
+ghost use Rattle.mtp_procs.specs.Covers.{cover_fault, meets, missing_by, role_fault, role_named};
+ghost use Rattle.pol_events.specs.Refusals.{cover_rule};
 
 use crate::steps::refused_step;
 use crate::variables::refused_variable;
 use chart_core::{Chart, Role};
-use mtp_codes::Name;
+use mtp_codes::{CoverFault, Name};
 use mtp_desc::Description;
-use mtp_procs::CoverFault;
+use pol_events::Rule;
 use semver::Version;
 
 fn find_role(roles: &[Role], name: Name) -> Option<&Role>
@@ -49,13 +50,8 @@ fn check_role(role: &Role, description: &Description) -> Result<(), CoverFault>
     Ok(())
 }
 
-/// Whether a module with this description can play the role of the chart. WrongType exactly where its type isn't the
-/// role's (or the chart hasn't the role); else WrongVersion exactly where `semver` says that the role's requirement
-/// doesn't match; else NotCovered with the first step of the role in chart order that `check_step` refuses, or else with
-/// the first variable, in order of first appearance, that the chart reads of the role and that is missing, is a text, or
-/// is a number tested against a truth value or the other way round. Takes no memory. Where all fits, its time grows with
-/// the chart's tests; else at most with their square.
-pub fn covers(chart: &Chart, role: Name, description: &Description) -> Result<(), CoverFault>
+// The first fault of the description for the role of the chart; a chart that hasn't the role asks for no type.
+fn check_cover(chart: &Chart, role: Name, description: &Description) -> Result<(), CoverFault>
     ensures { result ≡ answer_to (cover_fault (plan chart.now) role (description_view description.now)) }
 {
     let Some(wanted) = role_of(chart, role) else {
@@ -68,5 +64,51 @@ pub fn covers(chart: &Chart, role: Name, description: &Description) -> Result<()
     match refused_variable(&chart.root, role, description) {
         Some(variable) => Err(CoverFault::NotCovered(variable)),
         None => Ok(()),
+    }
+}
+
+fn cover_rule(role: Name, fault: CoverFault) -> Rule
+    ensures { result ≡ cover_rule role fault }
+{
+    match fault {
+        CoverFault::WrongType => Rule::WrongType { role },
+        CoverFault::WrongVersion => Rule::WrongVersion { role },
+        CoverFault::NotCovered(missing) => Rule::NotCovered { missing },
+    }
+}
+
+fn missing_by(role: Name, fault: CoverFault) -> Name
+    ensures { result ≡ missing_by role fault }
+{
+    match fault {
+        CoverFault::WrongType | CoverFault::WrongVersion => role,
+        CoverFault::NotCovered(missing) => missing,
+    }
+}
+
+/// Whether a module with this description can play the role of the chart.
+///
+/// `WrongType` exactly where its type isn't the role's (or the chart hasn't the role); else `WrongVersion` exactly where
+/// `semver` says that the role's requirement doesn't match; else `NotCovered` with the first step of the role in chart
+/// order that `check_step` refuses, or else with the first variable, in order of first appearance, that the chart reads
+/// of the role and that is missing, is a text, or is a number tested against a truth value or the other way round. Takes
+/// no memory. Where all fits, its time grows with the chart's tests; else at most with their square.
+pub fn covers(chart: &Chart, role: Name, description: &Description) -> Result<(), Rule>
+    ensures { result ≡ answer_to (option_map (cover_rule role) (cover_fault (plan chart.now) role (description_view description.now))) }
+{
+    match check_cover(chart, role, description) {
+        Ok(()) => Ok(()),
+        Err(fault) => Err(cover_rule(role, fault)),
+    }
+}
+
+/// What keeps a module with this description from playing the role that it holds: the role's own name where the type or
+/// the version is wrong, else the step or the variable that `covers` names; None exactly where `covers` answers Ok.
+pub fn held_back_by(chart: &Chart, role: Name, description: &Description) -> Option<Name>
+    ensures { result ≡ option_map (missing_by role) (cover_fault (plan chart.now) role (description_view description.now)) }
+{
+    match check_cover(chart, role, description) {
+        Ok(()) => None,
+        Err(fault) => Some(missing_by(role, fault)),
     }
 }

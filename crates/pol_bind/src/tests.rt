@@ -2,12 +2,12 @@
 
 ghost use Rattle.std.specs.Prelude.{◌≤◌, length, IfOk};
 
-use crate::covers;
+use crate::{covers, held_back_by};
 use chart_core::{Chart, Condition, Node, Op, Role, Step};
 use mtp_codes::{Name, Reading, Setting, Short, Value};
 use mtp_desc::{Description, read_description};
 use mtp_json::{JsonRefusal, parse};
-use mtp_procs::CoverFault;
+use pol_events::Rule;
 use semver::VersionReq;
 use std::alloc::Global;
 use std::test::*;
@@ -82,32 +82,31 @@ fn dosing(alloc: Global, amount: i64, level: Reading) -> Result<Chart, Fail> {
 #[test]
 fn the_first_fault_of_a_module_for_a_role_is_told(rt: HostRuntime) -> Result<(), Fail> {
     let alloc = rt.alloc();
-    let step = CoverFault::NotCovered(named("s1")?);
-    let variable = CoverFault::NotCovered(named("level")?);
+    let (role, other) = (named("A")?, named("B")?);
+    let wrong_type = Err(Rule::WrongType { role });
+    let wrong_version = Err(Rule::WrongVersion { role });
+    let (s1, level) = (named("s1")?, named("level")?);
+    let step = Err(Rule::NotCovered { missing: s1 });
+    let variable = Err(Rule::NotCovered { missing: level });
+    let (whole, bit) = (Reading::Whole(7), Reading::Bit(true));
     let rows = [
-        (FIRST, 1500, Reading::Whole(7), Ok(())),
-        (MIXER, 1500, Reading::Whole(7), Err(CoverFault::WrongType)),
-        (
-            SECOND,
-            1500,
-            Reading::Whole(7),
-            Err(CoverFault::WrongVersion),
-        ),
-        (BARE, 1500, Reading::Whole(7), Err(step)),
-        (FIRST, 5001, Reading::Bit(true), Err(step)),
-        (FIRST, 1500, Reading::Bit(true), Err(variable)),
-        (TEXTUAL, 1500, Reading::Whole(7), Err(variable)),
+        (FIRST, 1500, whole, Ok(()), None),
+        (MIXER, 1500, whole, wrong_type, Some(role)),
+        (SECOND, 1500, whole, wrong_version, Some(role)),
+        (BARE, 1500, whole, step, Some(s1)),
+        (FIRST, 5001, bit, step, Some(s1)),
+        (FIRST, 1500, bit, variable, Some(level)),
+        (TEXTUAL, 1500, whole, variable, Some(level)),
     ];
-    for (text, amount, level, answer) in rows {
+    for (text, amount, level, answer, missing) in rows {
         let module = description(alloc, text).ok().ok_or("no description")?;
         let chart = dosing(alloc, amount, level)?;
-        assert_eq!(rt; covers(&chart, named("A")?, &module), answer);
+        assert_eq!(rt; covers(&chart, role, &module), answer);
+        assert_eq!(rt; held_back_by(&chart, role, &module), missing);
     }
     let module = description(alloc, FIRST).ok().ok_or("no description")?;
-    let chart = dosing(alloc, 1500, Reading::Whole(7))?;
-    assert_eq!(rt;
-        covers(&chart, named("B")?, &module),
-        Err(CoverFault::WrongType)
-    );
+    let chart = dosing(alloc, 1500, whole)?;
+    let wrong_type = Err(Rule::WrongType { role: other });
+    assert_eq!(rt; covers(&chart, other, &module), wrong_type);
     Ok(())
 }

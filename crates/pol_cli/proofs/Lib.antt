@@ -1,3 +1,4 @@
 pub mod Written
 pub mod Spoken
 pub mod Serving
+pub mod BatchLines

@@ -1,29 +1,28 @@
 -- One more line is read and answered, and where a replay may stop.
-use Rattle.std.proofs.Common.{ℕ, ◌≡◌, ◌<◌, ◌≤◌, ◌+◌, List, [], ◌∷◌, ◌++◌, length, Bool, true, false, refl, sym, ◌∙◌, ap, subst, arith, append_assoc, append-nil, length-append, inl, inr}
+use Rattle.std.proofs.Common.{ℕ, ◌≡◌, ◌<◌, ◌≤◌, List, [], ◌∷◌, ◌++◌, length, Bool, true, false, refl, sym, ◌∙◌, ap, arith, append_assoc, append-nil, inl, inr}
 use Rattle.std.specs.Prelude.{IsTrue, Option, Some, None, ◌||◌, ◌==◌, map, ◌⊎◌}
 use Rattle.std.specs.Io.KnownBytes.{Appends, IsAtEnd}
 use Rattle.pol_io.specs.Known.{Between, Counts, joined}
 use Rattle.pol_io.specs.Faults.{Stops}
 use Rattle.pol_io.specs.declared.lines.IoFault.{IoFault}
 use Rattle.pol_io.specs.declared.lines.IoFault.TheVariants.{Read, TooMuch}
-use Rattle.pol_cli.specs.declared.replay.Stop.{Stop}
-use Rattle.pol_cli.specs.declared.replay.Stop.TheVariants.{Read as StopRead, TooMuch as StopTooMuch, Write as StopWrite, Memory as StopMemory}
-use Rattle.serde_json.specs.Written.{compact_text}
-use Rattle.pol_io.specs.Pieces.{pieces, line_of, is_whole, has_no_feed, IsFirstLine, IsDone, Passes, PassesMore}
+use Rattle.pol_cli.specs.declared.stop.Stop.{Stop}
+use Rattle.pol_cli.specs.declared.stop.Stop.TheVariants.{Read as StopRead, TooMuch as StopTooMuch, Write as StopWrite, Memory as StopMemory}
+use Rattle.pol_io.specs.Pieces.{pieces, line_of, is_whole, has_no_feed, IsFirstLine, Passes, PassesMore}
 use Rattle.pol_io.proofs.Known.{Appends-trans, Appends-none, Keeps-refl, between_trans, between_weaker, counts_trans}
-use Rattle.pol_io.proofs.Pieces.{pieces-piece, whole-append, pieces-append}
+use Rattle.pol_io.proofs.Pieces.{pieces-piece, whole-append}
 use Rattle.pol_io.proofs.FirstLines.{done_none, done_next}
 use Rattle.std.specs.declared.alloc.AllocError.{AllocError}
 use Rattle.std.specs.Prelude.{Result, Ok, Err, IfOk, IfErr, IsOk, OnOk, OnErr, IfSome}
 use Rattle.pol_cli.specs.declared.saying.Saying.{Saying}
 use Rattle.pol_history.specs.Looking.{History}
-use Rattle.pol_history.specs.Texts.{end_data, end_text}
 use Rattle.pol_history.specs.Lines as lines
-use Rattle.pol_history.specs.Lines.{as_item, item_of, items_of, events_in, rows_after, rows_text, answers_of, output_of, history_of, saying_of}
+use Rattle.pol_history.specs.Lines.{as_item, item_of, items_of, events_in, rows_after, rows_text, answers_of, closing_text, output_of, history_of, saying_of}
 use Rattle.pol_history.specs.Runs.{history_after}
 use Rattle.pol_history.proofs.Appending.{answers_of-append, history_of-append}
+use Rattle.pol_cli.proofs.BatchLines.{some_closing}
 use Rattle.pol_cli.specs.Sayings.{saying_view, reply_text, after_saying}
-use Rattle.pol_cli.specs.Served.{Served, Says, stop_of, Leaves, LeavesPart, WritesSome, WritesPart, WritesLess, Writes, AnswersTaken, AnswersSome}
+use Rattle.pol_cli.specs.Served.{Answered, Served, Says, stop_of, Leaves, LeavesPart, WritesSome, WritesPart, WritesLess, Writes, AnswersTaken, AnswersSome}
 
 -- what comes of one piece
 piece_text : (history : History) (piece : List ℕ) (saying : lines.Saying) → rows_text (rows_after history (as_item piece saying ∷ [])) ≡ reply_text history saying
@@ -101,9 +100,6 @@ split (byte ∷ bytes) = go (split bytes).0 (split bytes).1 (split bytes).2 (spl
     go [] part cut lines open' true is = (byte ∷ [], part, ap (λ rest. byte ∷ rest) cut, is, open')
     go [] part cut lines open' false is = ([], byte ∷ part, ap (λ rest. byte ∷ rest) cut, refl, rw is open')
 
-some-end : (more : List ℕ) → 0 < length (more ++ end_text)
-some-end more = let feed : List ℕ = 10 ∷ [] in rw (length-append more end_text, length-append (compact_text end_data) feed) (omega arith)
-
 regroup : (a b c d : List ℕ) → (a ++ b) ++ (c ++ d) ≡ (a ++ (b ++ c)) ++ d
 regroup a b c d = rw (append_assoc a b (c ++ d), append_assoc a (b ++ c) d, append_assoc b c d)
 
@@ -121,11 +117,11 @@ stop-at_end held a b history before ended bytes text line left served spent firs
       read = none;
       less = record {
         written = answers_of served.done ++ some.written;
-        more = some.more ++ end_text;
+        more = some.more ++ closing_text (history_of bytes);
         appended = Appends-trans held a b (answers_of served.done) some.written served.appended some.appended;
-        part = regroup (answers_of served.done) some.written some.more end_text
-            ∙ ap (λ text. text ++ end_text) (ap (λ text. answers_of served.done ++ text) reply ∙ (sym (answers-next served.done first.piece whole alone) ∙ ap answers_of (sym all)));
-        some = some-end some.more;
+        part = regroup (answers_of served.done) some.written some.more (closing_text (history_of bytes))
+            ∙ ap (λ text. text ++ closing_text (history_of bytes)) (ap (λ text. answers_of served.done ++ text) reply ∙ (sym (answers-next served.done first.piece whole alone) ∙ ap answers_of (sym all)));
+        some = some_closing some.more (history_of bytes);
       };
     }
 
@@ -205,14 +201,14 @@ stopped_read held a history before start text left left' taken TooMuch served un
 -- the input was read to its end
 pub served_all : (held a : Option (List ℕ)) (history : History) (before ended : Bool) (start text rest left : Option (List ℕ)) (taken : ℕ) →
     Between (Served held a history before) start text → Between (Says None ended) text rest → Between (Counts 0 taken) start left → IsAtEnd left →
-    Between (Writes answers_of held a) start left
+    Between (Answered held a history) start left
 served_all held a history before ended None text rest left taken served says counted at_end = tt
 served_all held a history before ended (Some bytes) text rest None taken served says counted at_end = absurd counted
 served_all held a history before ended (Some bytes) None rest (Some left) taken served says counted at_end = absurd served
 served_all held a history before ended (Some bytes) (Some text) None (Some left) taken served says counted at_end = absurd says
 served_all held a history before ended (Some bytes) (Some text) (Some rest) (Some left) taken served says counted at_end =
     let all : bytes ≡ served.done = served.so_far.cut ∙ (ap (λ tail. served.done ++ tail) says.0 ∙ append-nil served.done) in
-    record { read = at_end; written = rw all served.appended }
+    record { read = at_end; history_is = served.history_is ∙ ap history_of (sym all); written = rw all served.appended }
 
 -- nothing was answered yet
 pub served_none : (held start : Option (List ℕ)) (ended : Bool) (waiting : List ℕ) → waiting ≡ [] → ended ≡ false → Between (Served held held [] ended) start (joined ended waiting start)
@@ -264,34 +260,35 @@ nothing_done StopMemory held (Some bytes) is = inl (record {
   front = refl;
 })
 
--- the end line follows the answers
-pub ended_well : (result : Result (Unit {0}) Stop) (held a b start left : Option (List ℕ)) (line : List ℕ) → Between (Writes answers_of held a) start left → line ≡ end_text →
-    OnOk result (Appends a b line) → OnOk result (Between (Writes output_of held b) start left)
-ended_well (Ok value) held a b start left line answers is appended =
-    between_weaker (Writes answers_of held a) (Writes output_of held b) start left
-    (λ bytes rest done. record { read = done.read; written = Appends-trans held a b (answers_of bytes) end_text done.written (rw is at appended) }) answers
-ended_well (Err stop) held a b start left line answers is appended = tt
+-- the closing lines follow the answers
+pub ended_well : (result : Result (Unit {0}) Stop) (held a b start left : Option (List ℕ)) (history : History) → Between (Answered held a history) start left →
+    OnOk result (Appends a b (closing_text history)) → OnOk result (Between (Writes output_of held b) start left)
+ended_well (Ok value) held a b start left history answers appended =
+    between_weaker (Answered held a history) (Writes output_of held b) start left
+    (λ bytes rest done.
+    record { read = done.read; written = Appends-trans held a b (answers_of bytes) (closing_text (history_of bytes)) done.written (rw done.history_is at appended) }) answers
+ended_well (Err stop) held a b start left history answers appended = tt
 
-end-broken : (held a b start left : Option (List ℕ)) → Between (Writes answers_of held a) start left → WritesPart a b end_text →
+end-broken : (held a b start left : Option (List ℕ)) (history : History) → Between (Answered held a history) start left → WritesPart a b (closing_text history) →
     Between (λ bytes rest. AnswersSome held b bytes rest ⊎ WritesLess held b bytes rest) start left
-end-broken held a b start left answers part =
-    between_weaker (Writes answers_of held a) (λ bytes rest. AnswersSome held b bytes rest ⊎ WritesLess held b bytes rest) start left
+end-broken held a b start left history answers part =
+    between_weaker (Answered held a history) (λ bytes rest. AnswersSome held b bytes rest ⊎ WritesLess held b bytes rest) start left
     (λ bytes rest done. inr (record {
       read = done.read;
       less = record {
         written = answers_of bytes ++ part.written;
         more = part.more;
         appended = Appends-trans held a b (answers_of bytes) part.written done.written part.appended;
-        part = append_assoc (answers_of bytes) part.written part.more ∙ ap (λ text. answers_of bytes ++ text) part.part;
+        part = append_assoc (answers_of bytes) part.written part.more ∙ ap (λ text. answers_of bytes ++ text) (part.part ∙ ap closing_text done.history_is);
         some = part.some;
       };
     })) answers
 
--- the end line was not written whole
-pub end_stopped : (result : Result (Unit {0}) Stop) (held a b start left : Option (List ℕ)) (line : List ℕ) → Between (Writes answers_of held a) start left → line ≡ end_text →
-    OnErr result (WritesPart a b line) → IfErr result (λ stop. (stop ≡ StopRead → ⊥) × (stop ≡ StopTooMuch → ⊥)) → IfErr result (λ stop. Between (Leaves stop held b) start left)
-end_stopped (Ok value) held a b start left line answers is part only = tt
-end_stopped (Err stop) held a b start left line answers is part only = answer_stops stop held b start left only.0 only.1 (end-broken held a b start left answers (rw is at part))
+-- the closing lines were not written whole
+pub end_stopped : (result : Result (Unit {0}) Stop) (held a b start left : Option (List ℕ)) (history : History) → Between (Answered held a history) start left →
+    OnErr result (WritesPart a b (closing_text history)) → IfErr result (λ stop. (stop ≡ StopRead → ⊥) × (stop ≡ StopTooMuch → ⊥)) → IfErr result (λ stop. Between (Leaves stop held b) start left)
+end_stopped (Ok value) held a b start left history answers part only = tt
+end_stopped (Err stop) held a b start left history answers part only = answer_stops stop held b start left only.0 only.1 (end-broken held a b start left history answers part)
 
 -- nothing was read or written
 pub untouched : (held start : Option (List ℕ)) → Between (LeavesPart held held) start start

@@ -1,17 +1,20 @@
 -- How far a replay has come, and what it has written when it stops.
-use Rattle.std.specs.Prelude.{ℕ, ◌≡◌, ◌<◌, ◌≤◌, List, [], ◌∷◌, ◌++◌, length, Bool, false, IsTrue, Option, Some, None, Result, IfOk, ◌⊎◌}
+use Rattle.std.specs.Prelude.{ℕ, ◌≡◌, ◌<◌, ◌≤◌, List, [], ◌∷◌, ◌++◌, length, Bool, false, IsTrue, Option, Some, None, Result, IfOk, ◌⊎◌, if◌then◌else◌}
 use Rattle.std.specs.declared.alloc.AllocError.{AllocError}
 use Rattle.std.specs.Io.KnownBytes.{Appends, IsAtEnd}
 use Rattle.pol_io.specs.Known.{Between, Counts}
 use Rattle.pol_io.specs.Reading.{Reading}
 use Rattle.pol_cli.specs.declared.saying.Saying.{Saying}
 use Rattle.pol_io.specs.Pieces.{IsFirstLine, IsDone, is_whole, has_no_feed}
-use Rattle.pol_history.specs.Looking.{History}
+use Rattle.pol_events.specs.Events.{EntryForm}
+use Rattle.pol_history.specs.Looking.{History, is_accepted}
+use Rattle.pol_history.specs.Batches.{started_batch}
+use Rattle.pol_history.specs.Texts.{batch_text}
 use Rattle.pol_history.specs.Lines.{saying_of, answers_of, output_of, history_of}
 use Rattle.pol_io.specs.declared.lines.IoFault.{IoFault}
 use Rattle.pol_io.specs.declared.lines.IoFault.TheVariants as io_fault
-use Rattle.pol_cli.specs.declared.replay.Stop.{Stop}
-use Rattle.pol_cli.specs.declared.replay.Stop.TheVariants.{Read, Write, Memory, TooMuch}
+use Rattle.pol_cli.specs.declared.stop.Stop.{Stop}
+use Rattle.pol_cli.specs.declared.stop.Stop.TheVariants.{Read, Write, Memory, TooMuch}
 use Rattle.pol_cli.specs.Sayings.{saying_view}
 
 -- a proper part of these bytes, from the first on, was written
@@ -28,6 +31,12 @@ pub record Served (held held' : Option (List ℕ)) (history : History) (ended : 
   pub so_far : IsDone ended bytes done rest
   pub history_is : history ≡ history_of done
   pub appended : Appends held held' (answers_of done)
+
+-- the input was read to its end, its answers were written, and this is the history that they left
+pub record Answered (held held' : Option (List ℕ)) (history : History) (bytes left : List ℕ) : Type 0 where
+  pub read : left ≡ []
+  pub history_is : history ≡ history_of bytes
+  pub written : Appends held held' (answers_of bytes)
 
 -- the input was read to its end, and these bytes were written for it
 pub record Writes (output_of : List ℕ → List ℕ) (held held' : Option (List ℕ)) (bytes left : List ℕ) : Type 0 where
@@ -103,3 +112,22 @@ Leaves Read held held' bytes left = AnswersTaken held held' bytes left
 Leaves TooMuch held held' bytes left = (last : ℕ) × AnswersTaken held held' bytes (last ∷ left)
 Leaves Write held held' bytes left = LeavesPart held held' bytes left
 Leaves Memory held held' bytes left = LeavesPart held held' bytes left
+
+-- of these bytes all was written but the rest
+pub record WritesUpTo (held held' : Option (List ℕ)) (rest all : List ℕ) : Type 0 where
+  pub written : List ℕ
+  pub appended : Appends held held' written
+  pub up_to : written ++ rest ≡ all
+
+-- the line of a batch, if there is one
+abbrev pub line_if : History → Option (List ℕ) → List ℕ
+line_if history None = []
+line_if history (Some batch) = batch_text history batch
+
+-- the batch that an entry starts
+abbrev pub batch_started : EntryForm → Option (List ℕ)
+batch_started entry = if is_accepted entry.answer then started_batch entry.event else None
+
+-- the line of the batch that an entry starts, after this history
+abbrev pub start_text : History → EntryForm → List ℕ
+start_text history entry = line_if history (batch_started entry)

@@ -4,10 +4,13 @@
 //! 0 the output is the defined output of the input (`pol_history`).
 #![tactic(auto)]
 
+mod closing;
+mod legal;
 mod replay;
 mod saying;
 mod serial;
 mod status;
+mod stop;
 mod words;
 
 pub use serial::serve;

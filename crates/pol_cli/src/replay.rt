@@ -2,74 +2,30 @@
 ghost use Rattle.std.specs.Prelude.{◌≡◌, ◌≤◌, ◌<◌, ℕ, [], length, take, true, false, IsTrue, IsOk, IfSome, IfNone, OnSome, IfOk, IfErr, OnOk, OnErr};
 ghost use Rattle.std.specs.Io.KnownBytes.{Appends, Keeps, IsAtEnd};
 ghost use Rattle.pol_events.specs.Events.{event_view, history_view};
-ghost use Rattle.pol_history.specs.Rules.{answer_of};
+ghost use Rattle.pol_events.specs.Orderly.{is_orderly};
+ghost use Rattle.pol_history.specs.Answers.{answer_of};
 ghost use Rattle.pol_history.specs.Runs.{entry_of, recorded};
 ghost use Rattle.pol_history.specs.Texts.{answer_text};
-ghost use Rattle.pol_history.specs.Lines.{Saying as Said, answers_of, output_of};
+ghost use Rattle.pol_history.specs.Lines.{Saying as Said, output_of};
 ghost use Rattle.pol_io.specs.Known.{Between, Counts};
 ghost use Rattle.pol_io.specs.Faults.{Stops};
 ghost use Rattle.pol_io.specs.Reading.{ahead, given};
 ghost use Rattle.pol_io.specs.Causes.{HasCauseOf};
-ghost use Rattle.pol_cli.specs.Sayings.{saying_view, reply_text, after_saying};
-ghost use Rattle.pol_cli.specs.Served.{IsFresh, Says, Moves, Leaves, WritesPart, WritesSome, Writes};
+ghost use Rattle.pol_cli.specs.Sayings.{IsOrderly, saying_view, reply_text, after_saying};
+ghost use Rattle.pol_cli.specs.Served.{Answered, IsFresh, Says, Moves, Leaves, WritesSome, Writes};
 
+use crate::closing::close;
 use crate::saying::{Saying, read_saying};
+use crate::stop::{Stop, put};
 use pol_core::Plant;
 use pol_events::{Answer, Event, LineFault};
-use pol_io::{IoFault, Line, Lines, Sink, SinkFault, Source, write_all};
-use pol_record::{answer_line, end_line, fault_line};
+use pol_io::{IoFault, Line, Lines, Sink, Source};
+use pol_record::{answer_line, fault_line};
 use std::alloc::{AllocError, Global};
-
-/// Why a replay stopped before its end.
-#[derive(Clone, Copy, Debug, PartialEq, Eq)]
-pub enum Stop {
-    Read,
-    Write,
-    Memory,
-    TooMuch,
-}
-
-impl From<AllocError> for Stop {
-    ghost use Rattle.std.specs.Prelude.{◌≡◌};
-    ghost use Rattle.pol_cli.specs.declared.replay.Stop.TheVariants.{Memory};
-
-    ghost from_gives = { λ _ stop. stop ≡ Memory };
-
-    fn from(_error: AllocError) -> Stop {
-        Stop::Memory
-    }
-}
-
-impl From<IoFault> for Stop {
-    ghost use Rattle.std.specs.Prelude.{◌≡◌};
-    ghost use Rattle.pol_cli.specs.Served.{stop_of};
-
-    ghost from_gives = { λ fault stop. stop ≡ stop_of fault };
-
-    fn from(fault: IoFault) -> Stop {
-        match fault {
-            IoFault::Read => Stop::Read,
-            IoFault::TooMuch => Stop::TooMuch,
-        }
-    }
-}
-
-/// Writes one output line.
-fn put<K: Sink>(sink: &mut K, line: &[u8]) -> Result<(), Stop>
-    ensures ok { OnOk result (Appends (K.held sink.old) (K.held sink.new) line.now) }
-    ensures part { OnErr result (WritesPart (K.held sink.old) (K.held sink.new) line.now) }
-    ensures cause { HasCauseOf Stop.Write (K.faults sink.old) (K.faults sink.new) result }
-    ensures only { IfErr result (λ stop. (stop ≡ Stop.Read → ⊥) × (stop ≡ Stop.TooMuch → ⊥)) }
-{
-    match write_all(sink, line) {
-        Ok(()) => Ok(()),
-        Err(SinkFault::Failed) => Err(Stop::Write),
-        Err(SinkFault::Memory) => Err(Stop::Memory),
-    }
-}
 
 /// What the plant answers to an event.
 fn respond(plant: &mut Plant, event: Event) -> Result<Answer, AllocError>
+    requires { IsTrue (is_orderly (event_view event)) }
     ensures answer { IfOk result (λ answer. answer ≡ answer_of (history_view plant.old) (event_view event)) }
     ensures history { OnOk result (history_view plant.new ≡ recorded (entry_of (history_view plant.old) (event_view event)) (history_view plant.old)) }
 {
@@ -86,6 +42,7 @@ fn answer_event<K: Sink>(
     sink: &mut K,
     event: Event,
 ) -> Result<(), Stop>
+    requires { IsTrue (is_orderly (event_view event)) }
     ensures line { OnOk result (Appends (K.held sink.old) (K.held sink.new) (answer_text (answer_of (history_view plant.old) (event_view event)))) }
     ensures history { OnOk result (history_view plant.new ≡ recorded (entry_of (history_view plant.old) (event_view event)) (history_view plant.old)) }
     ensures part { OnErr result (WritesSome (K.held sink.old) (K.held sink.new) (answer_text (answer_of (history_view plant.old) (event_view event)))) }
@@ -105,6 +62,7 @@ fn answer<K: Sink>(
     sink: &mut K,
     read: Result<Saying, AllocError>,
 ) -> Result<(), Stop>
+    requires { IfOk read IsOrderly }
     ensures line { OnOk result (IfOk read (λ saying. Appends (K.held sink.old) (K.held sink.new) (reply_text (history_view plant.old) (saying_view saying)))) }
     ensures history { OnOk result (IfOk read (λ saying. history_view plant.new ≡ after_saying (history_view plant.old) (saying_view saying))) }
     ensures was_read { OnOk result (IsOk read) }
@@ -128,6 +86,7 @@ fn next_saying<S: Source>(
 ) -> Result<Option<Result<Saying, AllocError>>, IoFault>
     requires { IsTrue lines.old.sound }
     ensures says { IfOk result (λ said. Between (Says said lines.new.ended) (ahead lines.old (S.left source.old)) (ahead lines.new (S.left source.new))) }
+    ensures orderly { IfOk result (λ said. IfSome said (λ read. IfOk read IsOrderly)) }
     ensures gives { IfOk result (λ said. OnSome said (given lines.old < given lines.new)) }
     ensures moves { OnOk result (Moves (S.left source.old) (S.left source.new) lines.old lines.new) }
     ensures ends { IfOk result (λ said. IfNone said (IsTrue lines.new.ended)) }
@@ -153,7 +112,7 @@ fn answer_all<S: Source, K: Sink>(
 ) -> Result<(), Stop>
     requires fresh { IsFresh lines.old }
     requires empty { plant.old ≡ [] }
-    ensures answers { OnOk result (Between (Writes answers_of (K.held sink.old) (K.held sink.new)) (S.left source.old) (S.left source.new)) }
+    ensures answers { OnOk result (Between (Answered (K.held sink.old) (K.held sink.new) (history_view plant.new)) (S.left source.old) (S.left source.new)) }
     ensures leaves { IfErr result (λ stop. Between (Leaves stop (K.held sink.old) (K.held sink.new)) (S.left source.old) (S.left source.new)) }
     ensures fits { OnOk result (IfSome (S.left source.old) (λ bytes. length bytes ≤ 268435456)) }
     ensures too_much { IfErr result (λ stop. stop ≡ Stop.TooMuch → IfSome (S.left source.old) (λ bytes. 268435456 < length bytes)) }
@@ -166,7 +125,7 @@ fn answer_all<S: Source, K: Sink>(
     Ok(())
 }
 
-/// Answers each line of the source, and then writes the end line.
+/// Answers each line of the source, and then writes the line of each batch and the end line.
 pub fn replay<S: Source, K: Sink>(alloc: Global, source: &mut S, sink: &mut K) -> Result<(), Stop>
     ensures output { OnOk result (Between (Writes output_of (K.held sink.old) (K.held sink.new)) (S.left source.old) (S.left source.new)) }
     ensures leaves { IfErr result (λ stop. Between (Leaves stop (K.held sink.old) (K.held sink.new)) (S.left source.old) (S.left source.new)) }
@@ -178,6 +137,5 @@ pub fn replay<S: Source, K: Sink>(alloc: Global, source: &mut S, sink: &mut K) -
     let mut lines = Lines::new(alloc)?;
     let mut plant = Plant::new(alloc);
     answer_all(alloc, &mut lines, &mut plant, source, sink)?;
-    let line = end_line(alloc)?;
-    put(sink, &line)
+    close(alloc, plant.history(), sink)
 }

@@ -2,18 +2,24 @@
 ghost use Rattle.std.specs.Prelude.{◌≡◌, ◌≢◌, ◌⊎◌, ◌∷◌, ℕ, IfOk};
 ghost use Rattle.pol_history.specs.Lines.{output_of};
 ghost use Rattle.pol_history.specs.Paths.{ReportsArePaths};
-ghost use Rattle.pol_history.specs.Removal.{RemovalOfLines};
+ghost use Rattle.pol_conduct.specs.Charts.{LogsFollowCharts};
+ghost use Rattle.pol_conduct.specs.Permitted.{CommandsArePermitted};
+ghost use Rattle.pol_removal.specs.Removal.{RemovalOfLines};
 ghost use Rattle.pol_io.specs.Known.{Between};
 ghost use Rattle.pol_io.specs.Causes.{Rose};
 ghost use Rattle.pol_words.specs.Words.{Means, texts_of};
 ghost use Rattle.pol_words.specs.declared.Task.{Task};
+ghost use Rattle.pol_cli.specs.Legal.{InputsAreLegal};
 ghost use Rattle.pol_cli.specs.Jobs.{Fits, IsTooMuch, Completes};
 ghost use Rattle.pol_cli.specs.Served.{AnswersTaken, LeavesPart, Writes};
 
+use crate::legal::inputs_are_legal;
 use crate::serial::serve;
 use crate::status::Status;
-use pol_history::{removal_of_lines, reports_are_paths};
+use pol_conduct::{commands_are_permitted, logs_follow_charts};
+use pol_history::reports_are_paths;
 use pol_io::{Sink, Source};
+use pol_removal::removal_of_lines;
 use pol_words::{Task, WordFault, read_words};
 use std::alloc::Global;
 
@@ -27,7 +33,10 @@ pub fn top<S: Source, K: Sink>(
 ) -> Status
     // the journal theorem
     ensures output { result ≡ Status.Good → Between (Writes output_of (K.held sink.old) (K.held sink.new)) (S.left source.old) (S.left source.new) }
+    ensures legal { InputsAreLegal }
+    ensures permitted { CommandsArePermitted }
     ensures paths { ReportsArePaths }
+    ensures charts { LogsFollowCharts }
     ensures removal { RemovalOfLines }
     // words
     ensures meant { result ≡ Status.Good → (task : Task) × Means (texts_of words.now) task }
@@ -45,7 +54,10 @@ pub fn top<S: Source, K: Sink>(
     ensures taken_and_more { result ≡ Status.TooMuchInput → Between (λ bytes left. (last : ℕ) × AnswersTaken (K.held sink.old) (K.held sink.new) bytes (last ∷ left)) (S.left source.old) (S.left source.new) }
     ensures part { (result ≡ Status.WriteFault) ⊎ (result ≡ Status.OutOfMemory) → Between (LeavesPart (K.held sink.old) (K.held sink.new)) (S.left source.old) (S.left source.new) }
 {
+    inputs_are_legal();
+    commands_are_permitted();
     reports_are_paths();
+    logs_follow_charts();
     removal_of_lines();
     match read_words(alloc, words) {
         Ok(Task::Serial(task)) => serve(alloc, &task, source, sink),

@@ -1,3 +1,0 @@
-pub mod Docked
-pub mod Kept
-pub mod Answered

@@ -1,35 +1,56 @@
 -- What is written of an event is read back.
-use Rattle.std.proofs.Common.{◌≡◌, ◌&&◌, ℕ, List, Ok, Some, refl}
+use Rattle.std.proofs.Common.{◌≡◌, ◌≤◌, ◌&&◌, ℕ, suc, List, [], ◌∷◌, length, Option, Ok, Some, None, true, true≢false, refl, sym, ap, arith}
 use Rattle.std.proofs.lemmas.Bool.{and_parts}
+use Rattle.std.specs.List.{list_all}
+use Rattle.std.specs.Prelude.{codes, is_none, nat_le}
 use Rattle.std.specs.Str.{IsUtf8}
-use Rattle.std.specs.Prelude.{true}
 use Rattle.serde_json.specs.Data.{Data, string}
+use Rattle.serde_json.specs.Events.{members_len}
 use Rattle.serde_json.specs.Read.{read}
 use Rattle.mtp_assembly.specs.declared.control.ServiceControl.{ServiceControl}
-use Rattle.mtp_codes.specs.Codes.{state_codes, state_number}
+use Rattle.mtp_codes.specs.Codes.{command_codes, command_number, state_codes, state_number}
 use Rattle.mtp_codes.specs.Names.{is_name}
+use Rattle.mtp_codes.specs.declared.command.Command.{Command}
+use Rattle.mtp_codes.specs.declared.command.Command.TheVariants as command
 use Rattle.mtp_codes.specs.declared.mode.Mode.{Mode}
 use Rattle.mtp_codes.specs.declared.mode.Mode.TheVariants.{Off, Operator, Automatic}
 use Rattle.mtp_codes.specs.declared.mode.Origin.{Origin}
 use Rattle.mtp_codes.specs.declared.mode.Origin.TheVariants.{Internal, External}
 use Rattle.mtp_codes.specs.declared.state.State.{State}
 use Rattle.mtp_codes.specs.declared.state.State.TheVariants.{Stopped, Starting, Idle, Paused, Execute, Stopping, Aborting, Aborted, Holding, Held, Unholding, Pausing, Resuming, Resetting, Completing, Completed}
+use Rattle.mtp_codes.specs.declared.value.Value.{Value}
 use Rattle.mtp_json.specs.Leaf.{code, counts, word, u32_high, u64_high}
 use Rattle.mtp_json.specs.Parse.{json_of}
+use Rattle.mtp_json.specs.Written.{is_scalar, scalar_data}
+use Rattle.mtp_json.proofs.Again.{scalar_again}
 use Rattle.mtp_json.proofs.Utf8.{utf8_is}
 use Rattle.mtp_desc.specs.DescriptionView.{description_view}
 use Rattle.mtp_desc.specs.Plain.{DescriptionForm}
 use Rattle.mtp_desc.specs.Written.{written_description}
 use Rattle.mtp_desc.proofs.Again.{description_again}
 use Rattle.mtp_desc.proofs.Sound.{IsDescription, description_sound}
+use Rattle.chart_core.specs.Charts.{plan}
+use Rattle.chart_core.specs.Roles.{ChartPlan, is_chart_form}
+use Rattle.chart_core.specs.Valid.{IsValid, chart_fault}
+use Rattle.chart_json.specs.Levels.{levels}
+use Rattle.chart_json.specs.Sound.{is_sound}
+use Rattle.chart_json.specs.Written.{written_roles, written_tree}
+use Rattle.chart_json.proofs.Again.{chart_from_again, roles_of_chart_again, root_again}
+use Rattle.chart_json.proofs.Shallow.{valid_shallow}
+use Rattle.pol_events.specs.declared.event.Bind.{Bind}
 use Rattle.pol_events.specs.declared.event.Event.{Event}
-use Rattle.pol_events.specs.declared.event.Event.TheVariants.{Plug, Report}
-use Rattle.pol_events.specs.Events.{EventForm, plug, report, event_view}
-use Rattle.pol_events.specs.Forms.{control_in, event_in, plug_in, report_in}
-use Rattle.pol_events.specs.Held.{is_held, is_held_control}
-use Rattle.pol_events.specs.Lines.{event_of}
+use Rattle.pol_events.specs.declared.event.Event.TheVariants.{Plug, Unplug, Report, Variable, Recipe, Start, Advance, Freeze, Thaw, StopBatch, Abandon, Desk, ExchangeBegin, ExchangeEnd, ExchangeCancel}
+use Rattle.pol_events.specs.Binds.{are_texts, each_bind, binds_of}
+use Rattle.pol_events.specs.Events.{EventForm, plug, unplug, report, variable, recipe, start, advance, freeze, thaw, stop_batch, abandon, desk, exchange_begin, exchange_end, exchange_cancel, event_view}
+use Rattle.pol_events.specs.Forms.{control_in, event_in, plug_in, tag_in, report_in, variable_in, desk_in, exchange_end_in, exchange_cancel_in, recipe_in, start_in, batch_in}
+use Rattle.pol_events.specs.Held.{is_stamped, is_held, is_held_bind, is_held_control}
+use Rattle.pol_events.specs.Lines.{event_of, fault_within}
+use Rattle.pol_events.specs.Orderly.{is_orderly, is_valid, rise}
 use Rattle.pol_events.specs.Words.{mode_words, origin_words}
-use Rattle.pol_events.specs.Written.{whole, mode_word, origin_word, written_plug, written_report, written_event}
+use Rattle.pol_events.specs.Written.{whole, mode_word, origin_word, bind_members, written_binds, written_plug, written_tag, written_report, written_variable, written_desk, written_exchange_end, written_exchange_cancel, written_recipe, written_start, written_batch, written_event}
+use Rattle.pol_events.proofs.Rising.{by_role_rising}
+
+-- ---- words and codes
 
 -- the code of a state names it
 state_again : (state : State) → code state_codes (whole (state_number state)) ≡ Ok state
@@ -50,6 +71,19 @@ state_again Resetting = refl
 state_again Completing = refl
 state_again Completed = refl
 
+-- the code of a command names it
+command_again : (order : Command) → code command_codes (whole (command_number order)) ≡ Ok order
+command_again command.Reset = refl
+command_again command.Start = refl
+command_again command.Stop = refl
+command_again command.Hold = refl
+command_again command.Unhold = refl
+command_again command.Pause = refl
+command_again command.Resume = refl
+command_again command.Abort = refl
+command_again command.Restart = refl
+command_again command.Complete = refl
+
 -- the word of a mode names it
 mode_again : (mode : Mode) → word mode_words (string (mode_word mode)) ≡ Ok mode
 mode_again Off = refl
@@ -61,32 +95,150 @@ origin_again : (origin : Origin) → word origin_words (string (origin_word orig
 origin_again Internal = refl
 origin_again External = refl
 
+-- ---- modules
+
 -- a written plug is read back
-plug_again : (at : ℕ) (tag : List ℕ) (description : DescriptionForm) → counts 0 u64_high at ≡ true → is_name tag ≡ true → IsDescription description
+plug_again : (at : ℕ) (tag : List ℕ) (description : DescriptionForm) → is_stamped at tag ≡ true → IsDescription description
     → event_in (written_plug at tag (written_description description)) ≡ Ok (plug at tag description)
 unfolding event_in plug_in written_plug
-plug_again at tag description stamped named sound = rw (stamped, named, description_again description sound) refl
+plug_again at tag description held sound = let stamped = and_parts (counts 0 u64_high at) (is_name tag) held in rw (stamped.0, stamped.1, description_again description sound) refl
+
+-- a written event that names a tag alone is read back by its form
+tag_again : (word : List ℕ) (event : ℕ → List ℕ → EventForm) (at : ℕ) (tag : List ℕ) → is_stamped at tag ≡ true → tag_in event (written_tag word at tag) ≡ Ok (event at tag)
+unfolding tag_in written_tag
+tag_again word event at tag held = let stamped = and_parts (counts 0 u64_high at) (is_name tag) held in rw (stamped.0, stamped.1) refl
 
 -- a written report is read back
-report_again : (at : ℕ) (tag service : List ℕ) (control : ServiceControl) → counts 0 u64_high at ≡ true → is_name tag ≡ true → is_name service ≡ true
-    → counts 0 u32_high control.mask ≡ true → counts 0 65535 control.procedure ≡ true → event_in (written_report at tag service control) ≡ Ok (report at tag service control)
+report_again : (at : ℕ) (tag service : List ℕ) (control : ServiceControl) → is_held (report at tag service control) ≡ true
+    → event_in (written_report at tag service control) ≡ Ok (report at tag service control)
 unfolding event_in report_in control_in written_report
-report_again at tag service control stamped named served masked numbered =
-    rw (stamped, named, served, state_again control.state, masked, mode_again control.mode, origin_again control.origin, numbered) refl
+report_again at tag service control held =
+    let parts = and_parts (is_stamped at tag) (is_name service && is_held_control control) held in
+    let stamped = and_parts (counts 0 u64_high at) (is_name tag) parts.0 in
+    let served = and_parts (is_name service) (is_held_control control) parts.1 in
+    let ranged = and_parts (counts 0 u32_high control.mask) (counts 0 65535 control.procedure) served.1 in
+    rw (stamped.0, stamped.1, served.0, state_again control.state, ranged.0, mode_again control.mode, origin_again control.origin, ranged.1) refl
+
+-- a written value of a variable is read back
+variable_again : (at : ℕ) (tag named : List ℕ) (value : Value) → is_held (variable at tag named value) ≡ true
+    → event_in (written_variable at tag named (scalar_data value)) ≡ Ok (variable at tag named value)
+unfolding event_in variable_in written_variable
+variable_again at tag named value held =
+    let parts = and_parts (is_stamped at tag) (is_name named && is_scalar value) held in
+    let stamped = and_parts (counts 0 u64_high at) (is_name tag) parts.0 in
+    let valued = and_parts (is_name named) (is_scalar value) parts.1 in
+    rw (stamped.0, stamped.1, valued.0, scalar_again value valued.1) refl
+
+-- a written command of an operator is read back
+desk_again : (at : ℕ) (tag service : List ℕ) (order : Command) → is_held (desk at tag service order) ≡ true
+    → event_in (written_desk at tag service order) ≡ Ok (desk at tag service order)
+unfolding event_in desk_in written_desk
+desk_again at tag service order held =
+    let parts = and_parts (is_stamped at tag) (is_name service) held in
+    let stamped = and_parts (counts 0 u64_high at) (is_name tag) parts.0 in
+    rw (stamped.0, stamped.1, parts.1, command_again order) refl
+
+-- a written end of an exchange is read back
+exchange_end_again : (at : ℕ) (tag : List ℕ) (ticket : ℕ) (description : DescriptionForm) → (is_stamped at tag && counts 0 u32_high ticket) ≡ true → IsDescription description
+    → event_in (written_exchange_end at tag ticket (written_description description)) ≡ Ok (exchange_end at tag ticket description)
+unfolding event_in exchange_end_in written_exchange_end
+exchange_end_again at tag ticket description held sound =
+    let parts = and_parts (is_stamped at tag) (counts 0 u32_high ticket) held in
+    let stamped = and_parts (counts 0 u64_high at) (is_name tag) parts.0 in
+    rw (stamped.0, stamped.1, parts.1, description_again description sound) refl
+
+-- a written cancelling of an exchange is read back
+exchange_cancel_again : (at : ℕ) (tag : List ℕ) (ticket : ℕ) → (is_stamped at tag && counts 0 u32_high ticket) ≡ true
+    → event_in (written_exchange_cancel at tag ticket) ≡ Ok (exchange_cancel at tag ticket)
+unfolding event_in exchange_cancel_in written_exchange_cancel
+exchange_cancel_again at tag ticket held =
+    let parts = and_parts (is_stamped at tag) (counts 0 u32_high ticket) held in
+    let stamped = and_parts (counts 0 u64_high at) (is_name tag) parts.0 in
+    rw (stamped.0, stamped.1, parts.1) refl
+
+-- ---- recipes
+
+-- a written recipe with a valid chart is read back
+recipe_again : (at : ℕ) (named : List ℕ) (chart : ChartPlan) → is_chart_form chart ≡ true → is_held (recipe at named chart) ≡ true → IsValid chart
+    → event_in (written_recipe at named (written_roles chart.roles) (written_tree chart.root)) ≡ Ok (recipe at named chart)
+unfolding event_in recipe_in written_recipe
+recipe_again at named chart formed held valid =
+    let parts = and_parts (is_stamped at named) (is_sound chart) held in
+    let stamped = and_parts (counts 0 u64_high at) (is_name named) parts.0 in
+    let deep : levels chart.root ≤ 127 = omega (arith, valid_shallow chart valid) in
+    rw (stamped.0, stamped.1, roles_of_chart_again chart formed parts.1, root_again chart formed parts.1 deep, chart_from_again chart formed) refl
+
+-- ---- batches
+
+texts_again : (binds : List Bind) → are_texts (bind_members binds) ≡ true
+texts_again [] = refl
+texts_again (bind ∷ binds) = texts_again binds
+
+many_again : (binds : List Bind) → members_len (bind_members binds) ≡ length binds
+many_again [] = refl
+many_again (bind ∷ binds) = ap suc (many_again binds)
+
+each_again : (binds : List Bind) → list_all is_held_bind binds ≡ true → each_bind (bind_members binds) ≡ Ok binds
+unfolding each_bind
+each_again [] held = refl
+each_again (bind ∷ binds) held =
+    let parts = and_parts (is_held_bind bind) (list_all is_held_bind binds) held in
+    let named = and_parts (is_name bind.role) (is_name bind.tag) parts.0 in
+    rw (named.0, named.1, each_again binds parts.1) refl
+
+-- written binds are read back
+binds_again : (binds : List Bind) → (nat_le (length binds) 64 && rise binds) ≡ true → list_all is_held_bind binds ≡ true → binds_of (written_binds binds) ≡ Ok binds
+unfolding binds_of written_binds
+binds_again binds orderly held =
+    let parts = and_parts (nat_le (length binds) 64) (rise binds) orderly in
+    rw (texts_again binds, many_again binds, parts.0, each_again binds held, by_role_rising binds parts.1) refl
+
+-- a written start is read back
+start_again : (at : ℕ) (batch named : List ℕ) (binds : List Bind) → is_held (start at batch named binds) ≡ true → is_orderly (start at batch named binds) ≡ true
+    → event_in (written_start at batch named (written_binds binds)) ≡ Ok (start at batch named binds)
+unfolding event_in start_in written_start
+start_again at batch named binds held orderly =
+    let parts = and_parts (is_stamped at batch) (is_name named && list_all is_held_bind binds) held in
+    let stamped = and_parts (counts 0 u64_high at) (is_name batch) parts.0 in
+    let bound = and_parts (is_name named) (list_all is_held_bind binds) parts.1 in
+    rw (stamped.0, stamped.1, bound.0, binds_again binds orderly bound.1) refl
+
+-- a written event that names a batch alone is read back by its form
+batch_again : (word : List ℕ) (event : ℕ → List ℕ → EventForm) (at : ℕ) (batch : List ℕ) → is_stamped at batch ≡ true → batch_in event (written_batch word at batch) ≡ Ok (event at batch)
+unfolding batch_in written_batch
+batch_again word event at batch held = let stamped = and_parts (counts 0 u64_high at) (is_name batch) held in rw (stamped.0, stamped.1) refl
+
+-- ---- all kinds
+
+is_none-none : {A : Type 0} (found : Option A) → is_none found ≡ true → found ≡ None
+is_none-none None none = refl
+is_none-none (Some value) none = absurd (true≢false (sym none))
+
+-- the chart of an orderly event has no fault
+pub faultless : (event : EventForm) → is_orderly event ≡ true → fault_within event ≡ None
+faultless (recipe at name chart) orderly = is_none-none (chart_fault chart) (and_parts (is_chart_form chart) (is_valid chart) orderly).1
+faultless _ orderly = refl
 
 -- a written event is read back
-pub event_again : (event : Event) → is_held (event_view event) ≡ true → event_in (written_event (event_view event)) ≡ Ok (event_view event)
-event_again (Plug at tag desc) held =
-    let parts = and_parts (counts 0 u64_high at) (is_name tag) held in
-    plug_again at tag (description_view desc.value) parts.0 parts.1 (description_sound desc.value)
-event_again (Report at tag service control) held =
-    let stamped = and_parts (counts 0 u64_high at) (is_name tag && (is_name service && is_held_control control)) held in
-    let named = and_parts (is_name tag) (is_name service && is_held_control control) stamped.1 in
-    let served = and_parts (is_name service) (is_held_control control) named.1 in
-    let ranged = and_parts (counts 0 u32_high control.mask) (counts 0 65535 control.procedure) served.1 in
-    report_again at tag service control stamped.0 named.0 served.0 ranged.0 ranged.1
+pub event_again : (event : Event) → is_held (event_view event) ≡ true → is_orderly (event_view event) ≡ true → event_in (written_event (event_view event)) ≡ Ok (event_view event)
+unfolding event_in written_tag written_batch
+event_again (Plug at tag desc) held orderly = plug_again at tag (description_view desc.value) held (description_sound desc.value)
+event_again (Unplug at tag) held orderly = tag_again (codes "unplug") unplug at tag held
+event_again (Report at tag service control) held orderly = report_again at tag service control held
+event_again (Variable at tag name value) held orderly = variable_again at tag name value held
+event_again (Recipe at name chart) held orderly = recipe_again at name (plan chart.value) chart.value.form held (faultless (recipe at name (plan chart.value)) orderly)
+event_again (Start at batch name bind) held orderly = start_again at batch name bind.items held orderly
+event_again (Advance at batch) held orderly = batch_again (codes "advance") advance at batch held
+event_again (Freeze at batch) held orderly = batch_again (codes "freeze") freeze at batch held
+event_again (Thaw at batch) held orderly = batch_again (codes "thaw") thaw at batch held
+event_again (StopBatch at batch) held orderly = batch_again (codes "stop") stop_batch at batch held
+event_again (Abandon at batch) held orderly = batch_again (codes "abandon") abandon at batch held
+event_again (Desk at tag service order) held orderly = desk_again at tag service order held
+event_again (ExchangeBegin at tag) held orderly = tag_again (codes "exchange_begin") exchange_begin at tag held
+event_again (ExchangeEnd at tag ticket desc) held orderly = exchange_end_again at tag ticket (description_view desc.value) held (description_sound desc.value)
+event_again (ExchangeCancel at tag ticket) held orderly = exchange_cancel_again at tag ticket held
 
--- a text that is read as a value is a line that says what the value says
-pub line_again : (text : List ℕ) (value : Data) (event : EventForm) → IsUtf8 text → read text ≡ Some value → event_in value ≡ Ok event → event_of text ≡ Ok event
+-- a text that is read as a value is a line that says what the value says, if that is orderly
+pub line_again : (text : List ℕ) (value : Data) (event : EventForm) → IsUtf8 text → read text ≡ Some value → event_in value ≡ Ok event → is_orderly event ≡ true → event_of text ≡ Ok event
 unfolding event_of json_of
-line_again text value event utf8 is again = rw (utf8_is text utf8, is, again) refl
+line_again text value event utf8 is again orderly = rw (utf8_is text utf8, is, again, faultless event orderly) refl

@@ -1,2 +1,6 @@
+pub mod Rising
+pub mod Members
+pub mod Orderly
+pub mod Entries
 pub mod Again
 pub mod Depths

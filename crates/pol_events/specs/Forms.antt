@@ -1,16 +1,37 @@
 -- The form of each kind of event line: what it says, or its first fault in reading order.
-use Rattle.std.specs.Prelude.{codes, Ok}
+use Rattle.std.specs.Prelude.{ℕ, List, codes, Ok}
 use Rattle.serde_json.specs.Data.{Data}
-use Rattle.mtp_codes.specs.Codes.{state_codes}
+use Rattle.mtp_codes.specs.Codes.{command_codes, state_codes}
 use Rattle.mtp_assembly.specs.declared.control.ServiceControl.{ServiceControl}
 use Rattle.mtp_json.specs.Form.{need, inside, object_here, nothing_but}
-use Rattle.mtp_json.specs.Leaf.{code, count, name, word, u32_high, u64_high}
+use Rattle.mtp_json.specs.Leaf.{code, count, name, scalar, word, u32_high, u64_high}
 use Rattle.mtp_json.specs.Reading.{Reading, ◌>>=◌}
 use Rattle.mtp_desc.specs.Form.{description_of}
+use Rattle.chart_json.specs.Form.{chart_from, roles_of, tree_of}
 use Rattle.pol_events.specs.declared.kind.EventKind.{EventKind}
-use Rattle.pol_events.specs.declared.kind.EventKind.TheVariants.{Plug, Report}
-use Rattle.pol_events.specs.Events.{EventForm, plug, report}
+use Rattle.pol_events.specs.declared.kind.EventKind.TheVariants.{Plug, Unplug, Report, Variable, Recipe, Start, Advance, Freeze, Thaw, Stop, Abandon, Desk, ExchangeBegin, ExchangeEnd, ExchangeCancel}
+use Rattle.pol_events.specs.Binds.{binds_of}
+use Rattle.pol_events.specs.Events.{EventForm, plug, unplug, report, variable, recipe, start, advance, freeze, thaw, stop_batch, abandon, desk, exchange_begin, exchange_end, exchange_cancel}
 use Rattle.pol_events.specs.Words.{kind_words, mode_words, origin_words}
+
+-- ---- modules
+
+-- a module is plugged
+unfoldable pub plug_in : Data → Reading EventForm
+plug_in value =
+    need (codes "at") (count 0 u64_high) value >>= λ at.
+    need (codes "tag") name value >>= λ tag.
+    inside (codes "desc") description_of value >>= λ description.
+    nothing_but (codes "ev at tag desc") value >>= λ _.
+    Ok (plug at tag description)
+
+-- an event that names a tag and nothing more
+unfoldable pub tag_in : (ℕ → List ℕ → EventForm) → Data → Reading EventForm
+tag_in event value =
+    need (codes "at") (count 0 u64_high) value >>= λ at.
+    need (codes "tag") name value >>= λ tag.
+    nothing_but (codes "ev at tag") value >>= λ _.
+    Ok (event at tag)
 
 -- the five fields of what a service reports
 unfoldable pub control_in : Data → Reading ServiceControl
@@ -22,15 +43,6 @@ control_in value =
     need (codes "ProcedureCur") (count 0 65535) value >>= λ procedure.
     Ok (record { state = state; mask = mask; mode = mode; origin = origin; procedure = procedure })
 
--- a module is plugged
-unfoldable pub plug_in : Data → Reading EventForm
-plug_in value =
-    need (codes "at") (count 0 u64_high) value >>= λ at.
-    need (codes "tag") name value >>= λ tag.
-    inside (codes "desc") description_of value >>= λ description.
-    nothing_but (codes "ev at tag desc") value >>= λ _.
-    Ok (plug at tag description)
-
 -- a service reports
 unfoldable pub report_in : Data → Reading EventForm
 report_in value =
@@ -41,10 +53,97 @@ report_in value =
     nothing_but (codes "ev at tag service StateCur CommandEn Mode Src ProcedureCur") value >>= λ _.
     Ok (report at tag service control)
 
+-- a variable has a value
+unfoldable pub variable_in : Data → Reading EventForm
+variable_in value =
+    need (codes "at") (count 0 u64_high) value >>= λ at.
+    need (codes "tag") name value >>= λ tag.
+    need (codes "name") name value >>= λ named.
+    need (codes "value") scalar value >>= λ found.
+    nothing_but (codes "ev at tag name value") value >>= λ _.
+    Ok (variable at tag named found)
+
+-- an operator commands a service
+unfoldable pub desk_in : Data → Reading EventForm
+desk_in value =
+    need (codes "at") (count 0 u64_high) value >>= λ at.
+    need (codes "tag") name value >>= λ tag.
+    need (codes "service") name value >>= λ service.
+    need (codes "CommandOp") (code command_codes) value >>= λ command.
+    nothing_but (codes "ev at tag service CommandOp") value >>= λ _.
+    Ok (desk at tag service command)
+
+-- another module takes the place of one that is away
+unfoldable pub exchange_end_in : Data → Reading EventForm
+exchange_end_in value =
+    need (codes "at") (count 0 u64_high) value >>= λ at.
+    need (codes "tag") name value >>= λ tag.
+    need (codes "ticket") (count 0 u32_high) value >>= λ ticket.
+    inside (codes "desc") description_of value >>= λ description.
+    nothing_but (codes "ev at tag ticket desc") value >>= λ _.
+    Ok (exchange_end at tag ticket description)
+
+-- a module that is away comes back
+unfoldable pub exchange_cancel_in : Data → Reading EventForm
+exchange_cancel_in value =
+    need (codes "at") (count 0 u64_high) value >>= λ at.
+    need (codes "tag") name value >>= λ tag.
+    need (codes "ticket") (count 0 u32_high) value >>= λ ticket.
+    nothing_but (codes "ev at tag ticket") value >>= λ _.
+    Ok (exchange_cancel at tag ticket)
+
+-- ---- recipes
+
+-- a recipe is made known: that no role is named twice is asked when all else was read
+unfoldable pub recipe_in : Data → Reading EventForm
+recipe_in value =
+    need (codes "at") (count 0 u64_high) value >>= λ at.
+    need (codes "recipe") name value >>= λ named.
+    inside (codes "roles") roles_of value >>= λ roles.
+    inside (codes "chart") tree_of value >>= λ root.
+    nothing_but (codes "ev at recipe roles chart") value >>= λ _.
+    chart_from roles root >>= λ chart.
+    Ok (recipe at named chart)
+
+-- ---- batches
+
+-- a batch is started
+unfoldable pub start_in : Data → Reading EventForm
+start_in value =
+    need (codes "at") (count 0 u64_high) value >>= λ at.
+    need (codes "batch") name value >>= λ batch.
+    need (codes "recipe") name value >>= λ named.
+    inside (codes "bind") binds_of value >>= λ binds.
+    nothing_but (codes "ev at batch recipe bind") value >>= λ _.
+    Ok (start at batch named binds)
+
+-- an event that names a batch and nothing more
+unfoldable pub batch_in : (ℕ → List ℕ → EventForm) → Data → Reading EventForm
+batch_in event value =
+    need (codes "at") (count 0 u64_high) value >>= λ at.
+    need (codes "batch") name value >>= λ batch.
+    nothing_but (codes "ev at batch") value >>= λ _.
+    Ok (event at batch)
+
+-- ---- all kinds
+
 -- an event of this kind
 abbrev pub event_by : Data → EventKind → Reading EventForm
 event_by value Plug = plug_in value
+event_by value Unplug = tag_in unplug value
 event_by value Report = report_in value
+event_by value Variable = variable_in value
+event_by value Recipe = recipe_in value
+event_by value Start = start_in value
+event_by value Advance = batch_in advance value
+event_by value Freeze = batch_in freeze value
+event_by value Thaw = batch_in thaw value
+event_by value Stop = batch_in stop_batch value
+event_by value Abandon = batch_in abandon value
+event_by value Desk = desk_in value
+event_by value ExchangeBegin = tag_in exchange_begin value
+event_by value ExchangeEnd = exchange_end_in value
+event_by value ExchangeCancel = exchange_cancel_in value
 
 -- an event: `ev` names its kind, and then come the fields of this kind
 unfoldable pub event_in : Data → Reading EventForm

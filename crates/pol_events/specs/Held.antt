@@ -1,15 +1,40 @@
 -- What every event keeps that a program holds: its names are names, and its numbers have their widths.
-use Rattle.std.specs.Prelude.{Bool, ◌&&◌}
+use Rattle.std.specs.Prelude.{ℕ, List, Bool, ◌&&◌}
+use Rattle.std.specs.List.{list_all}
 use Rattle.mtp_assembly.specs.declared.control.ServiceControl.{ServiceControl}
 use Rattle.mtp_codes.specs.Names.{is_name}
 use Rattle.mtp_json.specs.Leaf.{counts, u32_high, u64_high}
-use Rattle.pol_events.specs.Events.{EventForm, plug, report}
+use Rattle.mtp_json.specs.Written.{is_scalar}
+use Rattle.chart_json.specs.Sound.{is_sound}
+use Rattle.pol_events.specs.declared.event.Bind.{Bind}
+use Rattle.pol_events.specs.Events.{EventForm, plug, unplug, report, variable, recipe, start, advance, freeze, thaw, stop_batch, abandon, desk, exchange_begin, exchange_end, exchange_cancel}
+
+-- the stamp has 64 bits, and the name is a name
+abbrev pub is_stamped : ℕ → List ℕ → Bool
+is_stamped at named = counts 0 u64_high at && is_name named
 
 -- the mask has 32 bits, and the procedure's number 16
 abbrev pub is_held_control : ServiceControl → Bool
 is_held_control control = counts 0 u32_high control.mask && counts 0 65535 control.procedure
 
--- the stamp has 64 bits, and each name is a name
+-- the role and the tag are names
+abbrev pub is_held_bind : Bind → Bool
+is_held_bind bind = is_name bind.role && is_name bind.tag
+
+-- an event has a stamp and a name, and what else its kind has
 abbrev pub is_held : EventForm → Bool
-is_held (plug at tag description) = counts 0 u64_high at && is_name tag
-is_held (report at tag service control) = counts 0 u64_high at && (is_name tag && (is_name service && is_held_control control))
+is_held (plug at tag description) = is_stamped at tag
+is_held (unplug at tag) = is_stamped at tag
+is_held (report at tag service control) = is_stamped at tag && (is_name service && is_held_control control)
+is_held (variable at tag name value) = is_stamped at tag && (is_name name && is_scalar value)
+is_held (recipe at name chart) = is_stamped at name && is_sound chart
+is_held (start at batch name binds) = is_stamped at batch && (is_name name && list_all is_held_bind binds)
+is_held (advance at batch) = is_stamped at batch
+is_held (freeze at batch) = is_stamped at batch
+is_held (thaw at batch) = is_stamped at batch
+is_held (stop_batch at batch) = is_stamped at batch
+is_held (abandon at batch) = is_stamped at batch
+is_held (desk at tag service command) = is_stamped at tag && is_name service
+is_held (exchange_begin at tag) = is_stamped at tag
+is_held (exchange_end at tag ticket description) = is_stamped at tag && counts 0 u32_high ticket
+is_held (exchange_cancel at tag ticket) = is_stamped at tag && counts 0 u32_high ticket

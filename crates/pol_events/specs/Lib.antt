@@ -1,6 +1,9 @@
 pub mod Events
 pub mod Refusals
+pub mod Orderly
 pub mod Words
+pub mod Kinds
+pub mod Binds
 pub mod Forms
 pub mod Lines
 pub mod Held

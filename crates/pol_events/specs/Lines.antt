@@ -1,22 +1,34 @@
 -- What a line of a journal says: an event, or why it is none.
-use Rattle.std.specs.Prelude.{◌≡◌, ℕ, List, Result, Ok, Err}
+use Rattle.std.specs.Prelude.{◌≡◌, ℕ, List, Option, Some, None, Result, Ok, Err}
+use Rattle.chart_core.specs.declared.fault.ChartFault.{ChartFault}
+use Rattle.chart_core.specs.Valid.{chart_fault}
 use Rattle.mtp_json.specs.Parse.{json_of}
 use Rattle.mtp_json.specs.Reading.{Reading, ◌>>=◌, here}
 use Rattle.pol_events.specs.declared.event.Event.{Event}
 use Rattle.pol_events.specs.declared.fault.LineFault.{LineFault}
-use Rattle.pol_events.specs.declared.fault.LineFault.TheVariants.{Json}
+use Rattle.pol_events.specs.declared.fault.LineFault.TheVariants.{Json, Chart}
 use Rattle.pol_events.specs.declared.fault.LineRefusal.{LineRefusal}
 use Rattle.pol_events.specs.declared.fault.LineRefusal.TheVariants.{Fault, Memory}
-use Rattle.pol_events.specs.Events.{EventForm, event_view}
+use Rattle.pol_events.specs.Events.{EventForm, recipe, event_view}
 use Rattle.pol_events.specs.Forms.{event_in}
 
 -- what the bytes of a line are read as
 abbrev pub read_of : List ℕ → Reading EventForm
 read_of line = here (json_of line) >>= event_in
 
--- what was read, with its fault as a fault of the line
+-- the fault of the chart that an event makes known
+abbrev pub fault_within : EventForm → Option ChartFault
+fault_within (recipe at name chart) = chart_fault chart
+fault_within _ = None
+
+-- an event, unless its chart has a fault
+abbrev pub unless_faulty : EventForm → Option ChartFault → Result EventForm LineFault
+unless_faulty event None = Ok event
+unless_faulty event (Some fault) = Err (Chart fault)
+
+-- what was read, with its fault as a fault of the line; where all was read, the chart is asked
 abbrev pub of_line : Reading EventForm → Result EventForm LineFault
-of_line (Ok event) = Ok event
+of_line (Ok event) = unless_faulty event (fault_within event)
 of_line (Err fault) = Err (Json fault)
 
 -- the event of a line that isn't too long, or the line's first fault

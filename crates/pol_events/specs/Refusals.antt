@@ -1,13 +1,21 @@
 -- Rules that a module's description and last values decide.
-use Rattle.std.specs.Prelude.{ℕ, Bool, true, false, not, ◌||◌, List, Option, Some, None, is_none}
+use Rattle.std.specs.Prelude.{ℕ, Bool, true, false, not, ◌||◌, List, Option, Some, None, is_none, option_and_then, option_map}
 use Rattle.std.specs.Option.{option_or}
+use Rattle.mtp_codes.specs.declared.cover.CoverFault.{CoverFault}
+use Rattle.mtp_codes.specs.declared.cover.CoverFault.TheVariants as cover
+use Rattle.mtp_codes.specs.declared.mode.Forbid.{Forbid}
+use Rattle.mtp_codes.specs.declared.mode.Forbid.TheVariants as forbid
 use Rattle.mtp_codes.specs.declared.state.State.{State}
+use Rattle.mtp_codes.specs.declared.value.Value.{Value}
 use Rattle.mtp_machine.specs.Machine.{is_edge, same_state}
+use Rattle.mtp_assembly.specs.Fits.{view_fault}
+use Rattle.mtp_assembly.specs.declared.check.ValueFault.{ValueFault}
+use Rattle.mtp_assembly.specs.declared.check.ValueFault.TheVariants as value
 use Rattle.mtp_assembly.specs.declared.control.ServiceControl.{ServiceControl}
 use Rattle.mtp_desc.specs.Plain.{DescriptionForm}
-use Rattle.mtp_desc.specs.Lookup.{service_named}
+use Rattle.mtp_desc.specs.Lookup.{service_named, variable_named}
 use Rattle.pol_events.specs.declared.answer.Rule.{Rule}
-use Rattle.pol_events.specs.declared.answer.Rule.TheVariants.{NoService, NotAnEdge}
+use Rattle.pol_events.specs.declared.answer.Rule.TheVariants.{NoService, NotAnEdge, NoVariable, WrongKind, OutOfRange, WrongType, WrongVersion, NotCovered, ModeForbids, SelfCompletes, StateForbids, NotEnabled}
 
 -- the rule, where the test holds
 abbrev pub when : Bool → Rule → Option Rule
@@ -30,3 +38,34 @@ not_an_edge state None = None
 -- why a report of the service is refused, by the description and what the service reported last
 abbrev pub report_fault : List ℕ → State → DescriptionForm → Option ServiceControl → Option Rule
 report_fault service state description last = option_or (no_service service description) (not_an_edge state last)
+
+-- the module's description lacks the variable
+abbrev pub no_variable : List ℕ → DescriptionForm → Option Rule
+no_variable name description = when (is_none (variable_named name description)) NoVariable
+
+-- a value's fault as a rule
+abbrev pub value_rule : ValueFault → Rule
+value_rule value.WrongKind = WrongKind
+value_rule value.OutOfRange = OutOfRange
+
+-- the value is of another kind than the variable, or out of its range
+abbrev pub misfit : List ℕ → Value → DescriptionForm → Option Rule
+misfit name value description =
+    option_and_then (λ variable. option_map value_rule (view_fault variable.kind value)) (variable_named name description)
+
+-- why a value of the variable is refused, by the description
+abbrev pub variable_fault : List ℕ → Value → DescriptionForm → Option Rule
+variable_fault name value description = option_or (no_variable name description) (misfit name value description)
+
+-- why a command may not go to a service, as a rule
+abbrev pub forbid_rule : Forbid → Rule
+forbid_rule forbid.ModeForbids = ModeForbids
+forbid_rule forbid.SelfCompletes = SelfCompletes
+forbid_rule forbid.StateForbids = StateForbids
+forbid_rule forbid.NotEnabled = NotEnabled
+
+-- why a module can't play the role, as a rule
+abbrev pub cover_rule : List ℕ → CoverFault → Rule
+cover_rule role cover.WrongType = WrongType role
+cover_rule role cover.WrongVersion = WrongVersion role
+cover_rule role (cover.NotCovered missing) = NotCovered missing

@@ -5,11 +5,15 @@ use Rattle.mtp_codes.specs.declared.mode.Mode.TheVariants.{Off, Operator, Automa
 use Rattle.mtp_codes.specs.declared.mode.Origin.{Origin}
 use Rattle.mtp_codes.specs.declared.mode.Origin.TheVariants.{Internal, External}
 use Rattle.pol_events.specs.declared.kind.EventKind.{EventKind}
-use Rattle.pol_events.specs.declared.kind.EventKind.TheVariants.{Plug, Report}
+use Rattle.pol_events.specs.declared.kind.EventKind.TheVariants.{Plug, Unplug, Report, Variable, Recipe, Start, Advance, Freeze, Thaw, Stop, Abandon, Desk, ExchangeBegin, ExchangeEnd, ExchangeCancel}
 
 -- the words of `ev`
 abbrev pub kind_words : List (List ℕ × EventKind)
-kind_words = (codes "plug", Plug) ∷ (codes "report", Report) ∷ []
+kind_words =
+    (codes "plug", Plug) ∷ (codes "unplug", Unplug) ∷ (codes "report", Report) ∷ (codes "variable", Variable)
+    ∷ (codes "recipe", Recipe) ∷ (codes "start", Start) ∷ (codes "advance", Advance) ∷ (codes "freeze", Freeze) ∷ (codes "thaw", Thaw)
+    ∷ (codes "stop", Stop) ∷ (codes "abandon", Abandon) ∷ (codes "desk", Desk) ∷ (codes "exchange_begin", ExchangeBegin)
+    ∷ (codes "exchange_end", ExchangeEnd) ∷ (codes "exchange_cancel", ExchangeCancel) ∷ []
 
 -- the words of `Mode`
 abbrev pub mode_words : List (List ℕ × Mode)

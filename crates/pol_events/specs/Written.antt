@@ -1,14 +1,18 @@
 -- The written form of an event: one object with every key of its form.
-use Rattle.std.specs.Prelude.{ℕ, List, codes}
-use Rattle.serde_json.specs.Data.{Data, number, unsigned, string, object, member, no_members}
-use Rattle.mtp_codes.specs.Codes.{state_number}
+use Rattle.std.specs.Prelude.{ℕ, List, [], ◌∷◌, codes}
+use Rattle.serde_json.specs.Data.{Data, number, unsigned, string, object, Members, member, no_members}
+use Rattle.mtp_codes.specs.Codes.{command_number, state_number}
+use Rattle.mtp_codes.specs.declared.command.Command.{Command}
 use Rattle.mtp_codes.specs.declared.mode.Mode.{Mode}
 use Rattle.mtp_codes.specs.declared.mode.Mode.TheVariants.{Off, Operator, Automatic}
 use Rattle.mtp_codes.specs.declared.mode.Origin.{Origin}
 use Rattle.mtp_codes.specs.declared.mode.Origin.TheVariants.{Internal, External}
 use Rattle.mtp_assembly.specs.declared.control.ServiceControl.{ServiceControl}
+use Rattle.mtp_json.specs.Written.{scalar_data}
 use Rattle.mtp_desc.specs.Written.{written_description}
-use Rattle.pol_events.specs.Events.{EventForm, plug, report}
+use Rattle.chart_json.specs.Written.{written_roles, written_tree}
+use Rattle.pol_events.specs.declared.event.Bind.{Bind}
+use Rattle.pol_events.specs.Events.{EventForm, plug, unplug, report, variable, recipe, start, advance, freeze, thaw, stop_batch, abandon, desk, exchange_begin, exchange_end, exchange_cancel}
 
 -- a whole number
 abbrev pub whole : ℕ → Data
@@ -25,6 +29,8 @@ abbrev pub origin_word : Origin → List ℕ
 origin_word Internal = codes "Internal"
 origin_word External = codes "External"
 
+-- ---- modules
+
 -- a module is plugged
 unfoldable pub written_plug : ℕ → List ℕ → Data → Data
 written_plug at tag description = object
@@ -32,6 +38,13 @@ written_plug at tag description = object
     (member (codes "desc") description
     (member (codes "ev") (string (codes "plug"))
     (member (codes "tag") (string tag) no_members))))
+
+-- an event, by its word, that names a tag and nothing more
+unfoldable pub written_tag : List ℕ → ℕ → List ℕ → Data
+written_tag word at tag = object
+    (member (codes "at") (whole at)
+    (member (codes "ev") (string word)
+    (member (codes "tag") (string tag) no_members)))
 
 -- a service reports
 unfoldable pub written_report : ℕ → List ℕ → List ℕ → ServiceControl → Data
@@ -46,7 +59,95 @@ written_report at tag service control = object
     (member (codes "service") (string service)
     (member (codes "tag") (string tag) no_members)))))))))
 
+-- a variable has a value
+unfoldable pub written_variable : ℕ → List ℕ → List ℕ → Data → Data
+written_variable at tag named value = object
+    (member (codes "at") (whole at)
+    (member (codes "ev") (string (codes "variable"))
+    (member (codes "name") (string named)
+    (member (codes "tag") (string tag)
+    (member (codes "value") value no_members)))))
+
+-- an operator commands a service
+unfoldable pub written_desk : ℕ → List ℕ → List ℕ → Command → Data
+written_desk at tag service command = object
+    (member (codes "CommandOp") (whole (command_number command))
+    (member (codes "at") (whole at)
+    (member (codes "ev") (string (codes "desk"))
+    (member (codes "service") (string service)
+    (member (codes "tag") (string tag) no_members)))))
+
+-- another module takes the place of one that is away
+unfoldable pub written_exchange_end : ℕ → List ℕ → ℕ → Data → Data
+written_exchange_end at tag ticket description = object
+    (member (codes "at") (whole at)
+    (member (codes "desc") description
+    (member (codes "ev") (string (codes "exchange_end"))
+    (member (codes "tag") (string tag)
+    (member (codes "ticket") (whole ticket) no_members)))))
+
+-- a module that is away comes back
+unfoldable pub written_exchange_cancel : ℕ → List ℕ → ℕ → Data
+written_exchange_cancel at tag ticket = object
+    (member (codes "at") (whole at)
+    (member (codes "ev") (string (codes "exchange_cancel"))
+    (member (codes "tag") (string tag)
+    (member (codes "ticket") (whole ticket) no_members))))
+
+-- ---- recipes
+
+-- a recipe is made known
+unfoldable pub written_recipe : ℕ → List ℕ → Data → Data → Data
+written_recipe at named roles root = object
+    (member (codes "at") (whole at)
+    (member (codes "chart") root
+    (member (codes "ev") (string (codes "recipe"))
+    (member (codes "recipe") (string named)
+    (member (codes "roles") roles no_members)))))
+
+-- ---- batches
+
+-- each bind as a member
+abbrev pub bind_members : List Bind → Members
+bind_members [] = no_members
+bind_members (bind ∷ binds) = member bind.role (string bind.tag) (bind_members binds)
+
+-- the binds as an object from role to tag
+unfoldable pub written_binds : List Bind → Data
+written_binds binds = object (bind_members binds)
+
+-- a batch is started
+unfoldable pub written_start : ℕ → List ℕ → List ℕ → Data → Data
+written_start at batch named binds = object
+    (member (codes "at") (whole at)
+    (member (codes "batch") (string batch)
+    (member (codes "bind") binds
+    (member (codes "ev") (string (codes "start"))
+    (member (codes "recipe") (string named) no_members)))))
+
+-- an event, by its word, that names a batch and nothing more
+unfoldable pub written_batch : List ℕ → ℕ → List ℕ → Data
+written_batch word at batch = object
+    (member (codes "at") (whole at)
+    (member (codes "batch") (string batch)
+    (member (codes "ev") (string word) no_members)))
+
+-- ---- all kinds
+
 -- an event
 abbrev pub written_event : EventForm → Data
 written_event (plug at tag description) = written_plug at tag (written_description description)
+written_event (unplug at tag) = written_tag (codes "unplug") at tag
 written_event (report at tag service control) = written_report at tag service control
+written_event (variable at tag name value) = written_variable at tag name (scalar_data value)
+written_event (recipe at name chart) = written_recipe at name (written_roles chart.roles) (written_tree chart.root)
+written_event (start at batch name binds) = written_start at batch name (written_binds binds)
+written_event (advance at batch) = written_batch (codes "advance") at batch
+written_event (freeze at batch) = written_batch (codes "freeze") at batch
+written_event (thaw at batch) = written_batch (codes "thaw") at batch
+written_event (stop_batch at batch) = written_batch (codes "stop") at batch
+written_event (abandon at batch) = written_batch (codes "abandon") at batch
+written_event (desk at tag service command) = written_desk at tag service command
+written_event (exchange_begin at tag) = written_tag (codes "exchange_begin") at tag
+written_event (exchange_end at tag ticket description) = written_exchange_end at tag ticket (written_description description)
+written_event (exchange_cancel at tag ticket) = written_exchange_cancel at tag ticket

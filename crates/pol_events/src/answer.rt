@@ -1,15 +1,110 @@
 //! Answers, and the rules by which an event is refused.
+use chart_core::{LogEntry, Why};
 use mtp_codes::{Name, State};
 
-/// Why an event is refused. A rule's number and name are those of its answer line.
+/// Why an event is refused. A rule's number and name are those of its answer line; docs/RULES.md says when each holds.
 #[derive(Clone, Copy, Debug, PartialEq, Eq)]
 pub enum Rule {
     TagTaken,
-    NoModule { tag: Name },
+    NoModule {
+        tag: Name,
+    },
     PlantFull,
+    Held {
+        batch: Name,
+    },
+    InExchange {
+        tag: Name,
+        ticket: u32,
+    },
+    NotInExchange,
+    WrongTicket {
+        kept: u32,
+        given: u32,
+    },
     NoService,
-    NotAnEdge { from: State, to: State },
+    NotAnEdge {
+        from: State,
+        to: State,
+    },
+    NoVariable,
+    WrongKind,
+    RecipeKnown,
+    NoRecipe,
+    BatchKnown,
+    NoBatch,
+    BatchClosed,
+    RoleUnbound {
+        role: Name,
+    },
+    RoleUnknown {
+        role: Name,
+    },
+    OneModuleTwice {
+        tag: Name,
+    },
+    WrongType {
+        role: Name,
+    },
+    WrongVersion {
+        role: Name,
+    },
+    NotCovered {
+        missing: Name,
+    },
+    NotReported {
+        tag: Name,
+        name: Name,
+    },
+    NotIdle {
+        tag: Name,
+        service: Name,
+        state: State,
+    },
+    Busy {
+        tag: Name,
+        batch: Name,
+    },
+    BatchesFull,
+    NotAtRest {
+        service: Name,
+        state: State,
+    },
+    ActiveStep {
+        batch: Name,
+        step: Name,
+    },
+    HeldBack {
+        batch: Name,
+        missing: Name,
+    },
+    ModeForbids,
+    StateForbids,
+    NotEnabled,
+    OutOfRange,
+    NotFrozen,
+    AlreadyFrozen,
+    SelfCompletes,
+    RecipesFull,
     HistoryFull,
+}
+
+/// How a batch was closed: its chart was run to its end; a service of an active step was stopped or aborted; the operator
+/// had it stopped step by step; the operator gave it up.
+#[derive(Clone, Copy, Debug, PartialEq, Eq)]
+pub enum Outcome {
+    Completed,
+    Broken,
+    Stopped,
+    Abandoned,
+}
+
+/// What an open batch does when it is advanced: it takes an entry into its log, waits for an obstacle, or is closed.
+#[derive(Clone, Copy, Debug, PartialEq, Eq)]
+pub enum Next {
+    Did(LogEntry),
+    Waiting(Why),
+    Closed(Outcome),
 }
 
 /// What the plant answers to an event.
@@ -17,6 +112,14 @@ pub enum Rule {
 pub enum Answer {
     /// The event was accepted.
     Done,
+    /// The exchange has begun; its end or its cancelling has to show this ticket.
+    Ticket(u32),
+    /// The batch took this entry into its log; or the operator's command went to its service.
+    Did(LogEntry),
+    /// The batch waits for this obstacle.
+    Waiting(Why),
+    /// The batch is closed, and its modules are free.
+    Closed(Outcome),
     /// The event was refused, and nothing but the history changed.
     Refused(Rule),
 }

@@ -1,9 +1,17 @@
 //! Events, and their pairs with an answer.
 use super::answer::Answer;
+use chart_core::Chart;
 use mtp_assembly::ServiceControl;
-use mtp_codes::Name;
+use mtp_codes::{Command, Name, Value};
 use mtp_desc::Description;
 use std::sync::Arc;
+
+/// The module that plays a role of a batch's chart.
+#[derive(Clone, Copy, Debug, PartialEq, Eq)]
+pub struct Bind {
+    pub role: Name,
+    pub tag: Name,
+}
 
 /// Something that happens in the plant. `at` is a stamp in whole milliseconds; it is kept and never compared.
 #[derive(Drop)]
@@ -14,12 +22,87 @@ pub enum Event {
         tag: Name,
         desc: Arc<Description>,
     },
+    /// A module leaves its tag.
+    Unplug {
+        at: u64,
+        tag: Name,
+    },
     /// A service of a docked module reports its state, its mode and what it enables.
     Report {
         at: u64,
         tag: Name,
         service: Name,
         control: ServiceControl,
+    },
+    /// A docked module reports the value of a variable.
+    Variable {
+        at: u64,
+        tag: Name,
+        name: Name,
+        value: Value,
+    },
+    /// A recipe is made known.
+    Recipe {
+        at: u64,
+        recipe: Name,
+        chart: Arc<Chart>,
+    },
+    /// A batch of a recipe is started on the modules that it binds, in byte order of the roles.
+    Start {
+        at: u64,
+        batch: Name,
+        recipe: Name,
+        bind: Vec<Bind>,
+    },
+    /// A batch is to do its next entry.
+    Advance {
+        at: u64,
+        batch: Name,
+    },
+    /// A batch is to wait until it is thawed.
+    Freeze {
+        at: u64,
+        batch: Name,
+    },
+    /// A frozen batch is to go on.
+    Thaw {
+        at: u64,
+        batch: Name,
+    },
+    /// A batch is to be stopped step by step.
+    StopBatch {
+        at: u64,
+        batch: Name,
+    },
+    /// A batch is given up where it stands; no command is sent.
+    Abandon {
+        at: u64,
+        batch: Name,
+    },
+    /// An operator commands a service.
+    Desk {
+        at: u64,
+        tag: Name,
+        service: Name,
+        command: Command,
+    },
+    /// A module is taken away to be exchanged.
+    ExchangeBegin {
+        at: u64,
+        tag: Name,
+    },
+    /// A module with this description takes the place of the one that is away.
+    ExchangeEnd {
+        at: u64,
+        tag: Name,
+        ticket: u32,
+        desc: Arc<Description>,
+    },
+    /// The module that is away comes back.
+    ExchangeCancel {
+        at: u64,
+        tag: Name,
+        ticket: u32,
     },
 }
 

@@ -7,7 +7,37 @@ use mtp_json::Words;
 #[derive(Clone, Copy, Debug, PartialEq, Eq)]
 pub enum EventKind {
     Plug,
+    Unplug,
     Report,
+    Variable,
+    Recipe,
+    Start,
+    Advance,
+    Freeze,
+    Thaw,
+    Stop,
+    Abandon,
+    Desk,
+    ExchangeBegin,
+    ExchangeEnd,
+    ExchangeCancel,
+}
+
+/// A kind of event that names a tag and nothing more.
+#[derive(Clone, Copy)]
+pub enum TagKind {
+    Unplug,
+    ExchangeBegin,
+}
+
+/// A kind of event that names a batch and nothing more.
+#[derive(Clone, Copy)]
+pub enum BatchKind {
+    Advance,
+    Freeze,
+    Thaw,
+    Stop,
+    Abandon,
 }
 
 /// The words of `ev`.
@@ -21,7 +51,20 @@ impl Words for KindWords {
     fn of_text(text: &str) -> Option<EventKind> {
         match text {
             "plug" => Some(EventKind::Plug),
+            "unplug" => Some(EventKind::Unplug),
             "report" => Some(EventKind::Report),
+            "variable" => Some(EventKind::Variable),
+            "recipe" => Some(EventKind::Recipe),
+            "start" => Some(EventKind::Start),
+            "advance" => Some(EventKind::Advance),
+            "freeze" => Some(EventKind::Freeze),
+            "thaw" => Some(EventKind::Thaw),
+            "stop" => Some(EventKind::Stop),
+            "abandon" => Some(EventKind::Abandon),
+            "desk" => Some(EventKind::Desk),
+            "exchange_begin" => Some(EventKind::ExchangeBegin),
+            "exchange_end" => Some(EventKind::ExchangeEnd),
+            "exchange_cancel" => Some(EventKind::ExchangeCancel),
             _ => None,
         }
     }

@@ -1,26 +1,40 @@
 //! What happens in a plant and what it is answered: events, rules, answers, and the pairs of both that a history is made
 //! of; and the lines of a journal that say the events.
 //!
-//! The form of each kind of line is in `specs/Forms.antt`. `read_event` gives the event that a line says, or the first
-//! fault in reading order; each text of the value that `event_value` writes is a line that says the same event. This
-//! crate knows nothing of the plant's state: which answer an event gets is said in `pol_history`.
+//! The form of each of the fifteen kinds of line is in `specs/Forms.antt`. `read_event` gives the event that a line says,
+//! or the first fault in reading order, and last the fault of a recipe's chart; each text of the value that `event_value`
+//! writes is a line that says the same event. What a line says is orderly (`specs/Orderly.antt`): charts are valid, and
+//! roles are bound once each, in byte order. This crate knows nothing of the plant's state: which answer an event gets is
+//! said in `pol_history`.
 #![tactic(auto)]
 
 mod answer;
+mod batches;
+mod binds;
 mod control;
 mod event;
 mod fault;
 mod kind;
+mod laws;
+mod modules;
 mod reading;
+mod recipes;
 mod words;
 mod writing;
+mod written_batches;
+mod written_binds;
+mod written_modules;
+mod written_recipes;
 
-pub use answer::{Answer, Rule};
-pub use event::{Entry, Event};
+pub use answer::{Answer, Next, Outcome, Rule};
+pub use binds::BindsJson;
+pub use event::{Bind, Entry, Event};
 pub use fault::{LineFault, LineRefusal};
 pub use kind::EventKind;
+pub use laws::{lines_are_orderly, rising_roles_are_bound_once};
 pub use reading::read_event;
 pub use writing::event_value;
+pub use written_binds::write_binds;
 
 #[cfg(test)]
 mod tests;

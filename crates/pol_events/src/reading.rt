@@ -1,80 +1,45 @@
 //! Reading the lines of a journal.
-ghost use Rattle.std.specs.Prelude.{◌≡◌, codes};
+ghost use Rattle.std.specs.Prelude.{◌≡◌, IfOk, IsTrue};
 ghost use Rattle.serde_json.specs.View.{view};
-ghost use Rattle.mtp_json.specs.Form.{inside};
 ghost use Rattle.mtp_json.specs.Gives.{Gives};
-ghost use Rattle.mtp_json.specs.Reading.{under};
-ghost use Rattle.mtp_desc.specs.Form.{description_of};
-ghost use Rattle.mtp_desc.specs.DescriptionView.{description_view};
 ghost use Rattle.pol_events.specs.Events.{event_view};
-ghost use Rattle.pol_events.specs.Forms.{event_by, event_in, plug_in, report_in};
-ghost use Rattle.pol_events.specs.Lines.{Tells, event_of, read_of};
+ghost use Rattle.pol_events.specs.Forms.{event_by, event_in};
+ghost use Rattle.pol_events.specs.Lines.{Tells, event_of, fault_within, read_of};
+ghost use Rattle.pol_events.specs.Orderly.{is_orderly};
 
-use crate::control::read_control;
+use crate::batches::{read_of_batch, read_start};
 use crate::event::Event;
 use crate::fault::{LineFault, LineRefusal};
-use crate::kind::{EventKind, KindWords};
-use mtp_desc::{Description, read_description};
-use mtp_json::{
-    JsonRefusal, name_at, nothing_but, object_here, parse, u64_at, under, value_at, word_at,
+use crate::kind::{BatchKind, EventKind, KindWords, TagKind};
+use crate::modules::{
+    read_desk, read_exchange_cancel, read_exchange_end, read_of_tag, read_plug, read_report,
+    read_variable,
 };
+use crate::recipes::read_recipe;
+use chart_core::ChartFault;
+use mtp_json::{JsonRefusal, object_here, parse, word_at};
 use serde_json::Value;
 use std::alloc::Global;
-use std::sync::Arc;
-
-#[tactic(auto, using(mtp_json::proofs::Each::gives_below))]
-fn description_under(alloc: Global, value: &Value) -> Result<Description, JsonRefusal>
-    ensures { Gives description_view result (under (codes "desc") (description_of (view value.now))) }
-{
-    under("desc", read_description(alloc, value))
-}
-
-fn description_at(alloc: Global, object: &Value) -> Result<Arc<Description>, JsonRefusal>
-    ensures { Gives (λ shared. description_view shared.value) result (inside (codes "desc") description_of (view object.now)) }
-{
-    let value = value_at(alloc, object, "desc")?;
-    let description = description_under(alloc, value)?;
-    Ok(Arc::new(alloc, description)?)
-}
-
-#[tactic(auto, unfolding(crate::specs::Forms::plug_in))]
-fn read_plug(alloc: Global, value: &Value) -> Result<Event, JsonRefusal>
-    ensures { Gives event_view result (plug_in (view value.now)) }
-{
-    let at = u64_at(alloc, value, "at")?;
-    let tag = name_at(alloc, value, "tag")?;
-    let desc = description_at(alloc, value)?;
-    nothing_but(alloc, value, "ev at tag desc")?;
-    Ok(Event::Plug { at, tag, desc })
-}
-
-#[tactic(auto, unfolding(crate::specs::Forms::report_in))]
-fn read_report(alloc: Global, value: &Value) -> Result<Event, JsonRefusal>
-    ensures { Gives event_view result (report_in (view value.now)) }
-{
-    let at = u64_at(alloc, value, "at")?;
-    let tag = name_at(alloc, value, "tag")?;
-    let service = name_at(alloc, value, "service")?;
-    let control = read_control(alloc, value)?;
-    nothing_but(
-        alloc,
-        value,
-        "ev at tag service StateCur CommandEn Mode Src ProcedureCur",
-    )?;
-    Ok(Event::Report {
-        at,
-        tag,
-        service,
-        control,
-    })
-}
 
 fn read_kind(alloc: Global, value: &Value, kind: EventKind) -> Result<Event, JsonRefusal>
     ensures { Gives event_view result (event_by (view value.now) kind) }
 {
     match kind {
         EventKind::Plug => read_plug(alloc, value),
+        EventKind::Unplug => read_of_tag(alloc, value, TagKind::Unplug),
         EventKind::Report => read_report(alloc, value),
+        EventKind::Variable => read_variable(alloc, value),
+        EventKind::Recipe => read_recipe(alloc, value),
+        EventKind::Start => read_start(alloc, value),
+        EventKind::Advance => read_of_batch(alloc, value, BatchKind::Advance),
+        EventKind::Freeze => read_of_batch(alloc, value, BatchKind::Freeze),
+        EventKind::Thaw => read_of_batch(alloc, value, BatchKind::Thaw),
+        EventKind::Stop => read_of_batch(alloc, value, BatchKind::Stop),
+        EventKind::Abandon => read_of_batch(alloc, value, BatchKind::Abandon),
+        EventKind::Desk => read_desk(alloc, value),
+        EventKind::ExchangeBegin => read_of_tag(alloc, value, TagKind::ExchangeBegin),
+        EventKind::ExchangeEnd => read_exchange_end(alloc, value),
+        EventKind::ExchangeCancel => read_exchange_cancel(alloc, value),
     }
 }
 
@@ -94,15 +59,35 @@ fn read_line(alloc: Global, line: &[u8]) -> Result<Event, JsonRefusal>
     read_value(alloc, &value)
 }
 
-/// The event that a line of a journal says; else the line's first fault in reading order, with its path. A line is one
-/// JSON object (RFC 8259) without its line feed. It never answers `TooLong`.
+fn chart_fault(event: &Event) -> Option<ChartFault>
+    ensures { result ≡ fault_within (event_view event.now) }
+{
+    match event {
+        Event::Recipe { chart, .. } => chart.valid().err(),
+        _ => None,
+    }
+}
+
 #[tactic(auto, unfolding(crate::specs::Lines::event_of))]
-pub fn read_event(alloc: Global, line: &[u8]) -> Result<Event, LineRefusal>
+fn read_valid(alloc: Global, line: &[u8]) -> Result<Event, LineRefusal>
     ensures { Tells result (event_of line.now) }
 {
     match read_line(alloc, line) {
-        Ok(event) => Ok(event),
+        Ok(event) => match chart_fault(&event) {
+            None => Ok(event),
+            Some(fault) => Err(LineRefusal::Fault(LineFault::Chart(fault))),
+        },
         Err(JsonRefusal::Fault(fault)) => Err(LineRefusal::Fault(LineFault::Json(fault))),
         Err(JsonRefusal::Memory) => Err(LineRefusal::Memory),
     }
+}
+
+/// The event that a line of a journal says; else the line's first fault in reading order, with its path; else, where the
+/// line makes a recipe known, the fault of its chart. A line is one JSON object (RFC 8259) without its line feed. It
+/// never answers `TooLong`.
+pub fn read_event(alloc: Global, line: &[u8]) -> Result<Event, LineRefusal>
+    ensures tells { Tells result (event_of line.now) }
+    ensures orderly { IfOk result (λ event. IsTrue (is_orderly (event_view event))) }
+{
+    read_valid(alloc, line)
 }

@@ -1,4 +1,5 @@
 //! Faults of the source, of the sink and of the input's size.
+use super::batches::DOSING_AND_MIXING;
 use super::runs::{run_failing, words_of};
 use pol_cli::{Status, top};
 use pol_io::{SureSink, SureSource};
@@ -17,16 +18,18 @@ fn a_read_that_fails_writes_nothing(rt: HostRuntime) -> Result<(), Fail> {
 
 #[test]
 fn a_write_that_fails_keeps_the_lines_before_it(rt: HostRuntime) -> Result<(), Fail> {
-    let cases: [(u32, &str); 3] = [
-        (1, ""),
-        (2, "{\"done\":true}\n"),
-        (3, "{\"done\":true}\n{\"done\":true}\n"),
-    ];
-    for (write, output) in cases {
-        let (status, same) = run_failing(rt.alloc(), PLUG_AND_REPORT, 0, write, output)?;
-        assert_eq!(rt; status, Status::WriteFault);
-        assert!(rt; same);
+    let journal = DOSING_AND_MIXING;
+    let mut before = String::new(rt.alloc());
+    let mut write = 0u32;
+    for line in journal.output.lines() {
+        write = write.saturating_add(1);
+        let (status, same) = run_failing(rt.alloc(), journal.input, 0, write, before.as_str())?;
+        assert_eq!(rt; status, Status::WriteFault, "write {write}");
+        assert!(rt; same, "write {write}");
+        before.push_str(line)?;
+        before.push_str("\n")?;
     }
+    assert_eq!(rt; before.as_str(), journal.output);
     Ok(())
 }
 

@@ -2,10 +2,22 @@
 #![tactic(auto)]
 
 #[cfg(test)]
+mod batches;
+#[cfg(test)]
+mod commands;
+#[cfg(test)]
+mod exchanges;
+#[cfg(test)]
 mod faults;
 #[cfg(test)]
-mod journals;
+mod limits;
+#[cfg(test)]
+mod lines;
+#[cfg(test)]
+mod modules;
 #[cfg(test)]
 mod runs;
+#[cfg(test)]
+mod starts;
 #[cfg(test)]
 mod words;

@@ -2,6 +2,16 @@
 use pol_cli::{Status, top};
 use pol_io::{MemorySink, MemorySource, SureSink, SureSource};
 use std::alloc::{AllocError, Global};
+use std::process::Abort;
+use std::test::Fail;
+
+/// A journal with the output that is wanted, byte for byte.
+#[derive(Clone, Copy)]
+pub struct Journal {
+    pub title: &'static str,
+    pub input: &'static str,
+    pub output: &'static str,
+}
 
 /// The words of a command line, cut at its spaces.
 pub fn words_of(alloc: Global, line: &str) -> Result<Vec<String>, AllocError> {
@@ -41,4 +51,14 @@ pub fn run_failing(
     let mut sink = MemorySink::new(alloc, vec![in alloc; write]?);
     let status = top(alloc, &words, &mut source, &mut sink);
     Ok((status, sink.bytes() == output.as_bytes()))
+}
+
+/// Replays each journal: its input gives its output.
+pub fn replay_each(rt: &impl Abort, alloc: Global, journals: &[Journal]) -> Result<(), Fail> {
+    for journal in journals.iter() {
+        let (status, same) = run(alloc, "pol --job replay", journal.input, journal.output)?;
+        assert_eq!(rt; status, Status::Good, "{}", journal.title);
+        assert!(rt; same, "{}", journal.title);
+    }
+    Ok(())
 }

@@ -1,10 +1,6 @@
 pub mod Filters
 pub mod Names
+pub mod Accepted
+pub mod Legal
 pub mod Paths
-pub mod Sparing
-pub mod Alike
-pub mod Falling
-pub mod Induction
-pub mod Pieces
-pub mod Outputs
 pub mod Appending

@@ -7,29 +7,17 @@ use Rattle.std.proofs.lemmas.Bool.{and_parts, and_from}
 use Rattle.std.proofs.lemmas.List.{reverse-append}
 use Rattle.mtp_codes.specs.declared.state.State.{State}
 use Rattle.mtp_assembly.specs.declared.control.ServiceControl.{ServiceControl}
-use Rattle.pol_events.specs.Events.{EventForm, plug, report, EntryForm}
-use Rattle.pol_events.specs.declared.answer.Rule.{Rule}
-use Rattle.pol_events.specs.declared.answer.Rule.TheVariants.{NotAnEdge, HistoryFull}
-use Rattle.pol_events.specs.declared.answer.Answer.{Answer}
-use Rattle.pol_events.specs.declared.answer.Answer.TheVariants.{Done}
+use Rattle.pol_events.specs.Events.{EventForm, plug, unplug, report, variable, recipe, start, advance, freeze, thaw, stop_batch, abandon, desk, exchange_begin, exchange_end, exchange_cancel, EntryForm}
+use Rattle.pol_events.specs.declared.answer.Rule.TheVariants.{NotAnEdge}
 use Rattle.pol_events.specs.Refusals.{when, may_follow, not_an_edge}
 use Rattle.mtp_machine.specs.Machine.{is_path}
 use Rattle.pol_history.specs.Looking.{History, subject, is_module, is_accepted, is_accepted_of, past, last_of}
 use Rattle.pol_history.specs.Modules.{reported, since_docking, states_in, control_by}
-use Rattle.pol_history.specs.Rules.{rules, first_rule, is_full, answer_of}
+use Rattle.pol_history.specs.Answers.{answer_of}
 use Rattle.pol_history.specs.Runs.{entry_of, IsLegal}
 use Rattle.pol_history.specs.Paths.{ReportsArePaths}
 use Rattle.pol_history.proofs.Names.{same-true}
-
--- an accepted event meets none of its rules
-abbrev NoneHolds : List (Option Rule) → Type 0
-NoneHolds [] = Unit {0}
-NoneHolds (rule ∷ rules) = (rule ≡ None) × NoneHolds rules
-
-none-holds : (rules : List (Option Rule)) (answer : Answer) → is_accepted (first_rule rules answer) ≡ true → NoneHolds rules
-none-holds [] answer accepted = tt
-none-holds (Some rule ∷ rules) answer accepted = cc
-none-holds (None ∷ rules) answer accepted = (refl, none-holds rules answer accepted)
+use Rattle.pol_history.proofs.Accepted.{accepted-none, paired}
 
 -- the same from the newest state on: each may follow the one after it
 abbrev is_path_back : List State → Bool
@@ -72,11 +60,24 @@ step : (history : History) (tag service : List ℕ) (event : EventForm) → is_m
     is_accepted (answer_of history event) ≡ true → is_path_back (states_in service (since_docking (past tag history))) ≡ true →
     is_path_back (states_in service (since_docking (entry_of history event ∷ past tag history))) ≡ true
 step history tag service (plug at other description) of_tag accepted path = refl
+step history tag service (unplug at other) of_tag accepted path = refl
+step history tag service (exchange_begin at other) of_tag accepted path = refl
+step history tag service (exchange_end at other ticket description) of_tag accepted path = refl
+step history tag service (exchange_cancel at other ticket) of_tag accepted path = refl
+step history tag service (variable at other named value) of_tag accepted path = path
+step history tag service (desk at other named command) of_tag accepted path = path
+step history tag service (recipe at name chart) of_tag accepted path = cc
+step history tag service (start at batch name binds) of_tag accepted path = cc
+step history tag service (advance at batch) of_tag accepted path = cc
+step history tag service (freeze at batch) of_tag accepted path = cc
+step history tag service (thaw at batch) of_tag accepted path = cc
+step history tag service (stop_batch at batch) of_tag accepted path = cc
+step history tag service (abandon at batch) of_tag accepted path = cc
 step history tag service (report at other named control) of_tag accepted path = go (bytes_eq named service) refl
   where
     passed : comes_after (control_by named (past other history)) control.state ≡ true
     passed = allowed control.state (control_by named (past other history))
-        (none-holds (when (is_full history) HistoryFull ∷ rules history (report at other named control)) Done accepted).1.1.1.0
+        (accepted-none history (report at other named control) accepted).1.1.1.0
 
     go : (same : Bool) → bytes_eq named service ≡ same → is_path_back (states_in service (since_docking (entry_of history (report at other named control) ∷ past tag history))) ≡ true
     go false is = rw is path
@@ -96,9 +97,6 @@ more history tag service event path = go (is_accepted_of tag (entry_of history e
         let parts = and_parts (is_module tag (subject event)) (is_accepted (answer_of history event)) is in
         step history tag service event parts.0 parts.1 path
     go false is = path
-
-abbrev paired : EventForm → Answer → EntryForm
-paired event answer = record { event = event; answer = answer }
 
 paths-back : (history : History) → IsLegal history → (tag service : List ℕ) → is_path_back (states_in service (since_docking (past tag history))) ≡ true
 paths-back [] legal tag service = refl

@@ -1,8 +1,12 @@
 pub mod Looking
 pub mod Modules
+pub mod Batches
+pub mod Following
 pub mod Rules
+pub mod Answers
 pub mod Runs
+pub mod Refused
+pub mod Commands
 pub mod Paths
 pub mod Texts
 pub mod Lines
-pub mod Removal

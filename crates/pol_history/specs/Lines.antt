@@ -8,7 +8,7 @@ use Rattle.pol_events.specs.declared.fault.LineFault.{LineFault}
 use Rattle.pol_events.specs.declared.fault.LineFault.TheVariants.{TooLong}
 use Rattle.pol_history.specs.Looking.{History}
 use Rattle.pol_history.specs.Runs.{run_after, history_after}
-use Rattle.pol_history.specs.Texts.{answer_text, fault_text, end_text}
+use Rattle.pol_history.specs.Texts.{answer_text, fault_text, batches_text, end_text}
 
 -- the byte is a space, a tab or a carriage return
 abbrev pub is_blank_byte : ℕ → Bool
@@ -92,10 +92,15 @@ rows_text rows = flat_map row_text rows
 abbrev pub answers_of : List ℕ → List ℕ
 answers_of bytes = rows_text (rows_after [] (items_of bytes))
 
--- the output: the fault or answer line of each line that isn't blank, and the end line
-abbrev pub output_of : List ℕ → List ℕ
-output_of bytes = answers_of bytes ++ end_text
-
 -- the history after the lines of an input
 abbrev pub history_of : List ℕ → History
 history_of bytes = history_after [] (events_in (items_of bytes))
+
+-- what ends the output of a job that leaves this history: the line of each batch in the order of the starts, and the end
+-- line
+abbrev pub closing_text : History → List ℕ
+closing_text history = batches_text history ++ end_text
+
+-- the output: the fault or answer line of each line that isn't blank, the line of each batch, and the end line
+abbrev pub output_of : List ℕ → List ℕ
+output_of bytes = answers_of bytes ++ closing_text (history_of bytes)

@@ -3,7 +3,7 @@ use Rattle.std.specs.Prelude.{ℕ, Bool, true, false, ◌&&◌, List, [], ◌∷
 use Rattle.std.specs.List.{list_any}
 use Rattle.std.specs.Option.{option_or}
 use Rattle.std.specs.Str.{bytes_eq}
-use Rattle.pol_events.specs.Events.{EventForm, plug, report, EntryForm}
+use Rattle.pol_events.specs.Events.{EventForm, plug, unplug, report, variable, recipe, start, advance, freeze, thaw, stop_batch, abandon, desk, exchange_begin, exchange_end, exchange_cancel, EntryForm}
 use Rattle.pol_events.specs.declared.answer.Answer.{Answer}
 use Rattle.pol_events.specs.declared.answer.Answer.TheVariants.{Refused}
 
@@ -24,7 +24,20 @@ pub data Subject : Type 0 where
 -- the module, batch or recipe that an event is of
 abbrev pub subject : EventForm → Subject
 subject (plug at tag description) = of_module tag
+subject (unplug at tag) = of_module tag
 subject (report at tag service control) = of_module tag
+subject (variable at tag name value) = of_module tag
+subject (recipe at name chart) = of_recipe name
+subject (start at batch name binds) = of_batch batch
+subject (advance at batch) = of_batch batch
+subject (freeze at batch) = of_batch batch
+subject (thaw at batch) = of_batch batch
+subject (stop_batch at batch) = of_batch batch
+subject (abandon at batch) = of_batch batch
+subject (desk at tag service command) = of_module tag
+subject (exchange_begin at tag) = of_module tag
+subject (exchange_end at tag ticket description) = of_module tag
+subject (exchange_cancel at tag ticket) = of_module tag
 
 -- the answer is no refusal
 abbrev pub is_accepted : Answer → Bool
@@ -35,15 +48,43 @@ is_accepted _ = true
 abbrev pub is_module : List ℕ → Subject → Bool
 is_module tag (of_module other) = bytes_eq other tag
 is_module tag (of_batch batch) = false
-is_module tag (of_recipe recipe) = false
+is_module tag (of_recipe name) = false
+
+-- the subject is this batch
+abbrev pub is_batch : List ℕ → Subject → Bool
+is_batch batch (of_module tag) = false
+is_batch batch (of_batch other) = bytes_eq other batch
+is_batch batch (of_recipe name) = false
+
+-- the subject is a recipe
+abbrev pub is_recipe : Subject → Bool
+is_recipe (of_module tag) = false
+is_recipe (of_batch batch) = false
+is_recipe (of_recipe name) = true
 
 -- an accepted event of the module
 abbrev pub is_accepted_of : List ℕ → EntryForm → Bool
 is_accepted_of tag entry = is_module tag (subject entry.event) && is_accepted entry.answer
 
+-- an accepted event of the batch
+abbrev pub is_accepted_of_batch : List ℕ → EntryForm → Bool
+is_accepted_of_batch batch entry = is_batch batch (subject entry.event) && is_accepted entry.answer
+
+-- an accepted recipe
+abbrev pub is_accepted_recipe : EntryForm → Bool
+is_accepted_recipe entry = is_recipe (subject entry.event) && is_accepted entry.answer
+
 -- the accepted events of a module: its past
 abbrev pub past : List ℕ → History → History
 past tag history = filter (is_accepted_of tag) history
+
+-- the accepted events of a batch: its past
+abbrev pub past_of_batch : List ℕ → History → History
+past_of_batch batch history = filter (is_accepted_of_batch batch) history
+
+-- the accepted recipes
+abbrev pub recipes : History → History
+recipes history = filter is_accepted_recipe history
 
 -- what the newest entry says that says something
 abbrev pub last_of : {A : Type 0} → (EntryForm → Option A) → History → Option A

@@ -1,40 +1,79 @@
 -- Looking back at a module: each value is found in the module's past.
-use Rattle.std.specs.Prelude.{ℕ, Bool, true, false, not, List, [], ◌∷◌, length, filter, filter_map, Option, Some, None, unwrap_or, reverse, if◌then◌else◌}
+use Rattle.std.specs.Prelude.{ℕ, suc, Bool, true, false, not, List, [], ◌∷◌, length, filter, filter_map, Option, Some, None, unwrap_or, reverse, if◌then◌else◌}
 use Rattle.std.specs.Option.{option_map}
 use Rattle.std.specs.Str.{bytes_eq}
 use Rattle.mtp_codes.specs.declared.state.State.{State}
+use Rattle.mtp_codes.specs.declared.value.Value.{Value}
 use Rattle.mtp_assembly.specs.declared.control.ServiceControl.{ServiceControl}
 use Rattle.mtp_desc.specs.Plain.{DescriptionForm}
-use Rattle.pol_events.specs.Events.{EventForm, plug, report}
+use Rattle.mtp_desc.specs.Lookup.{self_completes}
+use Rattle.mtp_modes.specs.declared.view.ServiceView.{ServiceView}
+use Rattle.pol_events.specs.Events.{EventForm, plug, unplug, report, variable, exchange_begin, exchange_end, exchange_cancel}
+use Rattle.pol_events.specs.declared.answer.Answer.{Answer}
+use Rattle.pol_events.specs.declared.answer.Answer.TheVariants.{Ticket}
 use Rattle.pol_history.specs.Looking.{History, past, last_of, since, after_last, is_accepted}
 
--- whether a tag is docked; if so, how often it was docked since the last plug, that plug included
+-- whether a tag is docked: if so, how often it was since the last plug, that plug included; or away, with its ticket
 pub data Docking : Type 0 where
   absent : Docking
   docked : (count : ℕ) → Docking
+  away : (ticket : ℕ) → Docking
 
 -- the event plugs a module
 abbrev pub is_plug : EventForm → Bool
 is_plug (plug at tag description) = true
 is_plug _ = false
 
--- the event changes what is docked
+-- the event begins an exchange
+abbrev pub is_begin : EventForm → Bool
+is_begin (exchange_begin at tag) = true
+is_begin _ = false
+
+-- the event docks a module: it plugs it, or ends or cancels its exchange
 abbrev pub is_docking : EventForm → Bool
 is_docking (plug at tag description) = true
+is_docking (exchange_end at tag ticket description) = true
+is_docking (exchange_cancel at tag ticket) = true
 is_docking _ = false
+
+-- the event changes whether the module is docked
+abbrev pub is_moving : EventForm → Bool
+is_moving (plug at tag description) = true
+is_moving (unplug at tag) = true
+is_moving (exchange_begin at tag) = true
+is_moving (exchange_end at tag ticket description) = true
+is_moving (exchange_cancel at tag ticket) = true
+is_moving _ = false
 
 -- the dockings since the last plug, that plug included
 abbrev pub dockings_by : History → ℕ
 dockings_by past = length (filter (λ entry. is_docking entry.event) (since (λ entry. is_plug entry.event) past))
 
--- the docking that an event leaves
-abbrev pub docking_after : History → EventForm → Option Docking
-docking_after past (plug at tag description) = Some (docked (dockings_by past))
-docking_after past _ = None
+-- the exchanges that were begun since the last plug
+abbrev pub begins_by : History → ℕ
+begins_by past = length (filter (λ entry. is_begin entry.event) (since (λ entry. is_plug entry.event) past))
+
+-- the ticket of the next exchange: one more than the exchanges since the last plug
+abbrev pub next_ticket : History → ℕ
+next_ticket past = suc (begins_by past)
+
+-- the ticket that an answer gives
+abbrev pub ticket_in : Answer → ℕ
+ticket_in (Ticket ticket) = ticket
+ticket_in _ = 0
+
+-- the docking that an event leaves, with its answer
+abbrev pub docking_after : History → EventForm → Answer → Option Docking
+docking_after past (plug at tag description) answer = Some (docked (dockings_by past))
+docking_after past (unplug at tag) answer = Some absent
+docking_after past (exchange_begin at tag) answer = Some (away (ticket_in answer))
+docking_after past (exchange_end at tag ticket description) answer = Some (docked (dockings_by past))
+docking_after past (exchange_cancel at tag ticket) answer = Some (docked (dockings_by past))
+docking_after past _ answer = None
 
 -- whether the module is docked, by its past
 abbrev pub docking_by : History → Docking
-docking_by past = unwrap_or (last_of (λ entry. docking_after past entry.event) past) absent
+docking_by past = unwrap_or (last_of (λ entry. docking_after past entry.event entry.answer) past) absent
 
 -- whether the tag is docked
 abbrev pub docking_of : History → List ℕ → Docking
@@ -43,24 +82,56 @@ docking_of history tag = docking_by (past tag history)
 -- the description that an event brings
 abbrev pub described : EventForm → Option DescriptionForm
 described (plug at tag description) = Some description
+described (exchange_end at tag ticket description) = Some description
 described _ = None
 
 -- the module's description, by its past
 abbrev pub description_by : History → Option DescriptionForm
 description_by past = last_of (λ entry. described entry.event) past
 
+-- the tag's description: that of the last plug or of the last end of an exchange
+abbrev pub description_of : History → List ℕ → Option DescriptionForm
+description_of history tag = description_by (past tag history)
+
+-- what happened to the module since it was docked last; nothing, where it is not docked
+abbrev pub since_docking : History → History
+since_docking past = after_last (λ entry. is_moving entry.event) past
+
 -- the control that an event reports of the service
 abbrev pub reported : List ℕ → EventForm → Option ServiceControl
 reported service (report at tag other control) = if bytes_eq other service then Some control else None
 reported service _ = None
 
--- what happened to the module since it was docked last
-abbrev pub since_docking : History → History
-since_docking past = after_last (λ entry. is_docking entry.event) past
-
 -- the control that the service reported last since docking, by the module's past
 abbrev pub control_by : List ℕ → History → Option ServiceControl
 control_by service past = last_of (λ entry. reported service entry.event) (since_docking past)
+
+-- whether the procedure completes by itself, by the module's description; false where there is none
+abbrev pub completes_by : List ℕ → ℕ → Option DescriptionForm → Bool
+completes_by service procedure None = false
+completes_by service procedure (Some description) = self_completes service procedure description
+
+-- a control with what the description says of its procedure
+abbrev pub seen_with : List ℕ → Option DescriptionForm → ServiceControl → ServiceView
+seen_with service description control =
+    record { control = control; self_completes = completes_by service control.procedure description }
+
+-- what is seen of the service, by the module's past: its last report since docking
+abbrev pub view_by : List ℕ → History → Option ServiceView
+view_by service past = option_map (seen_with service (description_by past)) (control_by service past)
+
+-- what is seen of the tag's service
+abbrev pub view_of : History → List ℕ → List ℕ → Option ServiceView
+view_of history tag service = view_by service (past tag history)
+
+-- the value that an event reports of the variable
+abbrev pub reported_value : List ℕ → EventForm → Option Value
+reported_value name (variable at tag other value) = if bytes_eq other name then Some value else None
+reported_value name _ = None
+
+-- the value that the variable was reported with last since docking, by the module's past
+abbrev pub value_by : List ℕ → History → Option Value
+value_by name past = last_of (λ entry. reported_value name entry.event) (since_docking past)
 
 -- the states that the service reported in these entries
 abbrev pub states_in : List ℕ → History → List State
@@ -74,12 +145,13 @@ reported_states history tag service = reverse (states_in service (since_docking 
 abbrev pub tags_without : List ℕ → List (List ℕ) → List (List ℕ)
 tags_without tag tags = filter (λ other. not (bytes_eq other tag)) tags
 
--- the docked tags after one more event
-abbrev pub docked_after : EventForm → Bool → List (List ℕ) → List (List ℕ)
-docked_after (plug at tag description) true tags = tag ∷ tags_without tag tags
-docked_after _ _ tags = tags
+-- the tags that are docked or away after one more event
+abbrev pub present_after : EventForm → Bool → List (List ℕ) → List (List ℕ)
+present_after (plug at tag description) true tags = tag ∷ tags_without tag tags
+present_after (unplug at tag) true tags = tags_without tag tags
+present_after _ _ tags = tags
 
--- the docked tags, each once
-abbrev pub docked_tags : History → List (List ℕ)
-docked_tags [] = []
-docked_tags (entry ∷ older) = docked_after entry.event (is_accepted entry.answer) (docked_tags older)
+-- the tags that are docked or away, each once
+abbrev pub present_tags : History → List (List ℕ)
+present_tags [] = []
+present_tags (entry ∷ older) = present_after entry.event (is_accepted entry.answer) (present_tags older)

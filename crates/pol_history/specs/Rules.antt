@@ -1,58 +1,267 @@
--- The rules of each kind of event in their order, and the answer.
-use Rattle.std.specs.Prelude.{ℕ, Bool, nat_le, List, [], ◌∷◌, length, Option, Some, None}
-use Rattle.mtp_desc.specs.Plain.{DescriptionForm}
-use Rattle.pol_events.specs.Events.{EventForm, plug, report}
+-- The rules that can refuse an event.
+use Rattle.std.specs.Prelude.{ℕ, Bool, true, false, ◌==◌, not, nat_le, List, [], ◌∷◌, length, map, filter, filter_map, find, Option, Some, None, is_some, is_none, option_and_then, option_map}
+use Rattle.std.specs.Option.{option_or}
+use Rattle.mtp_codes.specs.declared.command.Command.{Command}
+use Rattle.mtp_codes.specs.declared.mode.Speaker.TheVariants as speaker
+use Rattle.mtp_codes.specs.declared.state.State.{State}
+use Rattle.mtp_codes.specs.declared.state.State.TheVariants as state
+use Rattle.mtp_assembly.specs.declared.control.ServiceControl.{ServiceControl}
+use Rattle.mtp_modes.specs.Permission.{forbidden_by}
+use Rattle.mtp_modes.specs.declared.view.ServiceView.{ServiceView}
+use Rattle.mtp_desc.specs.Plain.{ServiceForm, DescriptionForm}
+use Rattle.mtp_procs.specs.Covers.{cover_fault, missing_by}
+use Rattle.chart_core.specs.Roles.{ChartPlan}
+use Rattle.chart_core.specs.Same.{same_name}
+use Rattle.chart_core.specs.Trees.{StepPlan, steps}
+use Rattle.pol_events.specs.Refusals.{when, forbid_rule, cover_rule}
 use Rattle.pol_events.specs.declared.answer.Rule.{Rule}
-use Rattle.pol_events.specs.declared.answer.Rule.TheVariants.{TagTaken, NoModule, PlantFull, HistoryFull}
-use Rattle.pol_events.specs.declared.answer.Answer.{Answer}
-use Rattle.pol_events.specs.declared.answer.Answer.TheVariants.{Done, Refused}
-use Rattle.pol_events.specs.Refusals.{when, no_service, not_an_edge}
-use Rattle.pol_history.specs.Looking.{History, past}
-use Rattle.pol_history.specs.Modules.{Docking, absent, docking_by, description_by, control_by, docked_tags}
+use Rattle.pol_events.specs.declared.answer.Rule.TheVariants.{TagTaken, NoModule, PlantFull, InExchange, NotInExchange, WrongTicket, RecipeKnown, NoRecipe, BatchKnown, NoBatch, BatchClosed, RoleUnbound, RoleUnknown, OneModuleTwice, NotReported, NotIdle, Busy, BatchesFull, NotAtRest, ActiveStep, HeldBack, NotFrozen, AlreadyFrozen, RecipesFull}
+use Rattle.pol_events.specs.declared.event.Bind.{Bind}
+use Rattle.pol_history.specs.Looking.{History, past, past_of_batch, recipes, is_among}
+use Rattle.pol_history.specs.Modules.{Docking, absent, docked, away, docking_by, description_by, control_by, view_by, present_tags}
+use Rattle.pol_history.specs.Batches.{Started, start_by, chart_named, chart_by, bound_tag, bound_role, outcome_by, is_frozen_by, log_by, active, holder_of, is_start}
+
+-- the first of these rules that holds
+abbrev pub first_of : List (Option Rule) → Option Rule
+first_of [] = None
+first_of (rule ∷ others) = option_or rule (first_of others)
+
+-- ---- whether a tag is docked
 
 -- the tag is there already
 abbrev pub tag_taken : Docking → Option Rule
 tag_taken absent = None
-tag_taken _ = Some TagTaken
+tag_taken (docked count) = Some TagTaken
+tag_taken (away ticket) = Some TagTaken
 
 -- the tag isn't there
 abbrev pub no_module : List ℕ → Docking → Option Rule
 no_module tag absent = Some (NoModule tag)
-no_module tag _ = None
+no_module tag (docked count) = None
+no_module tag (away ticket) = None
 
--- 64 tags are there
+-- the tag's module is away
+abbrev pub in_exchange : List ℕ → Docking → Option Rule
+in_exchange tag absent = None
+in_exchange tag (docked count) = None
+in_exchange tag (away ticket) = Some (InExchange tag ticket)
+
+-- the tag's module isn't away
+abbrev pub not_in_exchange : Docking → Option Rule
+not_in_exchange absent = None
+not_in_exchange (docked count) = Some NotInExchange
+not_in_exchange (away ticket) = None
+
+-- the ticket isn't that of the exchange
+abbrev pub wrong_ticket : ℕ → Docking → Option Rule
+wrong_ticket given absent = None
+wrong_ticket given (docked count) = None
+wrong_ticket given (away kept) = when (not (kept == given)) (WrongTicket kept given)
+
+-- 64 tags are docked or away
 abbrev pub plant_full : History → Option Rule
-plant_full history = when (nat_le 64 (length (docked_tags history))) PlantFull
+plant_full history = when (nat_le 64 (length (present_tags history))) PlantFull
+
+-- ---- what a module is and has reported
 
 -- a rule of the module's description
 abbrev pub by_description : (DescriptionForm → Option Rule) → Option DescriptionForm → Option Rule
-by_description rule (Some description) = rule description
 by_description rule None = None
+by_description rule (Some description) = rule description
 
--- the rules that can refuse the event, in their order
-abbrev pub rules : History → EventForm → List (Option Rule)
-rules history (plug at tag description) =
-    tag_taken (docking_by (past tag history)) ∷ plant_full history ∷ []
-rules history (report at tag service control) =
-    no_module tag (docking_by (past tag history))
-    ∷ by_description (no_service service) (description_by (past tag history))
-    ∷ not_an_edge control.state (control_by service (past tag history))
+-- the service wasn't reported since the module was docked
+abbrev pub not_reported : List ℕ → List ℕ → Option ServiceView → Option Rule
+not_reported tag service None = Some (NotReported tag service)
+not_reported tag service (Some view) = None
+
+-- a service in this state is idle
+abbrev pub is_idle : State → Bool
+is_idle state.Idle = true
+is_idle other = false
+
+-- the service is in another state than Idle
+abbrev pub not_idle : List ℕ → List ℕ → Option ServiceView → Option Rule
+not_idle tag service None = None
+not_idle tag service (Some view) = when (not (is_idle view.control.state)) (NotIdle tag service view.control.state)
+
+-- the operator may not send the command
+abbrev pub forbidden : Command → Option ServiceView → Option Rule
+forbidden command None = None
+forbidden command (Some view) = option_map forbid_rule (forbidden_by view speaker.Operator command)
+
+-- the state is one of a module at rest: Idle, Completed, Stopped or Aborted
+abbrev pub is_at_rest : State → Bool
+is_at_rest state.Idle = true
+is_at_rest state.Completed = true
+is_at_rest state.Stopped = true
+is_at_rest state.Aborted = true
+is_at_rest other = false
+
+-- the service was reported in a state that isn't at rest
+abbrev pub is_busy_service : List ℕ → Option ServiceControl → Option Rule
+is_busy_service service None = None
+is_busy_service service (Some control) = when (not (is_at_rest control.state)) (NotAtRest service control.state)
+
+-- the first of these services that isn't at rest
+abbrev pub not_at_rest : History → List ServiceForm → Option Rule
+not_at_rest past services = first_of (map (λ service. is_busy_service service.name (control_by service.name past)) services)
+
+-- ---- recipes
+
+-- a recipe of this name is known
+abbrev pub recipe_known : List ℕ → History → Option Rule
+recipe_known name recipes = when (is_some (chart_named name recipes)) RecipeKnown
+
+-- 64 recipes are known
+abbrev pub recipes_full : History → Option Rule
+recipes_full recipes = when (nat_le 64 (length recipes)) RecipesFull
+
+-- no recipe of this name is known
+abbrev pub no_recipe : Option ChartPlan → Option Rule
+no_recipe chart = when (is_none chart) NoRecipe
+
+-- ---- batches
+
+-- the batch was started
+abbrev pub batch_known : Option Started → Option Rule
+batch_known started = when (is_some started) BatchKnown
+
+-- the batch wasn't started
+abbrev pub no_batch : Option Started → Option Rule
+no_batch started = when (is_none started) NoBatch
+
+-- the batch is closed
+abbrev pub batch_closed : History → Option Rule
+batch_closed past = when (is_some (outcome_by past)) BatchClosed
+
+-- the batch is frozen; is not frozen
+abbrev pub already_frozen : History → Option Rule
+already_frozen past = when (is_frozen_by past) AlreadyFrozen
+
+abbrev pub not_frozen : History → Option Rule
+not_frozen past = when (not (is_frozen_by past)) NotFrozen
+
+-- 128 batches were started
+abbrev pub batches_full : History → Option Rule
+batches_full history = when (nat_le 128 (length (filter is_start history))) BatchesFull
+
+-- ---- the binds of a start, against the roles of the recipe
+
+-- the first of these roles that no bind gives a tag
+abbrev pub role_unbound : List Bind → List (List ℕ) → Option Rule
+role_unbound binds roles = option_map RoleUnbound (find (λ role. is_none (bound_tag binds role)) roles)
+
+-- the first bind whose role the recipe lacks
+abbrev pub role_unknown : List Bind → List (List ℕ) → Option Rule
+role_unknown binds roles = option_map (λ bind. RoleUnknown bind.role) (find (λ bind. not (is_among roles bind.role)) binds)
+
+-- the tag is bound to one of these roles
+abbrev pub is_bound_before : List Bind → List (List ℕ) → List ℕ → Bool
+is_bound_before binds earlier tag = is_among (filter_map (bound_tag binds) earlier) tag
+
+-- the role's tag, where an earlier role has it
+abbrev pub twice : List Bind → List (List ℕ) → Option (List ℕ) → Option Rule
+twice binds earlier None = None
+twice binds earlier (Some tag) = when (is_bound_before binds earlier tag) (OneModuleTwice tag)
+
+-- the first tag in the order of the roles that an earlier role has
+abbrev pub one_module_twice : List Bind → List (List ℕ) → List (List ℕ) → Option Rule
+one_module_twice binds earlier [] = None
+one_module_twice binds earlier (role ∷ roles) =
+    option_or (twice binds earlier (bound_tag binds role)) (one_module_twice binds (role ∷ earlier) roles)
+
+-- the module can't play the role
+abbrev pub not_covered : ChartPlan → List ℕ → Option DescriptionForm → Option Rule
+not_covered chart role None = None
+not_covered chart role (Some description) = option_map (cover_rule role) (cover_fault chart role description)
+
+-- the services of the steps of a role, in chart order
+abbrev pub services_of : ChartPlan → List ℕ → List (List ℕ)
+services_of chart role =
+    map (λ step. step.service) (filter (λ step. same_name step.role role) (map (λ placed. placed.step) (steps chart.root 0)))
+
+-- the first of these services that wasn't reported or isn't idle
+abbrev pub not_ready : List ℕ → History → List (List ℕ) → Option Rule
+not_ready tag past services =
+    first_of (map (λ service. option_or (not_reported tag service (view_by service past)) (not_idle tag service (view_by service past))) services)
+
+-- what is wrong with the module of a role, by the module's past
+abbrev pub module_rules : ChartPlan → List ℕ → List ℕ → History → List (Option Rule)
+module_rules chart role tag past =
+    no_module tag (docking_by past)
+    ∷ in_exchange tag (docking_by past)
+    ∷ not_covered chart role (description_by past)
+    ∷ not_ready tag past (services_of chart role)
     ∷ []
 
--- the answer where no rule refuses the event
-abbrev pub otherwise : History → EventForm → Answer
-otherwise history _ = Done
+-- the first thing that is wrong with the module of a role, if it has one
+abbrev pub module_rule : History → ChartPlan → List ℕ → Option (List ℕ) → Option Rule
+module_rule history chart role None = None
+module_rule history chart role (Some tag) = first_of (module_rules chart role tag (past tag history))
 
--- the first rule that holds, else the answer
-abbrev pub first_rule : List (Option Rule) → Answer → Answer
-first_rule [] answer = answer
-first_rule (Some rule ∷ rules) answer = Refused rule
-first_rule (None ∷ rules) answer = first_rule rules answer
+-- the first thing that is wrong with a module, over these roles
+abbrev pub modules_unfit : History → ChartPlan → List Bind → List (List ℕ) → Option Rule
+modules_unfit history chart binds roles = first_of (map (λ role. module_rule history chart role (bound_tag binds role)) roles)
 
--- the history has 200,000 entries
-abbrev pub is_full : History → Bool
-is_full history = nat_le 200000 (length history)
+-- the module is held by a batch
+abbrev pub busy_module : List ℕ → Option (List ℕ) → Option Rule
+busy_module tag None = None
+busy_module tag (Some batch) = Some (Busy tag batch)
 
--- the answer to an event after a history
-abbrev pub answer_of : History → EventForm → Answer
-answer_of history event = first_rule (when (is_full history) HistoryFull ∷ rules history event) (otherwise history event)
+-- the module of a role is held by a batch
+abbrev pub busy_role : History → Option (List ℕ) → Option Rule
+busy_role history None = None
+busy_role history (Some tag) = busy_module tag (holder_of history tag)
+
+-- the first module over these roles that is held
+abbrev pub busy : History → List Bind → List (List ℕ) → Option Rule
+busy history binds roles = first_of (map (λ role. busy_role history (bound_tag binds role)) roles)
+
+-- ---- the batch that holds a module
+
+-- a rule of the batch that holds the module
+abbrev pub by_holder : (List ℕ → Option Rule) → Option (List ℕ) → Option Rule
+by_holder rule None = None
+by_holder rule (Some batch) = rule batch
+
+-- it is this tag
+abbrev pub is_tag : List ℕ → Option (List ℕ) → Bool
+is_tag tag None = false
+is_tag tag (Some other) = same_name other tag
+
+-- the first of these steps whose role has the tag
+abbrev pub step_on : List Bind → List ℕ → List StepPlan → Option StepPlan
+step_on binds tag steps = find (λ step. is_tag tag (bound_tag binds step.role)) steps
+
+-- the first active step of a batch, by its past, on the module
+abbrev pub active_step_on : History → List ℕ → List ℕ → History → Option Rule
+active_step_on recipes tag batch past =
+    option_and_then
+    (λ started.
+    option_and_then
+    (λ chart. option_map (λ step. ActiveStep batch step.name) (step_on started.binds tag (active chart (log_by past))))
+    (chart_by recipes (Some started)))
+    (start_by past)
+
+-- the batch that holds the module has an active step on it
+abbrev pub active_step : History → List ℕ → Option Rule
+active_step history tag =
+    by_holder (λ batch. active_step_on (recipes history) tag batch (past_of_batch batch history)) (holder_of history tag)
+
+-- what of the chart the new module doesn't cover, for the role that the tag plays in the batch
+abbrev pub uncovered_by : History → List ℕ → DescriptionForm → List ℕ → History → Option Rule
+uncovered_by recipes tag description batch past =
+    option_and_then
+    (λ started.
+    option_and_then
+    (λ chart.
+    option_and_then
+    (λ role. option_map (λ fault. HeldBack batch (missing_by role fault)) (cover_fault chart role description))
+    (bound_role started.binds tag))
+    (chart_by recipes (Some started)))
+    (start_by past)
+
+-- the new module doesn't cover its role in the batch that holds the tag
+abbrev pub held_back : History → List ℕ → DescriptionForm → Option Rule
+held_back history tag description =
+    by_holder (λ batch. uncovered_by (recipes history) tag description batch (past_of_batch batch history)) (holder_of history tag)

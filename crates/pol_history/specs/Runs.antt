@@ -1,11 +1,13 @@
 -- Runs of events, and legal histories.
 use Rattle.std.specs.Prelude.{Bool, true, false, ◌≡◌, List, [], ◌∷◌, if◌then◌else◌}
+use Rattle.std.specs.List.{AllByRecursion}
 use Rattle.pol_events.specs.Events.{EventForm, EntryForm}
 use Rattle.pol_events.specs.declared.answer.Answer.{Answer}
 use Rattle.pol_events.specs.declared.answer.Answer.TheVariants.{Refused}
 use Rattle.pol_events.specs.declared.answer.Rule.TheVariants.{HistoryFull}
 use Rattle.pol_history.specs.Looking.{History}
-use Rattle.pol_history.specs.Rules.{answer_of}
+use Rattle.pol_events.specs.Orderly.{is_orderly}
+use Rattle.pol_history.specs.Answers.{answer_of}
 
 -- the event with its answer
 abbrev pub entry_of : History → EventForm → EntryForm
@@ -38,3 +40,16 @@ history_after history (event ∷ events) = history_after (recorded (entry_of his
 abbrev pub IsLegal : History → Type 0
 IsLegal [] = Unit {0}
 IsLegal (entry ∷ history) = (entry.answer ≡ answer_of history entry.event) × (is_recorded entry.answer ≡ true) × IsLegal history
+
+-- each event is as a line says it: a recipe's chart is valid, a start's binds stand in order
+abbrev pub AreOrderly : List EventForm → Type 0
+AreOrderly events = AllByRecursion (λ event. is_orderly event ≡ true) events
+
+-- the events of a history are so
+abbrev pub IsOrderly : History → Type 0
+IsOrderly history = AllByRecursion (λ entry. is_orderly entry.event ≡ true) history
+
+-- whatever events come, the history that they leave is legal, and it has no event that didn't come
+abbrev pub RunsAreLegal : Type 0
+RunsAreLegal =
+    (events : List EventForm) → IsLegal (history_after [] events) × (AreOrderly events → IsOrderly (history_after [] events))

@@ -10,7 +10,8 @@ use pol_events::{Answer, LineFault};
 use serde_json::{Value, json};
 use std::alloc::{AllocError, Global};
 
-fn line_of(alloc: Global, value: &Value) -> Result<Vec<u8>, AllocError>
+/// The line of a value.
+pub fn line_of(alloc: Global, value: &Value) -> Result<Vec<u8>, AllocError>
     requires { has_float (view value.now) ≡ false }
     ensures { IfOk result (λ line. line.items ≡ line_text (view value.now)) }
 {
@@ -27,7 +28,8 @@ pub fn answer_line(alloc: Global, answer: &Answer) -> Result<Vec<u8>, AllocError
     line_of(alloc, &value)
 }
 
-/// The line of a fault: its kind, and the text of the path to it (empty for the whole line).
+/// The line of a fault: its kind, and the text of the path to it (empty for the whole line); or what is wrong with a
+/// chart, and the number of its node.
 pub fn fault_line(alloc: Global, fault: &LineFault) -> Result<Vec<u8>, AllocError>
     ensures { IfOk result (λ line. line.items ≡ fault_text fault.now) }
 {
@@ -35,6 +37,7 @@ pub fn fault_line(alloc: Global, fault: &LineFault) -> Result<Vec<u8>, AllocErro
     line_of(alloc, &value)
 }
 
+#[tactic(auto, unfolding(pol_history::specs::Texts::under_key))]
 fn end_value(alloc: Global) -> Result<Value, AllocError>
     ensures value { IfOk result (λ value. view value ≡ end_data) }
     ensures whole { IfOk result (λ value. has_float (view value) ≡ false) }

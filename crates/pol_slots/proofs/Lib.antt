@@ -1,2 +1,3 @@
-pub mod Places
-pub mod Telling
+pub mod Forgetting
+pub mod Knowing
+pub mod Docking

@@ -1,1 +1,7 @@
+pub mod Lasts
+pub mod Told
+pub mod Berths
 pub mod Slots
+pub mod Sights
+pub mod Rest
+pub mod Exchanges

@@ -1,24 +1,67 @@
 -- What contracts see of a slot.
-use Rattle.std.specs.Prelude.{ℕ, List, Option, Some, None, unwrap_or, slice_get}
+use Rattle.std.specs.Prelude.{ℕ, ◌≡◌, List, Option, None, option_and_then}
 use Rattle.mtp_assembly.specs.declared.control.ServiceControl.{ServiceControl}
+use Rattle.mtp_codes.specs.declared.value.Value.{Value}
 use Rattle.mtp_desc.specs.Plain.{DescriptionForm}
 use Rattle.mtp_desc.specs.DescriptionView.{description_view}
-use Rattle.mtp_desc.specs.Lookup.{service_place}
+use Rattle.pol_slots.specs.Berths.{ticket_in, docked_in}
+use Rattle.pol_slots.specs.Lasts.{last_in}
 use Rattle.pol_slots.specs.declared.slot.Slot.{Slot}
 
--- the tag under which it is docked
+-- the tag of its module
 abbrev pub slot_tag : Slot → List ℕ
 slot_tag slot = slot.tag
 
--- its description
+-- the description of its module; while the module is away, the old one
 abbrev pub slot_description : Slot → DescriptionForm
 slot_description slot = description_view slot.description.value
 
--- what stands at a place of a list of optional values; none where there is no place
-abbrev pub at_place : {A : Type 0} → List (Option A) → Option ℕ → Option A
-at_place values None = None
-at_place values (Some place) = unwrap_or (slice_get values place) None
+-- how often its module began an exchange
+abbrev pub slot_begins : Slot → ℕ
+slot_begins slot = slot.begins
+
+-- the ticket under which its module is away; none while it is docked
+abbrev pub slot_ticket : Slot → Option ℕ
+slot_ticket slot = ticket_in slot.berth
 
 -- what the service reported last since docking
 unfoldable pub last_control : Slot → List ℕ → Option ServiceControl
-last_control slot service = at_place slot.controls.items (service_place service (slot_description slot))
+last_control slot service = option_and_then (λ told. last_in service told.controls) (docked_in slot.berth)
+
+-- the value that the variable was reported with last since docking
+unfoldable pub last_value : Slot → List ℕ → Option Value
+last_value slot name = option_and_then (λ told. last_in name told.values) (docked_in slot.berth)
+
+-- the slot has the module of this tag as before: with its description, as often in exchange, and docked or away
+pub record SameModule (old new : Slot) : Type 0 where
+  pub tag : slot_tag new ≡ slot_tag old
+  pub description : slot_description new ≡ slot_description old
+  pub begins : slot_begins new ≡ slot_begins old
+  pub ticket : slot_ticket new ≡ slot_ticket old
+
+-- each service has the same last report
+abbrev pub SameControls : Slot → Slot → Type 0
+SameControls old new = (service : List ℕ) → last_control new service ≡ last_control old service
+
+-- each variable has the same last value
+abbrev pub SameValues : Slot → Slot → Type 0
+SameValues old new = (name : List ℕ) → last_value new name ≡ last_value old name
+
+-- nothing that contracts see has changed
+pub record IsUnchanged (old new : Slot) : Type 0 where
+  pub same_module : SameModule old new
+  pub controls : SameControls old new
+  pub values : SameValues old new
+
+-- no service and no variable was reported since docking
+pub record IsUnreported (slot : Slot) : Type 0 where
+  pub controls : (service : List ℕ) → last_control slot service ≡ None
+  pub values : (name : List ℕ) → last_value slot name ≡ None
+
+-- the slot has a module of this description docked under the same tag, as often in exchange, and nothing was reported of it
+pub record IsDocked (old new : Slot) (described : DescriptionForm) : Type 0 where
+  pub tag : slot_tag new ≡ slot_tag old
+  pub description : slot_description new ≡ described
+  pub begins : slot_begins new ≡ slot_begins old
+  pub docked : slot_ticket new ≡ None
+  pub unreported : IsUnreported new

@@ -1,10 +1,21 @@
-//! One docked module: its description, and what each of its services reported last.
+//! One module of a plant: docked or away for exchange, with what it told since it was docked.
 //!
 //! It knows nothing of other modules, of who holds this one, or of the history: contracts see a slot through
-//! `specs/Slots.antt`. `pol_core` keeps that this is what looking back in the history gives.
+//! `specs/Slots.antt`. Each call answers the first rule that what the slot keeps decides, and changes the slot as an
+//! accepted event does; after a refusal the slot is unchanged.
 #![tactic(auto)]
 
+mod berth;
+mod exchange;
+mod lasts;
+mod refusal;
 mod reports;
+mod seen;
 mod slot;
+mod told;
 
+pub use refusal::SlotRefusal;
 pub use slot::Slot;
+
+#[cfg(test)]
+mod tests;

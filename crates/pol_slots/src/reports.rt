@@ -1,21 +1,19 @@
-//! What a slot is told and what it tells.
-ghost use Rattle.std.specs.Prelude.{◌≡◌, ◌∷◌, List, ℕ, [], None, Some, OnOk, OnErr, IfOk, if◌then◌else◌, length, replicate};
+//! What a module reports.
+ghost use Rattle.std.specs.Prelude.{◌≡◌, ℕ, List, Some, IfOk, OnOk, OnErr, if◌then◌else◌};
+ghost use Rattle.std.specs.Option.{option_or};
 ghost use Rattle.std.specs.Str.{bytes_eq};
 ghost use Rattle.mtp_assembly.specs.Fits.{answer_to};
 ghost use Rattle.mtp_desc.specs.DescriptionView.{description_view};
-ghost use Rattle.mtp_desc.specs.Lookup.{service_place};
-ghost use Rattle.mtp_machine.specs.Machine.{is_edge};
-ghost use Rattle.pol_events.specs.Refusals.{may_follow, report_fault, not_an_edge};
-ghost use Rattle.pol_slots.specs.Slots.{slot_tag, slot_description, last_control};
+ghost use Rattle.pol_events.specs.Refusals.{may_follow, not_an_edge, report_fault, variable_fault};
+ghost use Rattle.pol_slots.specs.Exchanges.{in_exchange};
+ghost use Rattle.pol_slots.specs.Slots.{slot_tag, slot_description, slot_ticket, last_control, last_value, SameModule, SameControls, SameValues};
 
 use super::slot::Slot;
-use mtp_assembly::ServiceControl;
-use mtp_codes::{Name, State};
+use mtp_assembly::{ServiceControl, ValueFault, check_view};
+use mtp_codes::{Name, State, Value};
 use mtp_desc::Description;
 use mtp_machine::edge;
 use pol_events::Rule;
-use std::alloc::{AllocError, Global};
-use std::sync::Arc;
 
 // A state may follow the one reported last: it is the same, or an edge leads to it.
 fn may_follow(from: State, to: State) -> bool
@@ -37,79 +35,86 @@ fn follows(last: Option<ServiceControl>, state: State) -> Result<(), Rule>
     }
 }
 
-// The place of a service in a description.
-fn place_in(description: &Arc<Description>, service: Name) -> Option<usize>
-    ensures { result ≡ service_place service (description_view description.now.value) }
+// The description has the variable, and it may have the value.
+fn fits(description: &Description, name: Name, value: &Value) -> Result<(), Rule>
+    ensures { result ≡ answer_to (variable_fault name value.now (description_view description.now)) }
 {
-    description.service_place(service)
-}
-
-fn unreported(alloc: Global, count: usize) -> Result<Vec<Option<ServiceControl>>, AllocError>
-    ensures { IfOk result (λ controls. controls.items ≡ replicate count None) }
-{
-    vec![in alloc; None; count]
+    let Some(variable) = description.variable(name) else {
+        return Err(Rule::NoVariable);
+    };
+    match check_view(variable, value) {
+        Ok(()) => Ok(()),
+        Err(ValueFault::WrongKind) => Err(Rule::WrongKind),
+        Err(ValueFault::OutOfRange) => Err(Rule::OutOfRange),
+    }
 }
 
 impl Slot {
-    /// A module with this description, docked under a tag: no service was reported yet. It takes all room that later
-    /// reports need.
-    #[tactic(auto, using(crate::proofs::Telling::tells_none))]
-    pub fn new(alloc: Global, description: Arc<Description>, tag: Name) -> Result<Slot, AllocError>
-        ensures tag { IfOk result (λ slot. slot_tag slot ≡ tag) }
-        ensures description { IfOk result (λ slot. slot_description slot ≡ description_view description.value) }
-        ensures unreported { IfOk result (λ slot. (service : List ℕ) → last_control slot service ≡ None) }
+    // The module is docked.
+    fn docked(&self) -> Result<(), Rule>
+        ensures { result ≡ answer_to (in_exchange (slot_tag self.now) (slot_ticket self.now)) }
     {
-        let controls = unreported(alloc, description.services.len())?;
-        Ok(Slot {
-            tag,
-            description,
-            controls,
-        })
+        match self.berth.ticket() {
+            Some(ticket) => Err(Rule::InExchange {
+                tag: self.tag,
+                ticket,
+            }),
+            None => Ok(()),
+        }
+    }
+
+    // The service may report the state.
+    #[tactic(auto, unfolding(crate::specs::Slots::last_control))]
+    fn check_report(&self, service: Name, state: State) -> Result<(), Rule>
+        ensures { result ≡ answer_to (option_or (in_exchange (slot_tag self.now) (slot_ticket self.now)) (report_fault service state (slot_description self.now) (last_control self.now service))) }
+    {
+        self.docked()?;
+        let Some(last) = self.berth.control(service) else {
+            return Err(Rule::NoService);
+        };
+        follows(last, state)
+    }
+
+    // The variable may have the value.
+    fn check_value(&self, name: Name, value: &Value) -> Result<(), Rule>
+        ensures { result ≡ answer_to (option_or (in_exchange (slot_tag self.now) (slot_ticket self.now)) (variable_fault name value.now (slot_description self.now))) }
+    {
+        self.docked()?;
+        fits(&self.description, name, value)
     }
 
     /// Takes what a service reports.
     ///
-    /// `NoService` where the description lacks the service; `NotAnEdge` where the state is neither the one reported
-    /// last since docking nor one to which an edge leads from it. After a refusal the slot is unchanged.
+    /// `InExchange` with the tag and the ticket while the module is away; `NoService` where its description lacks the
+    /// service; `NotAnEdge` where the state is neither the one reported last since docking nor one to which an edge leads
+    /// from it. After a refusal the slot is unchanged.
+    #[tactic(auto, unfolding(crate::specs::Slots::last_control, crate::specs::Slots::last_value))]
     pub fn report(&mut self, service: Name, control: ServiceControl) -> Result<(), Rule>
-        ensures answer { result ≡ answer_to (report_fault service control.state (slot_description self.old) (last_control self.old service)) }
+        ensures answer { result ≡ answer_to (option_or (in_exchange (slot_tag self.old) (slot_ticket self.old)) (report_fault service control.state (slot_description self.old) (last_control self.old service))) }
         ensures reported { OnOk result ((other : List ℕ) → last_control self.new other ≡ (if bytes_eq service other then Some control else last_control self.old other)) }
-        ensures tag { slot_tag self.new ≡ slot_tag self.old }
-        ensures description { slot_description self.new ≡ slot_description self.old }
-        ensures unchanged { OnErr result ((other : List ℕ) → last_control self.new other ≡ last_control self.old other) }
+        ensures same_module { SameModule self.old self.new }
+        ensures values { SameValues self.old self.new }
+        ensures unchanged { OnErr result (SameControls self.old self.new) }
     {
-        let Some(place) = place_in(&self.description, service) else {
-            return Err(Rule::NoService);
-        };
-        let answer = follows(self.controls[place], control.state);
-        if answer.is_ok() {
-            self.controls[place] = Some(control);
-        }
-        answer
+        self.check_report(service, control.state)?;
+        self.berth.tell_control(service, control);
+        Ok(())
     }
 
-    /// What the service reported last since docking; None where it reported nothing, or isn't there.
-    #[tactic(auto, using(crate::proofs::Telling::tells_nothing))]
-    pub fn control(&self, service: Name) -> Option<ServiceControl>
-        ensures { result ≡ last_control self.now service }
+    /// Takes the value that a variable is reported with.
+    ///
+    /// `InExchange` with the tag and the ticket while the module is away; `NoVariable` where its description lacks the
+    /// variable; `WrongKind` and `OutOfRange` as `check_view` says of the value. After a refusal the slot is unchanged.
+    #[tactic(auto, unfolding(crate::specs::Slots::last_control, crate::specs::Slots::last_value))]
+    pub fn variable(&mut self, name: Name, value: Value) -> Result<(), Rule>
+        ensures answer { result ≡ answer_to (option_or (in_exchange (slot_tag self.old) (slot_ticket self.old)) (variable_fault name value (slot_description self.old))) }
+        ensures reported { OnOk result ((other : List ℕ) → last_value self.new other ≡ (if bytes_eq name other then Some value else last_value self.old other)) }
+        ensures same_module { SameModule self.old self.new }
+        ensures controls { SameControls self.old self.new }
+        ensures unchanged { OnErr result (SameValues self.old self.new) }
     {
-        match place_in(&self.description, service) {
-            Some(place) => self.controls[place],
-            None => None,
-        }
-    }
-
-    /// The description of the docked module.
-    pub fn description(&self) -> &Arc<Description>
-        ensures { description_view result.now.value ≡ slot_description self.now }
-    {
-        &self.description
-    }
-
-    /// The tag under which the module is docked.
-    pub fn tag(&self) -> Name
-        ensures { result ≡ slot_tag self.now }
-    {
-        self.tag
+        self.check_value(name, &value)?;
+        self.berth.tell_value(name, value);
+        Ok(())
     }
 }

@@ -1,18 +1,23 @@
-//! A docked module.
-ghost use Rattle.std.specs.Prelude.{◌≡◌, length};
+//! A module of a plant.
 ghost use Rattle.mtp_desc.specs.DescriptionView.{description_view};
+ghost use Rattle.pol_slots.specs.Berths.{told_in};
+ghost use Rattle.pol_slots.specs.Told.{KnowsServices, KnowsVariables};
 
-use mtp_assembly::ServiceControl;
+use super::berth::Berth;
 use mtp_codes::Name;
 use mtp_desc::Description;
+use std::alloc::Global;
 use std::sync::Arc;
 
-/// A docked module: its tag, its description, and the control that each service reported last since docking, by the
-/// service's place in the description.
+/// A module under its tag: its description, how often it began an exchange, and whether it is docked or away, with what
+/// each of its services and variables told last since docking.
 #[derive(Drop)]
 pub struct Slot {
+    pub(crate) alloc: Global,
     pub(crate) tag: Name,
     pub(crate) description: Arc<Description>,
-    pub(crate) controls: Vec<Option<ServiceControl>>,
-    ghost one_each: { length controls.items ≡ length (description_view description.value).services },
+    pub(crate) begins: u32,
+    pub(crate) berth: Berth,
+    ghost services: { KnowsServices (description_view description.value) (told_in berth) },
+    ghost variables: { KnowsVariables (description_view description.value) (told_in berth) },
 }

@@ -1,5 +1,7 @@
-use Rattle.std.proofs.Common.{sym, ◌∙◌}
+use Rattle.std.proofs.Common.{sym, ◌∙◌, ap}
 use Rattle.chart_core.specs.Charts.{plan}
+use Rattle.chart_core.specs.Progress.{marks_of}
+use Rattle.chart_core.specs.Changes.{moved}
 use Rattle.chart_core.proofs.Few.{few_marks}
 use Rattle.chart_core.proofs.Logs.{step_stands, stuck}
 use Rattle.chart_core.proofs.marks.take_entry.Goals as goal
@@ -18,3 +20,10 @@ returns-in-None-clause-refused c =
     λ _ log back stands partial.
     stuck (plan c.args.chart.now) c.args.marks.now log c.args.entry.now back c.requires.valid stands
     (sym c.follow.ensures.change ∙ c.in-None.is) partial
+
+pub returns-in-Some-clause-moves : goal.returns-in-Some-clause-moves
+returns-in-Some-clause-moves c =
+    λ i. c.make.ensures i ∙ ap (λ change. moved (marks_of c.args.marks.now) change i) (sym c.in-Some.is ∙ c.follow.ensures.change)
+
+pub returns-in-None-clause-moves : goal.returns-in-None-clause-moves
+returns-in-None-clause-moves c = λ i. ap (λ change. moved (marks_of c.args.marks.now) change i) (sym c.in-None.is ∙ c.follow.ensures.change)

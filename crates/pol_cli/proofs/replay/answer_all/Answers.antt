@@ -1,7 +1,7 @@
-use Rattle.std.proofs.Common.{arith, ◌≡◌, ◌≤◌, refl}
+use Rattle.std.proofs.Common.{arith}
 use Rattle.std.proofs.lemmas.Result.{err_from_is_err_and}
 use Rattle.pol_io.proofs.Known.{counts_kept, counts_trans, Keeps-refl}
-use Rattle.pol_cli.proofs.Serving.{served_none, served_on, served_all, stopped_read, stopped_answer, answer_stops, ahead_spent, fits_in_limit, over_in_limit, too_much_counted}
+use Rattle.pol_cli.proofs.Serving.{served_none, served_on, served_all, stopped_read, stopped_answer, answer_stops, ahead_spent, fits_in_limit, too_much_counted}
 use Rattle.pol_cli.proofs.replay.answer_all.Goals as goal
 
 pub loop-read-init : goal.loop-read-init

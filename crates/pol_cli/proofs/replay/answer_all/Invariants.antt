@@ -1,4 +1,4 @@
-use Rattle.std.proofs.Common.{◌≡◌, ◌≤◌, ℕ, [], IsTrue, ◌-◌}
+use Rattle.std.proofs.Common.{◌≡◌, ◌≤◌, [], IsTrue, ◌-◌}
 use Rattle.std.specs.Io.KnownBytes.{IsAtEnd}
 use Rattle.pol_events.specs.Events.{history_view}
 use Rattle.pol_io.specs.Known.{Between, Counts}

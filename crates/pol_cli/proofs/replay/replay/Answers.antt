@@ -1,4 +1,3 @@
-use Rattle.std.proofs.Common.{◌∙◌}
 use Rattle.std.proofs.lemmas.Result.{err_from_is_err_and}
 use Rattle.pol_cli.proofs.Serving.{nothing_done, ended_well, end_stopped}
 use Rattle.pol_cli.proofs.replay.replay.Goals as goal
@@ -9,8 +8,7 @@ returns-in_err-lines-clause-leaves g c =
     rw stop.1 (nothing_done _ _ _ stop.2)
 
 pub returns-clause-output : goal.returns-clause-output
-returns-clause-output g c = ended_well c.put.result _ _ _ _ _ c.deref.result.now c.in_ok-answer_all.ensures.answers (c.deref.ensures.value ∙ c.in_ok-line.ensures) c.put.ensures.ok
+returns-clause-output g c = ended_well c.close.result _ _ _ _ _ _ c.in_ok-answer_all.ensures.answers (rw c.history.ensures.entries at c.close.ensures.text)
 
 pub returns-clause-leaves : goal.returns-clause-leaves
-returns-clause-leaves g c =
-    end_stopped c.put.result _ _ _ _ _ c.deref.result.now c.in_ok-answer_all.ensures.answers (c.deref.ensures.value ∙ c.in_ok-line.ensures) c.put.ensures.part c.put.ensures.only
+returns-clause-leaves g c = end_stopped c.close.result _ _ _ _ _ _ c.in_ok-answer_all.ensures.answers (rw c.history.ensures.entries at c.close.ensures.part) c.close.ensures.only

@@ -1,0 +1,212 @@
+-- The modules of open batches: what every event keeps of their descriptions.
+use Rattle.std.proofs.Common.{◌≡◌, ℕ, true, List, ◌∷◌, Some, None, refl, ap, sym, ◌∙◌, subst}
+use Rattle.std.specs.Prelude.{option_map}
+use Rattle.std.specs.List.{Contains}
+use Rattle.mtp_desc.specs.Plain.{DescriptionForm}
+use Rattle.mtp_procs.specs.Covers.{cover_fault, missing_by}
+use Rattle.chart_core.specs.Roles.{ChartPlan, role_names}
+use Rattle.pol_events.specs.Events.{EventForm, plug, unplug, report, variable, start, desk, exchange_begin, exchange_end, exchange_cancel}
+use Rattle.pol_events.specs.Refusals.{cover_rule}
+use Rattle.pol_events.specs.declared.answer.Rule.TheVariants.{Held, HeldBack}
+use Rattle.pol_events.specs.declared.event.Bind.{Bind}
+use Rattle.pol_history.specs.Looking.{History, past, past_of_batch, recipes}
+use Rattle.pol_history.specs.Modules.{Docking, absent, docked, away, docking_by, docking_of, description_by, description_of}
+use Rattle.pol_history.specs.Batches.{Started, starting, start_by, chart_named, bound_tag, outcome_by, holder_of}
+use Rattle.pol_history.specs.Rules.{tag_taken, no_module, in_exchange, not_covered, module_rule, by_holder, uncovered_by, held_back}
+use Rattle.pol_history.specs.Runs.{IsLegal, IsOrderly}
+use Rattle.pol_conduct.proofs.Options.{some-same, neither, no-image}
+use Rattle.pol_conduct.proofs.Lists.{none-first}
+use Rattle.pol_conduct.proofs.Sides.{Sides, sides, accepted, Comes, IsKeptBy, always, at-own}
+use Rattle.pol_conduct.proofs.Binds.{IsFitting}
+use Rattle.pol_conduct.proofs.Starts.{MayStart, may-start, start-fits, StartCase, its_own, earlier, start-case, IsRunning, was-running, open-before, running-fits}
+use Rattle.pol_conduct.proofs.Holding.{holds}
+
+-- ---- whether a module is there
+
+pub is-there : (tag : List ℕ) (docking : Docking) → no_module tag docking ≡ None → docking ≡ absent → ⊥
+is-there tag absent none is = cc
+is-there tag (docked count) none is = cc
+is-there tag (away ticket) none is = cc
+
+pub is-absent : (docking : Docking) → tag_taken docking ≡ None → docking ≡ absent
+is-absent absent none = refl
+is-absent (docked count) none = cc
+is-absent (away ticket) none = cc
+
+-- ---- a module that is there has a description
+
+pub record IsDescribed (past : History) : Type 0 where
+  pub description : DescriptionForm
+  pub described : description_by past ≡ Some description
+
+-- a module that is there has one
+abbrev pub IfThere : History → Type 0
+IfThere past = (docking_by past ≡ absent → ⊥) → IsDescribed past
+
+abbrev pub Described : Sides → Type 0
+Described side = (tag : List ℕ) → IfThere (side.modules tag)
+
+again : (past more : History) → description_by more ≡ description_by past → IsDescribed past → IsDescribed more
+again past more same was = record { description = was.description; described = same ∙ was.described }
+
+described-more : IsKeptBy Described
+described-more history (plug at other description) comes described tag =
+    at-own IfThere (past tag history) (accepted history (plug at other description)) true other tag (described tag)
+    (λ same there. record { description = description; described = refl })
+described-more history (unplug at other) comes described tag =
+    at-own IfThere (past tag history) (accepted history (unplug at other)) true other tag (described tag) (λ same there. absurd (there refl))
+described-more history (report at other service control) comes described tag =
+    at-own IfThere (past tag history) (accepted history (report at other service control)) true other tag (described tag)
+    (λ same there. again (past tag history) _ refl (described tag there))
+described-more history (variable at other name value) comes described tag =
+    at-own IfThere (past tag history) (accepted history (variable at other name value)) true other tag (described tag)
+    (λ same there. again (past tag history) _ refl (described tag there))
+described-more history (desk at other service command) comes described tag =
+    at-own IfThere (past tag history) (accepted history (desk at other service command)) true other tag (described tag)
+    (λ same there. again (past tag history) _ refl (described tag there))
+described-more history (exchange_begin at other) comes described tag =
+    at-own IfThere (past tag history) (accepted history (exchange_begin at other)) true other tag (described tag)
+    (λ same there. again (past tag history) _ refl
+    (described tag (λ is. is-there other (docking_of history other) comes.free.0 (ap (docking_of history) same ∙ is))))
+described-more history (exchange_end at other ticket description) comes described tag =
+    at-own IfThere (past tag history) (accepted history (exchange_end at other ticket description)) true other tag (described tag)
+    (λ same there. record { description = description; described = refl })
+described-more history (exchange_cancel at other ticket) comes described tag =
+    at-own IfThere (past tag history) (accepted history (exchange_cancel at other ticket)) true other tag (described tag)
+    (λ same there. again (past tag history) _ refl
+    (described tag (λ is. is-there other (docking_of history other) comes.free.0 (ap (docking_of history) same ∙ is))))
+described-more history _ comes described tag = described tag
+
+pub described : (history : History) → IsLegal history → IsOrderly history → Described (sides history)
+described = always Described (λ tag there. absurd (there refl)) described-more
+
+-- ---- a module that an open batch binds covers its role
+
+-- the module with this past is there, and its description covers the role of the chart
+pub record Covers (chart : ChartPlan) (role : List ℕ) (past : History) : Type 0 where
+  pub is_there : docking_by past ≡ absent → ⊥
+  pub description : DescriptionForm
+  pub described : description_by past ≡ Some description
+  pub covered : cover_fault chart role description ≡ None
+
+-- each module that an open batch binds does
+abbrev pub AllCover : Sides → Type 0
+AllCover side =
+    (batch : List ℕ) (started : Started) (chart : ChartPlan) → start_by (side.batches batch) ≡ Some started →
+    chart_named started.recipe side.recipes ≡ Some chart → outcome_by (side.batches batch) ≡ None →
+    (bind : Bind) → Contains started.binds bind → Covers chart bind.role (side.modules bind.tag)
+
+-- a module that no rule of a start is against covers its role
+start-covers : (history : History) (batch : List ℕ) (binds : List Bind) (chart : ChartPlan) (bind : Bind) → Described (sides history) →
+    MayStart history batch binds chart → IsFitting chart binds → Contains binds bind → Covers chart bind.role (past bind.tag history)
+start-covers history batch binds chart bind described may fits inside =
+    let fit : module_rule history chart bind.role (Some bind.tag) ≡ None
+    = ap (module_rule history chart bind.role) (sym (fits.by_role bind inside))
+    ∙ none-first (λ role. module_rule history chart role (bound_tag binds role)) (role_names chart) bind.role may.fit (fits.known bind inside) in
+    let there = neither (no_module bind.tag (docking_of history bind.tag)) _ fit in
+    let home = neither (in_exchange bind.tag (docking_of history bind.tag)) _ there.1 in
+    let covered = neither (not_covered chart bind.role (description_of history bind.tag)) _ home.1 in
+    let found = described bind.tag (is-there bind.tag (docking_of history bind.tag) there.0) in
+    record {
+      is_there = is-there bind.tag (docking_of history bind.tag) there.0;
+      description = found.description;
+      described = found.described;
+      covered = no-image (cover_rule bind.role) (cover_fault chart bind.role found.description) (ap (not_covered chart bind.role) (sym found.described) ∙ covered.0);
+    }
+
+-- a batch that holds a module isn't against a description that covers its role
+end-covers : (history : History) (batch : List ℕ) (started : Started) (chart : ChartPlan) (bind : Bind) (description : DescriptionForm) →
+    IsRunning history batch started chart → IsFitting chart started.binds → Contains started.binds bind → holder_of history bind.tag ≡ Some batch →
+    held_back history bind.tag description ≡ None → cover_fault chart bind.role description ≡ None
+end-covers history batch started chart bind description running fits inside holder free =
+    let by_batch : uncovered_by (recipes history) bind.tag description batch (past_of_batch batch history) ≡ None
+    = ap (by_holder (λ batch. uncovered_by (recipes history) bind.tag description batch (past_of_batch batch history))) (sym holder) ∙ free in
+    let by_fault : option_map (λ fault. HeldBack batch (missing_by bind.role fault)) (cover_fault chart bind.role description) ≡ None
+    = rw (running.start_is, running.chart_is, fits.by_tag bind inside) at by_batch in
+    no-image (λ fault. HeldBack batch (missing_by bind.role fault)) (cover_fault chart bind.role description) by_fault
+
+-- a module with the same description that is still there
+still-covers : (chart : ChartPlan) (role : List ℕ) (past more : History) → description_by more ≡ description_by past → (docking_by more ≡ absent → ⊥) →
+    Covers chart role past → Covers chart role more
+still-covers chart role past more same there was =
+    record { is_there = there; description = was.description; described = same ∙ was.described; covered = was.covered }
+
+-- what is known of a module of an open batch before an event that is no start
+record Before (history : History) (batch : List ℕ) (started : Started) (chart : ChartPlan) (bind : Bind) : Type 0 where
+  running : IsRunning history batch started chart
+  covers : Covers chart bind.role (past bind.tag history)
+  holder : holder_of history bind.tag ≡ Some batch
+  fits : IsFitting chart started.binds
+
+before : (history : History) (event : EventForm) (batch : List ℕ) (started : Started) (chart : ChartPlan) (bind : Bind) → Comes history event →
+    AllCover (sides history) → starting event ≡ None → IsRunning (accepted history event ∷ history) batch started chart → Contains started.binds bind →
+    Before history batch started chart bind
+before history event batch started chart bind comes cover is now inside =
+    let was = was-running history event batch started chart is comes now in
+    record {
+      running = was;
+      covers = cover batch started chart was.start_is was.chart_is was.unclosed bind inside;
+      holder = holds history batch started comes.legal comes.orderly was.start_is was.unclosed bind inside;
+      fits = running-fits history batch started chart comes.legal comes.orderly was;
+    }
+
+module-covers : (history : History) (event : EventForm) (batch : List ℕ) (started : Started) (chart : ChartPlan) (bind : Bind) → Comes history event →
+    Contains started.binds bind → Before history batch started chart bind → Covers chart bind.role (past bind.tag (accepted history event ∷ history))
+module-covers history (plug at other description) batch started chart bind comes inside was =
+    at-own (Covers chart bind.role) (past bind.tag history) (accepted history (plug at other description)) true other bind.tag was.covers
+    (λ same. absurd (was.covers.is_there (ap (docking_of history) (sym same) ∙ is-absent (docking_of history other) comes.free.0)))
+module-covers history (unplug at other) batch started chart bind comes inside was =
+    at-own (Covers chart bind.role) (past bind.tag history) (accepted history (unplug at other)) true other bind.tag was.covers
+    (λ same. let clash : by_holder (λ batch. Some (Held batch)) (Some batch) ≡ None
+    = ap (by_holder (λ batch. Some (Held batch))) (sym was.holder ∙ ap (holder_of history) (sym same)) ∙ comes.free.1.1.0 in cc)
+module-covers history (report at other service control) batch started chart bind comes inside was =
+    at-own (Covers chart bind.role) (past bind.tag history) (accepted history (report at other service control)) true other bind.tag was.covers
+    (λ same. still-covers chart bind.role (past bind.tag history) _ refl was.covers.is_there was.covers)
+module-covers history (variable at other name value) batch started chart bind comes inside was =
+    at-own (Covers chart bind.role) (past bind.tag history) (accepted history (variable at other name value)) true other bind.tag was.covers
+    (λ same. still-covers chart bind.role (past bind.tag history) _ refl was.covers.is_there was.covers)
+module-covers history (desk at other service command) batch started chart bind comes inside was =
+    at-own (Covers chart bind.role) (past bind.tag history) (accepted history (desk at other service command)) true other bind.tag was.covers
+    (λ same. still-covers chart bind.role (past bind.tag history) _ refl was.covers.is_there was.covers)
+module-covers history (exchange_begin at other) batch started chart bind comes inside was =
+    at-own (Covers chart bind.role) (past bind.tag history) (accepted history (exchange_begin at other)) true other bind.tag was.covers
+    (λ same. still-covers chart bind.role (past bind.tag history) _ refl (λ is. cc) was.covers)
+module-covers history (exchange_end at other ticket description) batch started chart bind comes inside was =
+    at-own (Covers chart bind.role) (past bind.tag history) (accepted history (exchange_end at other ticket description)) true other bind.tag was.covers
+    (λ same. record {
+      is_there = λ is. cc;
+      description = description;
+      described = refl;
+      covered =
+          end-covers history batch started chart bind description was.running was.fits inside was.holder
+          (ap (λ tag. held_back history tag description) (sym same) ∙ comes.free.1.1.1.0);
+    })
+module-covers history (exchange_cancel at other ticket) batch started chart bind comes inside was =
+    at-own (Covers chart bind.role) (past bind.tag history) (accepted history (exchange_cancel at other ticket)) true other bind.tag was.covers
+    (λ same. still-covers chart bind.role (past bind.tag history) _ refl (λ is. cc) was.covers)
+module-covers history _ batch started chart bind comes inside was = was.covers
+
+cover-by : (history : History) (event : EventForm) → starting event ≡ None → Comes history event → AllCover (sides history) → AllCover (sides (accepted history event ∷ history))
+cover-by history event is comes cover batch started chart start_is chart_is unclosed bind inside =
+    module-covers history event batch started chart bind comes inside
+    (before history event batch started chart bind comes cover is (record { start_is = start_is; chart_is = chart_is; unclosed = unclosed }) inside)
+
+cover-more : IsKeptBy AllCover
+cover-more history (start at other name binds) comes cover batch started chart start_is chart_is unclosed bind inside =
+    go (start-case history batch started at other name binds start_is)
+  where
+    go : StartCase history batch started other name binds → Covers chart bind.role (past bind.tag history)
+    go (earlier is before) =
+        cover batch started chart before chart_is (open-before history (accepted history (start at other name binds)) batch unclosed) bind inside
+    go (its_own is same) =
+        let may = may-start history other binds (chart_named name (recipes history)) comes.free in
+        let named : chart_named name (recipes history) ≡ Some chart = ap (λ started. chart_named started.recipe (recipes history)) same ∙ chart_is in
+        let one : may.0 ≡ chart = some-same (chart_named name (recipes history)) may.0 chart may.1 named in
+        subst (λ chart. Covers chart bind.role (past bind.tag history)) one
+        (start-covers history other binds may.0 bind (described history comes.legal comes.orderly) may.2
+        (start-fits history other binds may.0 comes.is_formed may.2) (subst (λ started. Contains started.binds bind) (sym same) inside))
+cover-more history event comes cover batch started chart start_is chart_is unclosed bind inside =
+    cover-by history event refl comes cover batch started chart start_is chart_is unclosed bind inside
+
+pub all-cover : (history : History) → IsLegal history → IsOrderly history → AllCover (sides history)
+all-cover = always AllCover (λ batch started chart start_is chart_is unclosed bind inside. cc) cover-more

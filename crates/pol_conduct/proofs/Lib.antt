@@ -1,0 +1,15 @@
+pub mod Forbidding
+pub mod Seen
+pub mod Nexts
+pub mod Sending
+pub mod Options
+pub mod Lists
+pub mod Sides
+pub mod Binds
+pub mod Starts
+pub mod Courses
+pub mod Holding
+pub mod Covering
+pub mod Activity
+pub mod Reporting
+pub mod Keeping

@@ -1,0 +1,127 @@
+-- Each command that an answer sends was permitted.
+use Rattle.std.proofs.Common.{◌≡◌, ℕ, Bool, true, false, List, Option, Some, None, refl, ap, sym, ◌∙◌, subst}
+use Rattle.std.specs.Prelude.{◌||◌, is_some, option_map, if◌then◌else◌}
+use Rattle.std.proofs.lemmas.Option.{same_Some}
+use Rattle.mtp_codes.specs.declared.command.Command.{Command}
+use Rattle.mtp_codes.specs.declared.mode.Forbid.{Forbid}
+use Rattle.mtp_codes.specs.declared.mode.Speaker.TheVariants.{Recipe, Operator}
+use Rattle.mtp_modes.specs.Permission.{forbidden_by, IsPermitted}
+use Rattle.mtp_modes.specs.declared.view.ServiceView.{ServiceView}
+use Rattle.chart_core.specs.Entries.{chart_entry}
+use Rattle.chart_core.specs.Roles.{ChartPlan}
+use Rattle.chart_core.specs.declared.entry.LogEntry.{LogEntry}
+use Rattle.chart_core.specs.declared.entry.LogEntry.TheVariants.{Start, Finish, Reset, StopAsked}
+use Rattle.chart_cursor.specs.Commands as cursor
+use Rattle.chart_cursor.specs.Sights.{Sights}
+use Rattle.chart_cursor.proofs.Commanding.{commands_permitted, next_of_run}
+use Rattle.pol_events.specs.Events.{EventForm, advance, stop_batch, desk}
+use Rattle.pol_events.specs.Refusals.{forbid_rule}
+use Rattle.pol_events.specs.declared.answer.Answer.{Answer}
+use Rattle.pol_events.specs.declared.answer.Answer.TheVariants.{Done, Did, Refused}
+use Rattle.pol_events.specs.declared.event.Bind.{Bind}
+use Rattle.pol_events.specs.declared.answer.Next.{Next}
+use Rattle.pol_events.specs.declared.answer.Next.TheVariants as next
+use Rattle.pol_history.specs.Looking.{History, past, is_accepted}
+use Rattle.pol_history.specs.Modules.{view_of}
+use Rattle.pol_history.specs.Batches.{is_frozen, log_of, chart_entries, has_broken, was_stopped}
+use Rattle.pol_history.specs.Following.{sights_by, next_of}
+use Rattle.pol_history.specs.Rules.{not_reported, forbidden}
+use Rattle.pol_history.specs.Commands.{Sent, sent_by, sent_command}
+use Rattle.pol_history.specs.Answers.{rules, advanced, otherwise, answer_of}
+use Rattle.pol_history.proofs.Accepted.{NoneHolds, accepted-none, accepted-otherwise}
+use Rattle.pol_conduct.specs.Permitted.{WasPermitted, CommandsArePermitted}
+use Rattle.pol_conduct.proofs.Forbidding.{unforbidden}
+use Rattle.pol_conduct.proofs.Seen.{seen-of, tag-of-bound}
+use Rattle.pol_conduct.proofs.Nexts.{ComesFrom, stops, leaves, breaks, runs, did-from, has-next}
+
+-- the command without who sends it
+abbrev plain : Sent → cursor.Sent
+plain sent = record { tag = sent.tag; service = sent.service; command = sent.command }
+
+-- what is seen permits a recipe to send it
+abbrev MaySend : Sights → Sent → Type 0
+MaySend seen sent = (sent.speaker ≡ Recipe) × cursor.IsPermittedIn seen (plain sent)
+
+-- an entry of a run sends the same command here and there
+same-sent : (entry : LogEntry) (sent : Sent) → is_some (chart_entry entry) ≡ true → sent_by entry ≡ Some sent →
+    (sent.speaker ≡ Recipe) × (cursor.sent_by entry ≡ Some (plain sent))
+same-sent (Start step tag service procedure) sent of_run sends = let is = same_Some _ sent sends in (ap (λ s. s.speaker) (sym is), ap (λ s. Some (plain s)) is)
+same-sent (Finish step tag service) sent of_run sends = let is = same_Some _ sent sends in (ap (λ s. s.speaker) (sym is), ap (λ s. Some (plain s)) is)
+same-sent (Reset step tag service) sent of_run sends = let is = same_Some _ sent sends in (ap (λ s. s.speaker) (sym is), ap (λ s. Some (plain s)) is)
+same-sent _ sent of_run sends = cc
+
+-- what a batch does next sends only what it sees permitted
+next-sends : (chart : ChartPlan) (log : List LogEntry) (seen : Sights) (entry : LogEntry) (sent : Sent) → ComesFrom chart log seen entry → sent_by entry ≡ Some sent → MaySend seen sent
+next-sends chart log seen entry sent (stops step view at free is) sends =
+    let one = same_Some _ sent (ap sent_by (sym is) ∙ sends) in subst (MaySend seen) one (refl, (step.role, view, refl, at, free))
+next-sends chart log seen entry sent (leaves name state is) sends = let none = ap sent_by (sym is) ∙ sends in cc
+next-sends chart log seen entry sent (breaks name state is) sends = let none = ap sent_by (sym is) ∙ sends in cc
+next-sends chart log seen entry sent (runs is) sends =
+    let both = same-sent entry sent (next_of_run chart (chart_entries log) seen entry is) sends in
+    (both.0, commands_permitted chart (chart_entries log) seen entry (plain sent) is both.1)
+
+-- what a batch sees permitted was permitted
+seen-permitted : (history : History) (binds : List Bind) (sent : Sent) → MaySend (sights_by binds (λ tag. past tag history)) sent → WasPermitted history sent
+seen-permitted history binds sent (by_recipe, (role, view, tag_is, at, free)) =
+    let (seen, view_is) = seen-of history binds role sent.service view at in
+    let same : seen.tag ≡ sent.tag = sym (tag-of-bound history binds role seen.tag seen.bound) ∙ tag_is in
+    record {
+      view = view;
+      seen = ap (λ tag. view_of history tag sent.service) (sym same) ∙ seen.live.seen ∙ ap Some view_is;
+      permitted = subst (λ speaker. IsPermitted view speaker sent.command) (sym by_recipe) (unforbidden view Recipe sent.command free);
+    }
+
+-- what an advance sends was permitted
+advance-sends : (history : History) (batch : List ℕ) (sent : Sent) (found : Option Next) → next_of history batch ≡ found → sent_command (advanced found) ≡ Some sent → WasPermitted history sent
+advance-sends history batch sent None is sends = cc
+advance-sends history batch sent (Some (next.Waiting obstacle)) is sends = cc
+advance-sends history batch sent (Some (next.Closed outcome)) is sends = cc
+advance-sends history batch sent (Some (next.Did entry)) is sends =
+    let has = has-next history batch (next.Did entry) is in
+    let seen = sights_by has.started.binds (λ tag. past tag history) in
+    seen-permitted history has.started.binds sent
+    (next-sends has.chart (log_of history batch) seen entry sent (did-from has.chart (is_frozen history batch) (log_of history batch) seen entry has.next_is) sends)
+
+-- a command that the operator may send
+unforbidden-desk : (command : Command) (view : ServiceView) → forbidden command (Some view) ≡ None → forbidden_by view Operator command ≡ None
+unforbidden-desk command view none = go (forbidden_by view Operator command) none
+  where
+    go : (reason : Option Forbid) → option_map forbid_rule reason ≡ None → reason ≡ None
+    go None none = refl
+    go (Some reason) none = cc
+
+-- what the operator sends was permitted
+desk-sends : (history : History) (tag service : List ℕ) (command : Command) (found : Option ServiceView) → view_of history tag service ≡ found →
+    not_reported tag service found ≡ None → forbidden command found ≡ None →
+    WasPermitted history (record { speaker = Operator; tag = tag; service = service; command = command })
+desk-sends history tag service command None at reported free = cc
+desk-sends history tag service command (Some view) at reported free =
+    record { view = view; seen = at; permitted = unforbidden view Operator command (unforbidden-desk command view free) }
+
+-- a stop sends nothing by itself
+stop-silent : (stopping : Bool) (sent : Sent) → sent_command (if stopping then Done else Did StopAsked) ≡ Some sent → ⊥
+stop-silent true sent sends = cc
+stop-silent false sent sends = cc
+
+-- what an accepted event sends was permitted
+accepted-sends : (history : History) (event : EventForm) (sent : Sent) → NoneHolds (rules history event) → sent_command (otherwise history event) ≡ Some sent → WasPermitted history sent
+accepted-sends history (advance at batch) sent none sends = advance-sends history batch sent (next_of history batch) refl sends
+accepted-sends history (desk at tag service command) sent none sends =
+    subst (WasPermitted history) (same_Some _ sent sends)
+    (desk-sends history tag service command (view_of history tag service) refl none.1.1.1.0 none.1.1.1.1.0)
+accepted-sends history (stop_batch at batch) sent none sends =
+    absurd (stop-silent (has_broken (log_of history batch) || was_stopped (log_of history batch)) sent sends)
+accepted-sends history _ sent none sends = cc
+
+-- an answer that sends a command is no refusal
+sends-accepted : (answer : Answer) (sent : Sent) → sent_command answer ≡ Some sent → is_accepted answer ≡ true
+sends-accepted (Refused rule) sent sends = cc
+sends-accepted _ sent sends = refl
+
+-- each command that an answer sends was permitted
+pub sent_was_permitted : CommandsArePermitted
+sent_was_permitted history entry sent legal sends =
+    let given : sent_command (answer_of history entry.event) ≡ Some sent = ap sent_command (sym legal.0) ∙ sends in
+    let accepted = sends-accepted (answer_of history entry.event) sent given in
+    accepted-sends history entry.event sent (accepted-none history entry.event accepted)
+    (ap sent_command (sym (accepted-otherwise history entry.event accepted)) ∙ given)

@@ -1,0 +1,3 @@
+pub mod Permitted
+pub mod Charts
+pub mod Kept

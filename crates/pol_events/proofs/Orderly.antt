@@ -1,0 +1,108 @@
+-- What a line says is orderly.
+use Rattle.std.proofs.Common.{◌≡◌, ◌&&◌, ℕ, Bool, List, length, true, false, Option, Some, None, Err, Ok, rules, refl, sym, ap, ◌∙◌}
+use Rattle.std.specs.Prelude.{codes, nat_le, IfOk, IsTrue, Result, is_none}
+use Rattle.serde_json.specs.Data.{Data}
+use Rattle.chart_core.specs.Form.{is_tree_formed}
+use Rattle.chart_core.specs.Roles.{RolePlan, ChartPlan, is_chart_form}
+use Rattle.chart_core.specs.Trees.{Tree}
+use Rattle.chart_core.specs.Valid.{chart_fault}
+use Rattle.chart_core.specs.declared.fault.ChartFault.{ChartFault}
+use Rattle.chart_json.specs.Form.{roles_of, are_roles_sized, same_role, tree_of, chart_from}
+use Rattle.chart_json.proofs.Formed.{tree_formed, roles_sized, chart_formed}
+use Rattle.mtp_json.specs.declared.fault.FaultKind.TheVariants.{Repeated}
+use Rattle.mtp_json.specs.Form.{need, inside, nothing_but, refused_if, repeats_by}
+use Rattle.mtp_json.specs.Leaf.{anything, count, name, u64_high}
+use Rattle.mtp_json.specs.Parse.{json_of}
+use Rattle.mtp_json.specs.Reading.{Reading, ◌>>=◌, here, under}
+use Rattle.pol_events.specs.declared.fault.LineFault.{LineFault}
+use Rattle.pol_events.specs.declared.fault.LineRefusal.{LineRefusal}
+use Rattle.pol_events.specs.declared.kind.EventKind.{EventKind}
+use Rattle.pol_events.specs.declared.kind.EventKind.TheVariants.{Plug, Unplug, Report, Variable, Recipe, Start, Advance, Freeze, Thaw, Stop, Abandon, Desk, ExchangeBegin, ExchangeEnd, ExchangeCancel}
+use Rattle.chart_json.proofs.Told.{any_before, told_before, told_inside}
+use Rattle.pol_events.specs.declared.event.Event.{Event}
+use Rattle.pol_events.specs.Binds.{binds_of}
+use Rattle.pol_events.specs.Events.{EventForm, event_view, plug, unplug, report, variable, recipe, start, advance, freeze, thaw, stop_batch, abandon, desk, exchange_begin, exchange_end, exchange_cancel}
+use Rattle.pol_events.specs.Forms.{plug_in, tag_in, report_in, variable_in, desk_in, exchange_end_in, exchange_cancel_in, recipe_in, start_in, batch_in, event_by, event_in}
+use Rattle.pol_events.specs.Lines.{Tells, read_of, fault_within, unless_faulty, of_line, event_of}
+use Rattle.pol_events.specs.Orderly.{is_orderly, is_valid, rise}
+use Rattle.pol_events.proofs.Members.{AreOrderly, binds_orderly}
+
+-- the event is orderly, unless its chart has a fault
+abbrev pub IsOrderly : EventForm → Type 0
+IsOrderly event = fault_within event ≡ None → is_orderly event ≡ true
+
+start-orderly : (value : Data) → IfOk (start_in value) IsOrderly
+unfolding start_in
+start-orderly value =
+    any_before IsOrderly (need (codes "at") (count 0 u64_high) value) _ (λ at.
+    any_before IsOrderly (need (codes "batch") name value) _ (λ batch.
+    any_before IsOrderly (need (codes "recipe") name value) _ (λ named.
+    told_before AreOrderly IsOrderly (inside (codes "bind") binds_of value) _ (told_inside AreOrderly (codes "bind") binds_of binds_orderly value) (λ binds orderly.
+    any_before IsOrderly (nothing_but (codes "ev at batch recipe bind") value) _ (λ _ _. orderly)))))
+
+-- a chart that is formed and has no fault is orderly
+sound-chart : (chart : ChartPlan) → is_chart_form chart ≡ true → chart_fault chart ≡ None → (is_chart_form chart && is_valid chart) ≡ true
+sound-chart chart formed none = rw (formed, none) refl
+
+-- a chart of sized roles and a formed root is formed, where no role is named twice
+made-orderly : (at : ℕ) (named : List ℕ) (roles : List RolePlan) (root : Tree) → are_roles_sized roles ≡ true → is_tree_formed root ≡ true →
+    IfOk (chart_from roles root >>= λ chart. Ok (recipe at named chart)) IsOrderly
+unfolding chart_from
+made-orderly at named roles root sized formed = go (repeats_by same_role roles) refl
+  where
+    go : (broken : Bool) → repeats_by same_role roles ≡ broken →
+        IfOk ((under (codes "roles") (refused_if broken Repeated) >>= λ _. Ok (record { roles = roles; root = root })) >>= λ chart. Ok (recipe at named chart)) IsOrderly
+    go true is = tt
+    go false is = λ none. sound-chart (record { roles = roles; root = root }) (chart_formed roles root sized formed is) none
+
+recipe-orderly : (value : Data) → IfOk (recipe_in value) IsOrderly
+unfolding recipe_in
+recipe-orderly value =
+    any_before IsOrderly (need (codes "at") (count 0 u64_high) value) _ (λ at.
+    any_before IsOrderly (need (codes "recipe") name value) _ (λ named.
+    told_before (λ roles. are_roles_sized roles ≡ true) IsOrderly (inside (codes "roles") roles_of value) _
+    (told_inside (λ roles. are_roles_sized roles ≡ true) (codes "roles") roles_of roles_sized value) (λ roles sized.
+    told_before (λ root. is_tree_formed root ≡ true) IsOrderly (inside (codes "chart") tree_of value) _
+    (told_inside (λ root. is_tree_formed root ≡ true) (codes "chart") tree_of tree_formed value) (λ root formed.
+    any_before IsOrderly (nothing_but (codes "ev at recipe roles chart") value) _ (λ _. made-orderly at named roles root sized formed)))))
+
+-- an event of any kind is orderly, unless its chart has a fault
+kind-orderly : (value : Data) (kind : EventKind) → IfOk (event_by value kind) IsOrderly
+unfolding plug_in tag_in report_in variable_in desk_in exchange_end_in exchange_cancel_in batch_in
+kind-orderly value Plug = search (rules, any_before)
+kind-orderly value Unplug = search (rules, any_before)
+kind-orderly value Report = search (rules, any_before)
+kind-orderly value Variable = search (rules, any_before)
+kind-orderly value Recipe = recipe-orderly value
+kind-orderly value Start = start-orderly value
+kind-orderly value Advance = search (rules, any_before)
+kind-orderly value Freeze = search (rules, any_before)
+kind-orderly value Thaw = search (rules, any_before)
+kind-orderly value Stop = search (rules, any_before)
+kind-orderly value Abandon = search (rules, any_before)
+kind-orderly value Desk = search (rules, any_before)
+kind-orderly value ExchangeBegin = search (rules, any_before)
+kind-orderly value ExchangeEnd = search (rules, any_before)
+kind-orderly value ExchangeCancel = search (rules, any_before)
+
+read-orderly : (line : List ℕ) → IfOk (read_of line) IsOrderly
+unfolding event_in
+read-orderly line = search (rules, any_before, kind-orderly)
+
+valid-orderly : (found event : EventForm) (fault : Option ChartFault) → fault_within found ≡ fault → IsOrderly found → unless_faulty found fault ≡ Ok event → is_orderly event ≡ true
+valid-orderly found event None none orderly is = let same : found ≡ event = cc in rw (← same) (orderly none)
+valid-orderly found event (Some fault) some orderly is = absurd cc
+
+said-orderly : (read : Reading EventForm) (event : EventForm) → IfOk read IsOrderly → of_line read ≡ Ok event → is_orderly event ≡ true
+said-orderly (Ok found) event orderly is = valid-orderly found event (fault_within found) refl orderly is
+said-orderly (Err fault) event orderly is = absurd cc
+
+-- an event that a line says is orderly
+pub line_orderly : (line : List ℕ) (event : EventForm) → event_of line ≡ Ok event → is_orderly event ≡ true
+unfolding event_of
+line_orderly line event is = said-orderly (read_of line) event (read-orderly line) is
+
+-- what was told of a line is orderly
+pub told_orderly : (line : List ℕ) (result : Result Event LineRefusal) → Tells result (event_of line) → IfOk result (λ event. IsTrue (is_orderly (event_view event)))
+told_orderly line (Ok event) tells = line_orderly line (event_view event) tells
+told_orderly line (Err refusal) tells = tt

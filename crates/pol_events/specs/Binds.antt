@@ -1,0 +1,58 @@
+-- The object that says which module plays which role.
+use Rattle.std.specs.Prelude.{ℕ, ◌&&◌, nat_le, List, [], ◌∷◌, Bool, true, Option, Some, None, is_some, Ok, Err, if◌then◌else◌}
+use Rattle.std.specs.Cmp.Lexicographic.{slice_cmp}
+use Rattle.std.specs.Ordering.{match_ordering, nat_cmp}
+use Rattle.serde_json.specs.Data.{Data, string, Members, no_members, member}
+use Rattle.serde_json.specs.Events.{members_len}
+use Rattle.serde_json.specs.Find.{as_object, as_str}
+use Rattle.mtp_json.specs.Leaf.{name}
+use Rattle.mtp_json.specs.Reading.{Finding, Reading, ◌>>=◌, here}
+use Rattle.mtp_json.specs.declared.fault.FaultKind.TheVariants.{WrongKind, OutOfRange}
+use Rattle.pol_events.specs.declared.event.Bind.{Bind}
+
+-- every value is a text
+abbrev pub are_texts : Members → Bool
+are_texts no_members = true
+are_texts (member role tag rest) = is_some (as_str tag) && are_texts rest
+
+-- there are at most 64 members
+abbrev pub few : Members → Finding Members
+few members = if nat_le (members_len members) 64 then Ok members else Err OutOfRange
+
+-- members that were found, or none: each value has to be a text before their number is asked
+abbrev pub few_texts : Option Members → Finding Members
+few_texts None = Err WrongKind
+few_texts (Some members) = if are_texts members then few members else Err WrongKind
+
+-- a member as a bind: its key and its value are names
+abbrev pub bind_of : List ℕ → Data → Reading Bind
+bind_of key value =
+    here (name (string key)) >>= λ role.
+    here (name value) >>= λ tag.
+    Ok (record { role = role; tag = tag })
+
+-- each member as a bind
+unfoldable pub each_bind : Members → Reading (List Bind)
+each_bind no_members = Ok []
+each_bind (member key value rest) =
+    bind_of key value >>= λ bind.
+    each_bind rest >>= λ binds.
+    Ok (bind ∷ binds)
+
+-- one more bind in its place by byte order of roles; of two binds of one role the later one stays
+abbrev pub with_bind : Bind → List Bind → List Bind
+with_bind bind [] = bind ∷ []
+with_bind bind (next ∷ binds) =
+    match_ordering (slice_cmp nat_cmp bind.role next.role) (bind ∷ next ∷ binds) (next ∷ binds) (next ∷ with_bind bind binds)
+
+-- the binds in byte order of roles
+abbrev pub by_role : List Bind → List Bind
+by_role [] = []
+by_role (bind ∷ binds) = with_bind bind (by_role binds)
+
+-- an object of at most 64 members, from role to tag
+unfoldable pub binds_of : Data → Reading (List Bind)
+binds_of value =
+    here (few_texts (as_object value)) >>= λ members.
+    each_bind members >>= λ binds.
+    Ok (by_role binds)

@@ -1,0 +1,35 @@
+-- Events as a line says them: charts are valid, and binds stand in order.
+use Rattle.std.specs.Prelude.{Bool, true, not, ◌&&◌, nat_le, is_none, List, [], ◌∷◌, length}
+use Rattle.std.specs.Ordering.{nat_cmp, is_lt}
+use Rattle.std.specs.Cmp.Lexicographic.{slice_cmp}
+use Rattle.std.specs.List.{list_all}
+use Rattle.std.specs.Str.{bytes_eq}
+use Rattle.chart_core.specs.Roles.{ChartPlan, is_chart_form}
+use Rattle.chart_core.specs.Valid.{chart_fault}
+use Rattle.pol_events.specs.declared.event.Bind.{Bind}
+use Rattle.pol_events.specs.Events.{EventForm, recipe, start}
+
+-- the first role stands before the second in byte order
+abbrev pub stands_before : Bind → Bind → Bool
+stands_before bind other = is_lt (slice_cmp nat_cmp bind.role other.role)
+
+-- the roles of the binds rise in byte order, so no role is bound twice
+abbrev pub rise : List Bind → Bool
+rise [] = true
+rise (bind ∷ []) = true
+rise (bind ∷ next ∷ binds) = stands_before bind next && rise (next ∷ binds)
+
+-- no later bind has the role of an earlier one
+abbrev pub roles_once : List Bind → Bool
+roles_once [] = true
+roles_once (bind ∷ binds) = list_all (λ other. not (bytes_eq bind.role other.role)) binds && roles_once binds
+
+-- the chart has no fault
+abbrev pub is_valid : ChartPlan → Bool
+is_valid chart = is_none (chart_fault chart)
+
+-- a recipe's chart is formed and valid; a start has at most 64 binds, and their roles rise in byte order
+abbrev pub is_orderly : EventForm → Bool
+is_orderly (recipe at name chart) = is_chart_form chart && is_valid chart
+is_orderly (start at batch name binds) = nat_le (length binds) 64 && rise binds
+is_orderly _ = true

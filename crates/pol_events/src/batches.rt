@@ -1,0 +1,56 @@
+//! The lines of events that name a batch.
+ghost use Rattle.std.specs.Prelude.{◌≡◌};
+ghost use Rattle.serde_json.specs.View.{view};
+ghost use Rattle.mtp_json.specs.Gives.{Gives};
+ghost use Rattle.pol_events.specs.Events.{event_view};
+ghost use Rattle.pol_events.specs.Forms.{batch_in, start_in};
+ghost use Rattle.pol_events.specs.Kinds.{batch_event};
+
+use crate::binds::BindsJson;
+use crate::event::Event;
+use crate::kind::BatchKind;
+use mtp_codes::Name;
+use mtp_json::{JsonRefusal, form_at, name_at, nothing_but, u64_at};
+use serde_json::Value;
+use std::alloc::Global;
+
+/// A start by its form.
+#[tactic(auto, unfolding(crate::specs::Forms::start_in))]
+pub fn read_start(alloc: Global, value: &Value) -> Result<Event, JsonRefusal>
+    ensures { Gives event_view result (start_in (view value.now)) }
+{
+    let at = u64_at(alloc, value, "at")?;
+    let batch = name_at(alloc, value, "batch")?;
+    let recipe = name_at(alloc, value, "recipe")?;
+    let bind = form_at::<BindsJson>(alloc, value, "bind")?;
+    nothing_but(alloc, value, "ev at batch recipe bind")?;
+    Ok(Event::Start {
+        at,
+        batch,
+        recipe,
+        bind,
+    })
+}
+
+fn of_batch(kind: BatchKind, at: u64, batch: Name) -> Event
+    ensures { event_view result ≡ batch_event kind at batch }
+{
+    match kind {
+        BatchKind::Advance => Event::Advance { at, batch },
+        BatchKind::Freeze => Event::Freeze { at, batch },
+        BatchKind::Thaw => Event::Thaw { at, batch },
+        BatchKind::Stop => Event::StopBatch { at, batch },
+        BatchKind::Abandon => Event::Abandon { at, batch },
+    }
+}
+
+/// An event that names a batch and nothing more, by its form.
+#[tactic(auto, unfolding(crate::specs::Forms::batch_in))]
+pub fn read_of_batch(alloc: Global, value: &Value, kind: BatchKind) -> Result<Event, JsonRefusal>
+    ensures { Gives event_view result (batch_in (batch_event kind) (view value.now)) }
+{
+    let at = u64_at(alloc, value, "at")?;
+    let batch = name_at(alloc, value, "batch")?;
+    nothing_but(alloc, value, "ev at batch")?;
+    Ok(of_batch(kind, at, batch))
+}

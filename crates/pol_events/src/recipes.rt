@@ -1,0 +1,28 @@
+//! The lines of recipes.
+ghost use Rattle.std.specs.Prelude.{◌≡◌};
+ghost use Rattle.serde_json.specs.View.{view};
+ghost use Rattle.mtp_json.specs.Gives.{Gives};
+ghost use Rattle.pol_events.specs.Events.{event_view};
+ghost use Rattle.pol_events.specs.Forms.{recipe_in};
+
+use crate::event::Event;
+use chart_json::{make_chart, node_at, roles_at};
+use mtp_json::{JsonRefusal, name_at, nothing_but, u64_at};
+use serde_json::Value;
+use std::alloc::Global;
+use std::sync::Arc;
+
+/// A recipe by its form.
+#[tactic(auto, unfolding(crate::specs::Forms::recipe_in))]
+pub fn read_recipe(alloc: Global, value: &Value) -> Result<Event, JsonRefusal>
+    ensures { Gives event_view result (recipe_in (view value.now)) }
+{
+    let at = u64_at(alloc, value, "at")?;
+    let recipe = name_at(alloc, value, "recipe")?;
+    let roles = roles_at(alloc, value)?;
+    let root = node_at(alloc, value)?;
+    nothing_but(alloc, value, "ev at recipe roles chart")?;
+    let chart = make_chart(alloc, roles, root)?;
+    let chart = Arc::new(alloc, chart)?;
+    Ok(Event::Recipe { at, recipe, chart })
+}

@@ -1,0 +1,40 @@
+-- An accepted event meets none of its rules.
+use Rattle.std.proofs.Common.{◌≡◌, true, List, [], ◌∷◌, Option, Some, None, refl}
+use Rattle.pol_events.specs.Events.{EventForm, EntryForm}
+use Rattle.pol_events.specs.declared.answer.Rule.{Rule}
+use Rattle.pol_events.specs.declared.answer.Rule.TheVariants.{HistoryFull}
+use Rattle.pol_events.specs.declared.answer.Answer.{Answer}
+use Rattle.pol_events.specs.Refusals.{when}
+use Rattle.pol_history.specs.Looking.{History, is_accepted}
+use Rattle.pol_history.specs.Answers.{rules, otherwise, first_rule, is_full, answer_of}
+
+-- no rule of the list holds
+abbrev pub NoneHolds : List (Option Rule) → Type 0
+NoneHolds [] = Unit {0}
+NoneHolds (rule ∷ rules) = (rule ≡ None) × NoneHolds rules
+
+pub none-holds : (rules : List (Option Rule)) (answer : Answer) → is_accepted (first_rule rules answer) ≡ true → NoneHolds rules
+none-holds [] answer accepted = tt
+none-holds (Some rule ∷ rules) answer accepted = cc
+none-holds (None ∷ rules) answer accepted = (refl, none-holds rules answer accepted)
+
+-- where no rule holds the answer is the other one
+pub otherwise-it-is : (rules : List (Option Rule)) (answer : Answer) → NoneHolds rules → first_rule rules answer ≡ answer
+otherwise-it-is [] answer none = refl
+otherwise-it-is (Some rule ∷ rules) answer none = cc
+otherwise-it-is (None ∷ rules) answer none = otherwise-it-is rules answer none.1
+
+-- an accepted event meets none of the rules of its kind
+pub accepted-none : (history : History) (event : EventForm) → is_accepted (answer_of history event) ≡ true → NoneHolds (rules history event)
+accepted-none history event accepted =
+    (none-holds (when (is_full history) HistoryFull ∷ rules history event) (otherwise history event) accepted).1
+
+-- and is answered by what is answered otherwise
+pub accepted-otherwise : (history : History) (event : EventForm) → is_accepted (answer_of history event) ≡ true → answer_of history event ≡ otherwise history event
+accepted-otherwise history event accepted =
+    otherwise-it-is (when (is_full history) HistoryFull ∷ rules history event) (otherwise history event)
+    (none-holds (when (is_full history) HistoryFull ∷ rules history event) (otherwise history event) accepted)
+
+-- an event with an answer
+abbrev pub paired : EventForm → Answer → EntryForm
+paired event answer = record { event = event; answer = answer }

@@ -1,5 +1,0 @@
-use Rattle.pol_history.proofs.Induction.{events-removed}
-use Rattle.pol_history.proofs.removal_of_events.Goals as goal
-
-pub returns : goal.returns
-returns c = events-removed

@@ -1,0 +1,166 @@
+-- Looking back at a batch: each value is found in the batch's past, its chart among the recipes.
+use Rattle.std.specs.Prelude.{ℕ, Bool, true, false, ◌&&◌, List, [], map, filter, filter_map, find, Option, Some, None, is_some, is_none, unwrap_or, reverse, option_and_then, option_map, if◌then◌else◌}
+use Rattle.std.specs.List.{list_any}
+use Rattle.std.specs.Str.{bytes_eq}
+use Rattle.chart_core.specs.Active.{active_steps}
+use Rattle.chart_core.specs.Roles.{ChartPlan}
+use Rattle.chart_core.specs.Trees.{StepPlan}
+use Rattle.chart_core.specs.Entries.{chart_entry}
+use Rattle.chart_core.specs.declared.entry.LogEntry.{LogEntry}
+use Rattle.chart_core.specs.declared.entry.LogEntry.TheVariants.{Broke, StopAsked}
+use Rattle.pol_events.specs.Events.{EventForm, recipe, start, freeze, thaw, stop_batch, EntryForm}
+use Rattle.pol_events.specs.declared.event.Bind.{Bind}
+use Rattle.pol_events.specs.declared.answer.Answer.{Answer}
+use Rattle.pol_events.specs.declared.answer.Answer.TheVariants.{Did, Closed}
+use Rattle.pol_events.specs.declared.answer.Outcome.{Outcome}
+use Rattle.pol_history.specs.Looking.{History, past_of_batch, recipes, last_of, is_among, is_accepted}
+
+-- what a batch was started with: its recipe, and which module plays each role
+pub record Started : Type 0 where
+  pub recipe : List ℕ
+  pub binds : List Bind
+
+-- the start that an event is
+abbrev pub starting : EventForm → Option Started
+starting (start at batch name binds) = Some (record { recipe = name; binds = binds })
+starting _ = None
+
+-- the batch's start, by its past
+abbrev pub start_by : History → Option Started
+start_by past = last_of (λ entry. starting entry.event) past
+
+-- the batch's start, if it was started
+abbrev pub start_of : History → List ℕ → Option Started
+start_of history batch = start_by (past_of_batch batch history)
+
+-- the chart that a recipe of this name brings
+abbrev pub charted : List ℕ → EventForm → Option ChartPlan
+charted name (recipe at other chart) = if bytes_eq other name then Some chart else None
+charted name _ = None
+
+-- the chart of the recipe of this name, by the accepted recipes
+abbrev pub chart_named : List ℕ → History → Option ChartPlan
+chart_named name recipes = last_of (λ entry. charted name entry.event) recipes
+
+-- the chart of a batch that was started so, by the accepted recipes
+abbrev pub chart_by : History → Option Started → Option ChartPlan
+chart_by recipes started = option_and_then (λ started. chart_named started.recipe recipes) started
+
+-- the chart of the batch
+abbrev pub chart_of : History → List ℕ → Option ChartPlan
+chart_of history batch = chart_by (recipes history) (start_of history batch)
+
+-- the tag that is bound to the role
+abbrev pub bound_tag : List Bind → List ℕ → Option (List ℕ)
+bound_tag binds role = option_map (λ bind. bind.tag) (find (λ bind. bytes_eq bind.role role) binds)
+
+-- the role that the tag is bound to
+abbrev pub bound_role : List Bind → List ℕ → Option (List ℕ)
+bound_role binds tag = option_map (λ bind. bind.role) (find (λ bind. bytes_eq bind.tag tag) binds)
+
+-- the tags that are bound
+abbrev pub tags_of : List Bind → List (List ℕ)
+tags_of binds = map (λ bind. bind.tag) binds
+
+-- the binds of a start; none of another event
+abbrev pub binds_in : EventForm → List Bind
+binds_in (start at batch name binds) = binds
+binds_in _ = []
+
+-- the outcome with which an answer closes a batch
+abbrev pub closing : Answer → Option Outcome
+closing (Closed outcome) = Some outcome
+closing _ = None
+
+-- the outcome with which the batch was closed, by its past
+abbrev pub outcome_by : History → Option Outcome
+outcome_by past = last_of (λ entry. closing entry.answer) past
+
+-- the outcome with which the batch was closed, if it was
+abbrev pub outcome_of : History → List ℕ → Option Outcome
+outcome_of history batch = outcome_by (past_of_batch batch history)
+
+-- whether an event freezes its batch or ends its freeze
+abbrev pub freezing : EventForm → Option Bool
+freezing (freeze at batch) = Some true
+freezing (thaw at batch) = Some false
+freezing (stop_batch at batch) = Some false
+freezing _ = None
+
+-- the batch is frozen, by its past: the last of its freezes, thaws and stops is a freeze
+abbrev pub is_frozen_by : History → Bool
+is_frozen_by past = unwrap_or (last_of (λ entry. freezing entry.event) past) false
+
+-- the batch is frozen
+abbrev pub is_frozen : History → List ℕ → Bool
+is_frozen history batch = is_frozen_by (past_of_batch batch history)
+
+-- the entry that an answer says was taken
+abbrev pub taken : Answer → Option LogEntry
+taken (Did entry) = Some entry
+taken _ = None
+
+-- the batch's log by its past, the oldest entry first
+abbrev pub log_by : History → List LogEntry
+log_by past = reverse (filter_map (λ entry. taken entry.answer) past)
+
+-- the batch's log, the oldest entry first
+abbrev pub log_of : History → List ℕ → List LogEntry
+log_of history batch = log_by (past_of_batch batch history)
+
+-- the entries of a log that belong to the run of the chart
+abbrev pub chart_entries : List LogEntry → List LogEntry
+chart_entries log = filter (λ entry. is_some (chart_entry entry)) log
+
+-- the entry says that the batch broke
+abbrev pub is_broke : LogEntry → Bool
+is_broke (Broke step state) = true
+is_broke _ = false
+
+-- the entry says that the operator had the batch stopped
+abbrev pub is_stop_asked : LogEntry → Bool
+is_stop_asked StopAsked = true
+is_stop_asked _ = false
+
+-- the batch broke
+abbrev pub has_broken : List LogEntry → Bool
+has_broken log = list_any is_broke log
+
+-- the operator had the batch stopped
+abbrev pub was_stopped : List LogEntry → Bool
+was_stopped log = list_any is_stop_asked log
+
+-- the active steps of a batch with this chart after its log, in chart order
+abbrev pub active : ChartPlan → List LogEntry → List StepPlan
+active chart log = map (λ placed. placed.step) (active_steps chart log)
+
+-- the accepted start of a batch on these modules
+abbrev pub taking : List ℕ → EventForm → Option (List ℕ)
+taking tag (start at batch name binds) = if is_among (tags_of binds) tag then Some batch else None
+taking tag _ = None
+
+-- the batch whose accepted start an entry is, where it binds the tag
+abbrev pub takes : List ℕ → EntryForm → Option (List ℕ)
+takes tag entry = if is_accepted entry.answer then taking tag entry.event else None
+
+-- a batch, where it isn't closed
+abbrev pub if_open : History → Option (List ℕ) → Option (List ℕ)
+if_open history None = None
+if_open history (Some batch) = if is_none (outcome_of history batch) then Some batch else None
+
+-- the batch that holds the module: that of the last accepted start that binds it, where that batch isn't closed
+abbrev pub holder_of : History → List ℕ → Option (List ℕ)
+holder_of history tag = if_open history (last_of (takes tag) history)
+
+-- the entry is an accepted start
+abbrev pub is_start : EntryForm → Bool
+is_start entry = is_some (starting entry.event) && is_accepted entry.answer
+
+-- the batch that an event starts
+abbrev pub started_batch : EventForm → Option (List ℕ)
+started_batch (start at batch name binds) = Some batch
+started_batch _ = None
+
+-- the batches that were started, in the order of their starts
+abbrev pub batches : History → List (List ℕ)
+batches history = reverse (filter_map (λ entry. if is_accepted entry.answer then started_batch entry.event else None) history)

@@ -1,0 +1,45 @@
+-- The answer by the first rule that holds.
+use Rattle.std.proofs.Common.{◌≡◌, ◌<◌, false, arith, ◌∷◌, [], List, length, map, Option, Some, None, suc, refl, ap, ◌∙◌}
+use Rattle.std.specs.Prelude.{nat_le}
+use Rattle.std.proofs.lemmas.Bool.{false_from_ne_true, leb-true}
+use Rattle.std.proofs.lemmas.List.{length-reverse}
+use Rattle.pol_events.specs.Events.{EventForm, entry_view, history_view}
+use Rattle.pol_events.specs.Refusals.{when}
+use Rattle.pol_events.specs.declared.answer.Answer.{Answer}
+use Rattle.pol_events.specs.declared.answer.Answer.TheVariants.{Refused}
+use Rattle.pol_events.specs.declared.answer.Rule.{Rule}
+use Rattle.pol_events.specs.declared.answer.Rule.TheVariants.{HistoryFull}
+use Rattle.pol_events.specs.declared.event.Entry.{Entry}
+use Rattle.pol_history.specs.Looking.{History}
+use Rattle.pol_history.specs.Rules.{first_of}
+use Rattle.pol_history.specs.Answers.{rules, otherwise, first_rule, is_full, answer_of}
+
+-- the rule as a refusal, else the answer
+abbrev pub refused_or : Option Rule → Answer → Answer
+refused_or None answer = answer
+refused_or (Some rule) answer = Refused rule
+
+answered_is : (rules : List (Option Rule)) (answer : Answer) → first_rule rules answer ≡ refused_or (first_of rules) answer
+answered_is [] answer = refl
+answered_is (Some rule ∷ rules) answer = refl
+answered_is (None ∷ rules) answer = answered_is rules answer
+
+length-map : {A B : Type 0} (f : A → B) (xs : List A) → length (map f xs) ≡ length xs
+length-map f [] = refl
+length-map f (x ∷ xs) = ap suc (length-map f xs)
+
+-- a history is as long as the list of its entries
+history_length : (entries : List Entry) → length (history_view entries) ≡ length entries
+history_length entries = length-reverse (map entry_view entries) ∙ length-map entry_view entries
+
+-- a history that has room is not full
+not-full : (history : History) → length history < 200000 → is_full history ≡ false
+not-full history room = false_from_ne_true (nat_le 200000 (length history)) (λ full. let over = leb-true 200000 (length history) full in absurd (omega arith))
+
+-- the answer where the history has room: the first rule that holds, else what is answered otherwise
+pub answered : (entries : List Entry) (event : EventForm) → length entries < 200000 →
+    answer_of (history_view entries) event ≡ refused_or (first_of (rules (history_view entries) event)) (otherwise (history_view entries) event)
+answered entries event room =
+    ap (λ full. first_rule (when full HistoryFull ∷ rules (history_view entries) event) (otherwise (history_view entries) event))
+    (not-full (history_view entries) (rw (history_length entries) room))
+    ∙ answered_is (rules (history_view entries) event) (otherwise (history_view entries) event)

@@ -1,0 +1,7 @@
+use Rattle.std.proofs.Common.{◌≡◌, drop}
+use Rattle.pol_history.specs.Looking.{is_among}
+use Rattle.pol_history.specs.Batches.{tags_of}
+use Rattle.pol_lookback.proofs.batches.binds.Given as goal
+
+abbrev pub invariant-loop-bind : goal.invariant-loop-bind
+invariant-loop-bind l = is_among (tags_of (drop l.bind-index l.binds)) l.tag ≡ is_among (tags_of l.binds) l.tag

@@ -1,0 +1,3 @@
+pub mod Dockings
+pub mod Starts
+pub mod Holding

@@ -1,0 +1,26 @@
+//! The answer to an event, worked out by looking back in a history: plain and slow.
+//!
+//! Its main contract is that of `answer_of`: the answer is the one that `pol_history` defines. It keeps nothing, as each
+//! value is searched in the history that it is lent; and it knows nothing of lines, texts, threads or clocks.
+//!
+//! Each rule that can refuse an event is the function of its name: in `module_rules` where a module's past decides it, in
+//! `batch_rules` where recipes, batches or holders do, in `start_rules` where it asks about the binds of a start. The
+//! order of the rules of each kind of event stands in `answers`.
+#![tactic(auto)]
+
+mod answers;
+mod batch_rules;
+mod batches;
+mod entries;
+mod following;
+mod module_rules;
+mod modules;
+mod sights;
+mod start_rules;
+
+pub use answers::answer_of;
+pub use batches::{Start, log_of, outcome_of, start_of};
+pub use entries::is_accepted;
+
+#[cfg(test)]
+mod tests;

@@ -1,0 +1,97 @@
+//! What a batch sees of the modules that play its roles.
+ghost use Rattle.std.specs.Prelude.{◌≡◌};
+ghost use Rattle.pol_history.specs.Batches.{bound_tag, bound_role};
+ghost use Rattle.pol_history.specs.Following.{reading_of_value, sight_of_view};
+
+use crate::modules::{Docking, docking_of, value_of, view_of};
+use chart_cursor::{ReadingSight, Seen, Sight};
+use mtp_codes::{Name, Reading, Value};
+use mtp_modes::ServiceView;
+use pol_events::{Bind, Entry};
+
+/// The tag that is bound to the role.
+pub fn bound_tag(binds: &[Bind], role: Name) -> Option<Name>
+    ensures { result ≡ bound_tag binds.now role }
+{
+    for bind in binds {
+        if bind.role == role {
+            return Some(bind.tag);
+        }
+    }
+    None
+}
+
+/// The role that the tag is bound to.
+pub fn bound_role(binds: &[Bind], tag: Name) -> Option<Name>
+    ensures { result ≡ bound_role binds.now tag }
+{
+    for bind in binds {
+        if bind.tag == tag {
+            return Some(bind.role);
+        }
+    }
+    None
+}
+
+fn sight_of_view(view: Option<ServiceView>) -> Sight
+    ensures { result ≡ sight_of_view view }
+{
+    match view {
+        Some(view) => Sight::Is(view),
+        None => Sight::Unreported,
+    }
+}
+
+fn reading_of_value(value: Option<Value>) -> ReadingSight
+    ensures { result ≡ reading_of_value value }
+{
+    match value {
+        Some(Value::Whole(number)) => ReadingSight::Is(Reading::Whole(number)),
+        Some(Value::Bit(bit)) => ReadingSight::Is(Reading::Bit(bit)),
+        Some(Value::Text(_)) => ReadingSight::Unreported,
+        None => ReadingSight::Unreported,
+    }
+}
+
+/// What a batch with these binds sees of its modules after a history.
+#[derive(Clone, Copy)]
+pub struct Sights<'a> {
+    pub history: &'a [Entry],
+    pub binds: &'a [Bind],
+}
+
+impl Seen for Sights<'_> {
+    ghost use Rattle.pol_events.specs.Events.{history_view};
+    ghost use Rattle.pol_history.specs.Looking.{past};
+    ghost use Rattle.pol_history.specs.Following.{sights_by};
+
+    ghost sights = { λ seen. sights_by seen.binds.now (λ tag. past tag (history_view seen.history.now)) };
+
+    fn tag(&self, role: Name) -> Option<Name> {
+        bound_tag(self.binds, role)
+    }
+
+    #[tactic(auto, using(crate::proofs::Seeing::sight_is))]
+    fn view(&self, role: Name, service: Name) -> Sight {
+        let Some(tag) = bound_tag(self.binds, role) else {
+            return Sight::Unreported;
+        };
+        match docking_of(self.history, tag) {
+            Docking::Away { .. } => Sight::Away,
+            Docking::Absent => Sight::Unreported,
+            Docking::Docked => sight_of_view(view_of(self.history, tag, service)),
+        }
+    }
+
+    #[tactic(auto, using(crate::proofs::Seeing::reading_is))]
+    fn reading(&self, role: Name, var: Name) -> ReadingSight {
+        let Some(tag) = bound_tag(self.binds, role) else {
+            return ReadingSight::Unreported;
+        };
+        match docking_of(self.history, tag) {
+            Docking::Away { .. } => ReadingSight::Away,
+            Docking::Absent => ReadingSight::Unreported,
+            Docking::Docked => reading_of_value(value_of(self.history, tag, var)),
+        }
+    }
+}

@@ -1,0 +1,228 @@
+//! The rules of a start: its binds against the roles of the recipe, then its modules one after another.
+ghost use Rattle.std.specs.Prelude.{◌≡◌, [], IfOk};
+ghost use Rattle.std.specs.Option.{option_or};
+ghost use Rattle.chart_core.specs.Charts.{plan};
+ghost use Rattle.chart_core.specs.Roles.{role_names};
+ghost use Rattle.chart_core.specs.Order.{plans_seen};
+ghost use Rattle.chart_core.specs.Same.{same_name};
+ghost use Rattle.pol_events.specs.Events.{history_view};
+ghost use Rattle.pol_history.specs.Looking.{is_among, past};
+ghost use Rattle.pol_history.specs.Modules.{description_by, view_by};
+ghost use Rattle.pol_history.specs.Batches.{bound_tag};
+ghost use Rattle.pol_history.specs.Rules.{busy, busy_role, first_of, is_bound_before, module_rule, modules_unfit, not_covered, not_idle, not_ready, not_reported, one_module_twice, role_unbound, role_unknown, twice};
+ghost use Rattle.pol_lookback.specs.Holding.{names_in, services_in, steps_of};
+
+use crate::batches::holder_of;
+use crate::module_rules::{in_exchange, no_module, not_idle, not_reported};
+use crate::modules::description_of;
+use crate::sights::bound_tag;
+use chart_core::{Chart, Role, Step, steps_in_order};
+use mtp_codes::Name;
+use pol_bind::covers;
+use pol_events::{Bind, Entry, Rule};
+use std::alloc::{AllocError, Global};
+
+/// The first role that no bind gives a tag.
+pub fn role_unbound(binds: &[Bind], roles: &[Role]) -> Option<Rule>
+    ensures { result ≡ role_unbound binds.now (names_in roles.now) }
+{
+    for role in roles {
+        if bound_tag(binds, role.role).is_none() {
+            return Some(Rule::RoleUnbound { role: role.role });
+        }
+    }
+    None
+}
+
+fn has_role(roles: &[Role], name: Name) -> bool
+    ensures { result ≡ is_among (names_in roles.now) name }
+{
+    for role in roles {
+        if role.role == name {
+            return true;
+        }
+    }
+    false
+}
+
+/// The first bind whose role the recipe lacks.
+pub fn role_unknown(binds: &[Bind], roles: &[Role]) -> Option<Rule>
+    ensures { result ≡ role_unknown binds.now (names_in roles.now) }
+{
+    for bind in binds {
+        if !has_role(roles, bind.role) {
+            return Some(Rule::RoleUnknown { role: bind.role });
+        }
+    }
+    None
+}
+
+// Whether the tag is bound to one of these roles.
+fn is_bound_before(binds: &[Bind], earlier: &[Name], tag: Name) -> bool
+    ensures { result ≡ is_bound_before binds.now earlier.now tag }
+{
+    for role in earlier {
+        if bound_tag(binds, *role) == Some(tag) {
+            return true;
+        }
+    }
+    false
+}
+
+fn twice(binds: &[Bind], earlier: &[Name], role: Name) -> Option<Rule>
+    ensures { result ≡ twice binds.now earlier.now (bound_tag binds.now role) }
+{
+    let tag = bound_tag(binds, role)?;
+    if is_bound_before(binds, earlier, tag) {
+        Some(Rule::OneModuleTwice { tag })
+    } else {
+        None
+    }
+}
+
+/// The first tag in the order of the roles that an earlier role has.
+pub fn one_module_twice(
+    alloc: Global,
+    binds: &[Bind],
+    roles: &[Role],
+) -> Result<Option<Rule>, AllocError>
+    ensures { IfOk result (λ rule. rule ≡ one_module_twice binds.now [] (names_in roles.now)) }
+{
+    let mut earlier = Vec::new(alloc);
+    for role in roles {
+        if let Some(rule) = twice(binds, &earlier, role.role) {
+            return Ok(Some(rule));
+        }
+        earlier.insert(0, role.role)?;
+    }
+    Ok(None)
+}
+
+// The module can't play the role.
+fn not_covered(history: &[Entry], chart: &Chart, role: Name, tag: Name) -> Option<Rule>
+    ensures { result ≡ not_covered (plan chart.now) role (description_by (past tag (history_view history.now))) }
+{
+    match covers(chart, role, description_of(history, tag)?) {
+        Ok(()) => None,
+        Err(rule) => Some(rule),
+    }
+}
+
+fn is_of_role(step: &Step, role: Name) -> bool
+    ensures { result ≡ same_name step.now.role role }
+{
+    step.role == role
+}
+
+fn unready(history: &[Entry], tag: Name, service: Name) -> Option<Rule>
+    ensures { result ≡ option_or (not_reported tag service (view_by service (past tag (history_view history.now)))) (not_idle tag service (view_by service (past tag (history_view history.now)))) }
+{
+    match not_reported(history, tag, service) {
+        Some(rule) => Some(rule),
+        None => not_idle(history, tag, service),
+    }
+}
+
+// The first service of the role's steps that wasn't reported or isn't idle.
+fn first_unready(history: &[Entry], tag: Name, role: Name, steps: &[&Step]) -> Option<Rule>
+    ensures { result ≡ not_ready tag (past tag (history_view history.now)) (services_in role (plans_seen steps.now)) }
+{
+    for step in steps {
+        if !is_of_role(step, role) {
+            continue;
+        }
+        if let Some(rule) = unready(history, tag, step.service) {
+            return Some(rule);
+        }
+    }
+    None
+}
+
+// The first thing that is wrong with the module of a role.
+fn module_rule(
+    history: &[Entry],
+    chart: &Chart,
+    steps: &[&Step],
+    role: Name,
+    tag: Option<Name>,
+) -> Option<Rule>
+    requires { plans_seen steps.now ≡ steps_of (plan chart.now) }
+    ensures { result ≡ module_rule (history_view history.now) (plan chart.now) role tag }
+{
+    let tag = tag?;
+    first_of(&[
+        no_module(history, tag),
+        in_exchange(history, tag),
+        not_covered(history, chart, role, tag),
+        first_unready(history, tag, role, steps),
+    ])
+}
+
+fn first_unfit(
+    history: &[Entry],
+    chart: &Chart,
+    binds: &[Bind],
+    steps: &[&Step],
+    roles: &[Role],
+) -> Option<Rule>
+    requires { plans_seen steps.now ≡ steps_of (plan chart.now) }
+    ensures { result ≡ modules_unfit (history_view history.now) (plan chart.now) binds.now (names_in roles.now) }
+{
+    for role in roles {
+        if let Some(rule) = module_rule(
+            history,
+            chart,
+            steps,
+            role.role,
+            bound_tag(binds, role.role),
+        ) {
+            return Some(rule);
+        }
+    }
+    None
+}
+
+/// The first thing that is wrong with a module, over the roles of the chart.
+pub fn modules_unfit(
+    alloc: Global,
+    history: &[Entry],
+    chart: &Chart,
+    binds: &[Bind],
+) -> Result<Option<Rule>, AllocError>
+    ensures { IfOk result (λ rule. rule ≡ modules_unfit (history_view history.now) (plan chart.now) binds.now (role_names (plan chart.now))) }
+{
+    let steps = steps_in_order(alloc, chart)?;
+    Ok(first_unfit(history, chart, binds, &steps, &chart.roles))
+}
+
+fn busy_role(history: &[Entry], tag: Option<Name>) -> Option<Rule>
+    ensures { result ≡ busy_role (history_view history.now) tag }
+{
+    let tag = tag?;
+    let batch = holder_of(history, tag)?;
+    Some(Rule::Busy { tag, batch })
+}
+
+/// The first module over these roles that is held.
+pub fn busy(history: &[Entry], binds: &[Bind], roles: &[Role]) -> Option<Rule>
+    ensures { result ≡ busy (history_view history.now) binds.now (names_in roles.now) }
+{
+    for role in roles {
+        if let Some(rule) = busy_role(history, bound_tag(binds, role.role)) {
+            return Some(rule);
+        }
+    }
+    None
+}
+
+/// The first of these rules that holds.
+pub fn first_of(rules: &[Option<Rule>]) -> Option<Rule>
+    ensures { result ≡ first_of rules.now }
+{
+    for rule in rules {
+        if rule.is_some() {
+            return *rule;
+        }
+    }
+    None
+}

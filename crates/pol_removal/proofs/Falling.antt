@@ -1,0 +1,93 @@
+-- A rule for another's sake may fall where modules are taken out: what a smaller list of such rules answers.
+use Rattle.std.proofs.Common.{◌≡◌, ℕ, ◌≤◌, Bool, true, false, List, [], ◌∷◌, refl, sym, arith, Option, Some, None, option_map, option_and_then, ◌⊎◌, inl, inr, map}
+use Rattle.std.specs.Prelude.{nat_le}
+use Rattle.std.specs.Option.{option_or}
+use Rattle.std.proofs.lemmas.Bool.{leb-true, le-leb, both_ways}
+use Rattle.pol_events.specs.declared.answer.Rule.{Rule}
+use Rattle.pol_events.specs.declared.answer.Answer.{Answer}
+use Rattle.pol_events.specs.Refusals.{when}
+use Rattle.pol_history.specs.Looking.{History, is_among}
+use Rattle.pol_history.specs.Batches.{holder_of}
+use Rattle.pol_history.specs.Rules.{first_of, by_holder}
+use Rattle.pol_history.specs.Answers.{first_rule}
+use Rattle.pol_removal.specs.Removal.{is_for_another, is_refused_for_another}
+use Rattle.pol_removal.proofs.Alike.{HolderAlike}
+
+abbrev is_for_another_if : Option Rule → Bool
+is_for_another_if (Some rule) = is_for_another rule
+is_for_another_if None = false
+
+-- a rule holds after the smaller history as after the whole one, unless there it is for another's sake
+abbrev pub Falls : Option Rule → Option Rule → Type 0
+Falls whole less = (is_for_another_if whole ≡ true) ⊎ (less ≡ whole)
+
+-- each of the rules does
+abbrev pub AllFall : List (Option Rule) → List (Option Rule) → Type 0
+AllFall [] [] = Unit {0}
+AllFall (whole ∷ wholes) [] = ⊥
+AllFall [] (less ∷ lesses) = ⊥
+AllFall (whole ∷ wholes) (less ∷ lesses) = Falls whole less × AllFall wholes lesses
+
+pub first-falls : (wholes lesses : List (Option Rule)) (whole less : Answer) → AllFall wholes lesses → less ≡ whole →
+    is_refused_for_another (first_rule wholes whole) ≡ false → first_rule lesses less ≡ first_rule wholes whole
+first-falls [] [] whole less fall same own = same
+first-falls [] (y ∷ ys) whole less fall same own = absurd fall
+first-falls (x ∷ xs) [] whole less fall same own = absurd fall
+first-falls (Some rule ∷ xs) (y ∷ ys) whole less (inl another, fall) same own = absurd (both_ways (is_for_another rule) own another)
+first-falls (Some rule ∷ xs) (y ∷ ys) whole less (inr equal, fall) same own = rw equal
+first-falls (None ∷ xs) (y ∷ ys) whole less (inl another, fall) same own = cc
+first-falls (None ∷ xs) (y ∷ ys) whole less (inr equal, fall) same own = rw equal (first-falls xs ys whole less fall same own)
+
+pub all-same : (rules : List (Option Rule)) → AllFall rules rules
+all-same [] = tt
+all-same (rule ∷ rules) = (inr refl, all-same rules)
+
+-- ---- a rule with a test, and the first of some rules
+
+pub when-falls : (rule : Rule) → is_for_another rule ≡ true → (whole less : Bool) → (less ≡ true → whole ≡ true) → Falls (when whole rule) (when less rule)
+when-falls rule another true less falls = inl another
+when-falls rule another false false falls = inr refl
+when-falls rule another false true falls = let clash : false ≡ true = falls refl in cc
+
+pub fewer-reach : (limit less whole : ℕ) → less ≤ whole → nat_le limit less ≡ true → nat_le limit whole ≡ true
+fewer-reach limit less whole fewer reached = le-leb limit whole (let bound = leb-true limit less reached in omega arith)
+
+or-falls : (whole less wholes lesses : Option Rule) → Falls whole less → Falls wholes lesses → Falls (option_or whole wholes) (option_or less lesses)
+or-falls (Some rule) less wholes lesses (inl another) later = inl another
+or-falls (Some rule) less wholes lesses (inr equal) later = inr (rw equal)
+or-falls None less wholes lesses (inl another) later = cc
+or-falls None less wholes lesses (inr equal) later = rw equal later
+
+pub first-of-falls : (whole less : List ℕ → Option Rule) → ((name : List ℕ) → Falls (whole name) (less name)) → (names : List (List ℕ)) →
+    Falls (first_of (map whole names)) (first_of (map less names))
+first-of-falls whole less falls [] = inr refl
+first-of-falls whole less falls (name ∷ names) =
+    or-falls (whole name) (less name) (first_of (map whole names)) (first_of (map less names)) (falls name) (first-of-falls whole less falls names)
+
+-- ---- a rule of the holder
+
+-- if the rule holds, it is for another's sake
+abbrev pub IsForAnother : Option Rule → Type 0
+IsForAnother rule = (is_for_another_if rule ≡ true) ⊎ (rule ≡ None)
+
+pub map-another : {A : Type 0} (rule : A → Rule) → ((x : A) → is_for_another (rule x) ≡ true) → (option : Option A) → IsForAnother (option_map rule option)
+map-another rule another None = inr refl
+map-another rule another (Some x) = inl (another x)
+
+pub then-another : {A : Type 0} (rule : A → Option Rule) → ((x : A) → IsForAnother (rule x)) → (option : Option A) → IsForAnother (option_and_then rule option)
+then-another rule another None = inr refl
+then-another rule another (Some x) = another x
+
+none-falls : (rule : Option Rule) → IsForAnother rule → Falls rule None
+none-falls rule (inl another) = inl another
+none-falls rule (inr none) = inr (sym none)
+
+pub holder-falls : (bound : List (List ℕ)) (whole less : History) (tag : List ℕ) (whole_rule less_rule : List ℕ → Option Rule) →
+    ((batch : List ℕ) → IsForAnother (whole_rule batch)) → ((batch : List ℕ) → is_among bound batch ≡ false → less_rule batch ≡ whole_rule batch) →
+    HolderAlike bound whole less tag → Falls (by_holder whole_rule (holder_of whole tag)) (by_holder less_rule (holder_of less tag))
+holder-falls bound whole less tag whole_rule less_rule another agree (inl none) = rw none (go (holder_of whole tag))
+  where
+    go : (holder : Option (List ℕ)) → Falls (by_holder whole_rule holder) None
+    go None = inr refl
+    go (Some batch) = none-falls (whole_rule batch) (another batch)
+holder-falls bound whole less tag whole_rule less_rule another agree (inr (batch, outside, after, before)) = rw (after, before) (inr (agree batch outside))

@@ -1,0 +1,16 @@
+pub mod Each
+pub mod Sparing
+pub mod Bound
+pub mod Present
+pub mod Roles
+pub mod Owned
+pub mod Alike
+pub mod Falling
+pub mod Answering
+pub mod Induction
+pub mod Kept
+pub mod Pieces
+pub mod Reading
+pub mod Rows
+pub mod Batches
+pub mod Outputs

@@ -1,0 +1,19 @@
+//! Taking modules out of a journal: the lines of some modules, of the batches that are bound to them, and the lines that
+//! were refused for another's sake. What it means stands in `specs/Removal.antt`, and that it takes out just their output
+//! lines is the contract of functions with an empty body.
+//!
+//! It knows nothing of how an answer is found.
+#![tactic(auto)]
+
+ghost use Rattle.pol_removal.specs.Removal.{RemovalOfEvents, RemovalOfLines};
+
+/// The run of the events that don't concern some modules is the run of all events without the concerned entries, where
+/// the events are orderly, as those that lines say are.
+pub fn removal_of_events()
+    ensures { RemovalOfEvents }
+{}
+
+/// Taking out the lines that concern some modules takes out just their output lines.
+pub fn removal_of_lines()
+    ensures { RemovalOfLines }
+{}

@@ -1,0 +1,59 @@
+-- What a slot keeps once its module is docked.
+use Rattle.std.proofs.Common.{◌≡◌, Option, Some, None, Ok, Err, refl, ◌∙◌, ap}
+use Rattle.std.specs.Prelude.{option_and_then, option_map}
+use Rattle.mtp_assembly.specs.Fits.{answer_to}
+use Rattle.mtp_desc.specs.Plain.{DescriptionForm}
+use Rattle.pol_slots.specs.Told.{ToldNothing, ForgetsAll}
+use Rattle.pol_slots.specs.Berths.{ticket_in, told_in, IsBack}
+use Rattle.pol_slots.specs.Slots.{slot_tag, slot_description, slot_begins, last_control, last_value, IsDocked}
+use Rattle.pol_slots.specs.declared.berth.Berth.{Berth}
+use Rattle.pol_slots.specs.declared.berth.Berth.TheVariants.{Docked, Away}
+use Rattle.pol_slots.specs.declared.slot.Slot.{Slot}
+use Rattle.pol_slots.specs.declared.told.Told.{Told}
+
+-- where the answer is Ok, there is no fault
+pub no_fault : {E : Type 0} (fault : Option E) → answer_to fault ≡ Ok tt → fault ≡ None
+no_fault None is = refl
+no_fault (Some fault) is = cc
+
+-- where it is an error, that is the fault
+pub the_fault : {E : Type 0} (fault : Option E) (error : E) → answer_to fault ≡ Err error → fault ≡ Some error
+the_fault None error is = cc
+the_fault (Some fault) error is = cc
+
+nothing_left :
+    {A : Type 0} (nothing : Option A) → nothing ≡ None → (found : Option (Option A))
+    → option_and_then (λ last. last) (option_map (λ last. nothing) found) ≡ None
+nothing_left nothing is None = refl
+nothing_left nothing is (Some last) = is
+
+-- what is forgotten leaves nothing told
+forgotten_nothing : (old new : Told) → ForgetsAll old new → ToldNothing new
+forgotten_nothing old new forgets = record {
+  controls = λ name. ap (λ found. option_and_then (λ last. last) found) (forgets.controls name) ∙ nothing_left None refl _;
+  values = λ name. ap (λ found. option_and_then (λ last. last) found) (forgets.values name) ∙ nothing_left None refl _;
+}
+
+docked_told : (berth : Berth) → ticket_in berth ≡ None → berth ≡ Docked (told_in berth)
+docked_told (Docked told) is = refl
+docked_told (Away kept) is = cc
+
+-- a module that told nothing is docked
+pub docked_fresh :
+    (old new : Slot) (described : DescriptionForm) (told : Told) → new.berth ≡ Docked told → ToldNothing told → slot_tag new ≡ slot_tag old
+    → slot_description new ≡ described → slot_begins new ≡ slot_begins old → IsDocked old new described
+unfolding last_control last_value
+docked_fresh old new described told is nothing tag description begins = record {
+  tag = tag;
+  description = description;
+  begins = begins;
+  docked = ap ticket_in is;
+  unreported = record { controls = λ service. rw is (nothing.controls service); values = λ name. rw is (nothing.values name) };
+}
+
+-- a module is docked again
+pub docked_again :
+    (old new : Slot) (described : DescriptionForm) (berth : Berth) → IsBack berth new.berth → slot_tag new ≡ slot_tag old
+    → slot_description new ≡ described → slot_begins new ≡ slot_begins old → IsDocked old new described
+docked_again old new described berth back tag description begins =
+    docked_fresh old new described (told_in new.berth) (docked_told new.berth back.docked) (forgotten_nothing (told_in berth) (told_in new.berth) back.forgotten) tag description begins

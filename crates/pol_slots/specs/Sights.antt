@@ -1,0 +1,43 @@
+-- What is seen of a slot's services and variables.
+use Rattle.std.specs.Prelude.{ℕ, List, Option, Some, None, option_map}
+use Rattle.mtp_codes.specs.declared.value.Value.{Value}
+use Rattle.mtp_codes.specs.declared.value.Value.TheVariants as value
+use Rattle.mtp_codes.specs.declared.value.Reading.TheVariants as reading
+use Rattle.mtp_assembly.specs.declared.control.ServiceControl.{ServiceControl}
+use Rattle.mtp_modes.specs.declared.view.ServiceView.{ServiceView}
+use Rattle.mtp_desc.specs.Plain.{DescriptionForm}
+use Rattle.mtp_desc.specs.Lookup.{self_completes}
+use Rattle.chart_cursor.specs.declared.sight.Sight.{Sight}
+use Rattle.chart_cursor.specs.declared.sight.Sight.TheVariants as sight
+use Rattle.chart_cursor.specs.declared.sight.ReadingSight.{ReadingSight}
+use Rattle.chart_cursor.specs.declared.sight.ReadingSight.TheVariants as reading_sight
+use Rattle.pol_slots.specs.Slots.{slot_description, slot_ticket, last_control, last_value}
+use Rattle.pol_slots.specs.declared.slot.Slot.{Slot}
+
+-- a report, with what the description says of its procedure
+abbrev pub view_by : List ℕ → DescriptionForm → ServiceControl → ServiceView
+view_by service description control =
+    record { control = control; self_completes = self_completes service control.procedure description }
+
+-- what is seen of a service whose module is away under a ticket, or has this view of it
+abbrev pub sight_of : Option ℕ → Option ServiceView → Sight
+sight_of (Some ticket) view = sight.Away
+sight_of None None = sight.Unreported
+sight_of None (Some view) = sight.Is view
+
+-- what is seen of the slot's service
+abbrev pub slot_sight : Slot → List ℕ → Sight
+slot_sight slot service =
+    sight_of (slot_ticket slot) (option_map (view_by service (slot_description slot)) (last_control slot service))
+
+-- what is seen of a variable whose module is away under a ticket, or has this value of it; a text is no reading
+abbrev pub reading_of : Option ℕ → Option Value → ReadingSight
+reading_of (Some ticket) last = reading_sight.Away
+reading_of None None = reading_sight.Unreported
+reading_of None (Some (value.Whole number)) = reading_sight.Is (reading.Whole number)
+reading_of None (Some (value.Bit bit)) = reading_sight.Is (reading.Bit bit)
+reading_of None (Some (value.Text text)) = reading_sight.Unreported
+
+-- what is seen of the slot's variable
+abbrev pub slot_reading : Slot → List ℕ → ReadingSight
+slot_reading slot name = reading_of (slot_ticket slot) (last_value slot name)

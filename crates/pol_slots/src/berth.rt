@@ -1,0 +1,148 @@
+//! Whether a module is docked or away.
+ghost use Rattle.std.specs.Prelude.{◌≡◌, Some, None, IsSome, OnOk, OnErr, option_and_then};
+ghost use Rattle.std.specs.Map.{lookup};
+ghost use Rattle.std.specs.Str.{bytes_eq};
+ghost use Rattle.mtp_assembly.specs.Fits.{answer_to};
+ghost use Rattle.pol_slots.specs.Berths.{ticket_in, told_in, docked_in, IsBack};
+ghost use Rattle.pol_slots.specs.Told.{TellsControl, TellsValue};
+ghost use Rattle.pol_slots.specs.Exchanges.{wrong_ticket};
+
+use super::told::Told;
+use mtp_assembly::ServiceControl;
+use mtp_codes::{Name, Value};
+use pol_events::Rule;
+use pol_exchange::{Away, Docked, WrongTicket};
+use std::alloc::Global;
+
+/// A module that is docked, or away for exchange, with what it told.
+#[derive(Drop)]
+pub(crate) enum Berth {
+    Docked(Docked<Told>),
+    Away(Away<Told>),
+}
+
+fn ticket_rule(wrong: WrongTicket) -> Rule
+    ensures { result ≡ Rule.WrongTicket wrong.kept wrong.given }
+{
+    Rule::WrongTicket {
+        kept: wrong.kept,
+        given: wrong.given,
+    }
+}
+
+impl Berth {
+    /// A berth of no module, to stand in a slot while its own berth changes. Takes no memory.
+    pub(crate) fn empty(alloc: Global) -> Berth {
+        Berth::docked(Told::empty(alloc))
+    }
+
+    /// A docked module that told this.
+    pub(crate) fn docked(told: Told) -> Berth
+        ensures { result ≡ Berth.Docked told }
+    {
+        Berth::Docked(Docked::new(told))
+    }
+
+    /// The ticket under which the module is away.
+    pub(crate) fn ticket(&self) -> Option<u32>
+        ensures { result ≡ ticket_in self.now }
+    {
+        match self {
+            Berth::Docked(_) => None,
+            Berth::Away(away) => Some(away.ticket()),
+        }
+    }
+
+    /// What the service of the docked module reported last; None where the module has no such service, or is away.
+    pub(crate) fn control(&self, service: Name) -> Option<Option<ServiceControl>>
+        ensures { result ≡ option_and_then (λ told. lookup (bytes_eq service) told.controls) (docked_in self.now) }
+    {
+        match self {
+            Berth::Docked(docked) => docked.part().controls.last(service),
+            Berth::Away(_) => None,
+        }
+    }
+
+    /// What the variable of the docked module was reported with last, likewise.
+    pub(crate) fn value(&self, name: Name) -> Option<Option<Value>>
+        ensures { result ≡ option_and_then (λ told. lookup (bytes_eq name) told.values) (docked_in self.now) }
+    {
+        match self {
+            Berth::Docked(docked) => docked.part().values.last(name),
+            Berth::Away(_) => None,
+        }
+    }
+
+    /// Keeps what a service of the docked module reports.
+    pub(crate) fn tell_control(&mut self, service: Name, control: ServiceControl)
+        requires { ticket_in self.old ≡ None }
+        ensures docked { ticket_in self.new ≡ None }
+        ensures told { TellsControl service control (told_in self.old) (told_in self.new) }
+    {
+        match self {
+            Berth::Docked(docked) => docked.part_mut().controls.put(service, control),
+            Berth::Away(_) => unreachable!(),
+        }
+    }
+
+    /// Keeps the value that a variable of the docked module is reported with.
+    pub(crate) fn tell_value(&mut self, name: Name, value: Value)
+        requires { ticket_in self.old ≡ None }
+        ensures docked { ticket_in self.new ≡ None }
+        ensures told { TellsValue name value (told_in self.old) (told_in self.new) }
+    {
+        match self {
+            Berth::Docked(docked) => docked.part_mut().values.put(name, value),
+            Berth::Away(_) => unreachable!(),
+        }
+    }
+
+    /// Sends the docked module away under this ticket.
+    pub(crate) fn begin(self, ticket: u32) -> Berth
+        requires { ticket_in self ≡ None }
+        ensures away { ticket_in result ≡ Some ticket }
+        ensures told { told_in result ≡ told_in self }
+    {
+        match self {
+            Berth::Docked(docked) => Berth::Away(docked.begin(ticket)),
+            Berth::Away(_) => unreachable!(),
+        }
+    }
+
+    /// Docks another module, which told this, in place of the one that is away; or, with a wrong ticket, leaves it away.
+    pub(crate) fn finish(self, ticket: u32, told: Told) -> (Berth, Result<(), Rule>)
+        requires { IsSome (ticket_in self) }
+        ensures answer { result.1 ≡ answer_to (wrong_ticket ticket (ticket_in self)) }
+        ensures docked { OnOk result.1 (result.0 ≡ Berth.Docked told) }
+        ensures unchanged { OnErr result.1 (result.0 ≡ self) }
+    {
+        let away = match self {
+            Berth::Docked(_) => unreachable!(),
+            Berth::Away(away) => away,
+        };
+        match away.finish(ticket, told) {
+            Ok((docked, _old)) => (Berth::Docked(docked), Ok(())),
+            Err((away, _told, wrong)) => (Berth::Away(away), Err(ticket_rule(wrong))),
+        }
+    }
+
+    /// Docks the module that is away again, with nothing told; or, with a wrong ticket, leaves it away.
+    pub(crate) fn cancel(self, ticket: u32) -> (Berth, Result<(), Rule>)
+        requires { IsSome (ticket_in self) }
+        ensures answer { result.1 ≡ answer_to (wrong_ticket ticket (ticket_in self)) }
+        ensures docked { OnOk result.1 (IsBack self result.0) }
+        ensures unchanged { OnErr result.1 (result.0 ≡ self) }
+    {
+        let away = match self {
+            Berth::Docked(_) => unreachable!(),
+            Berth::Away(away) => away,
+        };
+        match away.cancel(ticket) {
+            Ok(mut docked) => {
+                docked.part_mut().forget();
+                (Berth::Docked(docked), Ok(()))
+            }
+            Err((away, wrong)) => (Berth::Away(away), Err(ticket_rule(wrong))),
+        }
+    }
+}

@@ -1,0 +1,114 @@
+//! Docking, and the exchange of a module for another.
+ghost use Rattle.std.specs.Prelude.{◌≡◌, ℕ, ◌+◌, ◌<◌, Some, None, IsSome, IfOk, IfErr, OnOk, OnErr};
+ghost use Rattle.mtp_assembly.specs.Fits.{answer_to};
+ghost use Rattle.mtp_desc.specs.DescriptionView.{description_view};
+ghost use Rattle.pol_slots.specs.Exchanges.{wrong_ticket, IsRefusedBy};
+ghost use Rattle.pol_slots.specs.Slots.{slot_tag, slot_description, slot_begins, slot_ticket, IsDocked, IsUnchanged, IsUnreported};
+
+use super::berth::Berth;
+use super::refusal::SlotRefusal;
+use super::slot::Slot;
+use super::told::Told;
+use mtp_codes::Name;
+use mtp_desc::Description;
+use pol_events::Rule;
+use std::alloc::{AllocError, Global};
+use std::mem;
+use std::sync::Arc;
+
+impl Slot {
+    /// A module with this description, docked under a tag: nothing was reported yet, and no exchange was begun. It takes
+    /// all room that later reports need.
+    #[tactic(auto, unfolding(crate::specs::Slots::last_control, crate::specs::Slots::last_value))]
+    pub fn new(alloc: Global, description: Arc<Description>, tag: Name) -> Result<Slot, AllocError>
+        ensures tag { IfOk result (λ slot. slot_tag slot ≡ tag) }
+        ensures description { IfOk result (λ slot. slot_description slot ≡ description_view description.value) }
+        ensures begins { IfOk result (λ slot. slot_begins slot ≡ 0) }
+        ensures docked { IfOk result (λ slot. slot_ticket slot ≡ None) }
+        ensures unreported { IfOk result IsUnreported }
+    {
+        let told = Told::new(alloc, &description)?;
+        Ok(Slot {
+            alloc,
+            tag,
+            description,
+            begins: 0,
+            berth: Berth::docked(told),
+        })
+    }
+
+    /// The description of the module; while it is away, the old one.
+    pub fn description(&self) -> &Arc<Description>
+        ensures { description_view result.now.value ≡ slot_description self.now }
+    {
+        &self.description
+    }
+
+    /// The ticket under which the module is away; None exactly while it is docked.
+    pub fn ticket(&self) -> Option<u32>
+        ensures { result ≡ slot_ticket self.now }
+    {
+        self.berth.ticket()
+    }
+
+    /// Sends the module away for exchange. The answer is the ticket, by which the exchange is ended or cancelled: one more
+    /// than the exchanges that were begun before. What was reported is forgotten.
+    #[tactic(auto, unfolding(crate::specs::Slots::last_control, crate::specs::Slots::last_value))]
+    pub fn begin(&mut self) -> u32
+        requires docked { slot_ticket self.old ≡ None }
+        requires few { slot_begins self.old < 4294967295 }
+        ensures answer { result ≡ slot_begins self.old + 1 }
+        ensures begins { slot_begins self.new ≡ result }
+        ensures away { slot_ticket self.new ≡ Some result }
+        ensures tag { slot_tag self.new ≡ slot_tag self.old }
+        ensures description { slot_description self.new ≡ slot_description self.old }
+        ensures unreported { IsUnreported self.new }
+    {
+        self.begins += 1;
+        let berth = mem::replace(&mut self.berth, Berth::empty(self.alloc));
+        self.berth = berth.begin(self.begins);
+        self.begins
+    }
+
+    /// Ends the exchange: another module, with this description, is docked in place of the one that is away. Nothing was
+    /// reported of it yet.
+    ///
+    /// `WrongTicket` with both tickets where the given one isn't that of the exchange, `Memory` for want of memory; after
+    /// either the slot is unchanged.
+    #[tactic(auto, unfolding(crate::specs::Slots::last_control, crate::specs::Slots::last_value))]
+    pub fn finish(&mut self, ticket: u32, description: Arc<Description>) -> Result<(), SlotRefusal>
+        requires { IsSome (slot_ticket self.old) }
+        ensures accepted { OnOk result (wrong_ticket ticket (slot_ticket self.old) ≡ None) }
+        ensures docked { OnOk result (IsDocked self.old self.new (description_view description.value)) }
+        ensures refused { IfErr result (IsRefusedBy (wrong_ticket ticket (slot_ticket self.old))) }
+        ensures unchanged { OnErr result (IsUnchanged self.old self.new) }
+    {
+        let told = Told::new(self.alloc, &description)?;
+        let berth = mem::replace(&mut self.berth, Berth::empty(self.alloc));
+        let (berth, answer) = berth.finish(ticket, told);
+        self.berth = berth;
+        match answer {
+            Ok(()) => {
+                self.description = description;
+                Ok(())
+            }
+            Err(rule) => Err(SlotRefusal::Rule(rule)),
+        }
+    }
+
+    /// Cancels the exchange: the module that is away is docked again, with its old description. Nothing was reported since.
+    ///
+    /// `WrongTicket` with both tickets where the given one isn't that of the exchange; then the slot is unchanged.
+    #[tactic(auto, unfolding(crate::specs::Slots::last_control, crate::specs::Slots::last_value))]
+    pub fn cancel(&mut self, ticket: u32) -> Result<(), Rule>
+        requires { IsSome (slot_ticket self.old) }
+        ensures answer { result ≡ answer_to (wrong_ticket ticket (slot_ticket self.old)) }
+        ensures docked { OnOk result (IsDocked self.old self.new (slot_description self.old)) }
+        ensures unchanged { OnErr result (IsUnchanged self.old self.new) }
+    {
+        let berth = mem::replace(&mut self.berth, Berth::empty(self.alloc));
+        let (berth, answer) = berth.cancel(ticket);
+        self.berth = berth;
+        answer
+    }
+}

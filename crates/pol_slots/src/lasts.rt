@@ -1,0 +1,70 @@
+//! The last values of named things.
+ghost use Rattle.std.specs.Prelude.{◌≡◌, ℕ, List, [], Some, None, OnOk, if◌then◌else◌};
+ghost use Rattle.std.specs.Map.{lookup};
+ghost use Rattle.std.specs.Str.{bytes_eq};
+ghost use Rattle.pol_slots.specs.Lasts.{Puts, Forgets};
+
+use indexmap::IndexMap;
+use mtp_codes::Name;
+use std::alloc::{AllocError, Global};
+use std::marker::Model;
+
+/// The last value of each of some names, in the order in which the names were added; none at first.
+#[derive(Drop)]
+pub(crate) struct Lasts<T> {
+    values: IndexMap<Name, Option<T>>,
+}
+
+impl<T> Model for Lasts<T> {
+    ghost use Rattle.std.specs.Prelude.{ℕ, List, Option};
+
+    ghost Value = { List (List ℕ × Option T) };
+
+    ghost view = { λ lasts. lasts.values.entries };
+}
+
+impl<T: Copy + Drop> Lasts<T> {
+    /// No names.
+    pub(crate) fn new(alloc: Global) -> Lasts<T>
+        ensures { result ≡ [] }
+    {
+        Lasts {
+            values: IndexMap::new(alloc),
+        }
+    }
+
+    /// Adds a name, without a value.
+    pub(crate) fn add(&mut self, name: Name) -> Result<(), AllocError>
+        ensures { OnOk result ((other : List ℕ) → lookup (bytes_eq other) self.new
+            ≡ (if bytes_eq name other then Some None else lookup (bytes_eq other) self.old)) }
+    {
+        self.values.insert(name, None)?;
+        Ok(())
+    }
+
+    /// The last value of the name, if it has one; None where it isn't one of these.
+    pub(crate) fn last(&self, name: Name) -> Option<Option<T>>
+        ensures { result ≡ lookup (bytes_eq name) self.now }
+    {
+        self.values.get(&name).copied()
+    }
+
+    /// Puts a value as the last one of the name, if it is one of these.
+    pub(crate) fn put(&mut self, name: Name, value: T)
+        ensures { Puts name value self.old self.new }
+    {
+        if let Some(last) = self.values.get_mut(&name) {
+            *last = Some(value);
+        }
+    }
+
+    /// Forgets all values.
+    pub(crate) fn forget(&mut self)
+        ensures { Forgets self.old self.new }
+    {
+        for place in 0..self.values.len() {
+            let (_, last) = self.values.pair_mut(place);
+            *last = None;
+        }
+    }
+}

@@ -1,0 +1,89 @@
+//! What is seen of a module.
+ghost use Rattle.std.specs.Prelude.{◌≡◌};
+ghost use Rattle.mtp_assembly.specs.Fits.{answer_to};
+ghost use Rattle.pol_slots.specs.Rest.{is_at_rest, not_at_rest};
+ghost use Rattle.pol_slots.specs.Sights.{slot_sight, slot_reading};
+ghost use Rattle.pol_slots.specs.Slots.{slot_description, last_control, last_value};
+
+use super::slot::Slot;
+use chart_cursor::{ReadingSight, Sight};
+use mtp_assembly::ServiceControl;
+use mtp_codes::{Name, Reading, State, Value};
+use mtp_modes::ServiceView;
+use pol_events::Rule;
+
+fn is_at_rest(state: State) -> bool
+    ensures { result ≡ is_at_rest state }
+{
+    matches!(
+        state,
+        State::Idle | State::Completed | State::Stopped | State::Aborted
+    )
+}
+
+impl Slot {
+    // What the service reported last since docking.
+    #[tactic(auto, unfolding(crate::specs::Slots::last_control))]
+    fn control(&self, service: Name) -> Option<ServiceControl>
+        ensures { result ≡ last_control self.now service }
+    {
+        self.berth.control(service)?
+    }
+
+    // The value that the variable was reported with last since docking.
+    #[tactic(auto, unfolding(crate::specs::Slots::last_value))]
+    fn value(&self, name: Name) -> Option<Value>
+        ensures { result ≡ last_value self.now name }
+    {
+        self.berth.value(name)?
+    }
+
+    /// What is seen of a service: the module is away; or the service wasn't reported since docking, or isn't there; or
+    /// what it reported last, and whether its current procedure (`ProcedureCur`) completes by itself.
+    pub fn view(&self, service: Name) -> Sight
+        ensures { result ≡ slot_sight self.now service }
+    {
+        if self.ticket().is_some() {
+            return Sight::Away;
+        }
+        match self.control(service) {
+            None => Sight::Unreported,
+            Some(control) => Sight::Is(ServiceView {
+                control,
+                self_completes: self.description.self_completes(service, control.procedure),
+            }),
+        }
+    }
+
+    /// What is seen of a variable, likewise. A variable whose last value is a text is seen as not reported.
+    pub fn reading(&self, name: Name) -> ReadingSight
+        ensures { result ≡ slot_reading self.now name }
+    {
+        if self.ticket().is_some() {
+            return ReadingSight::Away;
+        }
+        match self.value(name) {
+            Some(Value::Whole(number)) => ReadingSight::Is(Reading::Whole(number)),
+            Some(Value::Bit(bit)) => ReadingSight::Is(Reading::Bit(bit)),
+            Some(Value::Text(_)) | None => ReadingSight::Unreported,
+        }
+    }
+
+    /// Whether the module is at rest: each of its services is Idle, Completed, Stopped or Aborted, or wasn't reported
+    /// since docking. `NotAtRest` names the first other service in the order of the description, with its state.
+    pub fn at_rest(&self) -> Result<(), Rule>
+        ensures { result ≡ answer_to (not_at_rest (last_control self.now) (slot_description self.now).services) }
+    {
+        for service in &self.description.services {
+            if let Some(control) = self.control(service.name)
+                && !is_at_rest(control.state)
+            {
+                return Err(Rule::NotAtRest {
+                    service: service.name,
+                    state: control.state,
+                });
+            }
+        }
+        Ok(())
+    }
+}
