@@ -5,3 +5,4 @@ pub mod Steps
 pub mod Ruled
 pub mod Answered
 pub mod Uncovered
+pub mod Asked

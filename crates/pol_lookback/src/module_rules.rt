@@ -2,7 +2,8 @@
 ghost use Rattle.std.specs.Prelude.{◌≡◌, IfOk, map};
 ghost use Rattle.mtp_desc.specs.ServiceView.{service_view};
 ghost use Rattle.pol_events.specs.Events.{history_view};
-ghost use Rattle.pol_events.specs.Refusals.{forbid_rule, misfit, no_service, no_variable, not_an_edge, value_rule};
+ghost use Rattle.pol_desk.specs.Desk.{desk_fault};
+ghost use Rattle.pol_events.specs.Refusals.{misfit, no_service, no_variable, not_an_edge, value_rule};
 ghost use Rattle.pol_history.specs.Looking.{past};
 ghost use Rattle.pol_history.specs.Modules.{docking_by, description_by, control_by, view_by};
 ghost use Rattle.pol_history.specs.Batches.{holder_of};
@@ -12,10 +13,11 @@ ghost use Rattle.pol_lookback.specs.Holding.{held_by};
 use crate::batches::holder_of;
 use crate::modules::{Docking, control_of, description_of, docking_of, present_tags, view_of};
 use mtp_assembly::{ValueFault, check_view};
-use mtp_codes::{Command, Forbid, Name, Speaker, State, Value};
+use mtp_codes::{Command, Name, State, Value};
 use mtp_desc::Service;
 use mtp_machine::edge;
-use mtp_modes::permitted;
+use mtp_modes::ServiceView;
+use pol_desk::desk;
 use pol_events::{Entry, Rule};
 use std::alloc::{AllocError, Global};
 
@@ -190,14 +192,13 @@ pub fn not_idle(history: &[Entry], tag: Name, service: Name) -> Option<Rule>
     }
 }
 
-fn forbid_rule(forbid: Forbid) -> Rule
-    ensures { result ≡ forbid_rule forbid }
+// The rule against the operator's command, by what the service last reported.
+fn desk_fault(tag: Name, service: Name, view: &ServiceView, command: Command) -> Option<Rule>
+    ensures { result ≡ desk_fault view.now command }
 {
-    match forbid {
-        Forbid::ModeForbids => Rule::ModeForbids,
-        Forbid::SelfCompletes => Rule::SelfCompletes,
-        Forbid::StateForbids => Rule::StateForbids,
-        Forbid::NotEnabled => Rule::NotEnabled,
+    match desk(tag, service, view, command) {
+        Ok(_) => None,
+        Err(rule) => Some(rule),
     }
 }
 
@@ -206,10 +207,7 @@ pub fn forbidden(history: &[Entry], tag: Name, service: Name, command: Command) 
     ensures { result ≡ forbidden command (view_by service (past tag (history_view history.now))) }
 {
     let view = view_of(history, tag, service)?;
-    match permitted(&view, Speaker::Operator, command) {
-        Ok(()) => None,
-        Err(forbid) => Some(forbid_rule(forbid)),
-    }
+    desk_fault(tag, service, &view, command)
 }
 
 fn is_at_rest(state: State) -> bool
