@@ -4,7 +4,7 @@ use Rattle.std.proofs.Common.{sym, subst, inl, inr, arith}
 use Rattle.std.proofs.lemmas.Bool.{eqb-true}
 use Rattle.std.specs.Cmp.Lexicographic.{same_text}
 use Rattle.mtp_codes.specs.declared.value.Reading.{Reading}
-use Rattle.chart_core.specs.Same.{same_name}
+use Rattle.mtp_codes.specs.Names.{same_name}
 use Rattle.chart_core.specs.Formulas.{Formula}
 use Rattle.chart_core.specs.Trees.{StepPlan, Tree, Trees, Arms, leaf, seq, par, choice, loop, no_trees, more_trees, no_arms, more_arms, size, sizes, arm_sizes, arm_count}
 use Rattle.chart_core.specs.Entries.{Decision, chose, turn, leave, ChartEntry, of_step, of_node, stage_of, Decided, decided_at}

@@ -4,12 +4,15 @@ use Rattle.std.proofs.Common.{sym, ◌∙◌, ap, subst, inl, inr, arith}
 use Rattle.std.proofs.lemmas.List.{map-append}
 use Rattle.std.proofs.lemmas.Bool.Decides.{nat_tests}
 use Rattle.std.proofs.lemmas.Cmp.{nat_list_eq_equiv}
-use Rattle.chart_core.specs.Same.{same_name, is_among}
-use Rattle.chart_core.specs.Form.{is_between, is_tree_formed, are_trees_formed, are_arms_formed, is_formula_formed, tree_count}
+use Rattle.std.specs.Option.{option_or}
+use Rattle.mtp_codes.specs.Names.{is_among, same_name}
+use Rattle.mtp_codes.specs.Numbers.{is_between}
+use Rattle.mtp_codes.specs.Faults.{first_of, when}
+use Rattle.chart_core.specs.Form.{is_tree_formed, are_trees_formed, are_arms_formed, is_formula_formed, tree_count}
 use Rattle.chart_core.specs.Roles.{ChartPlan, role_names, are_roles_formed, is_chart_form}
 use Rattle.chart_core.specs.Trees.{StepPlan, Placed, Tree, Trees, Arms, leaf, seq, par, choice, loop, no_trees, more_trees, no_arms, more_arms, size, sizes, arm_sizes, arm_count, steps, all_steps, arm_steps}
 use Rattle.chart_core.specs.Names.{names, all_names, arm_names, In, Distinct}
-use Rattle.chart_core.specs.Valid.{Visit, visit, visits, all_visits, arm_visits, step_count, step_counts, arm_step_counts, has_name, some_has_name, arm_has_name, fault_where, or_else, first_of, node_faults, node_fault, first_fault, IsValid}
+use Rattle.chart_core.specs.Valid.{Visit, visit, visits, all_visits, arm_visits, step_count, step_counts, arm_step_counts, has_name, some_has_name, arm_has_name, node_faults, node_fault, first_fault, IsValid}
 use Rattle.chart_core.specs.declared.fault.ChartFault.{ChartFault}
 use Rattle.chart_core.specs.declared.fault.ChartFault.TheVariants.{TooDeep, TooManySteps, StepTwice, UnknownRole}
 use Rattle.chart_core.proofs.Joined.{or_left, or_right, and_left, and_right, lt_holds}
@@ -39,11 +42,11 @@ each_map P Q f (x ∷ xs) (h, k) = (f x h, each_map P Q f xs k)
 abbrev IsClear : ChartPlan → Visit → Type 0
 IsClear chart node = node_fault chart node ≡ None
 
-no_fault : (here : Bool) (fault : ChartFault) → fault_where here fault ≡ None → here ≡ false
+no_fault : (here : Bool) (fault : ChartFault) → when here fault ≡ None → here ≡ false
 no_fault true fault h = cc
 no_fault false fault h = refl
 
-first_clear : (one other : Option ChartFault) → or_else one other ≡ None → (one ≡ None) × (other ≡ None)
+first_clear : (one other : Option ChartFault) → option_or one other ≡ None → (one ≡ None) × (other ≡ None)
 first_clear None other h = (refl, h)
 first_clear (Some fault) other h = cc
 
@@ -71,7 +74,7 @@ record StepClear (chart : ChartPlan) (step : StepPlan) (n depth earlier : ℕ) :
   pub shallow : depth ≤ 16
   pub few : earlier < 256
   pub new_name : has_name chart.root n step.name ≡ false
-  pub known_role : is_among step.role (role_names chart) ≡ true
+  pub known_role : is_among (role_names chart) step.role ≡ true
 
 step_clear : (chart : ChartPlan) (step : StepPlan) (n depth earlier : ℕ) → IsClear chart (visit (leaf step) n depth earlier) → StepClear chart step n depth earlier
 step_clear chart step n depth earlier h =
@@ -256,9 +259,9 @@ valid_distinct chart valid =
     (on_steps chart (HasNewName chart) (λ step n d k clear. clear.new_name) chart.root 0 1 0 (all_clear chart (visits chart.root 0 1 0) valid)))
 
 -- In a valid chart the role of each step is one of the chart's.
-pub valid_roles : (chart : ChartPlan) → IsValid chart → Each (λ placed. is_among placed.step.role (role_names chart) ≡ true) (steps chart.root 0)
+pub valid_roles : (chart : ChartPlan) → IsValid chart → Each (λ placed. is_among (role_names chart) placed.step.role ≡ true) (steps chart.root 0)
 valid_roles chart valid =
-    on_steps chart (λ placed. is_among placed.step.role (role_names chart) ≡ true) (λ step n d k clear. clear.known_role) chart.root 0 1 0
+    on_steps chart (λ placed. is_among (role_names chart) placed.step.role ≡ true) (λ step n d k clear. clear.known_role) chart.root 0 1 0
     (all_clear chart (visits chart.root 0 1 0) valid)
 
 -- Sizes

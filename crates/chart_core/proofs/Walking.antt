@@ -1,32 +1,34 @@
 -- A walk through a chart finds the first fault in chart order.
 use Rattle.std.specs.Prelude.{ℕ, ◌≡◌, ◌+◌, List, [], ◌∷◌, ◌++◌, Option, Some, None, Ok, Err, refl}
 use Rattle.std.proofs.Common.{ap, sym, ◌∙◌, arith}
+use Rattle.std.specs.Option.{option_or}
+use Rattle.mtp_codes.specs.Faults.{unless}
 use Rattle.chart_core.specs.Trees.{Tree, Trees, Arms, leaf, seq, par, choice, loop, no_trees, more_trees, no_arms, more_arms, size, sizes, arm_sizes}
 use Rattle.chart_core.specs.Roles.{ChartPlan}
-use Rattle.chart_core.specs.Valid.{Visit, visit, visits, all_visits, arm_visits, step_count, step_counts, arm_step_counts, or_else, node_fault, first_fault, chart_fault}
-use Rattle.chart_core.specs.Walks.{Walk, stop_at, and_on, one_on, walked, walked_all, walked_arms, ended}
+use Rattle.chart_core.specs.Valid.{Visit, visit, visits, all_visits, arm_visits, step_count, step_counts, arm_step_counts, node_fault, first_fault, chart_fault}
+use Rattle.chart_core.specs.Walks.{Walk, stop_at, and_on, one_on, walked, walked_all, walked_arms}
 use Rattle.chart_core.specs.declared.fault.ChartFault.{ChartFault}
 use Rattle.chart_core.specs.declared.valid.Reached.{Reached}
 
-or_else_assoc : (one other third : Option ChartFault) → or_else (or_else one other) third ≡ or_else one (or_else other third)
+or_else_assoc : (one other third : Option ChartFault) → option_or (option_or one other) third ≡ option_or one (option_or other third)
 or_else_assoc None other third = refl
 or_else_assoc (Some fault) other third = refl
 
 pub first_fault-append :
     (chart : ChartPlan) (front back : List Visit)
-    → first_fault chart (front ++ back) ≡ or_else (first_fault chart front) (first_fault chart back)
+    → first_fault chart (front ++ back) ≡ option_or (first_fault chart front) (first_fault chart back)
 first_fault-append chart [] back = refl
 first_fault-append chart (node ∷ front) back =
-    ap (or_else (node_fault chart node)) (first_fault-append chart front back)
+    ap (option_or (node_fault chart node)) (first_fault-append chart front back)
     ∙ sym (or_else_assoc (node_fault chart node) (first_fault chart front) (first_fault chart back))
 
-stop_ended : (one other : Option ChartFault) (there : Reached) → stop_at one (ended other there) ≡ ended (or_else one other) there
+stop_ended : (one other : Option ChartFault) (there : Reached) → stop_at one (unless other there) ≡ unless (option_or one other) there
 stop_ended None other there = refl
 stop_ended (Some fault) other there = refl
 
 on_ended :
     (one other : Option ChartFault) (there last : Reached) (onward : Reached → Walk)
-    → onward there ≡ ended other last → and_on (ended one there) onward ≡ ended (or_else one other) last
+    → onward there ≡ unless other last → and_on (unless one there) onward ≡ unless (option_or one other) last
 on_ended None other there last onward h = h
 on_ended (Some fault) other there last onward h = refl
 
@@ -49,24 +51,24 @@ behind_both here nodes steps nodes1 steps1 =
 -- from a node down to its children
 down :
     (chart : ChartPlan) (node : Visit) (below : List Visit) (onward : Walk) (here : Reached) (nodes steps : ℕ)
-    → onward ≡ ended (first_fault chart below) (behind (one_on here) nodes steps)
-    → stop_at (node_fault chart node) onward ≡ ended (first_fault chart (node ∷ below)) (behind here (1 + nodes) steps)
+    → onward ≡ unless (first_fault chart below) (behind (one_on here) nodes steps)
+    → stop_at (node_fault chart node) onward ≡ unless (first_fault chart (node ∷ below)) (behind here (1 + nodes) steps)
 down chart node below onward here nodes steps h =
     ap (stop_at (node_fault chart node)) h
     ∙ stop_ended (node_fault chart node) (first_fault chart below) (behind (one_on here) nodes steps)
-    ∙ ap (ended (or_else (node_fault chart node) (first_fault chart below))) (behind_one here nodes steps)
+    ∙ ap (unless (option_or (node_fault chart node) (first_fault chart below))) (behind_one here nodes steps)
 
 -- from one tree to those behind it
 across :
     (chart : ChartPlan) (front back : List Visit) (one : Walk) (onward : Reached → Walk) (here : Reached) (nodes steps nodes1 steps1 : ℕ)
-    → one ≡ ended (first_fault chart front) (behind here nodes steps)
-    → onward (behind here nodes steps) ≡ ended (first_fault chart back) (behind (behind here nodes steps) nodes1 steps1)
-    → and_on one onward ≡ ended (first_fault chart (front ++ back)) (behind here (nodes + nodes1) (steps + steps1))
+    → one ≡ unless (first_fault chart front) (behind here nodes steps)
+    → onward (behind here nodes steps) ≡ unless (first_fault chart back) (behind (behind here nodes steps) nodes1 steps1)
+    → and_on one onward ≡ unless (first_fault chart (front ++ back)) (behind here (nodes + nodes1) (steps + steps1))
 across chart front back one onward here nodes steps nodes1 steps1 h k =
     ap (λ walk. and_on walk onward) h
     ∙ on_ended (first_fault chart front) (first_fault chart back) (behind here nodes steps) (behind here (nodes + nodes1) (steps + steps1)) onward
-    (k ∙ ap (ended (first_fault chart back)) (behind_both here nodes steps nodes1 steps1))
-    ∙ ap (λ fault. ended fault (behind here (nodes + nodes1) (steps + steps1))) (sym (first_fault-append chart front back))
+    (k ∙ ap (unless (first_fault chart back)) (behind_both here nodes steps nodes1 steps1))
+    ∙ ap (λ fault. unless fault (behind here (nodes + nodes1) (steps + steps1))) (sym (first_fault-append chart front back))
 
 none_behind : (here : Reached) → here ≡ behind here 0 0
 none_behind here =
@@ -77,7 +79,7 @@ none_behind here =
 mutual
   pub walk_ends :
       (chart : ChartPlan) (each : Tree) (depth : ℕ) (here : Reached)
-      → walked chart each depth here ≡ ended (first_fault chart (visits each here.number depth here.steps)) (behind here (size each) (step_count each))
+      → walked chart each depth here ≡ unless (first_fault chart (visits each here.number depth here.steps)) (behind here (size each) (step_count each))
   walk_ends chart (leaf step) depth here =
       stop_ended (node_fault chart (visit (leaf step) here.number depth here.steps)) None (behind here 1 1)
   walk_ends chart (seq each) depth here =
@@ -99,7 +101,7 @@ mutual
 
   pub walk_all_ends :
       (chart : ChartPlan) (each : Trees) (depth : ℕ) (here : Reached)
-      → walked_all chart each depth here ≡ ended (first_fault chart (all_visits each here.number depth here.steps)) (behind here (sizes each) (step_counts each))
+      → walked_all chart each depth here ≡ unless (first_fault chart (all_visits each here.number depth here.steps)) (behind here (sizes each) (step_counts each))
   walk_all_ends chart no_trees depth here = ap Ok (none_behind here)
   walk_all_ends chart (more_trees each others) depth here =
       across chart (visits each here.number depth here.steps)
@@ -109,7 +111,7 @@ mutual
 
   pub walk_arms_ends :
       (chart : ChartPlan) (each : Arms) (depth : ℕ) (here : Reached)
-      → walked_arms chart each depth here ≡ ended (first_fault chart (arm_visits each here.number depth here.steps)) (behind here (arm_sizes each) (arm_step_counts each))
+      → walked_arms chart each depth here ≡ unless (first_fault chart (arm_visits each here.number depth here.steps)) (behind here (arm_sizes each) (arm_step_counts each))
   walk_arms_ends chart no_arms depth here = ap Ok (none_behind here)
   walk_arms_ends chart (more_arms when each others) depth here =
       across chart (visits each here.number depth here.steps)
@@ -117,11 +119,11 @@ mutual
       (walked chart each depth here) (walked_arms chart others depth) here (size each) (step_count each) (arm_sizes others) (arm_step_counts others)
       (walk_ends chart each depth here) (walk_arms_ends chart others depth (behind here (size each) (step_count each)))
 
-clear : (one : Option ChartFault) (there : Reached) (last : Reached) → ended one there ≡ Ok last → one ≡ None
+clear : (one : Option ChartFault) (there : Reached) (last : Reached) → unless one there ≡ Ok last → one ≡ None
 clear None there last h = refl
 clear (Some fault) there last h = cc
 
-stopped : (one : Option ChartFault) (there : Reached) (fault : ChartFault) → ended one there ≡ Err fault → one ≡ Some fault
+stopped : (one : Option ChartFault) (there : Reached) (fault : ChartFault) → unless one there ≡ Err fault → one ≡ Some fault
 stopped None there fault h = cc
 stopped (Some found) there fault h = cc
 

@@ -1,6 +1,7 @@
 -- What the last entry of a step was, by looking at a log alone, and which steps are active.
 use Rattle.std.specs.Prelude.{ℕ, List, [], ◌∷◌, Bool, true, false, filter, Option, Some, None}
-use Rattle.chart_core.specs.Same.{same_name}
+use Rattle.mtp_codes.specs.Faults.{when}
+use Rattle.mtp_codes.specs.Names.{same_name}
 use Rattle.chart_core.specs.Trees.{Placed, steps}
 use Rattle.chart_core.specs.Roles.{ChartPlan}
 use Rattle.chart_core.specs.Entries.{Stage, begin, finish, reset, end, ChartEntry, of_step, of_node}
@@ -23,23 +24,18 @@ abbrev pub last_of : {A B : Type 0} → (A → Option B) → List A → Option B
 last_of says [] = None
 last_of says (entry ∷ later) = or_earlier (last_of says later) (says entry)
 
--- this phase, where the entry names the step
-abbrev pub phase_where : Bool → Phase → Option Phase
-phase_where true phase = Some phase
-phase_where false phase = None
-
 -- Where the entry leaves the step with this name; nothing where it is no entry of it. A Broke is none of a step.
 abbrev pub phase_by : List ℕ → LogEntry → Option Phase
-phase_by name (Start step tag service procedure) = phase_where (same_name step name) started
-phase_by name (Finish step tag service) = phase_where (same_name step name) finished
-phase_by name (Reset step tag service) = phase_where (same_name step name) was_reset
-phase_by name (End step) = phase_where (same_name step name) idle
+phase_by name (Start step tag service procedure) = when (same_name step name) started
+phase_by name (Finish step tag service) = when (same_name step name) finished
+phase_by name (Reset step tag service) = when (same_name step name) was_reset
+phase_by name (End step) = when (same_name step name) idle
 phase_by name (Chose node arm values) = None
 phase_by name (Turn node values) = None
 phase_by name (Leave node values) = None
-phase_by name (Stop step tag service) = phase_where (same_name step name) idle
+phase_by name (Stop step tag service) = when (same_name step name) idle
 phase_by name (Broke step state) = None
-phase_by name (Left step state) = phase_where (same_name step name) idle
+phase_by name (Left step state) = when (same_name step name) idle
 phase_by name StopAsked = None
 phase_by name (Asked tag service command) = None
 
@@ -74,5 +70,5 @@ stage_phase end = idle
 
 abbrev pub entry_phase : List ℕ → Option ChartEntry → Option Phase
 entry_phase name None = None
-entry_phase name (Some (of_step stage step service procedure)) = phase_where (same_name step name) (stage_phase stage)
+entry_phase name (Some (of_step stage step service procedure)) = when (same_name step name) (stage_phase stage)
 entry_phase name (Some (of_node node decision values)) = None

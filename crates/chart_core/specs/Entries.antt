@@ -1,7 +1,7 @@
 -- The seven kinds of entry that make up a run of a chart.
 use Rattle.std.specs.Prelude.{ℕ, List, length, Bool, true, ◌&&◌, ◌==◌, Option, Some, None, if◌then◌else◌}
 use Rattle.mtp_codes.specs.declared.value.Reading.{Reading}
-use Rattle.chart_core.specs.Same.{same_name}
+use Rattle.mtp_codes.specs.Names.{same_name}
 use Rattle.chart_core.specs.Trees.{StepPlan}
 use Rattle.chart_core.specs.declared.entry.LogEntry.{LogEntry}
 use Rattle.chart_core.specs.declared.entry.LogEntry.TheVariants.{Start, Finish, Reset, End, Chose, Turn, Leave, Stop, Broke, Left, StopAsked, Asked}

@@ -1,8 +1,9 @@
 -- The form of a chart: how long its lists may be, and which values may stand in it.
 use Rattle.std.specs.Prelude.{ℕ, ◌+◌, suc, max, length, List, [], ◌∷◌, map, Bool, true, false, not, ◌&&◌, nat_le, Option, Some, None}
+use Rattle.mtp_codes.specs.Numbers.{is_between}
 use Rattle.mtp_codes.specs.declared.value.Reading.{Reading}
 use Rattle.mtp_codes.specs.declared.value.Reading.TheVariants.{Whole, Bit}
-use Rattle.chart_core.specs.Same.{is_among}
+use Rattle.mtp_codes.specs.Names.{is_among}
 use Rattle.chart_core.specs.Formulas.{Formula, Formulas, constant, all_of, any_of, not_of, test, no_formulas, more_formulas}
 use Rattle.chart_core.specs.Trees.{StepPlan, Tree, Trees, Arms, leaf, seq, par, choice, loop, no_trees, more_trees, no_arms, more_arms, arm_count}
 use Rattle.chart_core.specs.declared.condition.Op.{Op}
@@ -11,11 +12,7 @@ use Rattle.chart_core.specs.declared.condition.Op.TheVariants.{Lt, Le, Eq, Ne, G
 -- no name is there twice
 abbrev pub are_distinct : List (List ℕ) → Bool
 are_distinct [] = true
-are_distinct (name ∷ others) = not (is_among name others) && are_distinct others
-
--- between the two, both included
-abbrev pub is_between : ℕ → ℕ → ℕ → Bool
-is_between low high count = nat_le low count && nat_le count high
+are_distinct (name ∷ others) = not (is_among others name) && are_distinct others
 
 -- the operator may compare with this value: a truth value has no order
 abbrev pub may_compare : Op → Reading → Bool

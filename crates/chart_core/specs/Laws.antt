@@ -1,7 +1,7 @@
 -- What holds of every valid chart.
 use Rattle.std.specs.Prelude.{◌≡◌, [], IsTrue}
 use Rattle.std.specs.List.{Contains}
-use Rattle.chart_core.specs.Same.{is_among}
+use Rattle.mtp_codes.specs.Names.{is_among}
 use Rattle.chart_core.specs.Trees.{Placed, steps}
 use Rattle.chart_core.specs.Roles.{ChartPlan, role_names}
 use Rattle.chart_core.specs.Runs.{IsPartial}
@@ -22,7 +22,7 @@ NamesTellSteps =
 abbrev pub StepsHaveRoles : Type 0
 StepsHaveRoles =
     (chart : ChartPlan) (placed : Placed) → IsValid chart → Contains (steps chart.root 0) placed
-    → IsTrue (is_among placed.step.role (role_names chart))
+    → IsTrue (is_among (role_names chart) placed.step.role)
 
 -- the empty log is a partial run of it
 abbrev pub NothingIsPartial : Type 0

@@ -1,6 +1,5 @@
 pub mod Readings
 pub mod ReadingsFields
-pub mod Same
 pub mod Formulas
 pub mod Reads
 pub mod Trees

@@ -1,7 +1,7 @@
 -- What conditions read, in order of first appearance, and the readings that are stored for it.
 use Rattle.std.specs.Prelude.{ℕ, List, [], ◌∷◌, ◌++◌, Bool, false, ◌&&◌, ◌||◌, if◌then◌else◌, slice_get, suc}
 use Rattle.mtp_codes.specs.declared.value.Reading.{Reading}
-use Rattle.chart_core.specs.Same.{same_name}
+use Rattle.mtp_codes.specs.Names.{same_name}
 use Rattle.chart_core.specs.Formulas.{Formula, Formulas, constant, all_of, any_of, not_of, test, no_formulas, more_formulas, Known}
 use Rattle.chart_core.specs.declared.reads.Read.{Read}
 

@@ -1,7 +1,8 @@
 -- Roles as plain data, and charts with their roles.
 use Rattle.std.specs.Prelude.{ℕ, length, List, map, Bool, ◌&&◌, nat_le}
 use Rattle.std.specs.List.{list_all}
-use Rattle.chart_core.specs.Form.{is_between, are_distinct, is_tree_formed}
+use Rattle.mtp_codes.specs.Numbers.{is_between}
+use Rattle.chart_core.specs.Form.{are_distinct, is_tree_formed}
 use Rattle.chart_core.specs.Trees.{Tree, tree}
 use Rattle.chart_core.specs.declared.role.Role.{Role}
 use Rattle.chart_core.specs.declared.node.Node.{Node}

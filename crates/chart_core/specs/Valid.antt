@@ -1,6 +1,8 @@
 -- Which charts are valid, and the first fault of one that isn't.
-use Rattle.std.specs.Prelude.{ℕ, ◌+◌, ◌-◌, ◌≡◌, length, List, [], ◌∷◌, ◌++◌, Bool, true, false, not, ◌&&◌, ◌||◌, nat_lt, nat_le, Option, Some, None, if◌then◌else◌}
-use Rattle.chart_core.specs.Same.{same_name, is_among}
+use Rattle.std.specs.Prelude.{ℕ, ◌+◌, ◌-◌, ◌≡◌, length, List, [], ◌∷◌, ◌++◌, Bool, false, not, ◌&&◌, ◌||◌, nat_lt, nat_le, Option, Some, None, if◌then◌else◌}
+use Rattle.std.specs.Option.{option_or}
+use Rattle.mtp_codes.specs.Faults.{when, first_of}
+use Rattle.mtp_codes.specs.Names.{is_among, same_name}
 use Rattle.chart_core.specs.Formulas.{Formula, Formulas, constant, all_of, any_of, not_of, test, no_formulas, more_formulas}
 use Rattle.chart_core.specs.Reads.{reads_of}
 use Rattle.chart_core.specs.Trees.{StepPlan, Tree, Trees, Arms, leaf, seq, par, choice, loop, no_trees, more_trees, no_arms, more_arms, size, arm_conditions}
@@ -139,7 +141,7 @@ abbrev mutual
   reads_unknown (all_of each) roles = some_reads_unknown each roles
   reads_unknown (any_of each) roles = some_reads_unknown each roles
   reads_unknown (not_of inner) roles = reads_unknown inner roles
-  reads_unknown (test role variable op value) roles = not (is_among role roles)
+  reads_unknown (test role variable op value) roles = not (is_among roles role)
 
   pub some_reads_unknown : Formulas → List (List ℕ) → Bool
   some_reads_unknown no_formulas roles = false
@@ -150,32 +152,19 @@ abbrev pub on_step : Option StepPlan → (StepPlan → Bool) → Bool
 on_step None property = false
 on_step (Some step) property = property step
 
-abbrev pub fault_where : Bool → ChartFault → Option ChartFault
-fault_where true fault = Some fault
-fault_where false fault = None
-
-abbrev pub or_else : Option ChartFault → Option ChartFault → Option ChartFault
-or_else None second = second
-or_else (Some fault) second = Some fault
-
--- the first of these that is a fault
-abbrev pub first_of : List (Option ChartFault) → Option ChartFault
-first_of [] = None
-first_of (each ∷ others) = or_else each (first_of others)
-
 -- The faults that one node may have, in the order in which they are asked: it lies deeper than 16; it is the 257th
 -- step; an earlier step has its name; it has or reads a role that the chart hasn't; an earlier step in another branch
 -- of a common parallel has its role and service; it reads more than four variables.
 abbrev pub node_faults : ChartPlan → Visit → List (Option ChartFault)
 node_faults chart node =
-    fault_where (nat_lt 16 node.depth) (TooDeep node.number)
-    ∷ fault_where (on_step node.step (λ step. nat_le 256 node.earlier)) (TooManySteps node.number)
-    ∷ fault_where (on_step node.step (λ step. has_name chart.root node.number step.name)) (StepTwice node.number)
-    ∷ fault_where
-    (on_step node.step (λ step. not (is_among step.role (role_names chart))) || some_reads_unknown node.conditions (role_names chart))
+    when (nat_lt 16 node.depth) (TooDeep node.number)
+    ∷ when (on_step node.step (λ step. nat_le 256 node.earlier)) (TooManySteps node.number)
+    ∷ when (on_step node.step (λ step. has_name chart.root node.number step.name)) (StepTwice node.number)
+    ∷ when
+    (on_step node.step (λ step. not (is_among (role_names chart) step.role)) || some_reads_unknown node.conditions (role_names chart))
     (UnknownRole node.number)
-    ∷ fault_where (on_step node.step (λ step. clashes chart.root node.number step.role step.service)) (SameService node.number)
-    ∷ fault_where (nat_lt 4 (length (reads_of node.conditions))) (TooManyReads node.number)
+    ∷ when (on_step node.step (λ step. clashes chart.root node.number step.role step.service)) (SameService node.number)
+    ∷ when (nat_lt 4 (length (reads_of node.conditions))) (TooManyReads node.number)
     ∷ []
 
 -- the first fault of one node
@@ -185,7 +174,7 @@ node_fault chart node = first_of (node_faults chart node)
 -- the first fault of the first of these nodes that has one
 abbrev pub first_fault : ChartPlan → List Visit → Option ChartFault
 first_fault chart [] = None
-first_fault chart (node ∷ others) = or_else (node_fault chart node) (first_fault chart others)
+first_fault chart (node ∷ others) = option_or (node_fault chart node) (first_fault chart others)
 
 -- the first fault of the chart: of the first node in chart order that has one
 abbrev pub chart_fault : ChartPlan → Option ChartFault

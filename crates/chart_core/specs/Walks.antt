@@ -48,8 +48,3 @@ abbrev mutual
   pub walked_arms : ChartPlan → Arms → ℕ → Reached → Walk
   walked_arms chart no_arms depth here = Ok here
   walked_arms chart (more_arms when each others) depth here = and_on (walked chart each depth here) (walked_arms chart others depth)
-
--- the end of a walk: the fault that was found, or the place behind the last node
-abbrev pub ended : Option ChartFault → Reached → Walk
-ended None there = Ok there
-ended (Some fault) there = Err fault

@@ -124,27 +124,48 @@ fn mix(alloc: Global) -> Result<Node, Fail>
     in_turn(alloc, filled, at_once(alloc, stir, heat)?)
 }
 
+// Two steps of one name after another.
+fn one_name_twice(alloc: Global) -> Result<Node, Fail>
+    ensures { IfOk result (λ node. IsTrue (is_tree_formed (tree node))) }
+{
+    let one = step(alloc, "s1", "A", "dose", None)?;
+    let other = step(alloc, "s1", "B", "dose", None)?;
+    in_turn(alloc, one, other)
+}
+
+// Two steps at once with one service.
+fn one_service_twice(alloc: Global) -> Result<Node, Fail>
+    ensures { IfOk result (λ node. IsTrue (is_tree_formed (tree node))) }
+{
+    let one = step(alloc, "s1", "A", "dose", None)?;
+    let other = step(alloc, "s2", "A", "dose", None)?;
+    at_once(alloc, one, other)
+}
+
+// A step below this many sequences.
+fn deep(alloc: Global, above: u32) -> Result<Node, Fail>
+    ensures { IfOk result (λ node. IsTrue (is_tree_formed (tree node))) }
+{
+    below(alloc, step(alloc, "s1", "A", "dose", None)?, above)
+}
+
+// What is said of the chart with these nodes.
+fn said(alloc: Global, root: Node) -> Result<Result<(), ChartFault>, Fail>
+    requires { IsTrue (is_tree_formed (tree root)) }
+{
+    Ok(chart(alloc, root)?.valid())
+}
+
 #[test]
 fn the_first_fault_of_a_chart_is_told(rt: HostRuntime) -> Result<(), Fail> {
     let alloc = rt.alloc();
-    assert_eq!(rt; chart(alloc, mix(alloc)?)?.valid(), Ok(()));
-    let one = step(alloc, "s1", "A", "dose", None)?;
-    let other = step(alloc, "s1", "B", "dose", None)?;
-    let twice = chart(alloc, in_turn(alloc, one, other)?)?;
-    assert_eq!(rt; twice.valid(), Err(ChartFault::StepTwice { node: 2 }));
-    let one = step(alloc, "s1", "A", "dose", None)?;
-    let other = step(alloc, "s2", "A", "dose", None)?;
-    let same = chart(alloc, at_once(alloc, one, other)?)?;
-    assert_eq!(rt; same.valid(), Err(ChartFault::SameService { node: 2 }));
-    let deep = chart(
-        alloc,
-        below(alloc, step(alloc, "s1", "A", "dose", None)?, 16)?,
-    )?;
-    assert_eq!(rt; deep.valid(), Err(ChartFault::TooDeep { node: 16 }));
-    let least = chart(
-        alloc,
-        below(alloc, step(alloc, "s1", "A", "dose", None)?, 15)?,
-    )?;
-    assert_eq!(rt; least.valid(), Ok(()));
+    let twice = Err(ChartFault::StepTwice { node: 2 });
+    let same = Err(ChartFault::SameService { node: 2 });
+    let too_deep = Err(ChartFault::TooDeep { node: 16 });
+    assert_eq!(rt; said(alloc, mix(alloc)?)?, Ok(()));
+    assert_eq!(rt; said(alloc, one_name_twice(alloc)?)?, twice);
+    assert_eq!(rt; said(alloc, one_service_twice(alloc)?)?, same);
+    assert_eq!(rt; said(alloc, deep(alloc, 16)?)?, too_deep);
+    assert_eq!(rt; said(alloc, deep(alloc, 15)?)?, Ok(()));
     Ok(())
 }

@@ -1,12 +1,13 @@
 //! Whether a chart is valid.
 ghost use Rattle.std.specs.Prelude.{◌≡◌, ◌+◌, ◌*◌, ◌<◌, ◌≤◌, ◌^◌, ◌↔◌, ◌∷◌, [], map, length, nat_lt, Some, IsTrue, IsOk, IfOk, IfErr, IfNone};
+ghost use Rattle.mtp_codes.specs.Names.{is_among};
+ghost use Rattle.mtp_codes.specs.Faults.{first_of, when};
 ghost use Rattle.chart_core.specs.Formulas.{formula, formulas};
 ghost use Rattle.chart_core.specs.Trees.{tree, trees, arms, arm_conditions, step_plan, finish_plan, leaf};
 ghost use Rattle.chart_core.specs.Form.{is_tree_formed, are_trees_formed, are_arms_formed};
-ghost use Rattle.chart_core.specs.Same.{is_among};
 ghost use Rattle.chart_core.specs.Roles.{role_plan};
 ghost use Rattle.chart_core.specs.Charts.{plan};
-ghost use Rattle.chart_core.specs.Valid.{reads_unknown, some_reads_unknown, finish_conditions, visit, node_fault, fault_where, first_of, chart_fault, IsValid};
+ghost use Rattle.chart_core.specs.Valid.{reads_unknown, some_reads_unknown, finish_conditions, visit, node_fault, chart_fault, IsValid};
 ghost use Rattle.chart_core.specs.Reads.{reads_of};
 ghost use Rattle.chart_core.specs.Runs.{arm_reads, loop_reads};
 ghost use Rattle.chart_core.specs.Walks.{walked, walked_all, walked_arms};
@@ -28,7 +29,7 @@ pub struct Reached {
 }
 
 fn is_role(roles: &[Role], name: Name) -> bool
-    ensures { result ≡ is_among name (map (λ role. role.role) (map role_plan roles.now)) }
+    ensures { result ≡ is_among (map (λ role. role.role) (map role_plan roles.now)) name }
 {
     for each in roles {
         if each.role == name {
@@ -145,9 +146,9 @@ fn step_fault(step: &Step, depth: u32, here: Reached, chart: &Chart) -> Option<C
 fn other_fault(node: u32, depth: u32, unknown: bool, too_much: bool) -> Option<ChartFault>
     ensures fault { result
         ≡ first_of
-        (fault_where (nat_lt 16 depth) (ChartFault.TooDeep node)
-        ∷ fault_where unknown (ChartFault.UnknownRole node)
-        ∷ fault_where too_much (ChartFault.TooManyReads node) ∷ []) }
+        (when (nat_lt 16 depth) (ChartFault.TooDeep node)
+        ∷ when unknown (ChartFault.UnknownRole node)
+        ∷ when too_much (ChartFault.TooManyReads node) ∷ []) }
     ensures shallow { IfNone result (depth ≤ 16) }
 {
     if depth > 16 {

@@ -27,10 +27,10 @@ same_sent : {A : Type 0} (x y : A) → Some x ≡ Some y → x ≡ y
 same_sent x y h = cc
 
 step_permitted : (seen : Sights) (step : StepPlan) (phase : Phase) (e : LogEntry) (sent : Sent) → StepEntry seen step phase e → sent_by e ≡ Some sent → IsPermittedIn seen sent
-step_permitted seen step phase e sent (starts p) h = subst (IsPermittedIn seen) (same_sent _ sent h) (step.role, p.view, refl, p.seen_as, p.free)
-step_permitted seen step phase e sent (finishes q p) h = subst (IsPermittedIn seen) (same_sent _ sent h) (step.role, p.view, refl, p.seen_as, p.free)
-step_permitted seen step phase e sent (resets_started p) h = subst (IsPermittedIn seen) (same_sent _ sent h) (step.role, p.view, refl, p.seen_as, p.free)
-step_permitted seen step phase e sent (resets_finished p) h = subst (IsPermittedIn seen) (same_sent _ sent h) (step.role, p.view, refl, p.seen_as, p.free)
+step_permitted seen step phase e sent (starts p) h = subst (IsPermittedIn seen) (same_sent _ sent h) (refl, (step.role, p.view, refl, p.seen_as, p.free))
+step_permitted seen step phase e sent (finishes q p) h = subst (IsPermittedIn seen) (same_sent _ sent h) (refl, (step.role, p.view, refl, p.seen_as, p.free))
+step_permitted seen step phase e sent (resets_started p) h = subst (IsPermittedIn seen) (same_sent _ sent h) (refl, (step.role, p.view, refl, p.seen_as, p.free))
+step_permitted seen step phase e sent (resets_finished p) h = subst (IsPermittedIn seen) (same_sent _ sent h) (refl, (step.role, p.view, refl, p.seen_as, p.free))
 step_permitted seen step phase e sent ends h = cc
 
 node_permitted :

@@ -5,10 +5,11 @@ use Rattle.std.proofs.lemmas.List.{length-replicate}
 use Rattle.std.proofs.lemmas.Bool.Decides.{nat_tests}
 use Rattle.mtp_codes.specs.declared.value.Reading.{Reading}
 use Rattle.mtp_codes.specs.declared.value.Reading.TheVariants.{Bit}
+use Rattle.mtp_codes.specs.Numbers.{is_between}
 use Rattle.chart_core.specs.declared.entry.LogEntry.{LogEntry}
 use Rattle.chart_core.specs.declared.progress.Progress.{Progress}
 use Rattle.chart_core.specs.declared.progress.Progress.TheVariants.{Untouched, Begun, Finished, WasReset, Ended, Chosen, Left}
-use Rattle.chart_core.specs.Form.{is_between, is_tree_formed, are_trees_formed, are_arms_formed, is_formula_formed, tree_count}
+use Rattle.chart_core.specs.Form.{is_tree_formed, are_trees_formed, are_arms_formed, is_formula_formed, tree_count}
 use Rattle.chart_core.specs.Trees.{StepPlan, Tree, Trees, Arms, leaf, seq, par, choice, loop, no_trees, more_trees, no_arms, more_arms, size, sizes, arm_sizes, arm_count}
 use Rattle.chart_core.specs.Roles.{ChartPlan}
 use Rattle.chart_core.specs.Entries.{Stage, begin, reset, end, Decision, chose, leave, ChartEntry, of_step, of_node, stage_of, decided_at}

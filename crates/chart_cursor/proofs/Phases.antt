@@ -3,9 +3,10 @@ use Rattle.std.specs.Prelude.{ℕ, ◌≡◌, ◌+◌, Bool, true, false, ◌||�
 use Rattle.std.proofs.Common.{sym, ◌∙◌, ap, subst, inl, inr}
 use Rattle.std.specs.List.{filter}
 use Rattle.std.specs.Cmp.Lexicographic.{same_text}
+use Rattle.mtp_codes.specs.Names.{same_name}
+use Rattle.mtp_codes.specs.Faults.{when}
 use Rattle.chart_core.specs.declared.progress.Progress.{Progress}
 use Rattle.chart_core.specs.declared.progress.Progress.TheVariants.{Untouched, Chosen, Left}
-use Rattle.chart_core.specs.Same.{same_name}
 use Rattle.chart_core.specs.Formulas.{Formula}
 use Rattle.chart_core.specs.Trees.{StepPlan, Tree, Trees, Arms, leaf, seq, par, choice, loop, no_trees, more_trees, no_arms, more_arms, size, sizes, arm_sizes}
 use Rattle.chart_core.specs.Names.{names, all_names, arm_names, In, Distinct}
@@ -14,7 +15,7 @@ use Rattle.chart_core.specs.Courses.{is_of, All, StepRun, Rounds, last, round, C
 use Rattle.chart_core.specs.Runs.{Judged, course, in_turn, at_once, arm_at, right_arm, turns_rightly, leaves_rightly, decision_at, arm_reads, loop_reads}
 use Rattle.chart_core.specs.Progress.{Marks, Had, had_nothing, had_begin, had_finish, had_reset, had_both, had_end, had_all, Stands}
 use Rattle.chart_core.specs.Changes.{is_done}
-use Rattle.chart_core.specs.Active.{Phase, idle, or_earlier, last_of, phase_where, stage_phase, entry_phase, or_idle}
+use Rattle.chart_core.specs.Active.{Phase, idle, or_earlier, last_of, stage_phase, entry_phase, or_idle}
 use Rattle.chart_core.proofs.Joined.{and_left, not_true, or_split}
 use Rattle.chart_core.proofs.Link.{fresh_stands, stands_of, partial_of, complete_partial}
 use Rattle.chart_core.proofs.Changing.{of_done}
@@ -61,8 +62,8 @@ phase_filter name p q (e ∷ w) s (h, a) =
           phase_filter name p q w s a ∙ sym (ap (or_earlier (word_phase name w)) no ∙ or_none (word_phase name w))
     ]) refl
 
-nothing_where : (b : Bool) (x : Phase) → b ≡ false → phase_where b x ≡ None
-nothing_where b x h = ap (λ c. phase_where c x) h
+nothing_where : (b : Bool) (x : Phase) → b ≡ false → when b x ≡ None
+nothing_where b x h = ap (λ c. when c x) h
 
 -- an entry within other names says nothing
 pub unnamed : (name : List ℕ) (ns : List (List ℕ)) (n m : ℕ) (e : Option ChartEntry) → Within ns n m e → (In name ns → ⊥) → entry_phase name e ≡ None
@@ -89,7 +90,7 @@ stage_says step None stage h = cc
 stage_says step (Some (of_step had name service procedure)) stage h =
     let r = some_if_is _ had stage h in
     let same = and_left (same_name name step.name) _ r.0 in
-    ap (λ b. phase_where b (stage_phase had)) same ∙ ap (λ s. Some (stage_phase s)) r.1
+    ap (λ b. when b (stage_phase had)) same ∙ ap (λ s. Some (stage_phase s)) r.1
 stage_says step (Some (of_node node decision values)) stage h = cc
 
 told_says : (step : StepPlan) (e : Judged) (o : Option Stage) → stage_of step e.entry ≡ o → is_some o ≡ true → says step.name e ≡ told o

@@ -4,6 +4,7 @@ use Rattle.mtp_codes.specs.declared.value.Reading.{Reading}
 use Rattle.mtp_codes.specs.declared.mode.Forbid.{Forbid}
 use Rattle.mtp_codes.specs.declared.mode.Speaker.TheVariants.{Recipe}
 use Rattle.mtp_codes.specs.declared.command.Command.TheVariants as command
+use Rattle.mtp_machine.specs.States.{is_completed, is_execute, is_idle}
 use Rattle.mtp_modes.specs.declared.view.ServiceView.{ServiceView}
 use Rattle.mtp_modes.specs.Permission.{forbidden_by}
 use Rattle.chart_core.specs.declared.reads.Read.{Read}
@@ -21,7 +22,7 @@ use Rattle.chart_cursor.specs.declared.sight.Sight.TheVariants as sight
 use Rattle.chart_cursor.specs.declared.next.CursorNext.{CursorNext}
 use Rattle.chart_cursor.specs.declared.next.CursorNext.TheVariants.{Entry, Wait, Whole}
 use Rattle.chart_cursor.specs.Sights.{Sights, tag_of}
-use Rattle.chart_cursor.specs.Ready.{is_idle, is_completed, is_execute, unless_forbidden, commanded, on_sight, readings_seen, with_readings, with_few, finish_row, running_row, step_row, first_true, arm_entry, node_ready}
+use Rattle.chart_cursor.specs.Ready.{unless_forbidden, commanded, on_sight, readings_seen, with_readings, with_few, finish_row, running_row, step_row, first_true, arm_entry, node_ready}
 
 -- it is an entry or an obstacle
 abbrev pub Told : CursorNext → Type 0

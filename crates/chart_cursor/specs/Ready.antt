@@ -1,12 +1,11 @@
 -- What an awaited node is ready for, or its first obstacle.
-use Rattle.std.specs.Prelude.{ℕ, ◌+◌, zero, suc, List, [], ◌∷◌, ◌++◌, length, nat_le, Bool, true, false, Option, Some, None, Result, Ok, Err, if◌then◌else◌}
+use Rattle.std.specs.Prelude.{ℕ, ◌+◌, zero, suc, List, [], ◌∷◌, ◌++◌, length, nat_le, Option, Some, None, Result, Ok, Err, if◌then◌else◌}
 use Rattle.mtp_codes.specs.declared.value.Reading.{Reading}
-use Rattle.mtp_codes.specs.declared.state.State.{State}
-use Rattle.mtp_codes.specs.declared.state.State.TheVariants as state
 use Rattle.mtp_codes.specs.declared.mode.Forbid.{Forbid}
 use Rattle.mtp_codes.specs.declared.mode.Speaker.TheVariants.{Recipe}
 use Rattle.mtp_codes.specs.declared.command.Command.{Command}
 use Rattle.mtp_codes.specs.declared.command.Command.TheVariants as command
+use Rattle.mtp_machine.specs.States.{is_idle, is_completed, is_execute}
 use Rattle.mtp_modes.specs.declared.view.ServiceView.{ServiceView}
 use Rattle.mtp_modes.specs.Permission.{forbidden_by}
 use Rattle.chart_core.specs.declared.reads.Read.{Read}
@@ -27,18 +26,7 @@ use Rattle.chart_cursor.specs.declared.next.CursorNext.{CursorNext}
 use Rattle.chart_cursor.specs.declared.next.CursorNext.TheVariants.{Entry, Wait, Whole}
 use Rattle.chart_cursor.specs.Sights.{Sights, tag_of}
 
-abbrev pub is_idle : State → Bool
-is_idle state.Idle = true
-is_idle other = false
-
-abbrev pub is_completed : State → Bool
-is_completed state.Completed = true
-is_completed other = false
-
-abbrev pub is_execute : State → Bool
-is_execute state.Execute = true
-is_execute other = false
-
+-- the entry, unless it is forbidden
 abbrev pub unless_forbidden : StepPlan → Option Forbid → LogEntry → CursorNext
 unless_forbidden step None entry = Entry entry
 unless_forbidden step (Some forbid) entry = Wait (why.Forbidden step.name forbid)

@@ -1,6 +1,6 @@
 -- The running steps of a chart by its marks, in chart order.
 use Rattle.std.specs.Prelude.{ℕ, List, [], ◌∷◌, Bool, true, ◌&&◌, nat_le, Option, Some, None, if◌then◌else◌}
-use Rattle.chart_core.specs.Same.{same_name}
+use Rattle.mtp_codes.specs.Names.{same_name}
 use Rattle.chart_core.specs.Trees.{StepPlan, Placed, Tree, leaf, seq, par, choice, loop}
 use Rattle.chart_core.specs.Active.{Phase, is_running}
 use Rattle.chart_cursor.specs.Spots.{Spot, phase_of}

@@ -1,8 +1,8 @@
 -- What is written is read back.
-use Rattle.std.proofs.Common.{◌≡◌, ◌≤◌, ◌&&◌, ℕ, zero, suc, Bool, true, false, not, List, [], ◌∷◌, length, map, Ok, Err, Result, Option, Some, None, refl, sym, ap, ◌∙◌, arith, true≢false, codes}
+use Rattle.std.proofs.Common.{◌≡◌, ◌≤◌, ◌&&◌, ℕ, zero, suc, Bool, true, false, List, [], ◌∷◌, length, map, Ok, Err, Result, Option, Some, None, refl, sym, ap, ◌∙◌, arith, true≢false, codes}
 use Rattle.std.specs.Prelude.{nat_le, is_ok}
 use Rattle.std.specs.List.{list_all}
-use Rattle.std.proofs.lemmas.Bool.{and_parts}
+use Rattle.std.proofs.lemmas.Bool.{and_parts, not-true}
 use Rattle.std.proofs.lemmas.Bool.Decides.{nat_tests}
 use Rattle.serde_json.specs.Data.{string, object}
 use Rattle.serde_json.specs.Events.{items_len}
@@ -11,16 +11,18 @@ use Rattle.mtp_codes.specs.Names.{is_name}
 use Rattle.mtp_codes.specs.declared.value.Reading.{Reading as Compared}
 use Rattle.mtp_codes.specs.declared.value.Reading.TheVariants.{Whole, Bit}
 use Rattle.mtp_codes.specs.declared.value.Setting.{Setting}
+use Rattle.mtp_codes.specs.Numbers.{is_between}
 use Rattle.mtp_json.specs.Form.{each, object_here, repeats_by}
-use Rattle.mtp_json.specs.Leaf.{counts, word}
+use Rattle.mtp_json.specs.Leaf.{word}
 use Rattle.mtp_json.specs.Written.{is_scalar}
 use Rattle.mtp_json.proofs.Again.{whole_again, each_again, len_again, scalar_again}
-use Rattle.chart_core.specs.Form.{is_between, are_distinct, formula_count, has_parts_formed, have_parts_formed, may_compare, test_count, nesting, nestings, is_formula_formed, is_finish_formed, is_step_formed, tree_count, is_tree_formed, are_trees_formed, are_arms_formed}
+use Rattle.chart_core.specs.Form.{are_distinct, formula_count, has_parts_formed, have_parts_formed, may_compare, test_count, nesting, nestings, is_formula_formed, is_finish_formed, is_step_formed, tree_count, is_tree_formed, are_trees_formed, are_arms_formed}
 use Rattle.chart_core.specs.Formulas.{Formula, Formulas, constant, all_of, any_of, not_of, test, no_formulas, more_formulas, formulas_of}
 use Rattle.chart_core.specs.Roles.{ChartPlan, RolePlan, are_roles_formed, is_chart_form, role_names}
 use Rattle.chart_core.specs.Trees.{StepPlan, Tree, Trees, Arms, ArmPlan, leaf, seq, par, choice, loop, no_trees, more_trees, no_arms, more_arms, trees_of, arms_of, arm_count}
 use Rattle.chart_core.specs.declared.condition.Op.{Op}
 use Rattle.chart_core.specs.declared.condition.Op.TheVariants.{Lt, Le, Eq, Ne, Ge, Gt}
+use Rattle.chart_json.proofs.Depths.{nesting_told}
 use Rattle.chart_json.specs.Form.{role_of, roles_of, are_roles_sized, same_role, compared, const_form, all_form, any_form, not_form, test_form, condition_by_key, condition_within, condition_of, same_setting, setting_of, step_of, step_form, seq_form, par_form, arm_of, sel_form, loop_form, has, node_by_key, tree_within, tree_of, chart_from, chart_of}
 use Rattle.chart_json.specs.Levels.{levels, all_levels, arm_levels}
 use Rattle.chart_json.specs.Requirement.{requirement_of}
@@ -28,10 +30,6 @@ use Rattle.chart_json.specs.Sound.{is_role_sound, is_compared_sound, is_formula_
 use Rattle.chart_json.specs.Words.{op_words, op_word}
 use Rattle.chart_json.specs.Written.{written_role, written_roles, written_compared, written_formula, written_formulas, written_setting, finish_first, step_keys, written_settings, written_step, written_tree, written_trees, written_arms}
 use Rattle.chart_json.proofs.Formed.{distinct_told}
-
-is_not : (b : Bool) → not b ≡ true → b ≡ false
-is_not true e = absurd (true≢false (sym e))
-is_not false e = refl
 
 -- ---- conditions
 
@@ -95,16 +93,13 @@ mutual
       let sounds = and_parts (is_formula_sound one) (are_formulas_sound others) sound in
       rw (within_again one depth parts.0 sounds.0 (omega arith), all_again others depth (suc place) parts.1 sounds.1 (omega arith)) refl
 
-nesting_told : (n : ℕ) → nat_le n 8 ≡ true → n ≤ max_depth
-nesting_told n few = grind (arith, nat_tests)
-
 -- a condition that is written is read back
 pub condition_again : (condition : Formula) → is_formula_formed condition ≡ true → is_formula_sound condition ≡ true → condition_of (written_formula condition) ≡ Ok condition
 unfolding condition_of
 condition_again condition formed sound =
     let parts = and_parts (has_parts_formed condition) (nat_le (test_count condition) 16 && nat_le (nesting condition) 8) formed in
     let small = and_parts (nat_le (test_count condition) 16) (nat_le (nesting condition) 8) parts.1 in
-    rw (within_again condition max_depth parts.0 sound (nesting_told (nesting condition) small.1), small.0, small.1) refl
+    rw (within_again condition max_depth parts.0 sound (omega (arith, nesting_told (nesting condition) small.1)), small.0, small.1) refl
 
 -- ---- steps
 
@@ -119,8 +114,8 @@ record AreFields (step : StepPlan) : Type 0 where
   pub named : is_name step.name ≡ true
   pub role : is_name step.role ≡ true
   pub service : is_name step.service ≡ true
-  pub procedure : counts 1 65535 step.procedure ≡ true
-  pub few : counts 0 32 (length step.settings) ≡ true
+  pub procedure : is_between 1 65535 step.procedure ≡ true
+  pub few : is_between 0 32 (length step.settings) ≡ true
   pub settings : list_all is_setting_sound step.settings ≡ true
   pub unlike : repeats_by same_setting step.settings ≡ false
 
@@ -132,7 +127,7 @@ fields_again step None are formed sound =
 fields_again step (Some finish) are formed sound =
     rw (are.named, are.role, are.service, are.procedure, len_again written_setting step.settings, are.few, each_again setting_of written_setting is_setting_sound setting_again 0 step.settings are.settings, condition_again finish formed sound, are.unlike) refl
 
-some_settings : (n : ℕ) → nat_le n 32 ≡ true → counts 0 32 n ≡ true
+some_settings : (n : ℕ) → nat_le n 32 ≡ true → is_between 0 32 n ≡ true
 some_settings n few = rw few (grind (arith, nat_tests))
 
 -- a step that is written is read back
@@ -155,7 +150,7 @@ step_again step formed sound =
       procedure = rw (a.0, p.0) refl;
       few = some_settings (length step.settings) b.0;
       settings = e.0;
-      unlike = is_not (repeats_by same_setting step.settings) (sym (distinct_told (λ setting. setting.name) step.settings) ∙ c.0);
+      unlike = not-true (repeats_by same_setting step.settings) (sym (distinct_told (λ setting. setting.name) step.settings) ∙ c.0);
     })
     c.1 e.1
 
@@ -284,7 +279,7 @@ all_of_both (role ∷ roles) sound short =
 pub roles_again : (roles : List RolePlan) → are_roles_sized roles ≡ true → list_all is_role_sound roles ≡ true → roles_of (written_roles roles) ≡ Ok roles
 unfolding roles_of written_roles
 roles_again roles sized sound =
-    let parts = and_parts (counts 1 64 (length roles)) (list_all (λ role. nat_le (length role.wants) 64) roles) sized in
+    let parts = and_parts (is_between 1 64 (length roles)) (list_all (λ role. nat_le (length role.wants) 64) roles) sized in
     rw (len_again written_role roles, parts.0, each_again role_of written_role is_role_written role_again 0 roles (all_of_both roles sound parts.1)) refl
 
 -- ---- charts
@@ -301,7 +296,7 @@ unlike_told chart formed =
     let parts = and_parts (are_roles_formed chart) (is_tree_formed chart.root) formed in
     let sizes = and_parts (is_between 1 64 (length chart.roles)) (are_distinct (role_names chart) && list_all (λ role. nat_le (length role.wants) 64) chart.roles) parts.0 in
     let texts = and_parts (are_distinct (role_names chart)) (list_all (λ role. nat_le (length role.wants) 64) chart.roles) sizes.1 in
-    is_not (repeats_by same_role chart.roles) (sym (distinct_told (λ role. role.role) chart.roles) ∙ texts.0)
+    not-true (repeats_by same_role chart.roles) (sym (distinct_told (λ role. role.role) chart.roles) ∙ texts.0)
 
 -- a chart's own roles and root make the chart
 pub chart_from_again : (chart : ChartPlan) → is_chart_form chart ≡ true → chart_from chart.roles chart.root ≡ Ok chart

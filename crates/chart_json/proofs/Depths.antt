@@ -9,9 +9,10 @@ use Rattle.mtp_codes.specs.declared.value.Reading.TheVariants as reading
 use Rattle.mtp_codes.specs.declared.value.Setting.{Setting}
 use Rattle.mtp_codes.specs.declared.value.Value.{Value}
 use Rattle.mtp_codes.specs.declared.value.Value.TheVariants.{Whole, Bit, Text}
+use Rattle.mtp_codes.specs.Numbers.{is_between}
 use Rattle.mtp_json.specs.Written.{scalar_data}
 use Rattle.mtp_json.proofs.Again.{items_depth_below}
-use Rattle.chart_core.specs.Form.{is_between, are_distinct, has_parts_formed, test_count, nesting, nestings, is_formula_formed, is_finish_formed, is_step_formed, tree_count, is_tree_formed, are_trees_formed, are_arms_formed}
+use Rattle.chart_core.specs.Form.{are_distinct, has_parts_formed, test_count, nesting, nestings, is_formula_formed, is_finish_formed, is_step_formed, tree_count, is_tree_formed, are_trees_formed, are_arms_formed}
 use Rattle.chart_core.specs.Formulas.{Formula, Formulas, constant, all_of, any_of, not_of, test, no_formulas, more_formulas}
 use Rattle.chart_core.specs.Trees.{StepPlan, Tree, Trees, Arms, leaf, seq, par, choice, loop, no_trees, more_trees, no_arms, more_arms, arm_count}
 use Rattle.chart_core.specs.Roles.{ChartPlan, RolePlan, are_roles_formed, is_chart_form}
@@ -45,7 +46,8 @@ mutual
   formulas_depth no_formulas = omega arith
   formulas_depth (more_formulas one each) = omega (arith, formula_depth one, formulas_depth each)
 
-nesting_told : (n : ℕ) → nat_le n 8 ≡ true → n ≤ 8
+-- what the test of a nesting says
+pub nesting_told : (n : ℕ) → nat_le n 8 ≡ true → n ≤ 8
 nesting_told n few = grind (arith, nat_tests)
 
 -- a whole condition nests at most 16 deep
@@ -55,7 +57,8 @@ condition_depth condition formed =
     let small = and_parts (nat_le (test_count condition) 16) (nat_le (nesting condition) 8) parts.1 in
     omega (arith, formula_depth condition, nesting_told (nesting condition) small.1)
 
-scalar_depth : (value : Value) → depth (scalar_data value) ≤ 0
+-- a single value nests nothing
+pub scalar_depth : (value : Value) → depth (scalar_data value) ≤ 0
 scalar_depth (Whole z) = omega arith
 scalar_depth (Bit bit) = omega arith
 scalar_depth (Text bytes) = omega arith

@@ -42,7 +42,8 @@ mutual
   formulas_whole no_formulas = refl
   formulas_whole (more_formulas one each) = rw (formula_whole one, formulas_whole each) refl
 
-scalar_whole : (value : Value) → has_float (scalar_data value) ≡ false
+-- a single value is no float
+pub scalar_whole : (value : Value) → has_float (scalar_data value) ≡ false
 scalar_whole (Whole z) = of_integer-whole z
 scalar_whole (Bit bit) = refl
 scalar_whole (Text bytes) = refl

@@ -12,12 +12,13 @@ use Rattle.serde_json.specs.Data.{Data}
 use Rattle.serde_json.specs.Read.{max_depth}
 use Rattle.mtp_codes.specs.declared.value.Reading.{Reading as Compared}
 use Rattle.mtp_codes.specs.declared.value.Setting.{Setting}
+use Rattle.mtp_codes.specs.Numbers.{is_between}
+use Rattle.mtp_codes.specs.Names.{is_among}
 use Rattle.mtp_json.specs.declared.fault.FaultKind.TheVariants.{OutOfRange, Repeated, Unsound}
 use Rattle.mtp_json.specs.declared.path.PathPart.TheVariants.{Key}
 use Rattle.mtp_json.specs.Form.{each, inside, inside_if_there, list, list_or_none, need, nothing_but, object_here, refused_if, repeats_by}
-use Rattle.mtp_json.specs.Leaf.{counts, count, text_to, items_in}
+use Rattle.mtp_json.specs.Leaf.{count, text_to, items_in}
 use Rattle.mtp_json.specs.Reading.{Reading, ◌>>=◌, here, under}
-use Rattle.chart_core.specs.Same.{is_among}
 use Rattle.chart_core.specs.Form.{are_distinct, formula_count, has_parts_formed, have_parts_formed, may_compare, is_formula_formed, is_finish_formed, is_step_formed, tree_count, is_tree_formed, are_trees_formed, are_arms_formed}
 use Rattle.chart_core.specs.declared.condition.Op.{Op}
 use Rattle.chart_core.specs.Formulas.{Formula, all_of, any_of, not_of, formulas_of, test}
@@ -52,15 +53,15 @@ const_parts value = search any_before
 all_parts : (inner : Data → Reading Formula) → ((value : Data) → IfOk (inner value) HasParts) → (value : Data) → IfOk (all_form inner value) HasParts
 unfolding all_form
 all_parts inner told value =
-    told_before (IsListOf (counts 1 16) has_parts_formed) HasParts (list (codes "all") 1 16 inner value) (λ each. nothing_but (codes "all") value >>= λ _. Ok (all_of (formulas_of each)))
-    (told_list (counts 1 16) has_parts_formed (codes "all") (items_in 1 16) inner (told_items 1 16) told value)
+    told_before (IsListOf (is_between 1 16) has_parts_formed) HasParts (list (codes "all") 1 16 inner value) (λ each. nothing_but (codes "all") value >>= λ _. Ok (all_of (formulas_of each)))
+    (told_list (is_between 1 16) has_parts_formed (codes "all") (items_in 1 16) inner (told_items 1 16) told value)
     (λ each are. any_before HasParts (nothing_but (codes "all") value) (λ _. Ok (all_of (formulas_of each))) (λ _. rw (count_formulas each, are.0, parts_of_all each, are.1) refl))
 
 any_parts : (inner : Data → Reading Formula) → ((value : Data) → IfOk (inner value) HasParts) → (value : Data) → IfOk (any_form inner value) HasParts
 unfolding any_form
 any_parts inner told value =
-    told_before (IsListOf (counts 1 16) has_parts_formed) HasParts (list (codes "any") 1 16 inner value) (λ each. nothing_but (codes "any") value >>= λ _. Ok (any_of (formulas_of each)))
-    (told_list (counts 1 16) has_parts_formed (codes "any") (items_in 1 16) inner (told_items 1 16) told value)
+    told_before (IsListOf (is_between 1 16) has_parts_formed) HasParts (list (codes "any") 1 16 inner value) (λ each. nothing_but (codes "any") value >>= λ _. Ok (any_of (formulas_of each)))
+    (told_list (is_between 1 16) has_parts_formed (codes "any") (items_in 1 16) inner (told_items 1 16) told value)
     (λ each are. any_before HasParts (nothing_but (codes "any") value) (λ _. Ok (any_of (formulas_of each))) (λ _. rw (count_formulas each, are.0, parts_of_all each, are.1) refl))
 
 not_parts : (inner : Data → Reading Formula) → ((value : Data) → IfOk (inner value) HasParts) → (value : Data) → IfOk (not_form inner value) HasParts
@@ -110,7 +111,7 @@ same_either_way one other =
     let turned : Decides (bytes_eq one other) (other ≡ one) = (λ e. sym ((bytes_eq-Decides one other).0 e), λ e. (bytes_eq-Decides one other).1 (sym e)) in
     one_answer (bytes_eq other one) (bytes_eq one other) same turned
 
-among_told : {A : Type 0} (key : A → List ℕ) (x : A) (xs : List A) → is_among (key x) (map key xs) ≡ list_any (λ other. bytes_eq (key x) (key other)) xs
+among_told : {A : Type 0} (key : A → List ℕ) (x : A) (xs : List A) → is_among (map key xs) (key x) ≡ list_any (λ other. bytes_eq (key x) (key other)) xs
 among_told key x [] = refl
 among_told key x (y ∷ xs) = rw (same_either_way (key x) (key y), among_told key x xs) refl
 
@@ -124,8 +125,8 @@ distinct_told key [] = refl
 distinct_told key (x ∷ xs) =
     rw (among_told key x xs, distinct_told key xs, neither (list_any (λ other. bytes_eq (key x) (key other)) xs) (repeats_by (λ x other. bytes_eq (key x) (key other)) xs)) refl
 
-from_one : (n : ℕ) → counts 1 65535 n ≡ true → nat_le 1 n ≡ true
-from_one n fits = (and_parts (nat_le 1 n) (nat_le n 65535) fits).0
+from_one : (n : ℕ) → is_between 1 65535 n ≡ true → nat_le 1 n ≡ true
+from_one n is_within = (and_parts (nat_le 1 n) (nat_le n 65535) is_within).0
 
 -- the step is formed
 abbrev IsStep : StepPlan → Type 0
@@ -156,13 +157,13 @@ rest_of_step : (named role service : List ℕ) (value : Data)
     inside_if_there (codes "finish") condition_of value >>= λ finish.
     ruled_step named role service procedure settings finish value) IsStep
 rest_of_step named role service value =
-    told_before (λ procedure. counts 1 65535 procedure ≡ true) IsStep (need (codes "procedure") (count 1 65535) value)
+    told_before (λ procedure. is_between 1 65535 procedure ≡ true) IsStep (need (codes "procedure") (count 1 65535) value)
     (λ procedure. list_or_none (codes "settings") 0 32 setting_of value >>= λ settings. inside_if_there (codes "finish") condition_of value >>= λ finish. ruled_step named role service procedure settings finish value)
-    (told_need (λ procedure. counts 1 65535 procedure ≡ true) (codes "procedure") (count 1 65535) (told_count 1 65535) value)
+    (told_need (λ procedure. is_between 1 65535 procedure ≡ true) (codes "procedure") (count 1 65535) (told_count 1 65535) value)
     (λ procedure numbered.
-    told_before (IsListOf (counts 0 32) (λ _. true)) IsStep (list_or_none (codes "settings") 0 32 setting_of value)
+    told_before (IsListOf (is_between 0 32) (λ _. true)) IsStep (list_or_none (codes "settings") 0 32 setting_of value)
     (λ settings. inside_if_there (codes "finish") condition_of value >>= λ finish. ruled_step named role service procedure settings finish value)
-    (told_list_or_none (counts 0 32) (λ _. true) (codes "settings") (items_in 0 32) setting_of refl (told_items 0 32) (λ value. any_value (setting_of value)) value)
+    (told_list_or_none (is_between 0 32) (λ _. true) (codes "settings") (items_in 0 32) setting_of refl (told_items 0 32) (λ value. any_value (setting_of value)) value)
     (λ settings few.
     told_before (λ finish. is_finish_formed finish ≡ true) IsStep (inside_if_there (codes "finish") condition_of value) (λ finish. ruled_step named role service procedure settings finish value)
     (told_inside_if_there (λ finish. is_finish_formed finish ≡ true) (codes "finish") condition_of refl condition_formed value)
@@ -235,8 +236,8 @@ arm_formed inner told value =
 sel_formed : (inner : Data → Reading Tree) → ((value : Data) → IfOk (inner value) IsNode) → (value : Data) → IfOk (sel_form inner value) IsNode
 unfolding sel_form
 sel_formed inner told value =
-    told_before (IsListOf (counts 1 16) is_arm_formed) IsNode (list (codes "sel") 1 16 (arm_of inner) value) (λ arms. nothing_but (codes "sel") value >>= λ _. Ok (choice (arms_of arms)))
-    (told_list (counts 1 16) is_arm_formed (codes "sel") (items_in 1 16) (arm_of inner) (told_items 1 16) (arm_formed inner told) value)
+    told_before (IsListOf (is_between 1 16) is_arm_formed) IsNode (list (codes "sel") 1 16 (arm_of inner) value) (λ arms. nothing_but (codes "sel") value >>= λ _. Ok (choice (arms_of arms)))
+    (told_list (is_between 1 16) is_arm_formed (codes "sel") (items_in 1 16) (arm_of inner) (told_items 1 16) (arm_formed inner told) value)
     (λ arms are. any_before IsNode (nothing_but (codes "sel") value) (λ _. Ok (choice (arms_of arms))) (λ _. rw (count_arms arms, are.0, arms_all arms, are.1) refl))
 
 loop_formed : (inner : Data → Reading Tree) → ((value : Data) → IfOk (inner value) IsNode) → (value : Data) → IfOk (loop_form inner value) IsNode
@@ -291,13 +292,13 @@ role_short value = search (any_before, wants_short) depth 12
 pub roles_sized : (value : Data) → IfOk (roles_of value) (λ roles. are_roles_sized roles ≡ true)
 unfolding roles_of
 roles_sized value =
-    told_before (HasSize (counts 1 64)) (λ roles. are_roles_sized roles ≡ true) (here (items_in 1 64 value)) (λ values. each role_of 0 values)
-    (told_here (HasSize (counts 1 64)) (items_in 1 64 value) (told_items 1 64 value))
+    told_before (HasSize (is_between 1 64)) (λ roles. are_roles_sized roles ≡ true) (here (items_in 1 64 value)) (λ values. each role_of 0 values)
+    (told_here (HasSize (is_between 1 64)) (items_in 1 64 value) (told_items 1 64 value))
     (λ values sized.
-    IfOk-weaker (each role_of 0 values) (IsListOf (counts 1 64) is_role_short) (λ roles. are_roles_sized roles ≡ true) (λ roles are. rw (are.0, are.1) refl) (told_all (counts 1 64) is_role_short role_of role_short values sized))
+    IfOk-weaker (each role_of 0 values) (IsListOf (is_between 1 64) is_role_short) (λ roles. are_roles_sized roles ≡ true) (λ roles are. rw (are.0, are.1) refl) (told_all (is_between 1 64) is_role_short role_of role_short values sized))
 
 -- sized roles of which none is named twice, and a formed node, are a chart's form
 pub chart_formed : (roles : List RolePlan) (root : Tree) → are_roles_sized roles ≡ true → is_tree_formed root ≡ true → repeats_by same_role roles ≡ false → is_chart_form (record { roles = roles; root = root }) ≡ true
 chart_formed roles root sized formed unlike =
-    let parts = and_parts (counts 1 64 (length roles)) (list_all is_role_short roles) sized in
+    let parts = and_parts (is_between 1 64 (length roles)) (list_all is_role_short roles) sized in
     rw (parts.0, distinct_told (λ role. role.role) roles, unlike, parts.1, formed) refl

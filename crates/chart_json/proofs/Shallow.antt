@@ -2,18 +2,20 @@
 use Rattle.std.proofs.Common.{◌≡◌, ℕ, ◌+◌, ◌≤◌, Bool, true, false, List, [], ◌∷◌, ◌++◌, Option, Some, None, refl, arith}
 use Rattle.std.specs.Prelude.{nat_lt}
 use Rattle.std.proofs.lemmas.Bool.Decides.{nat_tests}
+use Rattle.std.specs.Option.{option_or}
+use Rattle.mtp_codes.specs.Faults.{when}
 use Rattle.chart_core.specs.Roles.{ChartPlan}
 use Rattle.chart_core.specs.Trees.{Tree, Trees, Arms, leaf, seq, par, choice, loop, no_trees, more_trees, no_arms, more_arms, size}
-use Rattle.chart_core.specs.Valid.{Visit, visit, visits, all_visits, arm_visits, step_count, fault_where, or_else, node_fault, first_fault, IsValid}
+use Rattle.chart_core.specs.Valid.{Visit, visit, visits, all_visits, arm_visits, step_count, node_fault, first_fault, IsValid}
 use Rattle.chart_core.specs.declared.fault.ChartFault.{ChartFault}
 use Rattle.chart_core.specs.declared.fault.ChartFault.TheVariants.{TooDeep}
 use Rattle.chart_json.specs.Levels.{levels, all_levels, arm_levels}
 
-neither_faulty : (one other : Option ChartFault) → or_else one other ≡ None → (one ≡ None) × (other ≡ None)
+neither_faulty : (one other : Option ChartFault) → option_or one other ≡ None → (one ≡ None) × (other ≡ None)
 neither_faulty None other none = (refl, none)
 neither_faulty (Some fault) other none = absurd cc
 
-not_there : (here : Bool) (fault : ChartFault) → fault_where here fault ≡ None → here ≡ false
+not_there : (here : Bool) (fault : ChartFault) → when here fault ≡ None → here ≡ false
 not_there true fault none = absurd cc
 not_there false fault none = refl
 
@@ -21,9 +23,9 @@ depth_told : (depth : ℕ) → nat_lt 16 depth ≡ false → depth ≤ 16
 depth_told depth test = grind (arith, nat_tests)
 
 -- a node with no fault lies at most 16 deep
-node_shallow : (chart : ChartPlan) (node : Visit) (rest : Option ChartFault) → or_else (fault_where (nat_lt 16 node.depth) (TooDeep node.number)) rest ≡ None → node.depth ≤ 16
+node_shallow : (chart : ChartPlan) (node : Visit) (rest : Option ChartFault) → option_or (when (nat_lt 16 node.depth) (TooDeep node.number)) rest ≡ None → node.depth ≤ 16
 node_shallow chart node rest none =
-    depth_told node.depth (not_there (nat_lt 16 node.depth) (TooDeep node.number) (neither_faulty (fault_where (nat_lt 16 node.depth) (TooDeep node.number)) rest none).0)
+    depth_told node.depth (not_there (nat_lt 16 node.depth) (TooDeep node.number) (neither_faulty (when (nat_lt 16 node.depth) (TooDeep node.number)) rest none).0)
 
 both_clear : (chart : ChartPlan) (xs ys : List Visit) → first_fault chart (xs ++ ys) ≡ None → (first_fault chart xs ≡ None) × (first_fault chart ys ≡ None)
 both_clear chart [] ys none = (refl, none)

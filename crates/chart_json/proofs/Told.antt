@@ -6,6 +6,7 @@ use Rattle.std.specs.List.{list_all}
 use Rattle.serde_json.specs.Data.{Data, Items, no_items, item}
 use Rattle.serde_json.specs.Events.{items_len}
 use Rattle.serde_json.specs.Find.{get, as_array, as_str}
+use Rattle.mtp_codes.specs.Numbers.{is_between}
 use Rattle.mtp_json.specs.declared.fault.FaultKind.{FaultKind}
 use Rattle.mtp_json.specs.declared.fault.FaultKind.TheVariants.{OutOfRange}
 use Rattle.mtp_json.specs.declared.fault.JsonRefusal.{JsonRefusal}
@@ -13,7 +14,7 @@ use Rattle.mtp_json.specs.declared.path.PathPart.{PathPart}
 use Rattle.mtp_json.specs.declared.path.PathPart.TheVariants.{Key, Place}
 use Rattle.mtp_json.specs.Form.{present, if_present, some, by_form, need, optional, inside, inside_if_there, each, each_or_none, refused_if}
 use Rattle.mtp_json.specs.Gives.{Below, Gives}
-use Rattle.mtp_json.specs.Leaf.{anything, count, count_in, counts, items_in, sized, text_in, text_to, whole_number}
+use Rattle.mtp_json.specs.Leaf.{anything, count, count_in, items_in, sized, text_in, text_to, whole_number}
 use Rattle.mtp_json.specs.Reading.{Finding, Reading, ◌>>=◌, at, here, in_place, under}
 use Rattle.chart_json.specs.Form.{items_from, sized_from}
 
@@ -79,18 +80,18 @@ pub told_inside_if_there : {A : Type 0} (P : Option A → Type 0) (key : List �
 told_inside_if_there P key form absent told value = told_at P (Key key) (by_form form (get key value)) (told_by_form P form absent told (get key value))
 
 -- a number from low to high
-told_count_in : (low high : ℕ) (found : Option ℤ) → IfOk (count_in low high found) (λ n. counts low high n ≡ true)
+told_count_in : (low high : ℕ) (found : Option ℤ) → IfOk (count_in low high found) (λ n. is_between low high n ≡ true)
 told_count_in low high None = tt
-told_count_in low high (Some (pos n)) = told_if (λ n. counts low high n ≡ true) (counts low high n) n OutOfRange (λ fits. fits)
+told_count_in low high (Some (pos n)) = told_if (λ n. is_between low high n ≡ true) (is_between low high n) n OutOfRange (λ is_within. is_within)
 told_count_in low high (Some (negsuc n)) = tt
 
-pub told_count : (low high : ℕ) (value : Data) → IfOk (count low high value) (λ n. counts low high n ≡ true)
+pub told_count : (low high : ℕ) (value : Data) → IfOk (count low high value) (λ n. is_between low high n ≡ true)
 told_count low high value = told_count_in low high (whole_number value)
 
 -- a text of at most so many bytes
 told_text_in : (limit : ℕ) (found : Option (List ℕ)) → IfOk (text_in limit found) (λ bytes. nat_le (length bytes) limit ≡ true)
 told_text_in limit None = tt
-told_text_in limit (Some bytes) = told_if (λ bytes. nat_le (length bytes) limit ≡ true) (nat_le (length bytes) limit) bytes OutOfRange (λ fits. fits)
+told_text_in limit (Some bytes) = told_if (λ bytes. nat_le (length bytes) limit ≡ true) (nat_le (length bytes) limit) bytes OutOfRange (λ is_within. is_within)
 
 pub told_text : (limit : ℕ) (value : Data) → IfOk (text_to limit value) (λ bytes. nat_le (length bytes) limit ≡ true)
 told_text limit value = told_text_in limit (as_str value)
@@ -101,16 +102,16 @@ told_text limit value = told_text_in limit (as_str value)
 abbrev pub HasSize : (ℕ → Bool) → Items → Type 0
 HasSize size values = size (items_len values) ≡ true
 
-told_sized : (low high : ℕ) (found : Option Items) → IfOk (sized low high found) (HasSize (counts low high))
+told_sized : (low high : ℕ) (found : Option Items) → IfOk (sized low high found) (HasSize (is_between low high))
 told_sized low high None = tt
-told_sized low high (Some values) = told_if (HasSize (counts low high)) (counts low high (items_len values)) values OutOfRange (λ fits. fits)
+told_sized low high (Some values) = told_if (HasSize (is_between low high)) (is_between low high (items_len values)) values OutOfRange (λ is_within. is_within)
 
-pub told_items : (low high : ℕ) (value : Data) → IfOk (items_in low high value) (HasSize (counts low high))
+pub told_items : (low high : ℕ) (value : Data) → IfOk (items_in low high value) (HasSize (is_between low high))
 told_items low high value = told_sized low high (as_array value)
 
 told_sized_from : (low : ℕ) (found : Option Items) → IfOk (sized_from low found) (HasSize (nat_le low))
 told_sized_from low None = tt
-told_sized_from low (Some values) = told_if (HasSize (nat_le low)) (nat_le low (items_len values)) values OutOfRange (λ fits. fits)
+told_sized_from low (Some values) = told_if (HasSize (nat_le low)) (nat_le low (items_len values)) values OutOfRange (λ is_within. is_within)
 
 pub told_items_from : (low : ℕ) (value : Data) → IfOk (items_from low value) (HasSize (nat_le low))
 told_items_from low value = told_sized_from low (as_array value)

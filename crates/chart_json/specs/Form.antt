@@ -9,8 +9,9 @@ use Rattle.serde_json.specs.Read.{max_depth}
 use Rattle.mtp_codes.specs.declared.value.Reading.{Reading as Compared}
 use Rattle.mtp_codes.specs.declared.value.Reading.TheVariants.{Whole, Bit}
 use Rattle.mtp_codes.specs.declared.value.Setting.{Setting}
+use Rattle.mtp_codes.specs.Numbers.{greatest_i64, is_between, least_i64}
 use Rattle.mtp_json.specs.Form.{each, need, inside, inside_if_there, list, list_or_none, object_here, nothing_but, refused_if, repeats_by}
-use Rattle.mtp_json.specs.Leaf.{count, counts, items_in, name, scalar, text_to, truth, whole_in, word, i64_low, i64_high}
+use Rattle.mtp_json.specs.Leaf.{count, items_in, name, scalar, text_to, truth, whole_in, word}
 use Rattle.mtp_json.specs.Reading.{Finding, Reading, ◌>>=◌, here, under}
 use Rattle.mtp_json.specs.declared.fault.FaultKind.TheVariants.{Missing, WrongKind, OutOfRange, Repeated, Unsound}
 use Rattle.chart_core.specs.Formulas.{Formula, constant, all_of, any_of, not_of, test, formulas_of}
@@ -41,7 +42,7 @@ roles_of value =
 
 -- 1 to 64 roles, each with a text of at most 64 bytes
 abbrev pub are_roles_sized : List RolePlan → Bool
-are_roles_sized roles = counts 1 64 (length roles) && list_all (λ role. nat_le (length role.wants) 64) roles
+are_roles_sized roles = is_between 1 64 (length roles) && list_all (λ role. nat_le (length role.wants) 64) roles
 
 -- ---- conditions
 
@@ -54,7 +55,7 @@ whole_compared (Err kind) = Err kind
 abbrev pub compared : Data → Finding Compared
 compared null = Err WrongKind
 compared (boolean bit) = Ok (Bit bit)
-compared (number held) = whole_compared (whole_in i64_low i64_high (as_integer held))
+compared (number held) = whole_compared (whole_in least_i64 greatest_i64 (as_integer held))
 compared (string _) = Err WrongKind
 compared (array _) = Err WrongKind
 compared (object _) = Err WrongKind

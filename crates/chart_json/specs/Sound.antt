@@ -5,7 +5,7 @@ use Rattle.mtp_codes.specs.Names.{is_name}
 use Rattle.mtp_codes.specs.declared.value.Reading.{Reading}
 use Rattle.mtp_codes.specs.declared.value.Reading.TheVariants.{Whole, Bit}
 use Rattle.mtp_codes.specs.declared.value.Setting.{Setting}
-use Rattle.mtp_json.specs.Leaf.{fits, i64_low, i64_high}
+use Rattle.mtp_codes.specs.Numbers.{greatest_i64, is_within, least_i64}
 use Rattle.mtp_json.specs.Written.{is_scalar}
 use Rattle.chart_core.specs.Formulas.{Formula, Formulas, constant, all_of, any_of, not_of, test, no_formulas, more_formulas}
 use Rattle.chart_core.specs.Trees.{StepPlan, Tree, Trees, Arms, leaf, seq, par, choice, loop, no_trees, more_trees, no_arms, more_arms}
@@ -18,7 +18,7 @@ is_role_sound role = is_name role.role && (is_name role.type_name && is_ok (requ
 
 -- what a test compares with has 64 bits where it is a number
 abbrev pub is_compared_sound : Reading → Bool
-is_compared_sound (Whole z) = fits i64_low i64_high z
+is_compared_sound (Whole z) = is_within least_i64 greatest_i64 z
 is_compared_sound (Bit bit) = true
 
 -- each test in the condition is sound

@@ -1,101 +1,41 @@
 //! The log of a worked chart, and parts of it.
 
-ghost use Rattle.std.specs.Prelude.{◌≤◌, map, length, IfOk, IsTrue};
-ghost use Rattle.chart_core.specs.Form.{is_formula_formed, is_finish_formed, is_tree_formed};
-ghost use Rattle.chart_core.specs.Formulas.{formula};
-ghost use Rattle.chart_core.specs.Trees.{Tree, tree, finish_plan};
-ghost use Rattle.chart_core.specs.Roles.{role_plan, are_roles_formed};
-
 use crate::{is_part, is_whole};
-use chart_core::{Chart, Condition, LogEntry, Node, Op, Readings, Role, Step};
-use mtp_codes::{Name, Reading, Short};
-use semver::VersionReq;
+use chart_core::{Chart, LogEntry, Readings};
+use chart_json::read_chart;
+use mtp_codes::{Name, Reading};
+use mtp_json::parse;
 use std::alloc::Global;
 use std::test::*;
+
+const ROLES: &str = r#"[
+    {"role":"A","type":"Doser","version":"^1"},
+    {"role":"B","type":"Mixer","version":"^2"}
+]"#;
+
+/// Fills in a loop until the level is 1500, and then stirs and heats.
+const MIX: &str = r#"{"seq":[
+    {
+        "loop":{"step":"fill","role":"A","service":"dose","procedure":1},
+        "until":{"test":"level","role":"A","op":"ge","value":1500}
+    },
+    {"par":[
+        {
+            "step":"stir","role":"B","service":"stir","procedure":1,
+            "finish":{"test":"temp","role":"B","op":"ge","value":60}
+        },
+        {"step":"heat","role":"B","service":"heat","procedure":1}
+    ]}
+]}"#;
 
 fn named(text: &str) -> Result<Name, Fail> {
     Ok(Name::of_bytes(text.as_bytes()).ok_or("no name")?)
 }
 
-// A role for modules of this type, in the versions that the text allows.
-fn role(alloc: Global, name: &str, type_name: &str, wants: &str) -> Result<Role, Fail>
-    ensures { IfOk result (λ role. length role.wants ≤ 64) }
-{
-    let wants = Short::of_text(wants).ok_or("no text")?;
-    if wants.as_str().len() > 64 {
-        return Err("too long".into());
-    }
-    let req = match VersionReq::parse(alloc, wants.as_str()) {
-        Ok(req) => req,
-        Err(_) => return Err("no requirement".into()),
-    };
-    Ok(Role {
-        role: named(name)?,
-        type_name: named(type_name)?,
-        wants,
-        req,
-    })
-}
-
-// Two roles: A for dosers and B for mixers.
-fn roles(alloc: Global) -> Result<Vec<Role>, Fail>
-    ensures { IfOk result (λ roles. (root : Tree) → IsTrue (are_roles_formed (record { roles = map role_plan roles.items; root = root }))) }
-{
-    let doser = role(alloc, "A", "Doser", "^1")?;
-    let mixer = role(alloc, "B", "Mixer", "^2")?;
-    if mixer.role == doser.role {
-        return Err("one role twice".into());
-    }
-    Ok(vec![in alloc; doser, mixer]?)
-}
-
-fn at_least(variable: &str, role: &str, value: i64) -> Result<Condition, Fail>
-    ensures { IfOk result (λ condition. IsTrue (is_formula_formed (formula condition))) }
-{
-    Ok(Condition::Test {
-        role: named(role)?,
-        var: named(variable)?,
-        op: Op::Ge,
-        value: Reading::Whole(value),
-    })
-}
-
-fn step(
-    alloc: Global,
-    name: &str,
-    role: &str,
-    service: &str,
-    finish: Option<Condition>,
-) -> Result<Node, Fail>
-    requires { IsTrue (is_finish_formed (finish_plan finish)) }
-    ensures { IfOk result (λ node. IsTrue (is_tree_formed (tree node))) }
-{
-    Ok(Node::Step(Step {
-        name: named(name)?,
-        role: named(role)?,
-        service: named(service)?,
-        procedure: 1,
-        settings: Vec::new(alloc),
-        finish,
-    }))
-}
-
-// Fills in a loop until the level is 1500, and then stirs and heats.
-fn nodes(alloc: Global) -> Result<Node, Fail>
-    ensures { IfOk result (λ node. IsTrue (is_tree_formed (tree node))) }
-{
-    let fill = step(alloc, "fill", "A", "dose", None)?;
-    let filled = Node::Loop(Box::new(alloc, fill)?, at_least("level", "A", 1500)?);
-    let stir = step(alloc, "stir", "B", "stir", Some(at_least("temp", "B", 60)?))?;
-    let heat = step(alloc, "heat", "B", "heat", None)?;
-    let mixed = Node::Par(vec![in alloc; stir, heat]?);
-    Ok(Node::Seq(vec![in alloc; filled, mixed]?))
-}
-
 fn mix(alloc: Global) -> Result<Chart, Fail> {
-    let roles = roles(alloc)?;
-    let root = nodes(alloc)?;
-    Ok(Chart { roles, root })
+    let roles = parse(alloc, ROLES.as_bytes()).ok().ok_or("no value")?;
+    let chart = parse(alloc, MIX.as_bytes()).ok().ok_or("no value")?;
+    Ok(read_chart(alloc, &roles, &chart).ok().ok_or("no chart")?)
 }
 
 fn start(step: &str, tag: &str, service: &str) -> Result<LogEntry, Fail> {

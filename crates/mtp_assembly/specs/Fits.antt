@@ -1,14 +1,14 @@
 -- Whether a value fits a parameter or a variable: the first of 'of another kind' and 'out of range'.
-use Rattle.std.specs.Prelude.{ℤ, Option, Some, None, Result, Ok, Err, if◌then◌else◌, ⊤}
+use Rattle.std.specs.Prelude.{ℤ, Option, Some, None, if◌then◌else◌}
 use Rattle.mtp_codes.specs.declared.value.Value.{Value}
 use Rattle.mtp_codes.specs.declared.value.Value.TheVariants as value
+use Rattle.mtp_codes.specs.Numbers.{greatest_i32, is_within, least_i32}
 use Rattle.mtp_assembly.specs.declared.check.ValueFault.{ValueFault}
 use Rattle.mtp_assembly.specs.declared.check.ValueFault.TheVariants.{WrongKind, OutOfRange}
 use Rattle.mtp_assembly.specs.declared.param.ParamKind.{ParamKind}
 use Rattle.mtp_assembly.specs.declared.param.ParamKind.TheVariants as param
 use Rattle.mtp_assembly.specs.declared.variable.ViewKind.{ViewKind}
 use Rattle.mtp_assembly.specs.declared.variable.ViewKind.TheVariants as variable
-use Rattle.mtp_assembly.specs.Kinds.{least_i32, greatest_i32, is_within}
 
 -- a whole number that is not from low to high is out of range
 abbrev pub range_fault : ℤ → ℤ → ℤ → Option ValueFault
@@ -29,8 +29,3 @@ view_fault variable.DInt (value.Whole z) = range_fault least_i32 greatest_i32 z
 view_fault variable.Bin (value.Bit _) = None
 view_fault variable.Text (value.Text _) = None
 view_fault _ _ = Some WrongKind
-
--- Ok, or the fault that there is
-abbrev pub answer_to : {E : Type 0} → Option E → Result ⊤ E
-answer_to None = Ok tt
-answer_to (Some fault) = Err fault

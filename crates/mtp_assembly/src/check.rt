@@ -1,7 +1,8 @@
 //! Whether a value fits a parameter or a variable.
 
 ghost use Rattle.std.specs.Prelude.{◌≡◌};
-ghost use Rattle.mtp_assembly.specs.Fits.{answer_to, range_fault, value_fault, view_fault};
+ghost use Rattle.mtp_codes.specs.Faults.{done_unless};
+ghost use Rattle.mtp_assembly.specs.Fits.{range_fault, value_fault, view_fault};
 
 use crate::param::{Param, ParamKind};
 use crate::variable::{View, ViewKind};
@@ -17,7 +18,7 @@ pub enum ValueFault {
 }
 
 fn check_range(low: i64, high: i64, number: i64) -> Result<(), ValueFault>
-    ensures { result ≡ answer_to (range_fault low high number) }
+    ensures { result ≡ done_unless (range_fault low high number) }
 {
     if low <= number && number <= high {
         Ok(())
@@ -29,7 +30,7 @@ fn check_range(low: i64, high: i64, number: i64) -> Result<(), ValueFault>
 /// Whether a parameter takes the value: WrongKind exactly where the value isn't a whole number for Ana and DInt, a truth
 /// value for Bin, a text for Text; else OutOfRange exactly where a whole number is outside `min` to `max`.
 pub fn check_value(param: &Param, value: &Value) -> Result<(), ValueFault>
-    ensures { result ≡ answer_to (value_fault param.now.kind value.now) }
+    ensures { result ≡ done_unless (value_fault param.now.kind value.now) }
 {
     match (param.kind, *value) {
         (ParamKind::Ana { min, max }, Value::Whole(number)) => check_range(min, max, number),
@@ -44,7 +45,7 @@ pub fn check_value(param: &Param, value: &Value) -> Result<(), ValueFault>
 /// Whether a variable may have the value: WrongKind as for a parameter; else OutOfRange exactly for a DInt number outside
 /// the range of 32 bits.
 pub fn check_view(view: &View, value: &Value) -> Result<(), ValueFault>
-    ensures { result ≡ answer_to (view_fault view.now.kind value.now) }
+    ensures { result ≡ done_unless (view_fault view.now.kind value.now) }
 {
     match (view.kind, *value) {
         (ViewKind::DInt, Value::Whole(number)) => {

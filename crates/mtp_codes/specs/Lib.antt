@@ -3,3 +3,5 @@ pub mod Names
 pub mod Texts
 pub mod Fields
 pub mod Codes
+pub mod Numbers
+pub mod Faults

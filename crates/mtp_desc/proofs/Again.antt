@@ -1,37 +1,33 @@
 -- What is written is read back.
-use Rattle.std.proofs.Common.{◌≡◌, ◌&&◌, ℕ, Bool, true, false, not, List, length, Ok, refl, sym, true≢false}
+use Rattle.std.proofs.Common.{◌≡◌, ◌&&◌, ℕ, true, not, List, length, Ok, refl}
 use Rattle.std.specs.Prelude.{int_lt}
 use Rattle.std.specs.List.{list_all}
-use Rattle.std.proofs.lemmas.Bool.{and_parts}
-use Rattle.mtp_assembly.specs.Kinds.{is_ordered, is_within, least_i32, greatest_i32, least_i64, greatest_i64}
+use Rattle.std.proofs.lemmas.Bool.{and_parts, not-true}
+use Rattle.mtp_codes.specs.Numbers.{greatest_i32, greatest_i64, is_within, least_i32, least_i64, is_between}
+use Rattle.mtp_codes.specs.Names.{is_name}
+use Rattle.mtp_assembly.specs.Kinds.{is_ordered}
 use Rattle.mtp_assembly.specs.Plain.{ParamForm, VariableForm}
 use Rattle.mtp_assembly.specs.declared.param.ParamKind.{ParamKind}
 use Rattle.mtp_assembly.specs.declared.param.ParamKind.TheVariants.{Ana, DInt, Bin, Text}
 use Rattle.mtp_assembly.specs.declared.variable.ViewKind.{ViewKind}
 use Rattle.mtp_assembly.specs.declared.variable.ViewKind.TheVariants as variable
-use Rattle.mtp_codes.specs.Names.{is_name}
 use Rattle.mtp_json.specs.Form.{repeats_by}
-use Rattle.mtp_json.specs.Leaf.{counts}
 use Rattle.mtp_json.proofs.Again.{whole_again, each_again, len_again}
 use Rattle.mtp_desc.specs.Form.{ranged_param, free_param, param_of, procedure_of, ruled_service, service_of, variable_of, description_of, has_one_default}
 use Rattle.mtp_desc.specs.Plain.{ProcedureForm, ServiceForm, DescriptionForm, same_param, same_procedure}
 use Rattle.mtp_desc.specs.Written.{written_param, written_variable, written_procedure, written_service, written_description}
 use Rattle.mtp_desc.proofs.Sound.{is_param, is_variable, is_procedure, is_service, IsDescription}
 
-is_not : (b : Bool) → not b ≡ true → b ≡ false
-is_not true e = absurd (true≢false (sym e))
-is_not false e = refl
-
 kind_again : (named : List ℕ) (kind : ParamKind) → is_name named ≡ true → is_ordered kind ≡ true → param_of (written_param (record { name = named; kind = kind })) ≡ Ok (record { name = named; kind = kind })
 unfolding param_of written_param ranged_param free_param
 kind_again named (Ana min max) is ordered =
     let low = and_parts (is_within least_i64 greatest_i64 min) (is_within least_i64 greatest_i64 max && not (int_lt max min)) ordered in
     let high = and_parts (is_within least_i64 greatest_i64 max) (not (int_lt max min)) low.1 in
-    rw (is, whole_again min, low.0, whole_again max, high.0, is_not (int_lt max min) high.1) refl
+    rw (is, whole_again min, low.0, whole_again max, high.0, not-true (int_lt max min) high.1) refl
 kind_again named (DInt min max) is ordered =
     let low = and_parts (is_within least_i32 greatest_i32 min) (is_within least_i32 greatest_i32 max && not (int_lt max min)) ordered in
     let high = and_parts (is_within least_i32 greatest_i32 max) (not (int_lt max min)) low.1 in
-    rw (is, whole_again min, low.0, whole_again max, high.0, is_not (int_lt max min) high.1) refl
+    rw (is, whole_again min, low.0, whole_again max, high.0, not-true (int_lt max min) high.1) refl
 kind_again named Bin is ordered = rw is refl
 kind_again named Text is ordered = rw is refl
 
@@ -51,19 +47,19 @@ variable_again variable sound = variable_kind_again variable.name variable.kind 
 pub procedure_again : (procedure : ProcedureForm) → is_procedure procedure ≡ true → procedure_of (written_procedure procedure) ≡ Ok procedure
 unfolding procedure_of written_procedure
 procedure_again procedure sound =
-    let numbered = and_parts (counts 1 65535 procedure.number) (counts 0 32 (length procedure.params) && (list_all is_param procedure.params && not (repeats_by same_param procedure.params))) sound in
-    let few = and_parts (counts 0 32 (length procedure.params)) (list_all is_param procedure.params && not (repeats_by same_param procedure.params)) numbered.1 in
+    let numbered = and_parts (is_between 1 65535 procedure.number) (is_between 0 32 (length procedure.params) && (list_all is_param procedure.params && not (repeats_by same_param procedure.params))) sound in
+    let few = and_parts (is_between 0 32 (length procedure.params)) (list_all is_param procedure.params && not (repeats_by same_param procedure.params)) numbered.1 in
     let each = and_parts (list_all is_param procedure.params) (not (repeats_by same_param procedure.params)) few.1 in
-    rw (numbered.0, len_again written_param procedure.params, few.0, each_again param_of written_param is_param param_again 0 procedure.params each.0, is_not (repeats_by same_param procedure.params) each.1) refl
+    rw (numbered.0, len_again written_param procedure.params, few.0, each_again param_of written_param is_param param_again 0 procedure.params each.0, not-true (repeats_by same_param procedure.params) each.1) refl
 
 pub service_again : (service : ServiceForm) → is_service service ≡ true → service_of (written_service service) ≡ Ok service
 unfolding service_of ruled_service written_service
 service_again service sound =
-    let named = and_parts (is_name service.name) (counts 1 16 (length service.procedures) && (list_all is_procedure service.procedures && (not (repeats_by same_procedure service.procedures) && has_one_default service.procedures))) sound in
-    let few = and_parts (counts 1 16 (length service.procedures)) (list_all is_procedure service.procedures && (not (repeats_by same_procedure service.procedures) && has_one_default service.procedures)) named.1 in
+    let named = and_parts (is_name service.name) (is_between 1 16 (length service.procedures) && (list_all is_procedure service.procedures && (not (repeats_by same_procedure service.procedures) && has_one_default service.procedures))) sound in
+    let few = and_parts (is_between 1 16 (length service.procedures)) (list_all is_procedure service.procedures && (not (repeats_by same_procedure service.procedures) && has_one_default service.procedures)) named.1 in
     let each = and_parts (list_all is_procedure service.procedures) (not (repeats_by same_procedure service.procedures) && has_one_default service.procedures) few.1 in
     let ruled = and_parts (not (repeats_by same_procedure service.procedures)) (has_one_default service.procedures) each.1 in
-    rw (named.0, len_again written_procedure service.procedures, few.0, each_again procedure_of written_procedure is_procedure procedure_again 0 service.procedures each.0, is_not (repeats_by same_procedure service.procedures) ruled.0, ruled.1) refl
+    rw (named.0, len_again written_procedure service.procedures, few.0, each_again procedure_of written_procedure is_procedure procedure_again 0 service.procedures each.0, not-true (repeats_by same_procedure service.procedures) ruled.0, ruled.1) refl
 
 -- a description that is written is read back
 pub description_again : (description : DescriptionForm) → IsDescription description → description_of (written_description description) ≡ Ok description

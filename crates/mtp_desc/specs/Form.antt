@@ -1,11 +1,12 @@
 -- The form of a description: what it says, or its first fault in reading order.
 use Rattle.std.specs.Prelude.{ℕ, ◌==◌, ℤ, Bool, true, false, not, int_lt, List, [], ◌∷◌, codes, unwrap_or, Ok, count_by}
 use Rattle.serde_json.specs.Data.{Data}
+use Rattle.mtp_codes.specs.Numbers.{greatest_i32, greatest_i64, least_i32, least_i64}
 use Rattle.mtp_assembly.specs.Plain.{ParamForm, VariableForm}
 use Rattle.mtp_assembly.specs.declared.param.ParamKind.{ParamKind}
 use Rattle.mtp_assembly.specs.declared.param.ParamKind.TheVariants.{Ana, DInt, Bin, Text}
 use Rattle.mtp_json.specs.Form.{need, need_or, list, list_or_none, list_if_there, object_here, nothing_but, refused_if, repeats_by}
-use Rattle.mtp_json.specs.Leaf.{count, name, text_to, truth, whole, word, i32_low, i32_high, i64_low, i64_high}
+use Rattle.mtp_json.specs.Leaf.{count, name, text_to, truth, whole, word}
 use Rattle.mtp_json.specs.Reading.{Reading, ◌>>=◌, here, under}
 use Rattle.mtp_json.specs.declared.fault.FaultKind.TheVariants.{Repeated, Unsound}
 use Rattle.mtp_desc.specs.declared.words.ParamWord.{ParamWord}
@@ -31,8 +32,8 @@ free_param named kind value =
 
 -- a parameter of this kind
 abbrev pub param_by : List ℕ → Data → ParamWord → Reading ParamForm
-param_by named value param.Ana = ranged_param named i64_low i64_high Ana value
-param_by named value param.DInt = ranged_param named i32_low i32_high DInt value
+param_by named value param.Ana = ranged_param named least_i64 greatest_i64 Ana value
+param_by named value param.DInt = ranged_param named least_i32 greatest_i32 DInt value
 param_by named value param.Bin = free_param named Bin value
 param_by named value param.Text = free_param named Text value
 

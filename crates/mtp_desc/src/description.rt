@@ -3,10 +3,10 @@
 ghost use Rattle.std.specs.Prelude.{◌≡◌, false, find, length, map, nat_le, option_map, position, IsTrue, Ok};
 ghost use Rattle.std.specs.Str.{bytes_eq};
 ghost use Rattle.semver.specs.Identifiers.{parts_of};
-ghost use Rattle.mtp_assembly.specs.Plain.{variable_view};
 ghost use Rattle.mtp_codes.specs.Names.{is_name};
+ghost use Rattle.mtp_codes.specs.Numbers.{is_between};
+ghost use Rattle.mtp_assembly.specs.Plain.{variable_view};
 ghost use Rattle.mtp_json.specs.Form.{repeats_by};
-ghost use Rattle.mtp_json.specs.Leaf.{counts};
 ghost use Rattle.mtp_desc.specs.Plain.{same_service, same_variable};
 ghost use Rattle.mtp_desc.specs.ServiceView.{service_view};
 ghost use Rattle.mtp_desc.specs.Version.{version_of};
@@ -28,8 +28,8 @@ pub struct Description {
     ghost typed: { IsTrue (is_name type_name) },
     ghost short: { IsTrue (nat_le (length version_text) 64) },
     ghost versioned: { version_of version_text ≡ Ok (parts_of version) },
-    ghost some_services: { IsTrue (counts 1 32 (length services.items)) },
-    ghost few_variables: { IsTrue (counts 0 64 (length variables.items)) },
+    ghost some_services: { IsTrue (is_between 1 32 (length services.items)) },
+    ghost few_variables: { IsTrue (is_between 0 64 (length variables.items)) },
     ghost unlike_services: { repeats_by same_service (map service_view services.items) ≡ false },
     ghost unlike_variables: { repeats_by same_variable (map variable_view variables.items) ≡ false },
 }

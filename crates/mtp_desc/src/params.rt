@@ -2,11 +2,11 @@
 
 ghost use Rattle.std.specs.Prelude.{◌≡◌, IfOk, IsTrue};
 ghost use Rattle.serde_json.specs.View.{view};
+ghost use Rattle.mtp_codes.specs.Names.{is_name};
+ghost use Rattle.mtp_codes.specs.Numbers.{greatest_i32, greatest_i64, least_i32, least_i64};
 ghost use Rattle.mtp_assembly.specs.Kinds.{is_ordered};
 ghost use Rattle.mtp_assembly.specs.Plain.{ParamForm, param_view};
-ghost use Rattle.mtp_codes.specs.Names.{is_name};
 ghost use Rattle.mtp_json.specs.Gives.{Gives};
-ghost use Rattle.mtp_json.specs.Leaf.{i32_high, i32_low, i64_high, i64_low};
 ghost use Rattle.mtp_desc.specs.Form.{free_param, param_of, ranged_param};
 ghost use Rattle.mtp_desc.specs.Plain.{same_param};
 ghost use Rattle.mtp_desc.specs.Written.{written_param};
@@ -27,7 +27,7 @@ pub struct ParamJson;
 #[tactic(auto, unfolding(crate::specs::Form::ranged_param))]
 fn ana_param(alloc: Global, value: &Value, name: Name) -> Result<Param, JsonRefusal>
     requires { IsTrue (is_name name) }
-    ensures { Gives param_view result (ranged_param name i64_low i64_high ParamKind.Ana (view value.now)) }
+    ensures { Gives param_view result (ranged_param name least_i64 greatest_i64 ParamKind.Ana (view value.now)) }
 {
     let min = i64_at(alloc, value, "min")?;
     let max = i64_at(alloc, value, "max")?;
@@ -42,7 +42,7 @@ fn ana_param(alloc: Global, value: &Value, name: Name) -> Result<Param, JsonRefu
 #[tactic(auto, unfolding(crate::specs::Form::ranged_param))]
 fn dint_param(alloc: Global, value: &Value, name: Name) -> Result<Param, JsonRefusal>
     requires { IsTrue (is_name name) }
-    ensures { Gives param_view result (ranged_param name i32_low i32_high ParamKind.DInt (view value.now)) }
+    ensures { Gives param_view result (ranged_param name least_i32 greatest_i32 ParamKind.DInt (view value.now)) }
 {
     let min = i32_at(alloc, value, "min")?;
     let max = i32_at(alloc, value, "max")?;

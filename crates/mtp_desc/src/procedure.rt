@@ -2,9 +2,9 @@
 
 ghost use Rattle.std.specs.Prelude.{◌≡◌, false, find, length, map, option_map, IsTrue};
 ghost use Rattle.std.specs.Str.{bytes_eq};
+ghost use Rattle.mtp_codes.specs.Numbers.{is_between};
 ghost use Rattle.mtp_assembly.specs.Plain.{param_view};
 ghost use Rattle.mtp_json.specs.Form.{repeats_by};
-ghost use Rattle.mtp_json.specs.Leaf.{counts};
 ghost use Rattle.mtp_desc.specs.Plain.{same_param};
 
 use mtp_assembly::Param;
@@ -18,8 +18,8 @@ pub struct Procedure {
     /// Whether the procedure goes from Execute to Completing by itself (VDI/VDE/NAMUR 2658 part 4).
     pub self_completing: bool,
     pub params: Vec<Param>,
-    ghost numbered: { IsTrue (counts 1 65535 number) },
-    ghost few: { IsTrue (counts 0 32 (length params.items)) },
+    ghost numbered: { IsTrue (is_between 1 65535 number) },
+    ghost few: { IsTrue (is_between 0 32 (length params.items)) },
     ghost unlike: { repeats_by same_param (map param_view params.items) ≡ false },
 }
 

@@ -2,8 +2,8 @@
 
 ghost use Rattle.std.specs.Prelude.{◌≡◌, ◌==◌, false, find, length, map, option_map, IsTrue};
 ghost use Rattle.mtp_codes.specs.Names.{is_name};
+ghost use Rattle.mtp_codes.specs.Numbers.{is_between};
 ghost use Rattle.mtp_json.specs.Form.{repeats_by};
-ghost use Rattle.mtp_json.specs.Leaf.{counts};
 ghost use Rattle.mtp_desc.specs.Form.{has_one_default};
 ghost use Rattle.mtp_desc.specs.Plain.{same_procedure};
 ghost use Rattle.mtp_desc.specs.ProcedureView.{procedure_view};
@@ -17,7 +17,7 @@ pub struct Service {
     pub name: Name,
     pub procedures: Vec<Procedure>,
     ghost named: { IsTrue (is_name name) },
-    ghost few: { IsTrue (counts 1 16 (length procedures.items)) },
+    ghost few: { IsTrue (is_between 1 16 (length procedures.items)) },
     ghost unlike: { repeats_by same_procedure (map procedure_view procedures.items) ≡ false },
     ghost one_default: { IsTrue (has_one_default (map procedure_view procedures.items)) },
 }

@@ -4,8 +4,8 @@ ghost use Rattle.std.specs.Prelude.{◌≡◌, ◌∷◌, [], IfOk, IfSome, IsTr
 ghost use Rattle.serde_json.specs.Data.{member, no_members, object, string};
 ghost use Rattle.serde_json.specs.View.{view};
 ghost use Rattle.mtp_codes.specs.Names.{is_name};
+ghost use Rattle.mtp_codes.specs.Numbers.{is_between};
 ghost use Rattle.mtp_json.specs.Gives.{Gives};
-ghost use Rattle.mtp_json.specs.Leaf.{counts};
 ghost use Rattle.mtp_desc.specs.Form.{has_one_default, only_procedure, ruled_service, service_of};
 ghost use Rattle.mtp_desc.specs.Plain.{ServiceForm, same_service};
 ghost use Rattle.mtp_desc.specs.ProcedureView.{procedure_view};
@@ -40,9 +40,9 @@ fn only_procedures(alloc: Global) -> Result<Vec<Procedure>, AllocError>
 }
 
 fn procedures_or(alloc: Global, found: Option<Vec<Procedure>>) -> Result<Vec<Procedure>, AllocError>
-    requires { IfSome found (λ list. IsTrue (counts 1 16 (length list.items))) }
+    requires { IfSome found (λ list. IsTrue (is_between 1 16 (length list.items))) }
     ensures value { IfOk result (λ procedures. map procedure_view procedures.items ≡ unwrap_or (option_map (λ list. map procedure_view list.items) found) (only_procedure ∷ [])) }
-    ensures size { IfOk result (λ procedures. IsTrue (counts 1 16 (length procedures.items))) }
+    ensures size { IfOk result (λ procedures. IsTrue (is_between 1 16 (length procedures.items))) }
 {
     match found {
         Some(procedures) => Ok(procedures),
@@ -68,7 +68,7 @@ fn ruled_service(
     procedures: Vec<Procedure>,
 ) -> Result<Service, JsonRefusal>
     requires name { IsTrue (is_name name) }
-    requires size { IsTrue (counts 1 16 (length procedures.items)) }
+    requires size { IsTrue (is_between 1 16 (length procedures.items)) }
     ensures { Gives service_view result (ruled_service name (map procedure_view procedures.items)) }
 {
     unlike_under::<ProcedureJson>(alloc, "procedures", &procedures)?;

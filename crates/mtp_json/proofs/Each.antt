@@ -18,7 +18,8 @@ use Rattle.mtp_json.specs.Reading.{Reading, ◌>>=◌, at}
 abbrev pub with_front : {A : Type 0} → List A → Reading (List A) → Reading (List A)
 with_front front read = read >>= λ rest. Ok (front ++ rest)
 
-regroup : {A : Type 0} (front : List A) (x : A) (read : Reading (List A)) → with_front front (read >>= λ rest. Ok (x ∷ rest)) ≡ with_front (front ++ x ∷ []) read
+-- one more value in front
+pub regroup : {A : Type 0} (front : List A) (x : A) (read : Reading (List A)) → with_front front (read >>= λ rest. Ok (x ∷ rest)) ≡ with_front (front ++ x ∷ []) read
 regroup front x (Ok rest) = ap (λ ys. Ok ys) (sym (append_assoc front (x ∷ []) rest))
 regroup front x (Err fault) = refl
 

@@ -1,9 +1,10 @@
 -- Values that stand by themselves: numbers in a range, truth values, texts, names, lists and objects.
-use Rattle.std.specs.Prelude.{ℕ, ◌&&◌, nat_le, ℤ, pos, negsuc, int_le, List, [], ◌∷◌, length, Bool, Option, Some, None, option_and_then, Ok, Err, if◌then◌else◌}
+use Rattle.std.specs.Prelude.{ℕ, nat_le, ℤ, pos, negsuc, List, [], ◌∷◌, length, Bool, Option, Some, None, option_and_then, Result, Ok, Err, if◌then◌else◌}
 use Rattle.std.specs.Str.{bytes_eq}
 use Rattle.serde_json.specs.Data.{Data, null, boolean, number, string, array, object, Items, Members}
 use Rattle.serde_json.specs.Events.{items_len}
 use Rattle.serde_json.specs.Find.{as_number, as_integer, as_bool, as_str, as_array, as_object}
+use Rattle.mtp_codes.specs.Numbers.{least_i64, greatest_i64, greatest_u32, is_within, is_between}
 use Rattle.mtp_codes.specs.Codes.{named_by}
 use Rattle.mtp_codes.specs.Names.{is_name}
 use Rattle.mtp_codes.specs.Texts.{is_short}
@@ -11,38 +12,6 @@ use Rattle.mtp_codes.specs.declared.value.Value.{Value}
 use Rattle.mtp_codes.specs.declared.value.Value.TheVariants.{Whole, Bit, Text}
 use Rattle.mtp_json.specs.declared.fault.FaultKind.TheVariants.{WrongKind, OutOfRange}
 use Rattle.mtp_json.specs.Reading.{Finding}
-
--- the least number of 32 bits
-abbrev pub i32_low : ℤ
-i32_low = negsuc 2147483647
-
--- the greatest of 32 bits
-abbrev pub i32_high : ℤ
-i32_high = pos 2147483647
-
--- the least of 64 bits
-abbrev pub i64_low : ℤ
-i64_low = negsuc 9223372036854775807
-
--- the greatest of 64 bits
-abbrev pub i64_high : ℤ
-i64_high = pos 9223372036854775807
-
--- the greatest of 32 bits that is not signed
-abbrev pub u32_high : ℕ
-u32_high = 4294967295
-
--- the greatest of 64 bits that is not signed
-abbrev pub u64_high : ℕ
-u64_high = 18446744073709551615
-
--- the number is from low to high
-abbrev pub fits : ℤ → ℤ → ℤ → Bool
-fits low high z = int_le low z && int_le z high
-
--- the same of a number that is not negative
-abbrev pub counts : ℕ → ℕ → ℕ → Bool
-counts low high n = nat_le low n && nat_le n high
 
 -- what a value holds, where it is of the kind that is asked for
 abbrev pub of_kind : {A : Type 0} → Option A → Finding A
@@ -54,6 +23,11 @@ abbrev pub or_out_of_range : {A : Type 0} → Option A → Finding A
 or_out_of_range None = Err OutOfRange
 or_out_of_range (Some value) = Ok value
 
+-- what a parser gave; where it gave nothing, the text is out of range
+abbrev pub parsed : {A E : Type 0} → Result A E → Finding A
+parsed (Ok value) = Ok value
+parsed (Err error) = Err OutOfRange
+
 -- the whole number that serde_json holds, if it holds one
 abbrev pub whole_number : Data → Option ℤ
 whole_number value = option_and_then as_integer (as_number value)
@@ -61,7 +35,7 @@ whole_number value = option_and_then as_integer (as_number value)
 -- a whole number that was found, or none, against its range
 abbrev pub whole_in : ℤ → ℤ → Option ℤ → Finding ℤ
 whole_in low high None = Err WrongKind
-whole_in low high (Some z) = if fits low high z then Ok z else Err OutOfRange
+whole_in low high (Some z) = if is_within low high z then Ok z else Err OutOfRange
 
 -- a whole number from low to high
 abbrev pub whole : ℤ → ℤ → Data → Finding ℤ
@@ -70,7 +44,7 @@ whole low high value = whole_in low high (whole_number value)
 -- the same of numbers that are not negative
 abbrev pub count_in : ℕ → ℕ → Option ℤ → Finding ℕ
 count_in low high None = Err WrongKind
-count_in low high (Some (pos n)) = if counts low high n then Ok n else Err OutOfRange
+count_in low high (Some (pos n)) = if is_between low high n then Ok n else Err OutOfRange
 count_in low high (Some (negsuc n)) = Err OutOfRange
 
 -- the same of numbers that are not negative
@@ -84,7 +58,7 @@ code_in table (Err kind) = Err kind
 
 -- a whole number of 32 bits that is a code of the table, as what stands beside it
 abbrev pub code : {A : Type 0} → List (A × ℕ) → Data → Finding A
-code table value = code_in table (count 0 u32_high value)
+code table value = code_in table (count 0 greatest_u32 value)
 
 -- true or false
 abbrev pub truth : Data → Finding Bool
@@ -135,7 +109,7 @@ whole_scalar (Err kind) = Err kind
 abbrev pub scalar : Data → Finding Value
 scalar null = Err WrongKind
 scalar (boolean bit) = Ok (Bit bit)
-scalar (number held) = whole_scalar (whole_in i64_low i64_high (as_integer held))
+scalar (number held) = whole_scalar (whole_in least_i64 greatest_i64 (as_integer held))
 scalar (string bytes) = if is_short bytes then Ok (Text bytes) else Err OutOfRange
 scalar (array _) = Err WrongKind
 scalar (object _) = Err WrongKind
@@ -151,7 +125,7 @@ items value = of_kind (as_array value)
 -- a list that was found, or none, against its size
 abbrev pub sized : ℕ → ℕ → Option Items → Finding Items
 sized low high None = Err WrongKind
-sized low high (Some list) = if counts low high (items_len list) then Ok list else Err OutOfRange
+sized low high (Some list) = if is_between low high (items_len list) then Ok list else Err OutOfRange
 
 -- a list of low to high items
 abbrev pub items_in : ℕ → ℕ → Data → Finding Items

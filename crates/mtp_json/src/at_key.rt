@@ -1,13 +1,14 @@
 //! The value at a key of an object, or the fault with its path.
 
 ghost use Rattle.std.specs.Prelude.{◌≡◌, ◌≤◌, length, IfOk, IfSome, IsTrue, option_map};
+ghost use Rattle.serde_json.specs.View.{items_view, view};
 ghost use Rattle.mtp_codes.specs.Codes.{command_codes, state_codes};
 ghost use Rattle.mtp_codes.specs.Names.{is_name};
+ghost use Rattle.mtp_codes.specs.Numbers.{greatest_i32, greatest_i64, greatest_u64, is_between, is_within, least_i32, least_i64};
 ghost use Rattle.mtp_json.specs.Form.{field, need, need_or, optional};
 ghost use Rattle.mtp_json.specs.Gives.{Gives, seen};
-ghost use Rattle.mtp_json.specs.Leaf.{anything, code, count, counts, fits, i32_high, i32_low, i64_high, i64_low, items_in, name, scalar, text, text_to, truth, u64_high, whole, word};
+ghost use Rattle.mtp_json.specs.Leaf.{anything, code, count, items_in, name, scalar, text, text_to, truth, whole, word};
 ghost use Rattle.mtp_json.specs.Written.{is_scalar};
-ghost use Rattle.serde_json.specs.View.{items_view, view};
 
 use crate::fault::{FaultKind, JsonRefusal};
 use crate::fields::{get_bool, get_name, get_text, get_u64, get_whole, get_word};
@@ -28,7 +29,7 @@ pub fn whole_at(
 ) -> Result<i64, JsonRefusal>
     requires { IsTrue (is_name key.now) }
     ensures gives { Gives (λ number. number) result (need key.now (whole low high) (view object.now)) }
-    ensures range { IfOk result (λ z. IsTrue (fits low high z)) }
+    ensures range { IfOk result (λ z. IsTrue (is_within low high z)) }
 {
     keyed(alloc, key, get_whole(object, key, low, high))
 }
@@ -36,8 +37,8 @@ pub fn whole_at(
 /// A whole number of 64 bits.
 pub fn i64_at(alloc: Global, object: &Value, key: &str) -> Result<i64, JsonRefusal>
     requires { IsTrue (is_name key.now) }
-    ensures gives { Gives (λ number. number) result (need key.now (whole i64_low i64_high) (view object.now)) }
-    ensures range { IfOk result (λ z. IsTrue (fits i64_low i64_high z)) }
+    ensures gives { Gives (λ number. number) result (need key.now (whole least_i64 greatest_i64) (view object.now)) }
+    ensures range { IfOk result (λ z. IsTrue (is_within least_i64 greatest_i64 z)) }
 {
     keyed(alloc, key, get_whole(object, key, i64::MIN, i64::MAX))
 }
@@ -45,8 +46,8 @@ pub fn i64_at(alloc: Global, object: &Value, key: &str) -> Result<i64, JsonRefus
 /// A whole number of 32 bits.
 pub fn i32_at(alloc: Global, object: &Value, key: &str) -> Result<i32, JsonRefusal>
     requires { IsTrue (is_name key.now) }
-    ensures gives { Gives (λ number. number) result (need key.now (whole i32_low i32_high) (view object.now)) }
-    ensures range { IfOk result (λ z. IsTrue (fits i32_low i32_high z)) }
+    ensures gives { Gives (λ number. number) result (need key.now (whole least_i32 greatest_i32) (view object.now)) }
+    ensures range { IfOk result (λ z. IsTrue (is_within least_i32 greatest_i32 z)) }
 {
     let number = whole_at(alloc, object, key, -2147483648, 2147483647)?;
     Ok(number as i32)
@@ -55,14 +56,14 @@ pub fn i32_at(alloc: Global, object: &Value, key: &str) -> Result<i32, JsonRefus
 /// A whole number from 0 to 18446744073709551615.
 pub fn u64_at(alloc: Global, object: &Value, key: &str) -> Result<u64, JsonRefusal>
     requires { IsTrue (is_name key.now) }
-    ensures { Gives (λ number. number) result (need key.now (count 0 u64_high) (view object.now)) }
+    ensures { Gives (λ number. number) result (need key.now (count 0 greatest_u64) (view object.now)) }
 {
     keyed(alloc, key, get_u64(object, key))
 }
 
 fn get_u32(object: &Value, key: &str, low: u32, high: u32) -> Result<u32, FaultKind>
     ensures value { result ≡ field key.now (count low high) (view object.now) }
-    ensures range { IfOk result (λ n. IsTrue (counts low high n)) }
+    ensures range { IfOk result (λ n. IsTrue (is_between low high n)) }
 {
     let number = get_whole(object, key, low as i64, high as i64)?;
     Ok(number as u32)
@@ -78,7 +79,7 @@ pub fn u32_at(
 ) -> Result<u32, JsonRefusal>
     requires { IsTrue (is_name key.now) }
     ensures gives { Gives (λ number. number) result (need key.now (count low high) (view object.now)) }
-    ensures range { IfOk result (λ n. IsTrue (counts low high n)) }
+    ensures range { IfOk result (λ n. IsTrue (is_between low high n)) }
 {
     keyed(alloc, key, get_u32(object, key, low, high))
 }
@@ -93,7 +94,7 @@ pub fn u16_at(
 ) -> Result<u16, JsonRefusal>
     requires { IsTrue (is_name key.now) }
     ensures gives { Gives (λ number. number) result (need key.now (count low high) (view object.now)) }
-    ensures range { IfOk result (λ n. IsTrue (counts low high n)) }
+    ensures range { IfOk result (λ n. IsTrue (is_between low high n)) }
 {
     let number = u32_at(alloc, object, key, low as u32, high as u32)?;
     Ok(number as u16)
@@ -226,7 +227,7 @@ pub fn value_at<'a>(alloc: Global, object: &'a Value, key: &str) -> Result<&'a V
 #[tactic(auto, using(crate::proofs::Lists::length_of_view))]
 pub fn list_in<'a>(value: &'a Value, low: usize, high: usize) -> Result<&'a [Value], FaultKind>
     ensures value { seen (λ list. items_view list.now) result ≡ items_in low high (view value.now) }
-    ensures size { IfOk result (λ list. IsTrue (counts low high (length list.now))) }
+    ensures size { IfOk result (λ list. IsTrue (is_between low high (length list.now))) }
 {
     let list = value.as_array().ok_or(FaultKind::WrongKind)?;
     if low <= list.len() && list.len() <= high {
@@ -246,7 +247,7 @@ pub fn list_at<'a>(
 ) -> Result<&'a [Value], JsonRefusal>
     requires { IsTrue (is_name key.now) }
     ensures gives { Gives (λ list. items_view list.now) result (need key.now (items_in low high) (view object.now)) }
-    ensures size { IfOk result (λ list. IsTrue (counts low high (length list.now))) }
+    ensures size { IfOk result (λ list. IsTrue (is_between low high (length list.now))) }
 {
     let found = match object.get(key) {
         Some(value) => list_in(value, low, high),
@@ -265,7 +266,7 @@ pub fn list_if<'a>(
 ) -> Result<Option<&'a [Value]>, JsonRefusal>
     requires { IsTrue (is_name key.now) }
     ensures gives { Gives (option_map (λ list. items_view list.now)) result (optional key.now (items_in low high) (view object.now)) }
-    ensures size { IfOk result (λ found. IfSome found (λ list. IsTrue (counts low high (length list.now)))) }
+    ensures size { IfOk result (λ found. IfSome found (λ list. IsTrue (is_between low high (length list.now)))) }
 {
     match object.get(key) {
         Some(value) => Ok(Some(keyed(alloc, key, list_in(value, low, high))?)),

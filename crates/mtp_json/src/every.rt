@@ -1,13 +1,13 @@
 //! Values that have a form of their own, one by one and in lists.
 
 ghost use Rattle.std.specs.Prelude.{◌≡◌, List, map, length, IsTrue, IfOk, IfSome, option_map};
-ghost use Rattle.mtp_codes.specs.Names.{is_name};
-ghost use Rattle.mtp_json.specs.Form.{each, inside, inside_if_there, list, list_if_there, list_or_none};
-ghost use Rattle.mtp_json.specs.Gives.{Gives};
-ghost use Rattle.mtp_json.specs.Leaf.{counts};
-ghost use Rattle.mtp_json.specs.Reading.{Reading, under};
 ghost use Rattle.serde_json.specs.Data.{Data};
 ghost use Rattle.serde_json.specs.View.{items_view, view};
+ghost use Rattle.mtp_codes.specs.Names.{is_name};
+ghost use Rattle.mtp_codes.specs.Numbers.{is_between};
+ghost use Rattle.mtp_json.specs.Form.{each, inside, inside_if_there, list, list_if_there, list_or_none};
+ghost use Rattle.mtp_json.specs.Gives.{Gives};
+ghost use Rattle.mtp_json.specs.Reading.{Reading, under};
 
 use crate::at_key::{list_at, list_if, value_at};
 use crate::fault::JsonRefusal;
@@ -66,7 +66,7 @@ pub fn list_of<T: FromJson>(
 ) -> Result<Vec<T::Item>, JsonRefusal>
     requires { IsTrue (is_name key.now) }
     ensures gives { Gives (λ found. map T.plain found.items) result (list key.now low high T.form (view object.now)) }
-    ensures size { IfOk result (λ found. IsTrue (counts low high (length found.items))) }
+    ensures size { IfOk result (λ found. IsTrue (is_between low high (length found.items))) }
 {
     let values = list_at(alloc, object, key, low, high)?;
     read_under::<T>(alloc, key, values)
@@ -82,7 +82,7 @@ pub fn list_or_none<T: FromJson>(
 ) -> Result<Vec<T::Item>, JsonRefusal>
     requires { IsTrue (is_name key.now) }
     ensures gives { Gives (λ found. map T.plain found.items) result (list_or_none key.now low high T.form (view object.now)) }
-    ensures size { IfOk result (λ found. IsTrue (counts 0 high (length found.items))) }
+    ensures size { IfOk result (λ found. IsTrue (is_between 0 high (length found.items))) }
 {
     match list_if(alloc, object, key, low, high)? {
         Some(values) => read_under::<T>(alloc, key, values),
@@ -100,7 +100,7 @@ pub fn list_if_there<T: FromJson>(
 ) -> Result<Option<Vec<T::Item>>, JsonRefusal>
     requires { IsTrue (is_name key.now) }
     ensures gives { Gives (option_map (λ found. map T.plain found.items)) result (list_if_there key.now low high T.form (view object.now)) }
-    ensures size { IfOk result (λ there. IfSome there (λ found. IsTrue (counts low high (length found.items)))) }
+    ensures size { IfOk result (λ there. IfSome there (λ found. IsTrue (is_between low high (length found.items)))) }
 {
     match list_if(alloc, object, key, low, high)? {
         Some(values) => Ok(Some(read_under::<T>(alloc, key, values)?)),

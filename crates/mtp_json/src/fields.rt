@@ -4,11 +4,12 @@
 ghost use Rattle.std.specs.Prelude.{◌≡◌, List, Some, None, Ok, Err, IfOk, IsTrue, string_bytes};
 ghost use Rattle.std.specs.BTreeMap.{keys as map_keys};
 ghost use Rattle.std.specs.List.{list_all};
+ghost use Rattle.serde_json.specs.View.{items_view, members_view, view};
 ghost use Rattle.mtp_codes.specs.Names.{is_name};
+ghost use Rattle.mtp_codes.specs.Numbers.{greatest_u64, is_within};
 ghost use Rattle.mtp_json.specs.Form.{all_listed, field, is_listed, only_keys};
 ghost use Rattle.mtp_json.specs.Gives.{seen};
-ghost use Rattle.mtp_json.specs.Leaf.{an_object, count, fits, items, name, text, truth, u64_high, whole, word};
-ghost use Rattle.serde_json.specs.View.{items_view, members_view, view};
+ghost use Rattle.mtp_json.specs.Leaf.{an_object, count, items, name, text, truth, whole, word};
 
 use crate::fault::FaultKind;
 use crate::leaves::{name_of, whole_of};
@@ -19,14 +20,14 @@ use serde_json::{Map, Value};
 /// A whole number from `low` to `high`: WrongKind for what `serde_json` holds as no whole number, as `1.0`.
 pub fn get_whole(object: &Value, key: &str, low: i64, high: i64) -> Result<i64, FaultKind>
     ensures value { result ≡ field key.now (whole low high) (view object.now) }
-    ensures range { IfOk result (λ z. IsTrue (fits low high z)) }
+    ensures range { IfOk result (λ z. IsTrue (is_within low high z)) }
 {
     whole_of(object.get(key).ok_or(FaultKind::Missing)?, low, high)
 }
 
 /// A whole number of 64 bits that is not negative.
 pub fn get_u64(object: &Value, key: &str) -> Result<u64, FaultKind>
-    ensures { result ≡ field key.now (count 0 u64_high) (view object.now) }
+    ensures { result ≡ field key.now (count 0 greatest_u64) (view object.now) }
 {
     let value = object.get(key).ok_or(FaultKind::Missing)?;
     if let Some(number) = value.as_u64() {

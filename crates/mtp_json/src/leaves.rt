@@ -1,11 +1,12 @@
 //! Values that stand by themselves, or what is wrong with them.
 
 ghost use Rattle.std.specs.Prelude.{◌≡◌, IfOk, IsTrue};
-ghost use Rattle.mtp_codes.specs.Names.{is_name};
-ghost use Rattle.mtp_json.specs.Leaf.{fits, name, scalar, whole};
-ghost use Rattle.mtp_json.specs.Written.{is_scalar};
 ghost use Rattle.serde_json.specs.Data.{string};
 ghost use Rattle.serde_json.specs.View.{view};
+ghost use Rattle.mtp_codes.specs.Names.{is_name};
+ghost use Rattle.mtp_codes.specs.Numbers.{is_within};
+ghost use Rattle.mtp_json.specs.Leaf.{name, scalar, whole};
+ghost use Rattle.mtp_json.specs.Written.{is_scalar};
 
 use crate::fault::FaultKind;
 use mtp_codes::{Name, Short};
@@ -14,7 +15,7 @@ use serde_json::Value;
 /// A whole number from `low` to `high`: WrongKind for what `serde_json` holds as no whole number, as `1.0`.
 pub fn whole_of(value: &Value, low: i64, high: i64) -> Result<i64, FaultKind>
     ensures value { result ≡ whole low high (view value.now) }
-    ensures range { IfOk result (λ z. IsTrue (fits low high z)) }
+    ensures range { IfOk result (λ z. IsTrue (is_within low high z)) }
 {
     match value.as_i64() {
         Some(number) if low <= number && number <= high => Ok(number),

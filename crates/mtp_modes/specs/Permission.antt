@@ -1,5 +1,5 @@
 -- Who may command a service, and why a command may not go to it.
-use Rattle.std.specs.Prelude.{Bool, true, false, not, ◌&&◌, IsTrue, IsFalse, IsSome, is_none, Option, None, Some, Result, Ok, Err, if◌then◌else◌}
+use Rattle.std.specs.Prelude.{Bool, true, false, not, ◌&&◌, IsTrue, IsFalse, IsSome, is_none, Option, None, Some, if◌then◌else◌}
 use Rattle.mtp_codes.specs.Codes.{command_number}
 use Rattle.mtp_codes.specs.declared.command.Command.{Command}
 use Rattle.mtp_codes.specs.declared.command.Command.TheVariants.{Complete}
@@ -48,8 +48,3 @@ forbidden_by view speaker command =
     else if is_none (command_target view.control.state command) then Some StateForbids
     else if not (is_enabled view command) then Some NotEnabled
     else None
-
--- done, unless there is a reason against it
-abbrev pub unless_forbidden : Option Forbid → Result (Unit {0}) Forbid
-unless_forbidden None = Ok tt
-unless_forbidden (Some forbid) = Err forbid

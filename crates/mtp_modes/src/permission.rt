@@ -1,6 +1,7 @@
 //! Whether a command may go to a service.
 ghost use Rattle.std.specs.Prelude.{◌≡◌, ◌↔◌, IsOk};
-ghost use Rattle.mtp_modes.specs.Permission.{speaks, forbidden_by, unless_forbidden, IsPermitted};
+ghost use Rattle.mtp_codes.specs.Faults.{done_unless};
+ghost use Rattle.mtp_modes.specs.Permission.{speaks, forbidden_by, IsPermitted};
 
 use super::view::ServiceView;
 use mtp_codes::{Command, Forbid, Mode, Origin, Speaker};
@@ -25,7 +26,7 @@ pub fn speaks(mode: Mode, origin: Origin, speaker: Speaker) -> bool
 /// procedure that completes by itself, `StateForbids` where the command doesn't leave the state, `NotEnabled` where
 /// its bit is not in the mask. Other bits of the mask mean nothing.
 pub fn permitted(view: &ServiceView, speaker: Speaker, command: Command) -> Result<(), Forbid>
-    ensures answer { result ≡ unless_forbidden (forbidden_by view.now speaker command) }
+    ensures answer { result ≡ done_unless (forbidden_by view.now speaker command) }
     ensures permitted { IsOk result ↔ IsPermitted view.now speaker command }
 {
     let control = view.control;

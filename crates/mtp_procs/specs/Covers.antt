@@ -9,12 +9,12 @@ use Rattle.mtp_codes.specs.declared.cover.CoverFault.{CoverFault}
 use Rattle.mtp_codes.specs.declared.cover.CoverFault.TheVariants.{WrongType, WrongVersion, NotCovered}
 use Rattle.mtp_codes.specs.declared.value.Reading.{Reading}
 use Rattle.mtp_codes.specs.declared.value.Reading.TheVariants as reading
+use Rattle.mtp_codes.specs.Names.{same_name}
 use Rattle.mtp_assembly.specs.Plain.{VariableForm}
 use Rattle.mtp_assembly.specs.declared.variable.ViewKind.{ViewKind}
 use Rattle.mtp_assembly.specs.declared.variable.ViewKind.TheVariants.{Ana, DInt, Bin, Text}
 use Rattle.mtp_desc.specs.Plain.{DescriptionForm}
 use Rattle.mtp_desc.specs.Lookup.{variable_named}
-use Rattle.chart_core.specs.Same.{same_name}
 use Rattle.chart_core.specs.Trees.{StepPlan, Placed, Tree, steps}
 use Rattle.chart_core.specs.Roles.{RolePlan, ChartPlan}
 use Rattle.mtp_procs.specs.Demands.{step_fault}

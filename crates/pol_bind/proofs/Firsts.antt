@@ -4,10 +4,10 @@ use Rattle.std.specs.List.{list_any}
 use Rattle.std.specs.Option.{option_or}
 use Rattle.std.proofs.Common.{refl, ap, sym, ◌∙◌}
 use Rattle.std.proofs.lemmas.List.Folds.{find-append}
-use Rattle.chart_core.specs.Same.{same_name}
+use Rattle.mtp_codes.specs.Names.{same_name}
+use Rattle.mtp_desc.specs.Plain.{DescriptionForm}
 use Rattle.chart_core.specs.Formulas.{Formula, Formulas, constant, all_of, any_of, not_of, test, no_formulas, more_formulas}
 use Rattle.chart_core.specs.Trees.{arm_conditions, StepPlan, Placed, Tree, Trees, Arms, leaf, seq, par, choice, loop, no_trees, more_trees, no_arms, more_arms, size, steps, all_steps, arm_steps}
-use Rattle.mtp_desc.specs.Plain.{DescriptionForm}
 use Rattle.mtp_procs.specs.Tests.{TestPlan, tests_of, tests_of_all, finish_tests, tests_in, tests_in_all, tests_in_arms}
 use Rattle.mtp_procs.specs.Covers.{name_of_first, variable_of_first, is_misfit, is_misfit_of, is_refused_test}
 use Rattle.pol_bind.specs.Misfits.{is_misfit_for}

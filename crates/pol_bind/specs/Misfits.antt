@@ -1,7 +1,7 @@
 -- Tests of a role that the module's variables don't fit.
 use Rattle.std.specs.Prelude.{ℕ, List, Bool, ◌&&◌}
+use Rattle.mtp_codes.specs.Names.{same_name}
 use Rattle.mtp_desc.specs.Plain.{DescriptionForm}
-use Rattle.chart_core.specs.Same.{same_name}
 use Rattle.mtp_procs.specs.Tests.{TestPlan}
 use Rattle.mtp_procs.specs.Covers.{is_misfit}
 

@@ -4,7 +4,7 @@ ghost use Rattle.std.specs.Prelude.{◌≡◌, find, option_map, Some};
 ghost use Rattle.std.specs.Str.{bytes_eq};
 ghost use Rattle.semver.specs.Identifiers.{parts_of};
 ghost use Rattle.semver.specs.Parse.{req_of};
-ghost use Rattle.mtp_assembly.specs.Fits.{answer_to};
+ghost use Rattle.mtp_codes.specs.Faults.{done_unless};
 ghost use Rattle.mtp_desc.specs.DescriptionView.{description_view};
 ghost use Rattle.chart_core.specs.Charts.{plan};
 ghost use Rattle.chart_core.specs.Roles.{role_plan};
@@ -39,7 +39,7 @@ fn is_met(role: &Role, version: &Version) -> bool
 }
 
 fn check_role(role: &Role, description: &Description) -> Result<(), CoverFault>
-    ensures { result ≡ answer_to (role_fault (description_view description.now) (Some (role_plan role.now))) }
+    ensures { result ≡ done_unless (role_fault (description_view description.now) (Some (role_plan role.now))) }
 {
     if role.type_name != description.type_name {
         return Err(CoverFault::WrongType);
@@ -52,7 +52,7 @@ fn check_role(role: &Role, description: &Description) -> Result<(), CoverFault>
 
 // The first fault of the description for the role of the chart; a chart that hasn't the role asks for no type.
 fn check_cover(chart: &Chart, role: Name, description: &Description) -> Result<(), CoverFault>
-    ensures { result ≡ answer_to (cover_fault (plan chart.now) role (description_view description.now)) }
+    ensures { result ≡ done_unless (cover_fault (plan chart.now) role (description_view description.now)) }
 {
     let Some(wanted) = role_of(chart, role) else {
         return Err(CoverFault::WrongType);
@@ -94,7 +94,7 @@ fn missing_by(role: Name, fault: CoverFault) -> Name
 /// of the role and that is missing, is a text, or is a number tested against a truth value or the other way round. Takes
 /// no memory. Where all fits, its time grows with the chart's tests; else at most with their square.
 pub fn covers(chart: &Chart, role: Name, description: &Description) -> Result<(), Rule>
-    ensures { result ≡ answer_to (option_map (cover_rule role) (cover_fault (plan chart.now) role (description_view description.now))) }
+    ensures { result ≡ done_unless (option_map (cover_rule role) (cover_fault (plan chart.now) role (description_view description.now))) }
 {
     match check_cover(chart, role, description) {
         Ok(()) => Ok(()),

@@ -1,29 +1,47 @@
 //! Worked modules against the role of a worked chart.
 
-ghost use Rattle.std.specs.Prelude.{◌≤◌, length, IfOk};
-
 use crate::{covers, held_back_by};
-use chart_core::{Chart, Condition, Node, Op, Role, Step};
-use mtp_codes::{Name, Reading, Setting, Short, Value};
+use chart_core::Chart;
+use chart_json::read_chart;
+use mtp_codes::Name;
 use mtp_desc::{Description, read_description};
 use mtp_json::{JsonRefusal, parse};
 use pol_events::Rule;
-use semver::VersionReq;
 use std::alloc::Global;
 use std::test::*;
 
-const BARE: &str = "{\"type\":\"Doser\",\"version\":\"1.0.0\",\"services\":[{\"name\":\"dose\"}]}";
+const BARE: &str = r#"{"type":"Doser","version":"1.0.0","services":[{"name":"dose"}]}"#;
 
-const FIRST: &str =
-    "{\"type\":\"Doser\",\"version\":\"1.0.0\",\"services\":[{\"name\":\"dose\",\"procedures\":[{\"number\":1,\"default\":true,\"self_completing\":true,\"params\":[{\"name\":\"amount\",\"kind\":\"DIntServParam\",\"min\":0,\"max\":5000}]}]}],\"variables\":[{\"name\":\"level\",\"kind\":\"AnaView\"}]}";
+const FIRST: &str = r#"{
+    "type":"Doser","version":"1.0.0",
+    "services":[{"name":"dose","procedures":[{
+        "number":1,"default":true,"self_completing":true,
+        "params":[{"name":"amount","kind":"DIntServParam","min":0,"max":5000}]
+    }]}],
+    "variables":[{"name":"level","kind":"AnaView"}]
+}"#;
 
-const SECOND: &str =
-    "{\"type\":\"Doser\",\"version\":\"2.0.0\",\"services\":[{\"name\":\"dose\",\"procedures\":[{\"number\":1,\"default\":true,\"self_completing\":true,\"params\":[{\"name\":\"amount\",\"kind\":\"DIntServParam\",\"min\":0,\"max\":5000}]}]}],\"variables\":[{\"name\":\"level\",\"kind\":\"AnaView\"}]}";
+const SECOND: &str = r#"{
+    "type":"Doser","version":"2.0.0",
+    "services":[{"name":"dose","procedures":[{
+        "number":1,"default":true,"self_completing":true,
+        "params":[{"name":"amount","kind":"DIntServParam","min":0,"max":5000}]
+    }]}],
+    "variables":[{"name":"level","kind":"AnaView"}]
+}"#;
 
-const TEXTUAL: &str =
-    "{\"type\":\"Doser\",\"version\":\"1.0.0\",\"services\":[{\"name\":\"dose\",\"procedures\":[{\"number\":1,\"default\":true,\"self_completing\":true,\"params\":[{\"name\":\"amount\",\"kind\":\"DIntServParam\",\"min\":0,\"max\":5000}]}]}],\"variables\":[{\"name\":\"level\",\"kind\":\"StringView\"}]}";
+const TEXTUAL: &str = r#"{
+    "type":"Doser","version":"1.0.0",
+    "services":[{"name":"dose","procedures":[{
+        "number":1,"default":true,"self_completing":true,
+        "params":[{"name":"amount","kind":"DIntServParam","min":0,"max":5000}]
+    }]}],
+    "variables":[{"name":"level","kind":"StringView"}]
+}"#;
 
-const MIXER: &str = "{\"type\":\"Mixer\",\"version\":\"1.0.0\",\"services\":[{\"name\":\"stir\"}]}";
+const MIXER: &str = r#"{"type":"Mixer","version":"1.0.0","services":[{"name":"stir"}]}"#;
+
+const ROLES: &str = r#"[{"role":"A","type":"Doser","version":"^1.0"}]"#;
 
 fn description(alloc: Global, text: &str) -> Result<Description, JsonRefusal> {
     let value = parse(alloc, text.as_bytes())?;
@@ -34,49 +52,14 @@ fn named(text: &str) -> Result<Name, Fail> {
     Ok(Name::of_bytes(text.as_bytes()).ok_or("no name")?)
 }
 
-fn doser(alloc: Global, wants: &str) -> Result<Role, Fail>
-    ensures { IfOk result (λ role. length role.wants ≤ 64) }
-{
-    let wants = Short::of_text(wants).ok_or("no text")?;
-    if wants.as_str().len() > 64 {
-        return Err("too long".into());
-    }
-    let req = match VersionReq::parse(alloc, wants.as_str()) {
-        Ok(req) => req,
-        Err(_) => return Err("no requirement".into()),
-    };
-    Ok(Role {
-        role: named("A")?,
-        type_name: named("Doser")?,
-        wants,
-        req,
-    })
-}
-
-// One step that doses this amount, until the level is this reading.
-fn dosing(alloc: Global, amount: i64, level: Reading) -> Result<Chart, Fail> {
-    let step = Step {
-        name: named("s1")?,
-        role: named("A")?,
-        service: named("dose")?,
-        procedure: 1,
-        settings: vec![in alloc;
-            Setting {
-                name: named("amount")?,
-                value: Value::Whole(amount)
-            },
-        ]?,
-        finish: None,
-    };
-    let until = Condition::Test {
-        role: named("A")?,
-        var: named("level")?,
-        op: Op::Eq,
-        value: level,
-    };
-    let roles = vec![in alloc; doser(alloc, "^1.0")?]?;
-    let root = Node::Loop(Box::new(alloc, Node::Step(step))?, until);
-    Ok(Chart { roles, root })
+/// One step that doses this amount, until the level is this value.
+fn dosing(alloc: Global, amount: u32, level: &str) -> Result<Chart, Fail> {
+    let text = format!(in alloc;
+        "{{\"loop\":{{\"step\":\"s1\",\"role\":\"A\",\"service\":\"dose\",\"procedure\":1,\"settings\":[{{\"name\":\"amount\",\"value\":{amount}}}]}},\"until\":{{\"test\":\"level\",\"role\":\"A\",\"op\":\"eq\",\"value\":{level}}}}}"
+    )?;
+    let roles = parse(alloc, ROLES.as_bytes()).ok().ok_or("no value")?;
+    let chart = parse(alloc, text.as_bytes()).ok().ok_or("no value")?;
+    Ok(read_chart(alloc, &roles, &chart).ok().ok_or("no chart")?)
 }
 
 #[test]
@@ -88,7 +71,7 @@ fn the_first_fault_of_a_module_for_a_role_is_told(rt: HostRuntime) -> Result<(),
     let (s1, level) = (named("s1")?, named("level")?);
     let step = Err(Rule::NotCovered { missing: s1 });
     let variable = Err(Rule::NotCovered { missing: level });
-    let (whole, bit) = (Reading::Whole(7), Reading::Bit(true));
+    let (whole, bit) = ("7", "true");
     let rows = [
         (FIRST, 1500, whole, Ok(()), None),
         (MIXER, 1500, whole, wrong_type, Some(role)),

@@ -2,11 +2,12 @@
 use Rattle.std.proofs.Common.{◌≡◌, ℕ, Bool, true, false, List, [], ◌∷◌, ◌++◌, Option, Some, None, refl, ap, sym, ◌∙◌, subst, inl, inr}
 use Rattle.std.specs.List.{Contains}
 use Rattle.std.proofs.lemmas.Bool.{or_cases}
+use Rattle.mtp_codes.specs.declared.mode.Speaker.TheVariants.{Recipe}
 use Rattle.mtp_codes.specs.declared.command.Command.TheVariants as command
-use Rattle.chart_core.specs.Active.{Phase, idle, started, finished, was_reset, or_earlier, last_of, phase_where, phase_by, or_idle, is_running, is_active}
+use Rattle.mtp_codes.specs.Faults.{when}
+use Rattle.mtp_codes.specs.Names.{same_name, is_among}
+use Rattle.chart_core.specs.Active.{Phase, idle, started, finished, was_reset, or_earlier, last_of, phase_by, or_idle, is_running, is_active}
 use Rattle.chart_core.specs.Roles.{ChartPlan, role_names}
-use Rattle.chart_core.specs.Same.{same_name}
-use Rattle.chart_core.specs.Same as same
 use Rattle.chart_core.specs.Trees.{Placed, steps}
 use Rattle.chart_core.specs.Valid.{IsValid}
 use Rattle.chart_core.specs.declared.entry.LogEntry.{LogEntry}
@@ -58,14 +59,14 @@ active-by log entry placed is = go (phase_by placed.step.name entry) refl (ap (�
 
 -- ---- a step that an entry of the run makes active
 
-where-some : (here : Bool) (phase found : Phase) → phase_where here phase ≡ Some found → here ≡ true
+where-some : (here : Bool) (phase found : Phase) → when here phase ≡ Some found → here ≡ true
 where-some true phase found is = refl
 where-some false phase found is = cc
 
-role-member : (names : List (List ℕ)) (name : List ℕ) → same.is_among name names ≡ true → Contains names name
+role-member : (names : List (List ℕ)) (name : List ℕ) → is_among names name ≡ true → Contains names name
 role-member [] name among = cc
 role-member (each ∷ names) name among =
-    elim (or_cases (same_name each name) (same.is_among name names) among) [
+    elim (or_cases (same_name each name) (is_among names name) among) [
       | inl here ↦ subst (Contains (each ∷ names)) (same-true each name here) (member-first each names)
       | inr later ↦ member-later each name names (role-member names name later)
     ]
@@ -74,7 +75,7 @@ role-member (each ∷ names) name among =
 commanded-seen : (history : History) (binds : List Bind) (chart : ChartPlan) (placed : Placed) (sent : Sent) → IsFitting chart binds → IsValid chart →
     Contains (steps chart.root 0) placed → sent.tag ≡ tag_of (sights_by binds (λ tag. past tag history)) placed.step.role → sent.service ≡ placed.step.service →
     IsPermittedIn (sights_by binds (λ tag. past tag history)) sent → IsSeen (λ tag. past tag history) binds placed.step.role placed.step.service
-commanded-seen history binds chart placed sent fits valid inside tag_is service_is (role, view, role_is, at, free) =
+commanded-seen history binds chart placed sent fits valid inside tag_is service_is (by_recipe, (role, view, role_is, at, free)) =
     let (seen, is) = seen-of history binds role sent.service view at in
     let own = fits.bound placed.step.role (role-member (role_names chart) placed.step.role (roles_of_steps chart placed valid inside)) in
     let one : seen.tag ≡ own.0
@@ -95,7 +96,7 @@ step-seen history binds chart placed other sent name fits valid inside within is
     commanded-seen history binds chart placed sent fits valid inside (tag_is ∙ ap (λ p. tag_of (sights_by binds (λ tag. past tag history)) p.step.role) own)
     (service_is ∙ ap (λ p. p.step.service) own) permitted
 
-stays-idle : {A : Type 0} (here : Bool) (phase : Phase) → phase_where here idle ≡ Some phase → is_running phase ≡ true → A
+stays-idle : {A : Type 0} (here : Bool) (phase : Phase) → when here idle ≡ Some phase → is_running phase ≡ true → A
 stays-idle true idle says running = cc
 stays-idle true started says running = cc
 stays-idle true finished says running = cc
@@ -109,17 +110,17 @@ run-seen : (history : History) (binds : List Bind) (chart : ChartPlan) (log : Li
     IsSeen (λ tag. past tag history) binds placed.step.role placed.step.service
 run-seen history binds chart log (Start step tag service procedure) placed phase fits valid inside is says running =
     let of = steps_of_chart chart log (sights_by binds (λ tag. past tag history)) (Start step tag service procedure) is refl in
-    step-seen history binds chart placed of.0 (record { tag = tag; service = service; command = command.Start }) step fits valid inside of.1
+    step-seen history binds chart placed of.0 (record { speaker = Recipe; tag = tag; service = service; command = command.Start }) step fits valid inside of.1
     (where-some (same_name step placed.step.name) started phase says) of.2.0 of.2.1 of.2.2
     (commands_permitted chart log (sights_by binds (λ tag. past tag history)) (Start step tag service procedure) _ is refl)
 run-seen history binds chart log (Finish step tag service) placed phase fits valid inside is says running =
     let of = steps_of_chart chart log (sights_by binds (λ tag. past tag history)) (Finish step tag service) is refl in
-    step-seen history binds chart placed of.0 (record { tag = tag; service = service; command = command.Complete }) step fits valid inside of.1
+    step-seen history binds chart placed of.0 (record { speaker = Recipe; tag = tag; service = service; command = command.Complete }) step fits valid inside of.1
     (where-some (same_name step placed.step.name) finished phase says) of.2.0 of.2.1 of.2.2
     (commands_permitted chart log (sights_by binds (λ tag. past tag history)) (Finish step tag service) _ is refl)
 run-seen history binds chart log (Reset step tag service) placed phase fits valid inside is says running =
     let of = steps_of_chart chart log (sights_by binds (λ tag. past tag history)) (Reset step tag service) is refl in
-    step-seen history binds chart placed of.0 (record { tag = tag; service = service; command = command.Reset }) step fits valid inside of.1
+    step-seen history binds chart placed of.0 (record { speaker = Recipe; tag = tag; service = service; command = command.Reset }) step fits valid inside of.1
     (where-some (same_name step placed.step.name) was_reset phase says) of.2.0 of.2.1 of.2.2
     (commands_permitted chart log (sights_by binds (λ tag. past tag history)) (Reset step tag service) _ is refl)
 run-seen history binds chart log (End step) placed phase fits valid inside is says running = stays-idle (same_name step placed.step.name) phase says running

@@ -4,14 +4,14 @@ use Rattle.std.specs.Prelude.{is_none, find, filter_map, option_map}
 use Rattle.std.specs.List.{Contains, list_all, cons_option}
 use Rattle.std.specs.Str.{bytes_eq}
 use Rattle.std.proofs.lemmas.Bool.{and_parts, or_parts, or_left, not-true, not-false, both_ways}
+use Rattle.mtp_codes.specs.Faults.{when}
+use Rattle.mtp_codes.specs.Names.{is_among}
 use Rattle.chart_core.specs.Roles.{ChartPlan, role_names}
 use Rattle.chart_core.proofs.Lawful.{member_cases}
-use Rattle.pol_events.specs.Refusals.{when}
 use Rattle.pol_events.specs.Orderly.{roles_once}
 use Rattle.pol_events.specs.declared.answer.Rule.{Rule}
 use Rattle.pol_events.specs.declared.answer.Rule.TheVariants.{RoleUnbound, RoleUnknown, OneModuleTwice}
 use Rattle.pol_events.specs.declared.event.Bind.{Bind}
-use Rattle.pol_history.specs.Looking.{is_among}
 use Rattle.pol_history.specs.Batches.{bound_tag, bound_role}
 use Rattle.pol_history.specs.Rules.{role_unbound, role_unknown, is_bound_before, twice, one_module_twice}
 use Rattle.pol_history.proofs.Names.{same-true, same-refl}

@@ -3,22 +3,23 @@ use Rattle.std.proofs.Common.{◌≡◌, ℕ, true, List, ◌∷◌, Some, None,
 use Rattle.std.specs.Prelude.{option_map}
 use Rattle.std.specs.List.{Contains}
 use Rattle.mtp_desc.specs.Plain.{DescriptionForm}
-use Rattle.mtp_procs.specs.Covers.{cover_fault, missing_by}
 use Rattle.chart_core.specs.Roles.{ChartPlan, role_names}
+use Rattle.mtp_procs.specs.Covers.{cover_fault, missing_by}
 use Rattle.pol_events.specs.Events.{EventForm, plug, unplug, report, variable, start, desk, exchange_begin, exchange_end, exchange_cancel}
-use Rattle.pol_events.specs.Refusals.{cover_rule}
+use Rattle.pol_events.specs.Refusals.{cover_rule, in_exchange}
 use Rattle.pol_events.specs.declared.answer.Rule.TheVariants.{Held, HeldBack}
 use Rattle.pol_events.specs.declared.event.Bind.{Bind}
+use Rattle.pol_history.proofs.Open.{open-before}
 use Rattle.pol_history.specs.Looking.{History, past, past_of_batch, recipes}
-use Rattle.pol_history.specs.Modules.{Docking, absent, docked, away, docking_by, docking_of, description_by, description_of}
+use Rattle.pol_history.specs.Modules.{Docking, absent, docked, away, docking_by, docking_of, description_by, description_of, ticket_of}
 use Rattle.pol_history.specs.Batches.{Started, starting, start_by, chart_named, bound_tag, outcome_by, holder_of}
-use Rattle.pol_history.specs.Rules.{tag_taken, no_module, in_exchange, not_covered, module_rule, by_holder, uncovered_by, held_back}
+use Rattle.pol_history.specs.Rules.{tag_taken, no_module, not_covered, module_rule, by_holder, uncovered_by, held_back}
 use Rattle.pol_history.specs.Runs.{IsLegal, IsOrderly}
 use Rattle.pol_conduct.proofs.Options.{some-same, neither, no-image}
 use Rattle.pol_conduct.proofs.Lists.{none-first}
 use Rattle.pol_conduct.proofs.Sides.{Sides, sides, accepted, Comes, IsKeptBy, always, at-own}
 use Rattle.pol_conduct.proofs.Binds.{IsFitting}
-use Rattle.pol_conduct.proofs.Starts.{MayStart, may-start, start-fits, StartCase, its_own, earlier, start-case, IsRunning, was-running, open-before, running-fits}
+use Rattle.pol_conduct.proofs.Starts.{MayStart, may-start, start-fits, StartCase, its_own, earlier, start-case, IsRunning, was-running, running-fits}
 use Rattle.pol_conduct.proofs.Holding.{holds}
 
 -- ---- whether a module is there
@@ -104,7 +105,7 @@ start-covers history batch binds chart bind described may fits inside =
     = ap (module_rule history chart bind.role) (sym (fits.by_role bind inside))
     ∙ none-first (λ role. module_rule history chart role (bound_tag binds role)) (role_names chart) bind.role may.fit (fits.known bind inside) in
     let there = neither (no_module bind.tag (docking_of history bind.tag)) _ fit in
-    let home = neither (in_exchange bind.tag (docking_of history bind.tag)) _ there.1 in
+    let home = neither (in_exchange bind.tag (ticket_of (docking_of history bind.tag))) _ there.1 in
     let covered = neither (not_covered chart bind.role (description_of history bind.tag)) _ home.1 in
     let found = described bind.tag (is-there bind.tag (docking_of history bind.tag) there.0) in
     record {

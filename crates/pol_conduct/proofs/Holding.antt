@@ -4,11 +4,12 @@ use Rattle.std.specs.Prelude.{◌&&◌, is_none, if◌then◌else◌}
 use Rattle.std.specs.List.{Contains}
 use Rattle.std.specs.Option.{option_or}
 use Rattle.std.specs.Str.{bytes_eq}
+use Rattle.mtp_codes.specs.Names.{is_among}
 use Rattle.chart_core.specs.Roles.{ChartPlan, role_names}
 use Rattle.pol_events.specs.Events.{EventForm, start, EntryForm}
-use Rattle.pol_events.specs.declared.answer.Outcome.{Outcome}
 use Rattle.pol_events.specs.declared.event.Bind.{Bind}
-use Rattle.pol_history.specs.Looking.{History, past_of_batch, recipes, is_among, is_accepted, last_of}
+use Rattle.pol_history.proofs.Open.{open-before, open-some}
+use Rattle.pol_history.specs.Looking.{History, past_of_batch, recipes, is_accepted, last_of}
 use Rattle.pol_history.specs.Batches.{Started, starting, start_by, start_of, chart_named, chart_by, bound_tag, tags_of, outcome_by, outcome_of, taking, takes, if_open, holder_of}
 use Rattle.pol_history.specs.Rules.{busy_module, busy_role}
 use Rattle.pol_history.specs.Runs.{IsLegal, IsOrderly}
@@ -18,7 +19,7 @@ use Rattle.pol_conduct.proofs.Options.{no-both}
 use Rattle.pol_conduct.proofs.Lists.{member-image, image-member, member-among, among-member, none-first}
 use Rattle.pol_conduct.proofs.Sides.{Sides, sides, accepted, Comes, IsKeptBy, always}
 use Rattle.pol_conduct.proofs.Binds.{IsFitting}
-use Rattle.pol_conduct.proofs.Starts.{MayStart, may-start, start-fits, start-same, start-stays, open-before, StartCase, its_own, earlier, start-case, charted}
+use Rattle.pol_conduct.proofs.Starts.{MayStart, may-start, start-fits, start-same, start-stays, StartCase, its_own, earlier, start-case, charted}
 
 -- ---- holders
 
@@ -26,15 +27,6 @@ use Rattle.pol_conduct.proofs.Starts.{MayStart, may-start, start-fits, start-sam
 pub holder-is : (history : History) (tag batch : List ℕ) → last_of (takes tag) history ≡ Some batch → outcome_of history batch ≡ None → holder_of history tag ≡ Some batch
 holder-is history tag batch took open' =
     ap (if_open history) took ∙ ap (λ outcome. if is_none outcome then Some batch else None) open'
-
-open-some : (history : History) (found : Option (List ℕ)) (batch : List ℕ) → if_open history found ≡ Some batch → (found ≡ Some batch) × (outcome_of history batch ≡ None)
-open-some history None batch is = cc
-open-some history (Some other) batch is = go (outcome_of history other) refl is
-  where
-    go : (outcome : Option Outcome) → outcome_of history other ≡ outcome → (if is_none outcome then Some other else None) ≡ Some batch →
-        (Some other ≡ Some batch) × (outcome_of history batch ≡ None)
-    go None open' is = let same : other ≡ batch = cc in (is, ap (outcome_of history) (sym same) ∙ open')
-    go (Some outcome) open' is = cc
 
 pub holder-parts : (history : History) (tag batch : List ℕ) → holder_of history tag ≡ Some batch →
     (last_of (takes tag) history ≡ Some batch) × (outcome_of history batch ≡ None)

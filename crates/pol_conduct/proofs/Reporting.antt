@@ -15,6 +15,7 @@ use Rattle.pol_events.specs.declared.answer.Answer.TheVariants.{Done, Did}
 use Rattle.pol_events.specs.declared.answer.Next.{Next}
 use Rattle.pol_events.specs.declared.answer.Next.TheVariants as next
 use Rattle.pol_events.specs.declared.answer.Rule.TheVariants.{Held, ActiveStep}
+use Rattle.pol_history.proofs.Open.{open-before}
 use Rattle.pol_history.specs.Looking.{History, past, past_of_batch, recipes, is_accepted, is_accepted_of_batch}
 use Rattle.pol_history.specs.Modules.{absent, docked, docking_by, docking_of}
 use Rattle.pol_history.specs.Batches.{Started, start_by, start_of, chart_named, bound_tag, outcome_by, outcome_of, is_frozen, taken, log_by, log_of, active, has_broken, was_stopped, holder_of}
@@ -30,7 +31,7 @@ use Rattle.pol_conduct.proofs.Sides.{Sides, sides, accepted, Comes, IsKeptBy, al
 use Rattle.pol_conduct.proofs.Binds.{IsFitting, bound-member}
 use Rattle.pol_conduct.proofs.Seen.{IsLive, IsSeen}
 use Rattle.pol_conduct.proofs.Nexts.{did-from, next-at}
-use Rattle.pol_conduct.proofs.Starts.{may-start, sound, unstarted, StartCase, its_own, earlier, start-case, IsRunning, was-running, open-before, running-fits}
+use Rattle.pol_conduct.proofs.Starts.{may-start, sound, unstarted, StartCase, its_own, earlier, start-case, IsRunning, was-running, running-fits}
 use Rattle.pol_conduct.proofs.Courses.{log-grows, log-stays}
 use Rattle.pol_conduct.proofs.Holding.{holds}
 use Rattle.pol_conduct.proofs.Covering.{is-absent}

@@ -1,21 +1,20 @@
 -- Each command that an answer sends was permitted.
 use Rattle.std.proofs.Common.{◌≡◌, ℕ, Bool, true, false, List, Option, Some, None, refl, ap, sym, ◌∙◌, subst}
-use Rattle.std.specs.Prelude.{◌||◌, is_some, option_map, if◌then◌else◌}
+use Rattle.std.specs.Prelude.{◌||◌, option_map, if◌then◌else◌}
 use Rattle.std.proofs.lemmas.Option.{same_Some}
 use Rattle.mtp_codes.specs.declared.command.Command.{Command}
 use Rattle.mtp_codes.specs.declared.mode.Forbid.{Forbid}
 use Rattle.mtp_codes.specs.declared.mode.Speaker.TheVariants.{Recipe, Operator}
 use Rattle.mtp_modes.specs.Permission.{forbidden_by, IsPermitted}
 use Rattle.mtp_modes.specs.declared.view.ServiceView.{ServiceView}
-use Rattle.chart_core.specs.Entries.{chart_entry}
 use Rattle.chart_core.specs.Roles.{ChartPlan}
 use Rattle.chart_core.specs.declared.entry.LogEntry.{LogEntry}
-use Rattle.chart_core.specs.declared.entry.LogEntry.TheVariants.{Start, Finish, Reset, StopAsked}
-use Rattle.chart_cursor.specs.Commands as cursor
+use Rattle.chart_core.specs.declared.entry.LogEntry.TheVariants.{StopAsked}
 use Rattle.chart_cursor.specs.Sights.{Sights}
-use Rattle.chart_cursor.proofs.Commanding.{commands_permitted, next_of_run}
+use Rattle.chart_cursor.proofs.Commanding.{commands_permitted}
+use Rattle.chart_cursor.specs.Commands.{Sent, sent_by, IsPermittedIn}
 use Rattle.pol_events.specs.Events.{EventForm, advance, stop_batch, desk}
-use Rattle.pol_events.specs.Refusals.{forbid_rule}
+use Rattle.pol_events.specs.Refusals.{forbid_rule, forbidden}
 use Rattle.pol_events.specs.declared.answer.Answer.{Answer}
 use Rattle.pol_events.specs.declared.answer.Answer.TheVariants.{Done, Did, Refused}
 use Rattle.pol_events.specs.declared.event.Bind.{Bind}
@@ -25,8 +24,8 @@ use Rattle.pol_history.specs.Looking.{History, past, is_accepted}
 use Rattle.pol_history.specs.Modules.{view_of}
 use Rattle.pol_history.specs.Batches.{is_frozen, log_of, chart_entries, has_broken, was_stopped}
 use Rattle.pol_history.specs.Following.{sights_by, next_of}
-use Rattle.pol_history.specs.Rules.{not_reported, forbidden}
-use Rattle.pol_history.specs.Commands.{Sent, sent_by, sent_command}
+use Rattle.pol_history.specs.Rules.{not_reported, by_view}
+use Rattle.pol_history.specs.Commands.{sent_command}
 use Rattle.pol_history.specs.Answers.{rules, advanced, otherwise, answer_of}
 use Rattle.pol_history.proofs.Accepted.{NoneHolds, accepted-none, accepted-otherwise}
 use Rattle.pol_conduct.specs.Permitted.{WasPermitted, CommandsArePermitted}
@@ -34,34 +33,16 @@ use Rattle.pol_conduct.proofs.Forbidding.{unforbidden}
 use Rattle.pol_conduct.proofs.Seen.{seen-of, tag-of-bound}
 use Rattle.pol_conduct.proofs.Nexts.{ComesFrom, stops, leaves, breaks, runs, did-from, has-next}
 
--- the command without who sends it
-abbrev plain : Sent → cursor.Sent
-plain sent = record { tag = sent.tag; service = sent.service; command = sent.command }
-
--- what is seen permits a recipe to send it
-abbrev MaySend : Sights → Sent → Type 0
-MaySend seen sent = (sent.speaker ≡ Recipe) × cursor.IsPermittedIn seen (plain sent)
-
--- an entry of a run sends the same command here and there
-same-sent : (entry : LogEntry) (sent : Sent) → is_some (chart_entry entry) ≡ true → sent_by entry ≡ Some sent →
-    (sent.speaker ≡ Recipe) × (cursor.sent_by entry ≡ Some (plain sent))
-same-sent (Start step tag service procedure) sent of_run sends = let is = same_Some _ sent sends in (ap (λ s. s.speaker) (sym is), ap (λ s. Some (plain s)) is)
-same-sent (Finish step tag service) sent of_run sends = let is = same_Some _ sent sends in (ap (λ s. s.speaker) (sym is), ap (λ s. Some (plain s)) is)
-same-sent (Reset step tag service) sent of_run sends = let is = same_Some _ sent sends in (ap (λ s. s.speaker) (sym is), ap (λ s. Some (plain s)) is)
-same-sent _ sent of_run sends = cc
-
 -- what a batch does next sends only what it sees permitted
-next-sends : (chart : ChartPlan) (log : List LogEntry) (seen : Sights) (entry : LogEntry) (sent : Sent) → ComesFrom chart log seen entry → sent_by entry ≡ Some sent → MaySend seen sent
+next-sends : (chart : ChartPlan) (log : List LogEntry) (seen : Sights) (entry : LogEntry) (sent : Sent) → ComesFrom chart log seen entry → sent_by entry ≡ Some sent → IsPermittedIn seen sent
 next-sends chart log seen entry sent (stops step view at free is) sends =
-    let one = same_Some _ sent (ap sent_by (sym is) ∙ sends) in subst (MaySend seen) one (refl, (step.role, view, refl, at, free))
+    let one = same_Some _ sent (ap sent_by (sym is) ∙ sends) in subst (IsPermittedIn seen) one (refl, (step.role, view, refl, at, free))
 next-sends chart log seen entry sent (leaves name state is) sends = let none = ap sent_by (sym is) ∙ sends in cc
 next-sends chart log seen entry sent (breaks name state is) sends = let none = ap sent_by (sym is) ∙ sends in cc
-next-sends chart log seen entry sent (runs is) sends =
-    let both = same-sent entry sent (next_of_run chart (chart_entries log) seen entry is) sends in
-    (both.0, commands_permitted chart (chart_entries log) seen entry (plain sent) is both.1)
+next-sends chart log seen entry sent (runs is) sends = commands_permitted chart (chart_entries log) seen entry sent is sends
 
 -- what a batch sees permitted was permitted
-seen-permitted : (history : History) (binds : List Bind) (sent : Sent) → MaySend (sights_by binds (λ tag. past tag history)) sent → WasPermitted history sent
+seen-permitted : (history : History) (binds : List Bind) (sent : Sent) → IsPermittedIn (sights_by binds (λ tag. past tag history)) sent → WasPermitted history sent
 seen-permitted history binds sent (by_recipe, (role, view, tag_is, at, free)) =
     let (seen, view_is) = seen-of history binds role sent.service view at in
     let same : seen.tag ≡ sent.tag = sym (tag-of-bound history binds role seen.tag seen.bound) ∙ tag_is in
@@ -83,7 +64,7 @@ advance-sends history batch sent (Some (next.Did entry)) is sends =
     (next-sends has.chart (log_of history batch) seen entry sent (did-from has.chart (is_frozen history batch) (log_of history batch) seen entry has.next_is) sends)
 
 -- a command that the operator may send
-unforbidden-desk : (command : Command) (view : ServiceView) → forbidden command (Some view) ≡ None → forbidden_by view Operator command ≡ None
+unforbidden-desk : (command : Command) (view : ServiceView) → forbidden command view ≡ None → forbidden_by view Operator command ≡ None
 unforbidden-desk command view none = go (forbidden_by view Operator command) none
   where
     go : (reason : Option Forbid) → option_map forbid_rule reason ≡ None → reason ≡ None
@@ -92,7 +73,7 @@ unforbidden-desk command view none = go (forbidden_by view Operator command) non
 
 -- what the operator sends was permitted
 desk-sends : (history : History) (tag service : List ℕ) (command : Command) (found : Option ServiceView) → view_of history tag service ≡ found →
-    not_reported tag service found ≡ None → forbidden command found ≡ None →
+    not_reported tag service found ≡ None → by_view (forbidden command) found ≡ None →
     WasPermitted history (record { speaker = Operator; tag = tag; service = service; command = command })
 desk-sends history tag service command None at reported free = cc
 desk-sends history tag service command (Some view) at reported free =

@@ -12,14 +12,15 @@ use Rattle.pol_events.specs.Orderly.{is_valid, rise}
 use Rattle.pol_events.specs.declared.answer.Rule.TheVariants.{RecipeKnown, BatchKnown, BatchClosed}
 use Rattle.pol_events.specs.declared.event.Bind.{Bind}
 use Rattle.pol_events.proofs.Rising.{rising_distinct}
+use Rattle.pol_history.proofs.Open.{open-before}
 use Rattle.pol_history.specs.Looking.{History, past_of_batch, recipes, is_accepted, is_accepted_of_batch}
-use Rattle.pol_history.specs.Batches.{Started, starting, start_by, chart_named, closing, outcome_by, outcome_of, start_of}
+use Rattle.pol_history.specs.Batches.{Started, starting, start_by, chart_named, outcome_of, start_of}
 use Rattle.pol_history.specs.Rules.{no_batch, batch_closed, role_unbound, role_unknown, one_module_twice, modules_unfit, busy}
 use Rattle.pol_history.specs.Answers.{start_rules, otherwise}
 use Rattle.pol_history.specs.Runs.{IsLegal, IsOrderly}
 use Rattle.pol_history.proofs.Accepted.{NoneHolds}
 use Rattle.pol_history.proofs.Names.{same-true}
-use Rattle.pol_conduct.proofs.Options.{not-some, no-both, some-same, neither}
+use Rattle.pol_conduct.proofs.Options.{not-some, no-both, some-same}
 use Rattle.pol_conduct.proofs.Sides.{Sides, sides, accepted, Comes, IsKeptBy, always, at-own}
 use Rattle.pol_conduct.proofs.Binds.{IsFitting, fitting, when-none}
 
@@ -163,14 +164,6 @@ start-stays history (start at other name binds) batch started comes found = go (
         no-both (start_of history batch) started (ap (start_of history) (sym (same-true other batch is)) ∙ may.2.fresh) found
     go false is = found
 start-stays history event batch started comes found = start-same history (accepted history event) batch refl ∙ found
-
--- a batch is open only where it was open before
-pub open-before : (history : History) (entry : EntryForm) (batch : List ℕ) → outcome_of (entry ∷ history) batch ≡ None → outcome_of history batch ≡ None
-open-before history entry batch = go (is_accepted_of_batch batch entry)
-  where
-    go : (kept : Bool) → outcome_by (cond kept (entry ∷ past_of_batch batch history) (past_of_batch batch history)) ≡ None → outcome_of history batch ≡ None
-    go true none = (neither (closing entry.answer) (outcome_of history batch) none).1
-    go false none = none
 
 -- a start that is accepted is that of its batch
 pub data StartCase (history : History) (batch : List ℕ) (started : Started) (other name : List ℕ) (binds : List Bind) : Type 0 where

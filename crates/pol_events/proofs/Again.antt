@@ -7,7 +7,6 @@ use Rattle.std.specs.Str.{IsUtf8}
 use Rattle.serde_json.specs.Data.{Data, string}
 use Rattle.serde_json.specs.Events.{members_len}
 use Rattle.serde_json.specs.Read.{read}
-use Rattle.mtp_assembly.specs.declared.control.ServiceControl.{ServiceControl}
 use Rattle.mtp_codes.specs.Codes.{command_codes, command_number, state_codes, state_number}
 use Rattle.mtp_codes.specs.Names.{is_name}
 use Rattle.mtp_codes.specs.declared.command.Command.{Command}
@@ -19,7 +18,9 @@ use Rattle.mtp_codes.specs.declared.mode.Origin.TheVariants.{Internal, External}
 use Rattle.mtp_codes.specs.declared.state.State.{State}
 use Rattle.mtp_codes.specs.declared.state.State.TheVariants.{Stopped, Starting, Idle, Paused, Execute, Stopping, Aborting, Aborted, Holding, Held, Unholding, Pausing, Resuming, Resetting, Completing, Completed}
 use Rattle.mtp_codes.specs.declared.value.Value.{Value}
-use Rattle.mtp_json.specs.Leaf.{code, counts, word, u32_high, u64_high}
+use Rattle.mtp_codes.specs.Numbers.{greatest_u32, greatest_u64, is_between}
+use Rattle.mtp_assembly.specs.declared.control.ServiceControl.{ServiceControl}
+use Rattle.mtp_json.specs.Leaf.{code, word}
 use Rattle.mtp_json.specs.Parse.{json_of}
 use Rattle.mtp_json.specs.Written.{is_scalar, scalar_data}
 use Rattle.mtp_json.proofs.Again.{scalar_again}
@@ -101,12 +102,12 @@ origin_again External = refl
 plug_again : (at : ℕ) (tag : List ℕ) (description : DescriptionForm) → is_stamped at tag ≡ true → IsDescription description
     → event_in (written_plug at tag (written_description description)) ≡ Ok (plug at tag description)
 unfolding event_in plug_in written_plug
-plug_again at tag description held sound = let stamped = and_parts (counts 0 u64_high at) (is_name tag) held in rw (stamped.0, stamped.1, description_again description sound) refl
+plug_again at tag description held sound = let stamped = and_parts (is_between 0 greatest_u64 at) (is_name tag) held in rw (stamped.0, stamped.1, description_again description sound) refl
 
 -- a written event that names a tag alone is read back by its form
 tag_again : (word : List ℕ) (event : ℕ → List ℕ → EventForm) (at : ℕ) (tag : List ℕ) → is_stamped at tag ≡ true → tag_in event (written_tag word at tag) ≡ Ok (event at tag)
 unfolding tag_in written_tag
-tag_again word event at tag held = let stamped = and_parts (counts 0 u64_high at) (is_name tag) held in rw (stamped.0, stamped.1) refl
+tag_again word event at tag held = let stamped = and_parts (is_between 0 greatest_u64 at) (is_name tag) held in rw (stamped.0, stamped.1) refl
 
 -- a written report is read back
 report_again : (at : ℕ) (tag service : List ℕ) (control : ServiceControl) → is_held (report at tag service control) ≡ true
@@ -114,9 +115,9 @@ report_again : (at : ℕ) (tag service : List ℕ) (control : ServiceControl) �
 unfolding event_in report_in control_in written_report
 report_again at tag service control held =
     let parts = and_parts (is_stamped at tag) (is_name service && is_held_control control) held in
-    let stamped = and_parts (counts 0 u64_high at) (is_name tag) parts.0 in
+    let stamped = and_parts (is_between 0 greatest_u64 at) (is_name tag) parts.0 in
     let served = and_parts (is_name service) (is_held_control control) parts.1 in
-    let ranged = and_parts (counts 0 u32_high control.mask) (counts 0 65535 control.procedure) served.1 in
+    let ranged = and_parts (is_between 0 greatest_u32 control.mask) (is_between 0 65535 control.procedure) served.1 in
     rw (stamped.0, stamped.1, served.0, state_again control.state, ranged.0, mode_again control.mode, origin_again control.origin, ranged.1) refl
 
 -- a written value of a variable is read back
@@ -125,7 +126,7 @@ variable_again : (at : ℕ) (tag named : List ℕ) (value : Value) → is_held (
 unfolding event_in variable_in written_variable
 variable_again at tag named value held =
     let parts = and_parts (is_stamped at tag) (is_name named && is_scalar value) held in
-    let stamped = and_parts (counts 0 u64_high at) (is_name tag) parts.0 in
+    let stamped = and_parts (is_between 0 greatest_u64 at) (is_name tag) parts.0 in
     let valued = and_parts (is_name named) (is_scalar value) parts.1 in
     rw (stamped.0, stamped.1, valued.0, scalar_again value valued.1) refl
 
@@ -135,25 +136,25 @@ desk_again : (at : ℕ) (tag service : List ℕ) (order : Command) → is_held (
 unfolding event_in desk_in written_desk
 desk_again at tag service order held =
     let parts = and_parts (is_stamped at tag) (is_name service) held in
-    let stamped = and_parts (counts 0 u64_high at) (is_name tag) parts.0 in
+    let stamped = and_parts (is_between 0 greatest_u64 at) (is_name tag) parts.0 in
     rw (stamped.0, stamped.1, parts.1, command_again order) refl
 
 -- a written end of an exchange is read back
-exchange_end_again : (at : ℕ) (tag : List ℕ) (ticket : ℕ) (description : DescriptionForm) → (is_stamped at tag && counts 0 u32_high ticket) ≡ true → IsDescription description
+exchange_end_again : (at : ℕ) (tag : List ℕ) (ticket : ℕ) (description : DescriptionForm) → (is_stamped at tag && is_between 0 greatest_u32 ticket) ≡ true → IsDescription description
     → event_in (written_exchange_end at tag ticket (written_description description)) ≡ Ok (exchange_end at tag ticket description)
 unfolding event_in exchange_end_in written_exchange_end
 exchange_end_again at tag ticket description held sound =
-    let parts = and_parts (is_stamped at tag) (counts 0 u32_high ticket) held in
-    let stamped = and_parts (counts 0 u64_high at) (is_name tag) parts.0 in
+    let parts = and_parts (is_stamped at tag) (is_between 0 greatest_u32 ticket) held in
+    let stamped = and_parts (is_between 0 greatest_u64 at) (is_name tag) parts.0 in
     rw (stamped.0, stamped.1, parts.1, description_again description sound) refl
 
 -- a written cancelling of an exchange is read back
-exchange_cancel_again : (at : ℕ) (tag : List ℕ) (ticket : ℕ) → (is_stamped at tag && counts 0 u32_high ticket) ≡ true
+exchange_cancel_again : (at : ℕ) (tag : List ℕ) (ticket : ℕ) → (is_stamped at tag && is_between 0 greatest_u32 ticket) ≡ true
     → event_in (written_exchange_cancel at tag ticket) ≡ Ok (exchange_cancel at tag ticket)
 unfolding event_in exchange_cancel_in written_exchange_cancel
 exchange_cancel_again at tag ticket held =
-    let parts = and_parts (is_stamped at tag) (counts 0 u32_high ticket) held in
-    let stamped = and_parts (counts 0 u64_high at) (is_name tag) parts.0 in
+    let parts = and_parts (is_stamped at tag) (is_between 0 greatest_u32 ticket) held in
+    let stamped = and_parts (is_between 0 greatest_u64 at) (is_name tag) parts.0 in
     rw (stamped.0, stamped.1, parts.1) refl
 
 -- ---- recipes
@@ -164,7 +165,7 @@ recipe_again : (at : ℕ) (named : List ℕ) (chart : ChartPlan) → is_chart_fo
 unfolding event_in recipe_in written_recipe
 recipe_again at named chart formed held valid =
     let parts = and_parts (is_stamped at named) (is_sound chart) held in
-    let stamped = and_parts (counts 0 u64_high at) (is_name named) parts.0 in
+    let stamped = and_parts (is_between 0 greatest_u64 at) (is_name named) parts.0 in
     let deep : levels chart.root ≤ 127 = omega (arith, valid_shallow chart valid) in
     rw (stamped.0, stamped.1, roles_of_chart_again chart formed parts.1, root_again chart formed parts.1 deep, chart_from_again chart formed) refl
 
@@ -199,14 +200,14 @@ start_again : (at : ℕ) (batch named : List ℕ) (binds : List Bind) → is_hel
 unfolding event_in start_in written_start
 start_again at batch named binds held orderly =
     let parts = and_parts (is_stamped at batch) (is_name named && list_all is_held_bind binds) held in
-    let stamped = and_parts (counts 0 u64_high at) (is_name batch) parts.0 in
+    let stamped = and_parts (is_between 0 greatest_u64 at) (is_name batch) parts.0 in
     let bound = and_parts (is_name named) (list_all is_held_bind binds) parts.1 in
     rw (stamped.0, stamped.1, bound.0, binds_again binds orderly bound.1) refl
 
 -- a written event that names a batch alone is read back by its form
 batch_again : (word : List ℕ) (event : ℕ → List ℕ → EventForm) (at : ℕ) (batch : List ℕ) → is_stamped at batch ≡ true → batch_in event (written_batch word at batch) ≡ Ok (event at batch)
 unfolding batch_in written_batch
-batch_again word event at batch held = let stamped = and_parts (counts 0 u64_high at) (is_name batch) held in rw (stamped.0, stamped.1) refl
+batch_again word event at batch held = let stamped = and_parts (is_between 0 greatest_u64 at) (is_name batch) held in rw (stamped.0, stamped.1) refl
 
 -- ---- all kinds
 

@@ -3,16 +3,12 @@ use Rattle.std.proofs.Common.{◌≡◌, ◌≤◌, List, [], ◌∷◌, true, f
 use Rattle.serde_json.specs.Data.{depth, members_depth}
 use Rattle.serde_json.specs.Read.{max_depth}
 use Rattle.serde_json.specs.Written.{has_float, members_have_float}
-use Rattle.mtp_codes.specs.declared.value.Value.{Value}
-use Rattle.mtp_codes.specs.declared.value.Value.TheVariants.{Whole, Bit, Text}
 use Rattle.mtp_desc.specs.DescriptionView.{description_view}
 use Rattle.mtp_desc.proofs.Depths.{description_depth}
 use Rattle.mtp_desc.proofs.Floats.{description_whole}
-use Rattle.mtp_json.specs.Written.{scalar_data}
-use Rattle.mtp_json.proofs.Again.{of_integer-whole}
 use Rattle.chart_core.specs.Charts.{plan}
-use Rattle.chart_json.proofs.Depths.{roles_depth, root_depth}
-use Rattle.chart_json.proofs.Floats.{roles_whole, tree_whole}
+use Rattle.chart_json.proofs.Depths.{roles_depth, root_depth, scalar_depth}
+use Rattle.chart_json.proofs.Floats.{roles_whole, tree_whole, scalar_whole}
 use Rattle.chart_json.proofs.Shallow.{valid_shallow}
 use Rattle.pol_events.specs.declared.event.Bind.{Bind}
 use Rattle.pol_events.specs.declared.event.Event.{Event}
@@ -21,16 +17,6 @@ use Rattle.pol_events.specs.Events.{EventForm, plug, variable, recipe, start, ex
 use Rattle.pol_events.specs.Orderly.{is_orderly}
 use Rattle.pol_events.specs.Written.{bind_members, written_binds, written_event, written_plug, written_tag, written_report, written_variable, written_desk, written_exchange_end, written_exchange_cancel, written_recipe, written_start, written_batch}
 use Rattle.pol_events.proofs.Again.{faultless}
-
-scalar_depth : (value : Value) → depth (scalar_data value) ≤ 0
-scalar_depth (Whole z) = omega arith
-scalar_depth (Bit bit) = omega arith
-scalar_depth (Text bytes) = omega arith
-
-scalar_whole : (value : Value) → has_float (scalar_data value) ≡ false
-scalar_whole (Whole z) = of_integer-whole z
-scalar_whole (Bit bit) = refl
-scalar_whole (Text bytes) = refl
 
 members-depth : (binds : List Bind) → members_depth (bind_members binds) ≤ 0
 members-depth [] = omega arith

@@ -1,5 +1,5 @@
 -- The members of an object, one by one, as binds.
-use Rattle.std.proofs.Common.{◌≡◌, ℕ, Bool, true, false, List, [], ◌∷◌, ◌++◌, map, length, String, Global, BTreeMap, Option, Some, None, Err, Ok, refl, sym, ap, ◌∙◌, append_assoc, ◌&&◌, string_bytes, if◌then◌else◌, arith}
+use Rattle.std.proofs.Common.{◌≡◌, ℕ, Bool, true, false, List, [], ◌∷◌, ◌++◌, map, length, String, Global, BTreeMap, Option, Some, None, Err, Ok, refl, sym, ap, ◌∙◌, ◌&&◌, string_bytes, if◌then◌else◌, arith}
 use Rattle.std.proofs.lemmas.List.{append-nil}
 use Rattle.std.proofs.lemmas.Bool.Decides.{nat_tests}
 use Rattle.std.specs.Prelude.{IfOk, is_some, nat_le, suc}
@@ -14,14 +14,14 @@ use Rattle.serde_json.specs.Find.{as_object, as_str}
 use Rattle.serde_json.specs.View.{view, members_view}
 use Rattle.serde_json.specs.declared.value.Value.{Value}
 use Rattle.serde_json.proofs.Views.{Entry, members_len-members_view}
-use Rattle.mtp_json.specs.Gives.{Fails}
 use Rattle.mtp_codes.specs.Names.{is_name}
+use Rattle.mtp_json.specs.Gives.{Fails}
 use Rattle.mtp_json.specs.Leaf.{name}
 use Rattle.mtp_json.specs.Reading.{Reading, ◌>>=◌, here}
 use Rattle.mtp_json.specs.declared.fault.FaultKind.TheVariants.{WrongKind, OutOfRange}
 use Rattle.mtp_json.specs.declared.fault.JsonRefusal.{JsonRefusal}
 use Rattle.mtp_json.specs.declared.fault.JsonRefusal.TheVariants.{Fault, Memory}
-use Rattle.mtp_json.proofs.Each.{with_front}
+use Rattle.mtp_json.proofs.Each.{with_front, regroup}
 use Rattle.chart_json.proofs.Told.{any_before, told_before}
 use Rattle.pol_events.specs.Binds.{are_texts, few, few_texts, bind_of, each_bind, by_role, binds_of}
 use Rattle.pol_events.specs.Orderly.{rise}
@@ -39,10 +39,6 @@ texts_by_values object = texts_of object.entries
 -- there are as many members as entries
 pub as_many : (entries : List Entry) → members_len (members_view entries) ≡ length entries
 as_many entries = members_len-members_view entries
-
-regroup : (front : List Bind) (bind : Bind) (read : Reading (List Bind)) → with_front front (read >>= λ rest. Ok (bind ∷ rest)) ≡ with_front (front ++ bind ∷ []) read
-regroup front bind (Ok rest) = ap (λ binds. Ok binds) (sym (append_assoc front (bind ∷ []) rest))
-regroup front bind (Err fault) = refl
 
 -- Three goals of a loop that reads each member as a bind, and keeps
 -- with_front binds (each_bind (members_view left)) ≡ total.

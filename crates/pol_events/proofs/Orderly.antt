@@ -1,7 +1,12 @@
 -- What a line says is orderly.
-use Rattle.std.proofs.Common.{◌≡◌, ◌&&◌, ℕ, Bool, List, length, true, false, Option, Some, None, Err, Ok, rules, refl, sym, ap, ◌∙◌}
-use Rattle.std.specs.Prelude.{codes, nat_le, IfOk, IsTrue, Result, is_none}
+use Rattle.std.proofs.Common.{◌≡◌, ◌&&◌, ℕ, Bool, List, true, false, Option, Some, None, Err, Ok, rules, refl}
+use Rattle.std.specs.Prelude.{codes, IfOk, IsTrue, Result}
 use Rattle.serde_json.specs.Data.{Data}
+use Rattle.mtp_codes.specs.Numbers.{greatest_u64}
+use Rattle.mtp_json.specs.declared.fault.FaultKind.TheVariants.{Repeated}
+use Rattle.mtp_json.specs.Form.{need, inside, nothing_but, refused_if, repeats_by}
+use Rattle.mtp_json.specs.Leaf.{count, name}
+use Rattle.mtp_json.specs.Reading.{Reading, ◌>>=◌, under}
 use Rattle.chart_core.specs.Form.{is_tree_formed}
 use Rattle.chart_core.specs.Roles.{RolePlan, ChartPlan, is_chart_form}
 use Rattle.chart_core.specs.Trees.{Tree}
@@ -9,22 +14,16 @@ use Rattle.chart_core.specs.Valid.{chart_fault}
 use Rattle.chart_core.specs.declared.fault.ChartFault.{ChartFault}
 use Rattle.chart_json.specs.Form.{roles_of, are_roles_sized, same_role, tree_of, chart_from}
 use Rattle.chart_json.proofs.Formed.{tree_formed, roles_sized, chart_formed}
-use Rattle.mtp_json.specs.declared.fault.FaultKind.TheVariants.{Repeated}
-use Rattle.mtp_json.specs.Form.{need, inside, nothing_but, refused_if, repeats_by}
-use Rattle.mtp_json.specs.Leaf.{anything, count, name, u64_high}
-use Rattle.mtp_json.specs.Parse.{json_of}
-use Rattle.mtp_json.specs.Reading.{Reading, ◌>>=◌, here, under}
-use Rattle.pol_events.specs.declared.fault.LineFault.{LineFault}
+use Rattle.chart_json.proofs.Told.{any_before, told_before, told_inside}
 use Rattle.pol_events.specs.declared.fault.LineRefusal.{LineRefusal}
 use Rattle.pol_events.specs.declared.kind.EventKind.{EventKind}
 use Rattle.pol_events.specs.declared.kind.EventKind.TheVariants.{Plug, Unplug, Report, Variable, Recipe, Start, Advance, Freeze, Thaw, Stop, Abandon, Desk, ExchangeBegin, ExchangeEnd, ExchangeCancel}
-use Rattle.chart_json.proofs.Told.{any_before, told_before, told_inside}
 use Rattle.pol_events.specs.declared.event.Event.{Event}
 use Rattle.pol_events.specs.Binds.{binds_of}
-use Rattle.pol_events.specs.Events.{EventForm, event_view, plug, unplug, report, variable, recipe, start, advance, freeze, thaw, stop_batch, abandon, desk, exchange_begin, exchange_end, exchange_cancel}
+use Rattle.pol_events.specs.Events.{EventForm, event_view, recipe}
 use Rattle.pol_events.specs.Forms.{plug_in, tag_in, report_in, variable_in, desk_in, exchange_end_in, exchange_cancel_in, recipe_in, start_in, batch_in, event_by, event_in}
 use Rattle.pol_events.specs.Lines.{Tells, read_of, fault_within, unless_faulty, of_line, event_of}
-use Rattle.pol_events.specs.Orderly.{is_orderly, is_valid, rise}
+use Rattle.pol_events.specs.Orderly.{is_orderly, is_valid}
 use Rattle.pol_events.proofs.Members.{AreOrderly, binds_orderly}
 
 -- the event is orderly, unless its chart has a fault
@@ -34,7 +33,7 @@ IsOrderly event = fault_within event ≡ None → is_orderly event ≡ true
 start-orderly : (value : Data) → IfOk (start_in value) IsOrderly
 unfolding start_in
 start-orderly value =
-    any_before IsOrderly (need (codes "at") (count 0 u64_high) value) _ (λ at.
+    any_before IsOrderly (need (codes "at") (count 0 greatest_u64) value) _ (λ at.
     any_before IsOrderly (need (codes "batch") name value) _ (λ batch.
     any_before IsOrderly (need (codes "recipe") name value) _ (λ named.
     told_before AreOrderly IsOrderly (inside (codes "bind") binds_of value) _ (told_inside AreOrderly (codes "bind") binds_of binds_orderly value) (λ binds orderly.
@@ -58,7 +57,7 @@ made-orderly at named roles root sized formed = go (repeats_by same_role roles) 
 recipe-orderly : (value : Data) → IfOk (recipe_in value) IsOrderly
 unfolding recipe_in
 recipe-orderly value =
-    any_before IsOrderly (need (codes "at") (count 0 u64_high) value) _ (λ at.
+    any_before IsOrderly (need (codes "at") (count 0 greatest_u64) value) _ (λ at.
     any_before IsOrderly (need (codes "recipe") name value) _ (λ named.
     told_before (λ roles. are_roles_sized roles ≡ true) IsOrderly (inside (codes "roles") roles_of value) _
     (told_inside (λ roles. are_roles_sized roles ≡ true) (codes "roles") roles_of roles_sized value) (λ roles sized.

@@ -2,9 +2,10 @@
 use Rattle.std.specs.Prelude.{ℕ, List, codes, Ok}
 use Rattle.serde_json.specs.Data.{Data}
 use Rattle.mtp_codes.specs.Codes.{command_codes, state_codes}
+use Rattle.mtp_codes.specs.Numbers.{greatest_u32, greatest_u64}
 use Rattle.mtp_assembly.specs.declared.control.ServiceControl.{ServiceControl}
 use Rattle.mtp_json.specs.Form.{need, inside, object_here, nothing_but}
-use Rattle.mtp_json.specs.Leaf.{code, count, name, scalar, word, u32_high, u64_high}
+use Rattle.mtp_json.specs.Leaf.{code, count, name, scalar, word}
 use Rattle.mtp_json.specs.Reading.{Reading, ◌>>=◌}
 use Rattle.mtp_desc.specs.Form.{description_of}
 use Rattle.chart_json.specs.Form.{chart_from, roles_of, tree_of}
@@ -19,7 +20,7 @@ use Rattle.pol_events.specs.Words.{kind_words, mode_words, origin_words}
 -- a module is plugged
 unfoldable pub plug_in : Data → Reading EventForm
 plug_in value =
-    need (codes "at") (count 0 u64_high) value >>= λ at.
+    need (codes "at") (count 0 greatest_u64) value >>= λ at.
     need (codes "tag") name value >>= λ tag.
     inside (codes "desc") description_of value >>= λ description.
     nothing_but (codes "ev at tag desc") value >>= λ _.
@@ -28,7 +29,7 @@ plug_in value =
 -- an event that names a tag and nothing more
 unfoldable pub tag_in : (ℕ → List ℕ → EventForm) → Data → Reading EventForm
 tag_in event value =
-    need (codes "at") (count 0 u64_high) value >>= λ at.
+    need (codes "at") (count 0 greatest_u64) value >>= λ at.
     need (codes "tag") name value >>= λ tag.
     nothing_but (codes "ev at tag") value >>= λ _.
     Ok (event at tag)
@@ -37,7 +38,7 @@ tag_in event value =
 unfoldable pub control_in : Data → Reading ServiceControl
 control_in value =
     need (codes "StateCur") (code state_codes) value >>= λ state.
-    need (codes "CommandEn") (count 0 u32_high) value >>= λ mask.
+    need (codes "CommandEn") (count 0 greatest_u32) value >>= λ mask.
     need (codes "Mode") (word mode_words) value >>= λ mode.
     need (codes "Src") (word origin_words) value >>= λ origin.
     need (codes "ProcedureCur") (count 0 65535) value >>= λ procedure.
@@ -46,7 +47,7 @@ control_in value =
 -- a service reports
 unfoldable pub report_in : Data → Reading EventForm
 report_in value =
-    need (codes "at") (count 0 u64_high) value >>= λ at.
+    need (codes "at") (count 0 greatest_u64) value >>= λ at.
     need (codes "tag") name value >>= λ tag.
     need (codes "service") name value >>= λ service.
     control_in value >>= λ control.
@@ -56,7 +57,7 @@ report_in value =
 -- a variable has a value
 unfoldable pub variable_in : Data → Reading EventForm
 variable_in value =
-    need (codes "at") (count 0 u64_high) value >>= λ at.
+    need (codes "at") (count 0 greatest_u64) value >>= λ at.
     need (codes "tag") name value >>= λ tag.
     need (codes "name") name value >>= λ named.
     need (codes "value") scalar value >>= λ found.
@@ -66,7 +67,7 @@ variable_in value =
 -- an operator commands a service
 unfoldable pub desk_in : Data → Reading EventForm
 desk_in value =
-    need (codes "at") (count 0 u64_high) value >>= λ at.
+    need (codes "at") (count 0 greatest_u64) value >>= λ at.
     need (codes "tag") name value >>= λ tag.
     need (codes "service") name value >>= λ service.
     need (codes "CommandOp") (code command_codes) value >>= λ command.
@@ -76,9 +77,9 @@ desk_in value =
 -- another module takes the place of one that is away
 unfoldable pub exchange_end_in : Data → Reading EventForm
 exchange_end_in value =
-    need (codes "at") (count 0 u64_high) value >>= λ at.
+    need (codes "at") (count 0 greatest_u64) value >>= λ at.
     need (codes "tag") name value >>= λ tag.
-    need (codes "ticket") (count 0 u32_high) value >>= λ ticket.
+    need (codes "ticket") (count 0 greatest_u32) value >>= λ ticket.
     inside (codes "desc") description_of value >>= λ description.
     nothing_but (codes "ev at tag ticket desc") value >>= λ _.
     Ok (exchange_end at tag ticket description)
@@ -86,9 +87,9 @@ exchange_end_in value =
 -- a module that is away comes back
 unfoldable pub exchange_cancel_in : Data → Reading EventForm
 exchange_cancel_in value =
-    need (codes "at") (count 0 u64_high) value >>= λ at.
+    need (codes "at") (count 0 greatest_u64) value >>= λ at.
     need (codes "tag") name value >>= λ tag.
-    need (codes "ticket") (count 0 u32_high) value >>= λ ticket.
+    need (codes "ticket") (count 0 greatest_u32) value >>= λ ticket.
     nothing_but (codes "ev at tag ticket") value >>= λ _.
     Ok (exchange_cancel at tag ticket)
 
@@ -97,7 +98,7 @@ exchange_cancel_in value =
 -- a recipe is made known: that no role is named twice is asked when all else was read
 unfoldable pub recipe_in : Data → Reading EventForm
 recipe_in value =
-    need (codes "at") (count 0 u64_high) value >>= λ at.
+    need (codes "at") (count 0 greatest_u64) value >>= λ at.
     need (codes "recipe") name value >>= λ named.
     inside (codes "roles") roles_of value >>= λ roles.
     inside (codes "chart") tree_of value >>= λ root.
@@ -110,7 +111,7 @@ recipe_in value =
 -- a batch is started
 unfoldable pub start_in : Data → Reading EventForm
 start_in value =
-    need (codes "at") (count 0 u64_high) value >>= λ at.
+    need (codes "at") (count 0 greatest_u64) value >>= λ at.
     need (codes "batch") name value >>= λ batch.
     need (codes "recipe") name value >>= λ named.
     inside (codes "bind") binds_of value >>= λ binds.
@@ -120,7 +121,7 @@ start_in value =
 -- an event that names a batch and nothing more
 unfoldable pub batch_in : (ℕ → List ℕ → EventForm) → Data → Reading EventForm
 batch_in event value =
-    need (codes "at") (count 0 u64_high) value >>= λ at.
+    need (codes "at") (count 0 greatest_u64) value >>= λ at.
     need (codes "batch") name value >>= λ batch.
     nothing_but (codes "ev at batch") value >>= λ _.
     Ok (event at batch)

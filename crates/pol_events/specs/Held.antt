@@ -1,9 +1,9 @@
 -- What every event keeps that a program holds: its names are names, and its numbers have their widths.
 use Rattle.std.specs.Prelude.{ℕ, List, Bool, ◌&&◌}
 use Rattle.std.specs.List.{list_all}
-use Rattle.mtp_assembly.specs.declared.control.ServiceControl.{ServiceControl}
 use Rattle.mtp_codes.specs.Names.{is_name}
-use Rattle.mtp_json.specs.Leaf.{counts, u32_high, u64_high}
+use Rattle.mtp_codes.specs.Numbers.{greatest_u32, greatest_u64, is_between}
+use Rattle.mtp_assembly.specs.declared.control.ServiceControl.{ServiceControl}
 use Rattle.mtp_json.specs.Written.{is_scalar}
 use Rattle.chart_json.specs.Sound.{is_sound}
 use Rattle.pol_events.specs.declared.event.Bind.{Bind}
@@ -11,11 +11,11 @@ use Rattle.pol_events.specs.Events.{EventForm, plug, unplug, report, variable, r
 
 -- the stamp has 64 bits, and the name is a name
 abbrev pub is_stamped : ℕ → List ℕ → Bool
-is_stamped at named = counts 0 u64_high at && is_name named
+is_stamped at named = is_between 0 greatest_u64 at && is_name named
 
 -- the mask has 32 bits, and the procedure's number 16
 abbrev pub is_held_control : ServiceControl → Bool
-is_held_control control = counts 0 u32_high control.mask && counts 0 65535 control.procedure
+is_held_control control = is_between 0 greatest_u32 control.mask && is_between 0 65535 control.procedure
 
 -- the role and the tag are names
 abbrev pub is_held_bind : Bind → Bool
@@ -36,5 +36,5 @@ is_held (stop_batch at batch) = is_stamped at batch
 is_held (abandon at batch) = is_stamped at batch
 is_held (desk at tag service command) = is_stamped at tag && is_name service
 is_held (exchange_begin at tag) = is_stamped at tag
-is_held (exchange_end at tag ticket description) = is_stamped at tag && counts 0 u32_high ticket
-is_held (exchange_cancel at tag ticket) = is_stamped at tag && counts 0 u32_high ticket
+is_held (exchange_end at tag ticket description) = is_stamped at tag && is_between 0 greatest_u32 ticket
+is_held (exchange_cancel at tag ticket) = is_stamped at tag && is_between 0 greatest_u32 ticket

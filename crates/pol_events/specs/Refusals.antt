@@ -1,26 +1,27 @@
--- Rules that a module's description and last values decide.
-use Rattle.std.specs.Prelude.{ℕ, Bool, true, false, not, ◌||◌, List, Option, Some, None, is_none, option_and_then, option_map}
+-- Rules that a module by itself decides: its description, what it told last, and the ticket under which it is away.
+use Rattle.std.specs.Prelude.{ℕ, Bool, not, ◌||◌, ◌==◌, List, map, Option, Some, None, is_none, option_and_then, option_map}
 use Rattle.std.specs.Option.{option_or}
+use Rattle.mtp_codes.specs.Faults.{when, first_of}
 use Rattle.mtp_codes.specs.declared.cover.CoverFault.{CoverFault}
 use Rattle.mtp_codes.specs.declared.cover.CoverFault.TheVariants as cover
 use Rattle.mtp_codes.specs.declared.mode.Forbid.{Forbid}
+use Rattle.mtp_codes.specs.declared.command.Command.{Command}
 use Rattle.mtp_codes.specs.declared.mode.Forbid.TheVariants as forbid
+use Rattle.mtp_codes.specs.declared.mode.Speaker.TheVariants.{Operator}
 use Rattle.mtp_codes.specs.declared.state.State.{State}
 use Rattle.mtp_codes.specs.declared.value.Value.{Value}
 use Rattle.mtp_machine.specs.Machine.{is_edge, same_state}
+use Rattle.mtp_machine.specs.States.{is_at_rest}
 use Rattle.mtp_assembly.specs.Fits.{view_fault}
 use Rattle.mtp_assembly.specs.declared.check.ValueFault.{ValueFault}
 use Rattle.mtp_assembly.specs.declared.check.ValueFault.TheVariants as value
 use Rattle.mtp_assembly.specs.declared.control.ServiceControl.{ServiceControl}
-use Rattle.mtp_desc.specs.Plain.{DescriptionForm}
+use Rattle.mtp_modes.specs.Permission.{forbidden_by}
+use Rattle.mtp_modes.specs.declared.view.ServiceView.{ServiceView}
+use Rattle.mtp_desc.specs.Plain.{ServiceForm, DescriptionForm}
 use Rattle.mtp_desc.specs.Lookup.{service_named, variable_named}
 use Rattle.pol_events.specs.declared.answer.Rule.{Rule}
-use Rattle.pol_events.specs.declared.answer.Rule.TheVariants.{NoService, NotAnEdge, NoVariable, WrongKind, OutOfRange, WrongType, WrongVersion, NotCovered, ModeForbids, SelfCompletes, StateForbids, NotEnabled}
-
--- the rule, where the test holds
-abbrev pub when : Bool → Rule → Option Rule
-when true rule = Some rule
-when false rule = None
+use Rattle.pol_events.specs.declared.answer.Rule.TheVariants.{NoService, NotAnEdge, NoVariable, WrongKind, OutOfRange, WrongType, WrongVersion, NotCovered, ModeForbids, SelfCompletes, StateForbids, NotEnabled, NotAtRest, InExchange, WrongTicket}
 
 -- the module's description lacks the service
 abbrev pub no_service : List ℕ → DescriptionForm → Option Rule
@@ -63,6 +64,28 @@ forbid_rule forbid.ModeForbids = ModeForbids
 forbid_rule forbid.SelfCompletes = SelfCompletes
 forbid_rule forbid.StateForbids = StateForbids
 forbid_rule forbid.NotEnabled = NotEnabled
+
+-- the operator may not send the command, by what the service reported last
+abbrev pub forbidden : Command → ServiceView → Option Rule
+forbidden command view = option_map forbid_rule (forbidden_by view Operator command)
+
+-- the service was reported in a state that isn't at rest
+abbrev pub service_not_at_rest : List ℕ → Option ServiceControl → Option Rule
+service_not_at_rest service None = None
+service_not_at_rest service (Some control) = when (not (is_at_rest control.state)) (NotAtRest service control.state)
+
+-- the first of these services that isn't at rest, by what each reported last
+abbrev pub not_at_rest : (List ℕ → Option ServiceControl) → List ServiceForm → Option Rule
+not_at_rest last services = first_of (map (λ service. service_not_at_rest service.name (last service.name)) services)
+
+-- the module is away under a ticket
+abbrev pub in_exchange : List ℕ → Option ℕ → Option Rule
+in_exchange tag ticket = option_map (InExchange tag) ticket
+
+-- the ticket isn't the one under which the module is away
+abbrev pub wrong_ticket : ℕ → Option ℕ → Option Rule
+wrong_ticket given None = None
+wrong_ticket given (Some kept) = when (not (kept == given)) (WrongTicket kept given)
 
 -- why a module can't play the role, as a rule
 abbrev pub cover_rule : List ℕ → CoverFault → Rule

@@ -2,7 +2,7 @@
 ghost use Rattle.std.specs.Prelude.{◌≡◌, ◌&&◌, IfOk, true};
 ghost use Rattle.serde_json.specs.View.{view};
 ghost use Rattle.mtp_codes.specs.Names.{is_name};
-ghost use Rattle.mtp_json.specs.Leaf.{counts, u32_high};
+ghost use Rattle.mtp_codes.specs.Numbers.{greatest_u32, is_between};
 ghost use Rattle.mtp_json.specs.Written.{scalar_data};
 ghost use Rattle.mtp_desc.specs.DescriptionView.{description_view};
 ghost use Rattle.mtp_desc.specs.Written.{written_description};
@@ -139,7 +139,7 @@ fn exchange_end_object(
     desc: Value,
 ) -> Result<Value, AllocError>
     ensures value { IfOk result (λ value. view value ≡ written_exchange_end at tag ticket (view desc)) }
-    ensures held { is_stamped at tag && counts 0 u32_high ticket ≡ true }
+    ensures held { is_stamped at tag && is_between 0 greatest_u32 ticket ≡ true }
 {
     let tag = tag.as_str();
     json!(in alloc; {"at": at, "desc": desc, "ev": "exchange_end", "tag": tag, "ticket": ticket})

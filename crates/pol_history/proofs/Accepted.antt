@@ -1,10 +1,10 @@
 -- An accepted event meets none of its rules.
 use Rattle.std.proofs.Common.{◌≡◌, true, List, [], ◌∷◌, Option, Some, None, refl}
+use Rattle.mtp_codes.specs.Faults.{when}
 use Rattle.pol_events.specs.Events.{EventForm, EntryForm}
 use Rattle.pol_events.specs.declared.answer.Rule.{Rule}
 use Rattle.pol_events.specs.declared.answer.Rule.TheVariants.{HistoryFull}
 use Rattle.pol_events.specs.declared.answer.Answer.{Answer}
-use Rattle.pol_events.specs.Refusals.{when}
 use Rattle.pol_history.specs.Looking.{History, is_accepted}
 use Rattle.pol_history.specs.Answers.{rules, otherwise, first_rule, is_full, answer_of}
 

@@ -4,3 +4,4 @@ pub mod Accepted
 pub mod Legal
 pub mod Paths
 pub mod Appending
+pub mod Open

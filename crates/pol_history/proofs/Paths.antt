@@ -6,11 +6,12 @@ use Rattle.std.specs.Str.{bytes_eq}
 use Rattle.std.proofs.lemmas.Bool.{and_parts, and_from}
 use Rattle.std.proofs.lemmas.List.{reverse-append}
 use Rattle.mtp_codes.specs.declared.state.State.{State}
+use Rattle.mtp_codes.specs.Faults.{when}
+use Rattle.mtp_machine.specs.Machine.{is_path}
 use Rattle.mtp_assembly.specs.declared.control.ServiceControl.{ServiceControl}
 use Rattle.pol_events.specs.Events.{EventForm, plug, unplug, report, variable, recipe, start, advance, freeze, thaw, stop_batch, abandon, desk, exchange_begin, exchange_end, exchange_cancel, EntryForm}
 use Rattle.pol_events.specs.declared.answer.Rule.TheVariants.{NotAnEdge}
-use Rattle.pol_events.specs.Refusals.{when, may_follow, not_an_edge}
-use Rattle.mtp_machine.specs.Machine.{is_path}
+use Rattle.pol_events.specs.Refusals.{may_follow, not_an_edge}
 use Rattle.pol_history.specs.Looking.{History, subject, is_module, is_accepted, is_accepted_of, past, last_of}
 use Rattle.pol_history.specs.Modules.{reported, since_docking, states_in, control_by}
 use Rattle.pol_history.specs.Answers.{answer_of}

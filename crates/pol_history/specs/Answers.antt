@@ -1,5 +1,6 @@
 -- The rules of each kind of event in their order, and the answer.
 use Rattle.std.specs.Prelude.{ℕ, Bool, ◌||◌, nat_le, List, [], ◌∷◌, length, Option, Some, None, if◌then◌else◌}
+use Rattle.mtp_codes.specs.Faults.{when}
 use Rattle.chart_core.specs.Roles.{ChartPlan, role_names}
 use Rattle.chart_core.specs.declared.entry.LogEntry.TheVariants.{StopAsked, Asked}
 use Rattle.pol_events.specs.Events.{EventForm, plug, unplug, report, variable, recipe, start, advance, freeze, thaw, stop_batch, abandon, desk, exchange_begin, exchange_end, exchange_cancel}
@@ -10,13 +11,13 @@ use Rattle.pol_events.specs.declared.answer.Next.TheVariants as next
 use Rattle.pol_events.specs.declared.answer.Outcome.TheVariants.{Abandoned}
 use Rattle.pol_events.specs.declared.answer.Answer.{Answer}
 use Rattle.pol_events.specs.declared.answer.Answer.TheVariants.{Done, Ticket, Did, Waiting, Closed, Refused}
-use Rattle.pol_events.specs.Refusals.{when, no_service, not_an_edge, no_variable, misfit}
+use Rattle.pol_events.specs.Refusals.{no_service, not_an_edge, no_variable, misfit, forbidden, not_at_rest, in_exchange, wrong_ticket}
 use Rattle.pol_events.specs.declared.event.Bind.{Bind}
 use Rattle.pol_history.specs.Looking.{History, past, past_of_batch, recipes}
-use Rattle.pol_history.specs.Modules.{docking_by, description_by, control_by, view_by, next_ticket}
+use Rattle.pol_history.specs.Modules.{docking_by, ticket_of, description_by, control_by, view_by, next_ticket}
 use Rattle.pol_history.specs.Batches.{start_by, chart_named, log_by, has_broken, was_stopped, holder_of}
 use Rattle.pol_history.specs.Following.{next_of}
-use Rattle.pol_history.specs.Rules.{tag_taken, no_module, in_exchange, not_in_exchange, wrong_ticket, plant_full, by_description, not_reported, forbidden, not_at_rest, recipe_known, recipes_full, no_recipe, batch_known, no_batch, batch_closed, already_frozen, not_frozen, batches_full, role_unbound, role_unknown, one_module_twice, modules_unfit, busy, by_holder, active_step, held_back}
+use Rattle.pol_history.specs.Rules.{tag_taken, no_module, not_in_exchange, plant_full, by_description, by_view, not_reported, recipe_known, recipes_full, no_recipe, batch_known, no_batch, batch_closed, already_frozen, not_frozen, batches_full, role_unbound, role_unknown, one_module_twice, modules_unfit, busy, by_holder, active_step, held_back}
 
 -- the rules of a start, by the chart of its recipe
 abbrev pub start_rules : History → List ℕ → List Bind → Option ChartPlan → List (Option Rule)
@@ -37,18 +38,18 @@ rules history (plug at tag description) =
     tag_taken (docking_by (past tag history)) ∷ plant_full history ∷ []
 rules history (unplug at tag) =
     no_module tag (docking_by (past tag history))
-    ∷ in_exchange tag (docking_by (past tag history))
+    ∷ in_exchange tag (ticket_of (docking_by (past tag history)))
     ∷ by_holder (λ batch. Some (Held batch)) (holder_of history tag)
     ∷ []
 rules history (report at tag service control) =
     no_module tag (docking_by (past tag history))
-    ∷ in_exchange tag (docking_by (past tag history))
+    ∷ in_exchange tag (ticket_of (docking_by (past tag history)))
     ∷ by_description (no_service service) (description_by (past tag history))
     ∷ not_an_edge control.state (control_by service (past tag history))
     ∷ []
 rules history (variable at tag name value) =
     no_module tag (docking_by (past tag history))
-    ∷ in_exchange tag (docking_by (past tag history))
+    ∷ in_exchange tag (ticket_of (docking_by (past tag history)))
     ∷ by_description (no_variable name) (description_by (past tag history))
     ∷ by_description (misfit name value) (description_by (past tag history))
     ∷ []
@@ -74,27 +75,27 @@ rules history (abandon at batch) =
     no_batch (start_by (past_of_batch batch history)) ∷ batch_closed (past_of_batch batch history) ∷ []
 rules history (desk at tag service command) =
     no_module tag (docking_by (past tag history))
-    ∷ in_exchange tag (docking_by (past tag history))
+    ∷ in_exchange tag (ticket_of (docking_by (past tag history)))
     ∷ by_description (no_service service) (description_by (past tag history))
     ∷ not_reported tag service (view_by service (past tag history))
-    ∷ forbidden command (view_by service (past tag history))
+    ∷ by_view (forbidden command) (view_by service (past tag history))
     ∷ []
 rules history (exchange_begin at tag) =
     no_module tag (docking_by (past tag history))
-    ∷ in_exchange tag (docking_by (past tag history))
+    ∷ in_exchange tag (ticket_of (docking_by (past tag history)))
     ∷ active_step history tag
-    ∷ by_description (λ description. not_at_rest (past tag history) description.services) (description_by (past tag history))
+    ∷ by_description (λ description. not_at_rest (λ service. control_by service (past tag history)) description.services) (description_by (past tag history))
     ∷ []
 rules history (exchange_end at tag ticket description) =
     no_module tag (docking_by (past tag history))
     ∷ not_in_exchange (docking_by (past tag history))
-    ∷ wrong_ticket ticket (docking_by (past tag history))
+    ∷ wrong_ticket ticket (ticket_of (docking_by (past tag history)))
     ∷ held_back history tag description
     ∷ []
 rules history (exchange_cancel at tag ticket) =
     no_module tag (docking_by (past tag history))
     ∷ not_in_exchange (docking_by (past tag history))
-    ∷ wrong_ticket ticket (docking_by (past tag history))
+    ∷ wrong_ticket ticket (ticket_of (docking_by (past tag history)))
     ∷ []
 
 -- the next entry of a batch, as the answer to its advance

@@ -2,6 +2,7 @@
 use Rattle.std.specs.Prelude.{ℕ, Bool, true, false, ◌&&◌, List, [], map, filter, filter_map, find, Option, Some, None, is_some, is_none, unwrap_or, reverse, option_and_then, option_map, if◌then◌else◌}
 use Rattle.std.specs.List.{list_any}
 use Rattle.std.specs.Str.{bytes_eq}
+use Rattle.mtp_codes.specs.Names.{is_among}
 use Rattle.chart_core.specs.Active.{active_steps}
 use Rattle.chart_core.specs.Roles.{ChartPlan}
 use Rattle.chart_core.specs.Trees.{StepPlan}
@@ -13,7 +14,7 @@ use Rattle.pol_events.specs.declared.event.Bind.{Bind}
 use Rattle.pol_events.specs.declared.answer.Answer.{Answer}
 use Rattle.pol_events.specs.declared.answer.Answer.TheVariants.{Did, Closed}
 use Rattle.pol_events.specs.declared.answer.Outcome.{Outcome}
-use Rattle.pol_history.specs.Looking.{History, past_of_batch, recipes, last_of, is_among, is_accepted}
+use Rattle.pol_history.specs.Looking.{History, past_of_batch, recipes, last_of, is_accepted}
 
 -- what a batch was started with: its recipe, and which module plays each role
 pub record Started : Type 0 where

@@ -1,6 +1,5 @@
 -- A history, and looking back in it. A history lists the newest entry first.
 use Rattle.std.specs.Prelude.{ℕ, Bool, true, false, ◌&&◌, List, [], ◌∷◌, filter, Option, None, if◌then◌else◌}
-use Rattle.std.specs.List.{list_any}
 use Rattle.std.specs.Option.{option_or}
 use Rattle.std.specs.Str.{bytes_eq}
 use Rattle.pol_events.specs.Events.{EventForm, plug, unplug, report, variable, recipe, start, advance, freeze, thaw, stop_batch, abandon, desk, exchange_begin, exchange_end, exchange_cancel, EntryForm}
@@ -10,10 +9,6 @@ use Rattle.pol_events.specs.declared.answer.Answer.TheVariants.{Refused}
 -- the events with their answers, the newest first
 abbrev pub History : Type 0
 History = List EntryForm
-
--- the name is one of these
-abbrev pub is_among : List (List ℕ) → List ℕ → Bool
-is_among names name = list_any (λ each. bytes_eq each name) names
 
 -- whom an event is of
 pub data Subject : Type 0 where

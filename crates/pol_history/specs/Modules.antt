@@ -5,9 +5,9 @@ use Rattle.std.specs.Str.{bytes_eq}
 use Rattle.mtp_codes.specs.declared.state.State.{State}
 use Rattle.mtp_codes.specs.declared.value.Value.{Value}
 use Rattle.mtp_assembly.specs.declared.control.ServiceControl.{ServiceControl}
+use Rattle.mtp_modes.specs.declared.view.ServiceView.{ServiceView}
 use Rattle.mtp_desc.specs.Plain.{DescriptionForm}
 use Rattle.mtp_desc.specs.Lookup.{self_completes}
-use Rattle.mtp_modes.specs.declared.view.ServiceView.{ServiceView}
 use Rattle.pol_events.specs.Events.{EventForm, plug, unplug, report, variable, exchange_begin, exchange_end, exchange_cancel}
 use Rattle.pol_events.specs.declared.answer.Answer.{Answer}
 use Rattle.pol_events.specs.declared.answer.Answer.TheVariants.{Ticket}
@@ -74,6 +74,12 @@ docking_after past _ answer = None
 -- whether the module is docked, by its past
 abbrev pub docking_by : History → Docking
 docking_by past = unwrap_or (last_of (λ entry. docking_after past entry.event entry.answer) past) absent
+
+-- the ticket under which the module is away
+abbrev pub ticket_of : Docking → Option ℕ
+ticket_of absent = None
+ticket_of (docked count) = None
+ticket_of (away ticket) = Some ticket
 
 -- whether the tag is docked
 abbrev pub docking_of : History → List ℕ → Docking

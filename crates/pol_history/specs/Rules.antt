@@ -1,30 +1,21 @@
 -- The rules that can refuse an event.
-use Rattle.std.specs.Prelude.{ℕ, Bool, true, false, ◌==◌, not, nat_le, List, [], ◌∷◌, length, map, filter, filter_map, find, Option, Some, None, is_some, is_none, option_and_then, option_map}
+use Rattle.std.specs.Prelude.{ℕ, Bool, false, not, nat_le, List, [], ◌∷◌, length, map, filter, filter_map, find, Option, Some, None, is_some, is_none, option_and_then, option_map}
 use Rattle.std.specs.Option.{option_or}
-use Rattle.mtp_codes.specs.declared.command.Command.{Command}
-use Rattle.mtp_codes.specs.declared.mode.Speaker.TheVariants as speaker
-use Rattle.mtp_codes.specs.declared.state.State.{State}
-use Rattle.mtp_codes.specs.declared.state.State.TheVariants as state
-use Rattle.mtp_assembly.specs.declared.control.ServiceControl.{ServiceControl}
-use Rattle.mtp_modes.specs.Permission.{forbidden_by}
+use Rattle.mtp_codes.specs.Names.{same_name, is_among}
+use Rattle.mtp_codes.specs.Faults.{when, first_of}
+use Rattle.mtp_machine.specs.States.{is_idle}
 use Rattle.mtp_modes.specs.declared.view.ServiceView.{ServiceView}
-use Rattle.mtp_desc.specs.Plain.{ServiceForm, DescriptionForm}
-use Rattle.mtp_procs.specs.Covers.{cover_fault, missing_by}
+use Rattle.mtp_desc.specs.Plain.{DescriptionForm}
 use Rattle.chart_core.specs.Roles.{ChartPlan}
-use Rattle.chart_core.specs.Same.{same_name}
 use Rattle.chart_core.specs.Trees.{StepPlan, steps}
-use Rattle.pol_events.specs.Refusals.{when, forbid_rule, cover_rule}
+use Rattle.mtp_procs.specs.Covers.{cover_fault, missing_by}
+use Rattle.pol_events.specs.Refusals.{cover_rule, in_exchange}
 use Rattle.pol_events.specs.declared.answer.Rule.{Rule}
-use Rattle.pol_events.specs.declared.answer.Rule.TheVariants.{TagTaken, NoModule, PlantFull, InExchange, NotInExchange, WrongTicket, RecipeKnown, NoRecipe, BatchKnown, NoBatch, BatchClosed, RoleUnbound, RoleUnknown, OneModuleTwice, NotReported, NotIdle, Busy, BatchesFull, NotAtRest, ActiveStep, HeldBack, NotFrozen, AlreadyFrozen, RecipesFull}
+use Rattle.pol_events.specs.declared.answer.Rule.TheVariants.{TagTaken, NoModule, PlantFull, NotInExchange, RecipeKnown, NoRecipe, BatchKnown, NoBatch, BatchClosed, RoleUnbound, RoleUnknown, OneModuleTwice, NotReported, NotIdle, Busy, BatchesFull, ActiveStep, HeldBack, NotFrozen, AlreadyFrozen, RecipesFull}
 use Rattle.pol_events.specs.declared.event.Bind.{Bind}
-use Rattle.pol_history.specs.Looking.{History, past, past_of_batch, recipes, is_among}
-use Rattle.pol_history.specs.Modules.{Docking, absent, docked, away, docking_by, description_by, control_by, view_by, present_tags}
+use Rattle.pol_history.specs.Looking.{History, past, past_of_batch, recipes}
+use Rattle.pol_history.specs.Modules.{Docking, absent, docked, away, docking_by, description_by, view_by, present_tags, ticket_of}
 use Rattle.pol_history.specs.Batches.{Started, start_by, chart_named, chart_by, bound_tag, bound_role, outcome_by, is_frozen_by, log_by, active, holder_of, is_start}
-
--- the first of these rules that holds
-abbrev pub first_of : List (Option Rule) → Option Rule
-first_of [] = None
-first_of (rule ∷ others) = option_or rule (first_of others)
 
 -- ---- whether a tag is docked
 
@@ -40,23 +31,11 @@ no_module tag absent = Some (NoModule tag)
 no_module tag (docked count) = None
 no_module tag (away ticket) = None
 
--- the tag's module is away
-abbrev pub in_exchange : List ℕ → Docking → Option Rule
-in_exchange tag absent = None
-in_exchange tag (docked count) = None
-in_exchange tag (away ticket) = Some (InExchange tag ticket)
-
 -- the tag's module isn't away
 abbrev pub not_in_exchange : Docking → Option Rule
 not_in_exchange absent = None
 not_in_exchange (docked count) = Some NotInExchange
 not_in_exchange (away ticket) = None
-
--- the ticket isn't that of the exchange
-abbrev pub wrong_ticket : ℕ → Docking → Option Rule
-wrong_ticket given absent = None
-wrong_ticket given (docked count) = None
-wrong_ticket given (away kept) = when (not (kept == given)) (WrongTicket kept given)
 
 -- 64 tags are docked or away
 abbrev pub plant_full : History → Option Rule
@@ -69,42 +48,20 @@ abbrev pub by_description : (DescriptionForm → Option Rule) → Option Descrip
 by_description rule None = None
 by_description rule (Some description) = rule description
 
+-- a rule of what the service reported last
+abbrev pub by_view : (ServiceView → Option Rule) → Option ServiceView → Option Rule
+by_view rule None = None
+by_view rule (Some view) = rule view
+
 -- the service wasn't reported since the module was docked
 abbrev pub not_reported : List ℕ → List ℕ → Option ServiceView → Option Rule
 not_reported tag service None = Some (NotReported tag service)
 not_reported tag service (Some view) = None
 
--- a service in this state is idle
-abbrev pub is_idle : State → Bool
-is_idle state.Idle = true
-is_idle other = false
-
 -- the service is in another state than Idle
 abbrev pub not_idle : List ℕ → List ℕ → Option ServiceView → Option Rule
 not_idle tag service None = None
 not_idle tag service (Some view) = when (not (is_idle view.control.state)) (NotIdle tag service view.control.state)
-
--- the operator may not send the command
-abbrev pub forbidden : Command → Option ServiceView → Option Rule
-forbidden command None = None
-forbidden command (Some view) = option_map forbid_rule (forbidden_by view speaker.Operator command)
-
--- the state is one of a module at rest: Idle, Completed, Stopped or Aborted
-abbrev pub is_at_rest : State → Bool
-is_at_rest state.Idle = true
-is_at_rest state.Completed = true
-is_at_rest state.Stopped = true
-is_at_rest state.Aborted = true
-is_at_rest other = false
-
--- the service was reported in a state that isn't at rest
-abbrev pub is_busy_service : List ℕ → Option ServiceControl → Option Rule
-is_busy_service service None = None
-is_busy_service service (Some control) = when (not (is_at_rest control.state)) (NotAtRest service control.state)
-
--- the first of these services that isn't at rest
-abbrev pub not_at_rest : History → List ServiceForm → Option Rule
-not_at_rest past services = first_of (map (λ service. is_busy_service service.name (control_by service.name past)) services)
 
 -- ---- recipes
 
@@ -189,7 +146,7 @@ not_ready tag past services =
 abbrev pub module_rules : ChartPlan → List ℕ → List ℕ → History → List (Option Rule)
 module_rules chart role tag past =
     no_module tag (docking_by past)
-    ∷ in_exchange tag (docking_by past)
+    ∷ in_exchange tag (ticket_of (docking_by past))
     ∷ not_covered chart role (description_by past)
     ∷ not_ready tag past (services_of chart role)
     ∷ []

@@ -2,6 +2,7 @@
 use Rattle.std.proofs.Common.{ℕ, ◌+◌, ◌≡◌, List, [], ◌∷◌, ◌++◌, take, drop, slice_range, Bool, true, false, ◌&&◌, ◌||◌, ◌==◌, not, IsTrue, length-drop, arith, ap, ◌∙◌, sym, refl, take-append-drop}
 use Rattle.std.proofs.Math.Seq.{take-add}
 use Rattle.std.proofs.lemmas.List.{get_or-drop, drop_more}
+use Rattle.std.proofs.lemmas.Bool.{not-true}
 use Rattle.pol_io.specs.Pieces.{has_no_feed}
 use Rattle.pol_io.specs.Cuts.{FeedAt}
 use Rattle.pol_io.proofs.Ranges.{range_drop}
@@ -10,13 +11,9 @@ both_true : (a b : Bool) → (a && b) ≡ true → (a ≡ true) × (b ≡ true)
 both_true true b h = (refl, h)
 both_true false b h = absurd (cc)
 
-not_true : (a : Bool) → not a ≡ true → a ≡ false
-not_true true h = absurd (cc)
-not_true false h = refl
-
 -- the first byte is no line feed, and none of the others is
 pub head_no_feed : (x : ℕ) (xs : List ℕ) → IsTrue (has_no_feed (x ∷ xs)) → ((x == 10) ≡ false) × IsTrue (has_no_feed xs)
-head_no_feed x xs h = let both = both_true (not (x == 10)) (has_no_feed xs) h in (not_true (x == 10) both.0, both.1)
+head_no_feed x xs h = let both = both_true (not (x == 10)) (has_no_feed xs) h in (not-true (x == 10) both.0, both.1)
 
 -- neither part has a line feed
 pub no_feed-append : (xs ys : List ℕ) → IsTrue (has_no_feed xs) → IsTrue (has_no_feed ys) → IsTrue (has_no_feed (xs ++ ys))
@@ -53,7 +50,3 @@ had_to_ask before now bytes waiting kept unended same no_feed needless =
 pub either_way : (b : Bool) (P : Type 0) → (b ≡ true → P) → (b ≡ false → P) → P
 either_way true P at_true at_false = at_true refl
 either_way false P at_true at_false = at_false refl
-
-pub or_left : (a b : Bool) → a ≡ true → (a || b) ≡ true
-or_left true b h = refl
-or_left false b h = absurd (cc)

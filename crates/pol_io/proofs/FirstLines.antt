@@ -1,14 +1,11 @@
 -- The first line of a text, and the lines of the rest.
 use Rattle.std.proofs.Common.{ℕ, ◌<◌, ◌≡◌, List, [], ◌∷◌, ◌++◌, length, Bool, true, false, ◌||◌, IsTrue, Option, None, Some, ⊎_elim, append_assoc, append-nil, ap, ◌∙◌, sym, refl}
+use Rattle.std.proofs.lemmas.Bool.{or_right, or_left}
 use Rattle.pol_io.specs.Pieces.{pieces, is_whole, IsFirstLine, IsDone}
 use Rattle.pol_io.specs.Known.{Between, joined}
 use Rattle.pol_io.specs.Cuts.{Cuts, CutsLong}
-use Rattle.pol_io.proofs.Feeds.{or_left, either_way}
+use Rattle.pol_io.proofs.Feeds.{either_way}
 use Rattle.pol_io.proofs.Pieces.{pieces-feed, pieces-no_feed, pieces-append, pieces-piece, line_of-feed, line_of-no_feed, whole-feed, whole-append}
-
-or_right : (a b : Bool) → b ≡ true → (a || b) ≡ true
-or_right true b h = refl
-or_right false b h = h
 
 -- a line that is cut from the front is the first line
 pub first_line : (ended : Bool) (line text rest : List ℕ) → (IsTrue ended → rest ≡ []) → Cuts ended line text rest → IsFirstLine ended line text rest

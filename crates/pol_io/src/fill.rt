@@ -1,4 +1,4 @@
-// Takes more bytes from a source.
+//! Takes more bytes from a source.
 ghost use Rattle.std.specs.Prelude.{◌≡◌, ℕ, ◌+◌, ◌-◌, ◌≤◌, ◌<◌, length, take, slice_range, true, false, Ok, Some, IfOk, OnOk, OnErr, IsTrue, IfErr};
 ghost use Rattle.std.specs.Io.KnownBytes.{Keeps, IsAtEnd, Consumes};
 ghost use Rattle.pol_io.specs.Causes.{HasCause, HasCauseOf};
@@ -90,7 +90,7 @@ fn take_more<S: Source>(window: &mut Window, source: &mut S) -> Result<bool, IoF
     }
 }
 
-// Takes more bytes. `false` is the end of input; where that was seen before, the source isn't asked again.
+/// Takes more bytes. `false` is the end of input; where that was seen before, the source isn't asked again.
 pub fn fill<S: Source>(window: &mut Window, source: &mut S) -> Result<bool, IoFault>
     requires { window.old.end < window.old.start + 1048577 }
     ensures fills { OnOk result (Fills window.old window.new) }

@@ -1,4 +1,4 @@
-// The lines that come from a source.
+//! The lines that come from a source.
 ghost use Rattle.std.specs.Prelude.{◌≡◌, ℕ, IsTrue, true, false, IfOk, IfErr, OnErr, MatchResult};
 ghost use Rattle.std.specs.Borrow.{sem};
 ghost use Rattle.std.specs.Io.BufRead.{Rests};

@@ -1,4 +1,4 @@
-// A source and a sink in memory that fail at chosen calls.
+//! A source and a sink in memory that fail at chosen calls.
 ghost use Rattle.std.specs.Prelude.{◌≡◌, ◌-◌, ◌<◌, ◌≤◌, List, ℕ, [], drop, length, min, Some, Err, IfOk, IfErr, is_err, IsTrue, not, if◌then◌else◌};
 ghost use Rattle.std.specs.Io.{ReadsAtMost, WritesAtMost};
 ghost use Rattle.std.specs.Io.KnownBytes.{ReadConsumes, WriteAppends};

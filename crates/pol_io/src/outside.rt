@@ -1,4 +1,4 @@
-// Readers and writers of std as sources and sinks: the edge to the outside.
+//! Readers and writers of std as sources and sinks: the edge to the outside.
 ghost use Rattle.std.specs.Prelude.{◌≡◌, ◌<◌, length, IfOk, IfErr};
 ghost use Rattle.std.specs.Io.{WritesAtMost};
 ghost use Rattle.std.specs.Io.KnownBytes.{WriteAppends};

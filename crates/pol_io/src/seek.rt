@@ -1,4 +1,4 @@
-// Looks for the end of a line.
+//! Looks for the end of a line.
 ghost use Rattle.std.specs.Prelude.{◌≡◌, ℕ, ◌≤◌, ◌<◌, ◌||◌, not, length, IsTrue, true, false, IfErr, MatchOption, Ok, IfOk, OnOk, OnErr};
 ghost use Rattle.std.specs.Io.KnownBytes.{Keeps, IsAtEnd};
 ghost use Rattle.pol_io.specs.Causes.{HasCauseOf};
@@ -26,7 +26,7 @@ fn find_feed(bytes: &[u8]) -> Option<usize>
     None
 }
 
-// Takes bytes until a line feed waits, too many bytes wait, or the input is at its end.
+/// Takes bytes until a line feed waits, too many bytes wait, or the input is at its end.
 pub fn seek<S: Source>(window: &mut Window, source: &mut S) -> Result<Found, IoFault>
     ensures found { IfOk result (λ found. IsFound (waiting window.new) found) }
     ensures end { result ≡ Ok Found.End

@@ -1,4 +1,4 @@
-// Where bytes come from.
+//! Where bytes come from.
 ghost use Rattle.std.specs.Prelude.{List, ℕ};
 ghost use Rattle.std.specs.declared.option.Option.{Option};
 ghost use Rattle.std.specs.Io.{ReadsAtMost};

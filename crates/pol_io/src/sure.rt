@@ -1,4 +1,4 @@
-// A source and a sink in memory that never fail.
+//! A source and a sink in memory that never fail.
 ghost use Rattle.std.specs.Prelude.{◌≡◌, ◌+◌, ◌-◌, ◌<◌, ◌≤◌, List, ℕ, [], drop, take, length, min, Some, IfOk, IsOk};
 ghost use Rattle.std.specs.Io.{ReadsAtMost, WritesAtMost};
 ghost use Rattle.std.specs.Io.KnownBytes.{Consumes, ReadConsumes, WriteAppends};
@@ -8,7 +8,7 @@ use crate::{Failed, Sink, SinkFault, Source};
 use std::alloc::Global;
 use std::marker::Model;
 
-// Gives bytes from this place on, as many as the slice holds and as are left.
+/// Gives bytes from this place on, as many as the slice holds and as are left.
 pub fn give(bytes: &[u8], at: usize, into: &mut [u8]) -> usize
     requires { at ≤ length bytes.now }
     ensures many { result ≡ min (length into.old) (length bytes.now - at) }

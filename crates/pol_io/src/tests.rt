@@ -1,4 +1,4 @@
-// Lines of small and of long inputs, calls that fail, and what readers and writers of std are as sources and sinks.
+//! Lines of small and of long inputs, calls that fail, and what readers and writers of std are as sources and sinks.
 use crate::{
     IoFault, LONGEST_LINE, Line, Lines, MemorySink, MemorySource, ReaderSource, Sink, SinkFault,
     Source, SureSink, SureSource, WriterSink, write_all,

@@ -1,4 +1,4 @@
-// A window onto the input: the bytes that were taken and not given yet.
+//! A window onto the input: the bytes that were taken and not given yet.
 ghost use Rattle.std.specs.Prelude.{◌≡◌, ◌+◌, ◌≤◌, true, false, IfOk};
 
 use crate::limits::LONGEST_LINE;

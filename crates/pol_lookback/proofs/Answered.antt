@@ -3,15 +3,14 @@ use Rattle.std.proofs.Common.{◌≡◌, ◌<◌, false, arith, ◌∷◌, [], L
 use Rattle.std.specs.Prelude.{nat_le}
 use Rattle.std.proofs.lemmas.Bool.{false_from_ne_true, leb-true}
 use Rattle.std.proofs.lemmas.List.{length-reverse}
+use Rattle.mtp_codes.specs.Faults.{when, first_of}
 use Rattle.pol_events.specs.Events.{EventForm, entry_view, history_view}
-use Rattle.pol_events.specs.Refusals.{when}
 use Rattle.pol_events.specs.declared.answer.Answer.{Answer}
 use Rattle.pol_events.specs.declared.answer.Answer.TheVariants.{Refused}
 use Rattle.pol_events.specs.declared.answer.Rule.{Rule}
 use Rattle.pol_events.specs.declared.answer.Rule.TheVariants.{HistoryFull}
 use Rattle.pol_events.specs.declared.event.Entry.{Entry}
 use Rattle.pol_history.specs.Looking.{History}
-use Rattle.pol_history.specs.Rules.{first_of}
 use Rattle.pol_history.specs.Answers.{rules, otherwise, first_rule, is_full, answer_of}
 
 -- the rule as a refusal, else the answer

@@ -1,9 +1,10 @@
 -- Rules by what is kept of a docking: not how often the module was docked.
 use Rattle.std.proofs.Common.{◌≡◌, ℕ, List, not, ◌==◌, Some, None, refl}
-use Rattle.pol_events.specs.Refusals.{when}
+use Rattle.mtp_codes.specs.Faults.{when}
 use Rattle.pol_events.specs.declared.answer.Rule.TheVariants.{NoModule, InExchange, NotInExchange, WrongTicket, TagTaken}
+use Rattle.pol_events.specs.Refusals.{in_exchange, wrong_ticket}
 use Rattle.pol_history.specs.Modules as modules
-use Rattle.pol_history.specs.Rules.{no_module, in_exchange, not_in_exchange, wrong_ticket, tag_taken}
+use Rattle.pol_history.specs.Rules.{no_module, not_in_exchange, tag_taken}
 use Rattle.pol_lookback.specs.Dockings.{docking_seen}
 use Rattle.pol_lookback.specs.declared.modules.Docking.{Docking}
 use Rattle.pol_lookback.specs.declared.modules.Docking.TheVariants.{Absent, Docked, Away}
@@ -24,7 +25,7 @@ no_module_is tag modules.absent = refl
 no_module_is tag (modules.docked count) = refl
 no_module_is tag (modules.away ticket) = refl
 
-pub in_exchange_is : (tag : List ℕ) (docking : modules.Docking) → in_exchange tag docking ≡ by_docking None None (λ ticket. Some (InExchange tag ticket)) (docking_seen docking)
+pub in_exchange_is : (tag : List ℕ) (docking : modules.Docking) → in_exchange tag (modules.ticket_of docking) ≡ by_docking None None (λ ticket. Some (InExchange tag ticket)) (docking_seen docking)
 in_exchange_is tag modules.absent = refl
 in_exchange_is tag (modules.docked count) = refl
 in_exchange_is tag (modules.away ticket) = refl
@@ -34,7 +35,7 @@ not_in_exchange_is modules.absent = refl
 not_in_exchange_is (modules.docked count) = refl
 not_in_exchange_is (modules.away ticket) = refl
 
-pub wrong_ticket_is : (given : ℕ) (docking : modules.Docking) → wrong_ticket given docking ≡ by_docking None None (λ kept. when (not (kept == given)) (WrongTicket kept given)) (docking_seen docking)
+pub wrong_ticket_is : (given : ℕ) (docking : modules.Docking) → wrong_ticket given (modules.ticket_of docking) ≡ by_docking None None (λ kept. when (not (kept == given)) (WrongTicket kept given)) (docking_seen docking)
 wrong_ticket_is given modules.absent = refl
 wrong_ticket_is given (modules.docked count) = refl
 wrong_ticket_is given (modules.away ticket) = refl

@@ -1,7 +1,7 @@
 -- Words for rules: that a module is held, the names of roles, and the services of a role's steps.
 use Rattle.std.specs.Prelude.{ℕ, List, map, filter, Option, Some}
+use Rattle.mtp_codes.specs.Names.{same_name}
 use Rattle.chart_core.specs.Roles.{ChartPlan, role_plan}
-use Rattle.chart_core.specs.Same.{same_name}
 use Rattle.chart_core.specs.Trees.{StepPlan, steps}
 use Rattle.chart_core.specs.declared.role.Role.{Role}
 use Rattle.pol_events.specs.declared.answer.Rule.{Rule}

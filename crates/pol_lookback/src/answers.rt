@@ -1,13 +1,14 @@
 //! The answer to an event: the first rule of its kind that holds, else what is answered otherwise.
 ghost use Rattle.std.specs.Prelude.{◌≡◌, ◌≤◌, ◌∷◌, [], length, IfOk};
+ghost use Rattle.mtp_codes.specs.Faults.{first_of};
+ghost use Rattle.mtp_desc.specs.DescriptionView.{description_view};
 ghost use Rattle.chart_core.specs.Charts.{plan};
 ghost use Rattle.chart_core.specs.Roles.{role_names};
-ghost use Rattle.mtp_desc.specs.DescriptionView.{description_view};
 ghost use Rattle.pol_events.specs.Events.{event_view, history_view, unplug, report, variable, start, freeze, thaw, desk, exchange_begin, exchange_end, exchange_cancel};
 ghost use Rattle.pol_history.specs.Looking.{past, past_of_batch, recipes};
 ghost use Rattle.pol_history.specs.Modules.{docking_by};
 ghost use Rattle.pol_history.specs.Batches.{start_by};
-ghost use Rattle.pol_history.specs.Rules.{batch_closed, first_of, no_batch, plant_full, recipe_known, recipes_full, tag_taken};
+ghost use Rattle.pol_history.specs.Rules.{batch_closed, no_batch, plant_full, recipe_known, recipes_full, tag_taken};
 ghost use Rattle.pol_history.specs.Answers.{advanced, answer_of, otherwise, rules, stopped};
 ghost use Rattle.pol_history.specs.Runs.{IsOrderly};
 ghost use Rattle.pol_lookback.specs.Holding.{names_in};

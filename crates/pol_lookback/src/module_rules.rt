@@ -2,12 +2,11 @@
 ghost use Rattle.std.specs.Prelude.{◌≡◌, IfOk, map};
 ghost use Rattle.mtp_desc.specs.ServiceView.{service_view};
 ghost use Rattle.pol_events.specs.Events.{history_view};
-ghost use Rattle.pol_desk.specs.Desk.{desk_fault};
-ghost use Rattle.pol_events.specs.Refusals.{misfit, no_service, no_variable, not_an_edge, value_rule};
+ghost use Rattle.pol_events.specs.Refusals.{forbidden, in_exchange, misfit, no_service, no_variable, not_an_edge, not_at_rest, service_not_at_rest, value_rule, wrong_ticket};
 ghost use Rattle.pol_history.specs.Looking.{past};
-ghost use Rattle.pol_history.specs.Modules.{docking_by, description_by, control_by, view_by};
+ghost use Rattle.pol_history.specs.Modules.{docking_by, ticket_of, description_by, control_by, view_by};
 ghost use Rattle.pol_history.specs.Batches.{holder_of};
-ghost use Rattle.pol_history.specs.Rules.{by_description, by_holder, forbidden, in_exchange, is_at_rest, is_busy_service, no_module, not_at_rest, not_idle, not_in_exchange, not_reported, plant_full, tag_taken, wrong_ticket};
+ghost use Rattle.pol_history.specs.Rules.{by_description, by_holder, by_view, no_module, not_idle, not_in_exchange, not_reported, plant_full, tag_taken};
 ghost use Rattle.pol_lookback.specs.Holding.{held_by};
 
 use crate::batches::holder_of;
@@ -15,7 +14,7 @@ use crate::modules::{Docking, control_of, description_of, docking_of, present_ta
 use mtp_assembly::{ValueFault, check_view};
 use mtp_codes::{Command, Name, State, Value};
 use mtp_desc::Service;
-use mtp_machine::edge;
+use mtp_machine::{edge, is_at_rest};
 use mtp_modes::ServiceView;
 use pol_desk::desk;
 use pol_events::{Entry, Rule};
@@ -51,7 +50,7 @@ pub fn no_module(history: &[Entry], tag: Name) -> Option<Rule>
 /// The tag's module is away.
 #[tactic(auto, using(crate::proofs::Ruled::in_exchange_is))]
 pub fn in_exchange(history: &[Entry], tag: Name) -> Option<Rule>
-    ensures { result ≡ in_exchange tag (docking_by (past tag (history_view history.now))) }
+    ensures { result ≡ in_exchange tag (ticket_of (docking_by (past tag (history_view history.now)))) }
 {
     match docking_of(history, tag) {
         Docking::Absent => None,
@@ -75,7 +74,7 @@ pub fn not_in_exchange(history: &[Entry], tag: Name) -> Option<Rule>
 /// The ticket isn't that of the exchange.
 #[tactic(auto, using(crate::proofs::Ruled::wrong_ticket_is))]
 pub fn wrong_ticket(history: &[Entry], tag: Name, ticket: u32) -> Option<Rule>
-    ensures { result ≡ wrong_ticket ticket (docking_by (past tag (history_view history.now))) }
+    ensures { result ≡ wrong_ticket ticket (ticket_of (docking_by (past tag (history_view history.now)))) }
 {
     match docking_of(history, tag) {
         Docking::Absent => None,
@@ -193,8 +192,8 @@ pub fn not_idle(history: &[Entry], tag: Name, service: Name) -> Option<Rule>
 }
 
 // The rule against the operator's command, by what the service last reported.
-fn desk_fault(tag: Name, service: Name, view: &ServiceView, command: Command) -> Option<Rule>
-    ensures { result ≡ desk_fault view.now command }
+fn forbidden_by_view(tag: Name, service: Name, view: &ServiceView, command: Command) -> Option<Rule>
+    ensures { result ≡ forbidden command view.now }
 {
     match desk(tag, service, view, command) {
         Ok(_) => None,
@@ -204,24 +203,15 @@ fn desk_fault(tag: Name, service: Name, view: &ServiceView, command: Command) ->
 
 /// The operator may not send the command to the service.
 pub fn forbidden(history: &[Entry], tag: Name, service: Name, command: Command) -> Option<Rule>
-    ensures { result ≡ forbidden command (view_by service (past tag (history_view history.now))) }
+    ensures { result ≡ by_view (forbidden command) (view_by service (past tag (history_view history.now))) }
 {
     let view = view_of(history, tag, service)?;
-    desk_fault(tag, service, &view, command)
-}
-
-fn is_at_rest(state: State) -> bool
-    ensures { result ≡ is_at_rest state }
-{
-    matches!(
-        state,
-        State::Idle | State::Completed | State::Stopped | State::Aborted
-    )
+    forbidden_by_view(tag, service, &view, command)
 }
 
 // The service was reported in a state that isn't at rest.
 fn service_not_at_rest(history: &[Entry], tag: Name, service: Name) -> Option<Rule>
-    ensures { result ≡ is_busy_service service (control_by service (past tag (history_view history.now))) }
+    ensures { result ≡ service_not_at_rest service (control_by service (past tag (history_view history.now))) }
 {
     let state = control_of(history, tag, service)?.state;
     if is_at_rest(state) {
@@ -233,7 +223,7 @@ fn service_not_at_rest(history: &[Entry], tag: Name, service: Name) -> Option<Ru
 
 // The first of the services that isn't at rest.
 fn first_not_at_rest(history: &[Entry], tag: Name, services: &[Service]) -> Option<Rule>
-    ensures { result ≡ not_at_rest (past tag (history_view history.now)) (map service_view services.now) }
+    ensures { result ≡ not_at_rest (λ service. control_by service (past tag (history_view history.now))) (map service_view services.now) }
 {
     for service in services {
         if let Some(rule) = service_not_at_rest(history, tag, service.name) {
@@ -245,7 +235,7 @@ fn first_not_at_rest(history: &[Entry], tag: Name, services: &[Service]) -> Opti
 
 /// The module isn't at rest; the first service that isn't, in the description's order.
 pub fn not_at_rest(history: &[Entry], tag: Name) -> Option<Rule>
-    ensures { result ≡ by_description (λ description. not_at_rest (past tag (history_view history.now)) description.services) (description_by (past tag (history_view history.now))) }
+    ensures { result ≡ by_description (λ description. not_at_rest (λ service. control_by service (past tag (history_view history.now))) description.services) (description_by (past tag (history_view history.now))) }
 {
     let description = description_of(history, tag)?;
     first_not_at_rest(history, tag, &description.services)

@@ -1,15 +1,16 @@
 //! The rules of a start: its binds against the roles of the recipe, then its modules one after another.
 ghost use Rattle.std.specs.Prelude.{◌≡◌, [], IfOk};
 ghost use Rattle.std.specs.Option.{option_or};
+ghost use Rattle.mtp_codes.specs.Names.{same_name, is_among};
+ghost use Rattle.mtp_codes.specs.Faults.{first_of};
 ghost use Rattle.chart_core.specs.Charts.{plan};
 ghost use Rattle.chart_core.specs.Roles.{role_names};
 ghost use Rattle.chart_core.specs.Order.{plans_seen};
-ghost use Rattle.chart_core.specs.Same.{same_name};
 ghost use Rattle.pol_events.specs.Events.{history_view};
-ghost use Rattle.pol_history.specs.Looking.{is_among, past};
+ghost use Rattle.pol_history.specs.Looking.{past};
 ghost use Rattle.pol_history.specs.Modules.{description_by, view_by};
 ghost use Rattle.pol_history.specs.Batches.{bound_tag};
-ghost use Rattle.pol_history.specs.Rules.{busy, busy_role, first_of, is_bound_before, module_rule, modules_unfit, not_covered, not_idle, not_ready, not_reported, one_module_twice, role_unbound, role_unknown, twice};
+ghost use Rattle.pol_history.specs.Rules.{busy, busy_role, is_bound_before, module_rule, modules_unfit, not_covered, not_idle, not_ready, not_reported, one_module_twice, role_unbound, role_unknown, twice};
 ghost use Rattle.pol_lookback.specs.Holding.{names_in, services_in, steps_of};
 
 use crate::batches::holder_of;

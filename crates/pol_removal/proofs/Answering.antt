@@ -2,22 +2,23 @@
 use Rattle.std.proofs.Common.{◌≡◌, ℕ, false, List, ◌∷◌, length, refl, ap, ◌∙◌, Option, Some, None, option_map, option_and_then, inl, inr, map}
 use Rattle.std.specs.Prelude.{nat_le, filter}
 use Rattle.std.proofs.Math.Path.{fun_ext}
+use Rattle.mtp_codes.specs.Faults.{when, first_of}
+use Rattle.mtp_codes.specs.Names.{is_among}
 use Rattle.mtp_desc.specs.Plain.{DescriptionForm}
-use Rattle.mtp_procs.specs.Covers.{cover_fault}
 use Rattle.chart_core.specs.Roles.{ChartPlan, role_names}
 use Rattle.chart_cursor.specs.Sights.{Sights}
 use Rattle.chart_cursor.specs.declared.sight.Sight.{Sight}
 use Rattle.chart_cursor.specs.declared.sight.ReadingSight.{ReadingSight}
+use Rattle.mtp_procs.specs.Covers.{cover_fault}
 use Rattle.pol_events.specs.Events.{EventForm, plug, unplug, report, variable, recipe, start, advance, freeze, thaw, stop_batch, abandon, desk, exchange_begin, exchange_end, exchange_cancel}
 use Rattle.pol_events.specs.declared.event.Bind.{Bind}
 use Rattle.pol_events.specs.declared.answer.Rule.TheVariants.{PlantFull, Held, BatchesFull, HistoryFull}
 use Rattle.pol_events.specs.declared.answer.Answer.TheVariants.{Ticket}
-use Rattle.pol_events.specs.Refusals.{when}
-use Rattle.pol_history.specs.Looking.{History, subject, is_among, past, past_of_batch, recipes}
+use Rattle.pol_history.specs.Looking.{History, subject, past, past_of_batch, recipes}
 use Rattle.pol_history.specs.Modules.{next_ticket, present_tags}
 use Rattle.pol_history.specs.Batches.{Started, start_by, start_of, chart_named, chart_by, bound_tag, bound_role, tags_of, is_frozen_by, log_by, active, holder_of, is_start}
 use Rattle.pol_history.specs.Following.{service_sight, variable_sight, sights_by, next_by, next_of_started, next_of}
-use Rattle.pol_history.specs.Rules.{plant_full, batches_full, module_rules, module_rule, modules_unfit, busy_role, busy, by_holder, step_on, active_step_on, active_step, uncovered_by, held_back, first_of}
+use Rattle.pol_history.specs.Rules.{plant_full, batches_full, module_rules, module_rule, modules_unfit, busy_role, busy, by_holder, step_on, active_step_on, active_step, uncovered_by, held_back}
 use Rattle.pol_history.specs.Answers.{start_rules, rules, advanced, stopped, otherwise, is_full, answer_of}
 use Rattle.pol_removal.specs.Removal.{is_refused_for_another, is_some_among, binds_one, is_of}
 use Rattle.pol_removal.proofs.Alike.{Alike}

@@ -3,8 +3,9 @@ use Rattle.std.proofs.Common.{◌≡◌, ℕ, Bool, true, false, not, List, [], 
 use Rattle.std.specs.Prelude.{filter, filter_map}
 use Rattle.std.specs.List.{AllByRecursion}
 use Rattle.std.proofs.lemmas.Bool.{not-true}
+use Rattle.mtp_codes.specs.Names.{is_among}
 use Rattle.pol_events.specs.Events.{EventForm, start, EntryForm}
-use Rattle.pol_history.specs.Looking.{History, of_batch, subject, is_among, is_accepted}
+use Rattle.pol_history.specs.Looking.{History, of_batch, subject, is_accepted}
 use Rattle.pol_history.specs.Batches.{start_by, outcome_by, log_by, started_batch, batches}
 use Rattle.pol_history.specs.Runs.{entry_of, recorded, run_after, run_of, history_after, AreOrderly}
 use Rattle.pol_history.specs.Texts.{started_text, batch_text, batch_lines, batches_text}

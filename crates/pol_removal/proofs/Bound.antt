@@ -3,8 +3,9 @@ use Rattle.std.proofs.Common.{◌≡◌, ℕ, Bool, true, false, cond, List, [],
 use Rattle.std.specs.List.{AllByRecursion, cons_option}
 use Rattle.std.specs.Str.{bytes_eq}
 use Rattle.std.proofs.lemmas.Bool.{and_parts, or_left, or_right}
+use Rattle.mtp_codes.specs.Names.{is_among}
 use Rattle.pol_events.specs.Events.{EventForm, start, EntryForm}
-use Rattle.pol_history.specs.Looking.{History, Subject, of_module, of_batch, of_recipe, subject, is_among, is_accepted}
+use Rattle.pol_history.specs.Looking.{History, Subject, of_module, of_batch, of_recipe, subject, is_accepted}
 use Rattle.pol_history.specs.Batches.{started_batch}
 use Rattle.pol_history.specs.Runs.{is_recorded, recorded}
 use Rattle.pol_history.proofs.Names.{same-refl}

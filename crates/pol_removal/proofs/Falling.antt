@@ -3,12 +3,13 @@ use Rattle.std.proofs.Common.{◌≡◌, ℕ, ◌≤◌, Bool, true, false, List
 use Rattle.std.specs.Prelude.{nat_le}
 use Rattle.std.specs.Option.{option_or}
 use Rattle.std.proofs.lemmas.Bool.{leb-true, le-leb, both_ways}
+use Rattle.mtp_codes.specs.Faults.{when, first_of}
+use Rattle.mtp_codes.specs.Names.{is_among}
 use Rattle.pol_events.specs.declared.answer.Rule.{Rule}
 use Rattle.pol_events.specs.declared.answer.Answer.{Answer}
-use Rattle.pol_events.specs.Refusals.{when}
-use Rattle.pol_history.specs.Looking.{History, is_among}
+use Rattle.pol_history.specs.Looking.{History}
 use Rattle.pol_history.specs.Batches.{holder_of}
-use Rattle.pol_history.specs.Rules.{first_of, by_holder}
+use Rattle.pol_history.specs.Rules.{by_holder}
 use Rattle.pol_history.specs.Answers.{first_rule}
 use Rattle.pol_removal.specs.Removal.{is_for_another, is_refused_for_another}
 use Rattle.pol_removal.proofs.Alike.{HolderAlike}

@@ -1,17 +1,18 @@
 -- An open batch holds the modules that its start binds; a run keeps this.
-use Rattle.std.proofs.Common.{◌≡◌, ℕ, Bool, true, false, cond, List, ◌∷◌, length, refl, ap, sym, ◌∙◌, Option, Some, None, is_none}
+use Rattle.std.proofs.Common.{◌≡◌, ℕ, Bool, true, false, cond, List, ◌∷◌, length, refl, ap, sym, ◌∙◌, Option, Some, None}
 use Rattle.std.specs.Prelude.{nat_le}
 use Rattle.std.specs.List.{AllByRecursion}
 use Rattle.std.specs.Option.{option_or}
 use Rattle.std.proofs.lemmas.Bool.{and_parts}
+use Rattle.mtp_codes.specs.Names.{is_among}
 use Rattle.chart_core.specs.Roles.{ChartPlan, role_names}
 use Rattle.pol_events.specs.Events.{EventForm, start, EntryForm}
 use Rattle.pol_events.specs.declared.event.Bind.{Bind}
-use Rattle.pol_events.specs.declared.answer.Outcome.{Outcome}
 use Rattle.pol_events.specs.Orderly.{is_orderly, rise, roles_once}
 use Rattle.pol_events.proofs.Rising.{rising_distinct}
-use Rattle.pol_history.specs.Looking.{History, last_of, is_among, is_accepted, is_accepted_of_batch, past_of_batch, recipes}
-use Rattle.pol_history.specs.Batches.{tags_of, bound_tag, closing, outcome_by, outcome_of, chart_named, taking, takes, if_open, holder_of}
+use Rattle.pol_history.proofs.Open.{open-before, open-some}
+use Rattle.pol_history.specs.Looking.{History, last_of, is_accepted, recipes}
+use Rattle.pol_history.specs.Batches.{tags_of, bound_tag, outcome_of, chart_named, taking, takes, if_open, holder_of}
 use Rattle.pol_history.specs.Rules.{busy_module, busy_role, busy, role_unknown}
 use Rattle.pol_history.specs.Answers.{start_rules, answer_of}
 use Rattle.pol_history.specs.Runs.{entry_of, is_recorded, recorded}
@@ -61,26 +62,6 @@ taken-free history _ tag batch orderly accepted taken = cc
 
 -- ---- one more entry
 
--- a batch that is open after an entry was open before it
-open-before : (entry : EntryForm) (history : History) (batch : List ℕ) → outcome_of (entry ∷ history) batch ≡ None → outcome_of history batch ≡ None
-open-before entry history batch is = go (is_accepted_of_batch batch entry) is
-  where
-    later : (outcome : Option Outcome) → option_or outcome (outcome_of history batch) ≡ None → outcome_of history batch ≡ None
-    later None is = is
-    later (Some outcome) is = cc
-
-    go : (of_it : Bool) → outcome_by (cond of_it (entry ∷ past_of_batch batch history) (past_of_batch batch history)) ≡ None → outcome_of history batch ≡ None
-    go true is = later (closing entry.answer) is
-    go false is = is
-
-open-some : (history : History) (taken : Option (List ℕ)) (batch : List ℕ) → if_open history taken ≡ Some batch → taken ≡ Some batch
-open-some history None batch is = cc
-open-some history (Some other) batch is = go (is_none (outcome_of history other)) is
-  where
-    go : (open' : Bool) → cond open' (Some other) None ≡ Some batch → Some other ≡ Some batch
-    go true is = is
-    go false is = cc
-
 still-open : (history : History) (batch : List ℕ) → outcome_of history batch ≡ None → if_open history (Some batch) ≡ Some batch
 still-open history batch is = rw is
 
@@ -92,11 +73,11 @@ owned-more : (history : History) (event : EventForm) → is_orderly event ≡ tr
 owned-more history event orderly entry owned batch tag took is = go (takes tag (entry_of history event)) refl
   where
     held : holder_of history tag ≡ Some batch
-    held = owned batch tag took (open-before (entry_of history event) history batch is)
+    held = owned batch tag took (open-before history (entry_of history event) batch is)
 
     go : (taken : Option (List ℕ)) → takes tag (entry_of history event) ≡ taken →
         if_open (entry_of history event ∷ history) (option_or (takes tag (entry_of history event)) (last_of (takes tag) history)) ≡ Some batch
-    go None none = rw (none, open-some history (last_of (takes tag) history) batch held) (still-open (entry_of history event ∷ history) batch is)
+    go None none = rw (none, (open-some history (last_of (takes tag) history) batch held).0) (still-open (entry_of history event ∷ history) batch is)
     go (Some other) some =
         let parts = takes-parts (is_accepted (answer_of history event)) (taking tag event) other some in
         clash (holder_of history tag) batch (taken-free history event tag other orderly parts.0 parts.1) held

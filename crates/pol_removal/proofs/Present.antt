@@ -3,9 +3,10 @@ use Rattle.std.proofs.Common.{◌≡◌, ℕ, ◌≤◌, Bool, true, false, cond
 use Rattle.std.specs.Prelude.{filter}
 use Rattle.std.specs.Str.{bytes_eq}
 use Rattle.std.proofs.lemmas.Bool.{and_from, both_ways, not-true, true_from_ne_false}
+use Rattle.mtp_codes.specs.Names.{is_among}
 use Rattle.pol_events.specs.Events.{EventForm, plug, unplug, EntryForm}
 use Rattle.pol_events.specs.declared.answer.Answer.{Answer}
-use Rattle.pol_history.specs.Looking.{History, subject, is_among, is_accepted, is_module}
+use Rattle.pol_history.specs.Looking.{History, subject, is_accepted, is_module}
 use Rattle.pol_history.specs.Modules.{tags_without, present_after, present_tags}
 use Rattle.pol_history.proofs.Accepted.{paired}
 use Rattle.pol_history.proofs.Names.{same-true, same-refl}

@@ -5,13 +5,14 @@ use Rattle.std.specs.List.{list_all}
 use Rattle.std.specs.Option.{option_or}
 use Rattle.std.specs.Str.{bytes_eq}
 use Rattle.std.proofs.lemmas.Bool.{and_parts, or_cases, or_parts, or_left, or_right, not-true, both_ways}
+use Rattle.mtp_codes.specs.Names.{is_among}
+use Rattle.mtp_codes.specs.Faults.{first_of}
 use Rattle.pol_events.specs.declared.event.Bind.{Bind}
 use Rattle.pol_events.specs.declared.answer.Rule.{Rule}
 use Rattle.pol_events.specs.declared.answer.Rule.TheVariants.{RoleUnknown}
 use Rattle.pol_events.specs.Orderly.{roles_once}
-use Rattle.pol_history.specs.Looking.{is_among}
 use Rattle.pol_history.specs.Batches.{bound_tag, tags_of}
-use Rattle.pol_history.specs.Rules.{first_of, role_unknown}
+use Rattle.pol_history.specs.Rules.{role_unknown}
 use Rattle.pol_history.proofs.Names.{same-true, same-refl}
 use Rattle.pol_removal.specs.Removal.{is_some_among}
 

@@ -3,10 +3,11 @@ use Rattle.std.proofs.Common.{◌≡◌, ℕ, true, false, ◌&&◌, List, [], r
 use Rattle.std.specs.Prelude.{filter}
 use Rattle.std.specs.List.{AllByRecursion}
 use Rattle.std.proofs.lemmas.Bool.{and_parts, and_from, or_from, or_parts, not_from_false, not-true, false_from_ne_true, both_ways}
+use Rattle.mtp_codes.specs.Names.{is_among}
 use Rattle.pol_events.specs.Events.{EventForm, start, EntryForm}
 use Rattle.pol_events.specs.declared.answer.Answer.{Answer}
 use Rattle.pol_events.specs.declared.answer.Answer.TheVariants.{Refused}
-use Rattle.pol_history.specs.Looking.{History, Subject, of_module, of_batch, of_recipe, subject, is_among, is_accepted, is_module, is_batch, is_recipe, is_accepted_of, is_accepted_of_batch, is_accepted_recipe, past, past_of_batch, recipes}
+use Rattle.pol_history.specs.Looking.{History, Subject, of_module, of_batch, of_recipe, subject, is_accepted, is_module, is_batch, is_recipe, is_accepted_of, is_accepted_of_batch, is_accepted_recipe, past, past_of_batch, recipes}
 use Rattle.pol_history.specs.Batches.{binds_in}
 use Rattle.pol_history.proofs.Names.{same-true}
 use Rattle.pol_history.proofs.Filters.{filter-kept, all-of}

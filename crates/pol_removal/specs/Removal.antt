@@ -1,12 +1,13 @@
 -- Taking modules out of a journal.
 use Rattle.std.specs.Prelude.{ℕ, Bool, true, false, not, ◌||◌, ◌&&◌, ◌≡◌, List, [], ◌++◌, filter, filter_map, map, Option, None, if◌then◌else◌}
 use Rattle.std.specs.List.{flat_map, list_any}
+use Rattle.mtp_codes.specs.Names.{is_among}
 use Rattle.pol_events.specs.Events.{EventForm, EntryForm}
 use Rattle.pol_events.specs.declared.answer.Rule.{Rule}
 use Rattle.pol_events.specs.declared.answer.Rule.TheVariants.{PlantFull, Held, Busy, BatchesFull, ActiveStep, HeldBack, HistoryFull}
 use Rattle.pol_events.specs.declared.answer.Answer.{Answer}
 use Rattle.pol_events.specs.declared.answer.Answer.TheVariants.{Refused}
-use Rattle.pol_history.specs.Looking.{Subject, of_module, of_batch, of_recipe, subject, is_among, is_accepted}
+use Rattle.pol_history.specs.Looking.{Subject, of_module, of_batch, of_recipe, subject, is_accepted}
 use Rattle.pol_history.specs.Batches.{binds_in, tags_of, started_batch, batches}
 use Rattle.pol_history.specs.Runs.{run_of, AreOrderly}
 use Rattle.pol_history.specs.Texts.{batch_lines, end_text}

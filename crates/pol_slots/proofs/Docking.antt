@@ -1,7 +1,7 @@
 -- What a slot keeps once its module is docked.
 use Rattle.std.proofs.Common.{◌≡◌, Option, Some, None, Ok, Err, refl, ◌∙◌, ap}
 use Rattle.std.specs.Prelude.{option_and_then, option_map}
-use Rattle.mtp_assembly.specs.Fits.{answer_to}
+use Rattle.mtp_codes.specs.Faults.{done_unless}
 use Rattle.mtp_desc.specs.Plain.{DescriptionForm}
 use Rattle.pol_slots.specs.Told.{ToldNothing, ForgetsAll}
 use Rattle.pol_slots.specs.Berths.{ticket_in, told_in, IsBack}
@@ -12,12 +12,12 @@ use Rattle.pol_slots.specs.declared.slot.Slot.{Slot}
 use Rattle.pol_slots.specs.declared.told.Told.{Told}
 
 -- where the answer is Ok, there is no fault
-pub no_fault : {E : Type 0} (fault : Option E) → answer_to fault ≡ Ok tt → fault ≡ None
+pub no_fault : {E : Type 0} (fault : Option E) → done_unless fault ≡ Ok tt → fault ≡ None
 no_fault None is = refl
 no_fault (Some fault) is = cc
 
 -- where it is an error, that is the fault
-pub the_fault : {E : Type 0} (fault : Option E) (error : E) → answer_to fault ≡ Err error → fault ≡ Some error
+pub the_fault : {E : Type 0} (fault : Option E) (error : E) → done_unless fault ≡ Err error → fault ≡ Some error
 the_fault None error is = cc
 the_fault (Some fault) error is = cc
 

@@ -3,5 +3,4 @@ pub mod Told
 pub mod Berths
 pub mod Slots
 pub mod Sights
-pub mod Rest
-pub mod Exchanges
+pub mod Refused

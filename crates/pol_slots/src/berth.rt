@@ -2,10 +2,10 @@
 ghost use Rattle.std.specs.Prelude.{◌≡◌, Some, None, IsSome, OnOk, OnErr, option_and_then};
 ghost use Rattle.std.specs.Map.{lookup};
 ghost use Rattle.std.specs.Str.{bytes_eq};
-ghost use Rattle.mtp_assembly.specs.Fits.{answer_to};
+ghost use Rattle.mtp_codes.specs.Faults.{done_unless};
+ghost use Rattle.pol_events.specs.Refusals.{wrong_ticket};
 ghost use Rattle.pol_slots.specs.Berths.{ticket_in, told_in, docked_in, IsBack};
 ghost use Rattle.pol_slots.specs.Told.{TellsControl, TellsValue};
-ghost use Rattle.pol_slots.specs.Exchanges.{wrong_ticket};
 
 use super::told::Told;
 use mtp_assembly::ServiceControl;
@@ -112,7 +112,7 @@ impl Berth {
     /// Docks another module, which told this, in place of the one that is away; or, with a wrong ticket, leaves it away.
     pub(crate) fn finish(self, ticket: u32, told: Told) -> (Berth, Result<(), Rule>)
         requires { IsSome (ticket_in self) }
-        ensures answer { result.1 ≡ answer_to (wrong_ticket ticket (ticket_in self)) }
+        ensures answer { result.1 ≡ done_unless (wrong_ticket ticket (ticket_in self)) }
         ensures docked { OnOk result.1 (result.0 ≡ Berth.Docked told) }
         ensures unchanged { OnErr result.1 (result.0 ≡ self) }
     {
@@ -129,7 +129,7 @@ impl Berth {
     /// Docks the module that is away again, with nothing told; or, with a wrong ticket, leaves it away.
     pub(crate) fn cancel(self, ticket: u32) -> (Berth, Result<(), Rule>)
         requires { IsSome (ticket_in self) }
-        ensures answer { result.1 ≡ answer_to (wrong_ticket ticket (ticket_in self)) }
+        ensures answer { result.1 ≡ done_unless (wrong_ticket ticket (ticket_in self)) }
         ensures docked { OnOk result.1 (IsBack self result.0) }
         ensures unchanged { OnErr result.1 (result.0 ≡ self) }
     {

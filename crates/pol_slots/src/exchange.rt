@@ -1,8 +1,9 @@
 //! Docking, and the exchange of a module for another.
 ghost use Rattle.std.specs.Prelude.{◌≡◌, ℕ, ◌+◌, ◌<◌, Some, None, IsSome, IfOk, IfErr, OnOk, OnErr};
-ghost use Rattle.mtp_assembly.specs.Fits.{answer_to};
+ghost use Rattle.mtp_codes.specs.Faults.{done_unless};
 ghost use Rattle.mtp_desc.specs.DescriptionView.{description_view};
-ghost use Rattle.pol_slots.specs.Exchanges.{wrong_ticket, IsRefusedBy};
+ghost use Rattle.pol_events.specs.Refusals.{wrong_ticket};
+ghost use Rattle.pol_slots.specs.Refused.{IsRefusedBy};
 ghost use Rattle.pol_slots.specs.Slots.{slot_tag, slot_description, slot_begins, slot_ticket, IsDocked, IsUnchanged, IsUnreported};
 
 use super::berth::Berth;
@@ -102,7 +103,7 @@ impl Slot {
     #[tactic(auto, unfolding(crate::specs::Slots::last_control, crate::specs::Slots::last_value))]
     pub fn cancel(&mut self, ticket: u32) -> Result<(), Rule>
         requires { IsSome (slot_ticket self.old) }
-        ensures answer { result ≡ answer_to (wrong_ticket ticket (slot_ticket self.old)) }
+        ensures answer { result ≡ done_unless (wrong_ticket ticket (slot_ticket self.old)) }
         ensures docked { OnOk result (IsDocked self.old self.new (slot_description self.old)) }
         ensures unchanged { OnErr result (IsUnchanged self.old self.new) }
     {

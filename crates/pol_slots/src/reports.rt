@@ -2,10 +2,9 @@
 ghost use Rattle.std.specs.Prelude.{◌≡◌, ℕ, List, Some, IfOk, OnOk, OnErr, if◌then◌else◌};
 ghost use Rattle.std.specs.Option.{option_or};
 ghost use Rattle.std.specs.Str.{bytes_eq};
-ghost use Rattle.mtp_assembly.specs.Fits.{answer_to};
+ghost use Rattle.mtp_codes.specs.Faults.{done_unless};
 ghost use Rattle.mtp_desc.specs.DescriptionView.{description_view};
-ghost use Rattle.pol_events.specs.Refusals.{may_follow, not_an_edge, report_fault, variable_fault};
-ghost use Rattle.pol_slots.specs.Exchanges.{in_exchange};
+ghost use Rattle.pol_events.specs.Refusals.{may_follow, not_an_edge, report_fault, variable_fault, in_exchange};
 ghost use Rattle.pol_slots.specs.Slots.{slot_tag, slot_description, slot_ticket, last_control, last_value, SameModule, SameControls, SameValues};
 
 use super::slot::Slot;
@@ -24,7 +23,7 @@ fn may_follow(from: State, to: State) -> bool
 
 // The state may follow what was reported last, if anything was.
 fn follows(last: Option<ServiceControl>, state: State) -> Result<(), Rule>
-    ensures { result ≡ answer_to (not_an_edge state last) }
+    ensures { result ≡ done_unless (not_an_edge state last) }
 {
     match last {
         Some(last) if !may_follow(last.state, state) => Err(Rule::NotAnEdge {
@@ -37,7 +36,7 @@ fn follows(last: Option<ServiceControl>, state: State) -> Result<(), Rule>
 
 // The description has the variable, and it may have the value.
 fn fits(description: &Description, name: Name, value: &Value) -> Result<(), Rule>
-    ensures { result ≡ answer_to (variable_fault name value.now (description_view description.now)) }
+    ensures { result ≡ done_unless (variable_fault name value.now (description_view description.now)) }
 {
     let Some(variable) = description.variable(name) else {
         return Err(Rule::NoVariable);
@@ -52,7 +51,7 @@ fn fits(description: &Description, name: Name, value: &Value) -> Result<(), Rule
 impl Slot {
     // The module is docked.
     fn docked(&self) -> Result<(), Rule>
-        ensures { result ≡ answer_to (in_exchange (slot_tag self.now) (slot_ticket self.now)) }
+        ensures { result ≡ done_unless (in_exchange (slot_tag self.now) (slot_ticket self.now)) }
     {
         match self.berth.ticket() {
             Some(ticket) => Err(Rule::InExchange {
@@ -66,7 +65,7 @@ impl Slot {
     // The service may report the state.
     #[tactic(auto, unfolding(crate::specs::Slots::last_control))]
     fn check_report(&self, service: Name, state: State) -> Result<(), Rule>
-        ensures { result ≡ answer_to (option_or (in_exchange (slot_tag self.now) (slot_ticket self.now)) (report_fault service state (slot_description self.now) (last_control self.now service))) }
+        ensures { result ≡ done_unless (option_or (in_exchange (slot_tag self.now) (slot_ticket self.now)) (report_fault service state (slot_description self.now) (last_control self.now service))) }
     {
         self.docked()?;
         let Some(last) = self.berth.control(service) else {
@@ -77,7 +76,7 @@ impl Slot {
 
     // The variable may have the value.
     fn check_value(&self, name: Name, value: &Value) -> Result<(), Rule>
-        ensures { result ≡ answer_to (option_or (in_exchange (slot_tag self.now) (slot_ticket self.now)) (variable_fault name value.now (slot_description self.now))) }
+        ensures { result ≡ done_unless (option_or (in_exchange (slot_tag self.now) (slot_ticket self.now)) (variable_fault name value.now (slot_description self.now))) }
     {
         self.docked()?;
         fits(&self.description, name, value)
@@ -90,7 +89,7 @@ impl Slot {
     /// from it. After a refusal the slot is unchanged.
     #[tactic(auto, unfolding(crate::specs::Slots::last_control, crate::specs::Slots::last_value))]
     pub fn report(&mut self, service: Name, control: ServiceControl) -> Result<(), Rule>
-        ensures answer { result ≡ answer_to (option_or (in_exchange (slot_tag self.old) (slot_ticket self.old)) (report_fault service control.state (slot_description self.old) (last_control self.old service))) }
+        ensures answer { result ≡ done_unless (option_or (in_exchange (slot_tag self.old) (slot_ticket self.old)) (report_fault service control.state (slot_description self.old) (last_control self.old service))) }
         ensures reported { OnOk result ((other : List ℕ) → last_control self.new other ≡ (if bytes_eq service other then Some control else last_control self.old other)) }
         ensures same_module { SameModule self.old self.new }
         ensures values { SameValues self.old self.new }
@@ -107,7 +106,7 @@ impl Slot {
     /// variable; `WrongKind` and `OutOfRange` as `check_view` says of the value. After a refusal the slot is unchanged.
     #[tactic(auto, unfolding(crate::specs::Slots::last_control, crate::specs::Slots::last_value))]
     pub fn variable(&mut self, name: Name, value: Value) -> Result<(), Rule>
-        ensures answer { result ≡ answer_to (option_or (in_exchange (slot_tag self.old) (slot_ticket self.old)) (variable_fault name value (slot_description self.old))) }
+        ensures answer { result ≡ done_unless (option_or (in_exchange (slot_tag self.old) (slot_ticket self.old)) (variable_fault name value (slot_description self.old))) }
         ensures reported { OnOk result ((other : List ℕ) → last_value self.new other ≡ (if bytes_eq name other then Some value else last_value self.old other)) }
         ensures same_module { SameModule self.old self.new }
         ensures controls { SameControls self.old self.new }

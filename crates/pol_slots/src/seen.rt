@@ -1,25 +1,17 @@
 //! What is seen of a module.
 ghost use Rattle.std.specs.Prelude.{◌≡◌};
-ghost use Rattle.mtp_assembly.specs.Fits.{answer_to};
-ghost use Rattle.pol_slots.specs.Rest.{is_at_rest, not_at_rest};
+ghost use Rattle.mtp_codes.specs.Faults.{done_unless};
+ghost use Rattle.pol_events.specs.Refusals.{not_at_rest};
 ghost use Rattle.pol_slots.specs.Sights.{slot_sight, slot_reading};
 ghost use Rattle.pol_slots.specs.Slots.{slot_description, last_control, last_value};
 
 use super::slot::Slot;
 use chart_cursor::{ReadingSight, Sight};
 use mtp_assembly::ServiceControl;
-use mtp_codes::{Name, Reading, State, Value};
+use mtp_codes::{Name, Reading, Value};
+use mtp_machine::is_at_rest;
 use mtp_modes::ServiceView;
 use pol_events::Rule;
-
-fn is_at_rest(state: State) -> bool
-    ensures { result ≡ is_at_rest state }
-{
-    matches!(
-        state,
-        State::Idle | State::Completed | State::Stopped | State::Aborted
-    )
-}
 
 impl Slot {
     // What the service reported last since docking.
@@ -72,7 +64,7 @@ impl Slot {
     /// Whether the module is at rest: each of its services is Idle, Completed, Stopped or Aborted, or wasn't reported
     /// since docking. `NotAtRest` names the first other service in the order of the description, with its state.
     pub fn at_rest(&self) -> Result<(), Rule>
-        ensures { result ≡ answer_to (not_at_rest (last_control self.now) (slot_description self.now).services) }
+        ensures { result ≡ done_unless (not_at_rest (last_control self.now) (slot_description self.now).services) }
     {
         for service in &self.description.services {
             if let Some(control) = self.control(service.name)

@@ -1,12 +1,14 @@
 -- What the seats say of the holding of tags is what the berths say.
-use Rattle.std.proofs.Common.{◌≡◌, ℕ, Bool, true, false, List, [], ◌∷◌, length, Option, Some, None, refl, sym, ap, ◌∙◌, is_some}
+use Rattle.std.proofs.Common.{◌≡◌, ℕ, Bool, true, false, List, [], ◌∷◌, length, Option, Some, None, refl, sym, ap, ◌∙◌, is_some, map}
 use Rattle.std.specs.Prelude.{if◌then◌else◌}
 use Rattle.std.specs.List.{IsDistinct}
 use Rattle.std.specs.Map.{lookup, keys_of}
 use Rattle.std.specs.Option.{option_map, option_and_then}
 use Rattle.std.specs.Str.{bytes_eq}
-use Rattle.pol_table.specs.Answers.{first_of, missing_at, busy_at}
-use Rattle.pol_table.specs.Berths.{Berth, look, held_by, is_among}
+use Rattle.mtp_codes.specs.Faults.{first_of}
+use Rattle.mtp_codes.specs.Names.{is_among}
+use Rattle.pol_table.specs.Answers.{missing_at, busy_at}
+use Rattle.pol_table.specs.Berths.{Berth, look, held_by}
 use Rattle.pol_table.specs.Places.{part_at, berth_at, berths_of, seat_missing_at, seat_busy_at, seat_held_by, IsSound}
 use Rattle.pol_table.specs.declared.faults.HoldFault.TheVariants.{Busy, NoModule}
 use Rattle.pol_table.specs.declared.seat.Seat.{Seat}
@@ -14,7 +16,7 @@ use Rattle.pol_table.proofs.Mapped.{sound-changed, look-changed}
 use Rattle.pol_table.proofs.Views.{look-berths_of, length-berths_of, holder-berths_of, some_of}
 
 -- answers that agree at each item agree on the first
-first-alike : {A B : Type 0} (one other : A → Option B) → ((item : A) → one item ≡ other item) → (items : List A) → first_of one items ≡ first_of other items
+first-alike : {A B : Type 0} (one other : A → Option B) → ((item : A) → one item ≡ other item) → (items : List A) → first_of (map one items) ≡ first_of (map other items)
 first-alike one other same [] = refl
 first-alike one other same (item ∷ items) = rw (same item, first-alike one other same items) refl
 
@@ -34,11 +36,11 @@ module _ {T : Type 0} (seats : List (List ℕ × Seat)) (parts : List (Option T)
   busy-alike tag = ap (λ holder. option_map (Busy tag) holder) (sym (holder-berths_of seats parts sound tag))
 
   -- the first tag without a seat is the first that is not docked
-  pub first-missing : (tags : List (List ℕ)) → first_of (seat_missing_at seats) tags ≡ first_of (missing_at (berths_of seats parts)) tags
+  pub first-missing : (tags : List (List ℕ)) → first_of (map (seat_missing_at seats) tags) ≡ first_of (map (missing_at (berths_of seats parts)) tags)
   first-missing = first-alike (seat_missing_at seats) (missing_at (berths_of seats parts)) missing-alike
 
   -- the first tag whose seat is held is the first that is held
-  pub first-busy : (tags : List (List ℕ)) → first_of (seat_busy_at seats) tags ≡ first_of (busy_at (berths_of seats parts)) tags
+  pub first-busy : (tags : List (List ℕ)) → first_of (map (seat_busy_at seats) tags) ≡ first_of (map (busy_at (berths_of seats parts)) tags)
   first-busy = first-alike (seat_busy_at seats) (busy_at (berths_of seats parts)) busy-alike
 
 -- some seats are held now, and nothing else changes

@@ -1,6 +1,7 @@
 -- What a table answers, read of the berths before the call.
-use Rattle.std.specs.Prelude.{ℕ, List, [], ◌∷◌, length, Option, None, Some, Result, Ok, Err, is_some, nat_le, if◌then◌else◌}
+use Rattle.std.specs.Prelude.{ℕ, List, length, Option, None, Some, Result, Ok, Err, is_some, nat_le, if◌then◌else◌, map}
 use Rattle.std.specs.Option.{option_map, option_or}
+use Rattle.mtp_codes.specs.Faults.{done_unless, first_of}
 use Rattle.pol_table.specs.Berths.{Berth, Berths, look, holder_of}
 use Rattle.pol_table.specs.declared.faults.DockFault.{DockFault}
 use Rattle.pol_table.specs.declared.faults.DockFault.TheVariants.{TagTaken, PlantFull}
@@ -8,16 +9,6 @@ use Rattle.pol_table.specs.declared.faults.LeaveFault.{LeaveFault}
 use Rattle.pol_table.specs.declared.faults.LeaveFault.TheVariants.{Held, NoModule as NotThere}
 use Rattle.pol_table.specs.declared.faults.HoldFault.{HoldFault}
 use Rattle.pol_table.specs.declared.faults.HoldFault.TheVariants.{Busy, NoModule as Missing}
-
--- the first answer that these items give
-abbrev pub first_of : {A B : Type 0} → (A → Option B) → List A → Option B
-first_of answer [] = None
-first_of answer (item ∷ items) = option_or (answer item) (first_of answer items)
-
--- done, unless there is a fault
-abbrev pub held_unless : Option HoldFault → Result (Unit {0}) HoldFault
-held_unless None = Ok tt
-held_unless (Some fault) = Err fault
 
 module _ {T : Type 0} where
   -- why nothing may dock under a tag: the tag is docked, or it is new and 64 are
@@ -49,8 +40,8 @@ module _ {T : Type 0} where
 
   -- why these tags may not be held: the first that is not docked, or else the first that is held
   abbrev pub hold_fault : List (List ℕ) → Berths T → Option HoldFault
-  hold_fault tags berths = option_or (first_of (missing_at berths) tags) (first_of (busy_at berths) tags)
+  hold_fault tags berths = option_or (first_of (map (missing_at berths) tags)) (first_of (map (busy_at berths) tags))
 
   -- these tags are held, or the reason why they may not be
   abbrev pub holding : List (List ℕ) → Berths T → Result (Unit {0}) HoldFault
-  holding tags berths = held_unless (hold_fault tags berths)
+  holding tags berths = done_unless (hold_fault tags berths)

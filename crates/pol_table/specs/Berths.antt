@@ -1,6 +1,5 @@
 -- What contracts see of a table: each docked part under its tag, and the batch that holds it.
-use Rattle.std.specs.Prelude.{ℕ, Bool, List, map, Option, None, Some, if◌then◌else◌, refl}
-use Rattle.std.specs.List.{list_any}
+use Rattle.std.specs.Prelude.{ℕ, List, map, Option, None, Some, if◌then◌else◌, refl}
 use Rattle.std.specs.Map.{lookup}
 use Rattle.std.specs.Option.{option_map, option_and_then, option_eq}
 use Rattle.std.specs.Str.{bytes_eq}
@@ -28,10 +27,6 @@ berth_code {T} code =
 -- berths are stored as the list of their pairs
 abbrev pub berths_code : {T : Type 0} → Coded T → Coded (Berths T)
 berths_code code = coded_list (coded× (coded_list coded_ℕ) (berth_code code))
-
--- the name is one of these
-abbrev pub is_among : List (List ℕ) → List ℕ → Bool
-is_among names name = list_any (λ each. bytes_eq each name) names
 
 module _ {T : Type 0} where
   -- the berth of a tag; none where the tag is not docked

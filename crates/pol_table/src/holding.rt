@@ -4,8 +4,8 @@ ghost use Rattle.std.specs.List.{IsDistinct};
 ghost use Rattle.std.specs.Map.{lookup, keys_of};
 ghost use Rattle.std.specs.Option.{option_map};
 ghost use Rattle.std.specs.Str.{bytes_eq};
-ghost use Rattle.pol_table.specs.Berths.{is_among};
-ghost use Rattle.pol_table.specs.Answers.{first_of};
+ghost use Rattle.mtp_codes.specs.Names.{is_among};
+ghost use Rattle.mtp_codes.specs.Faults.{first_of};
 ghost use Rattle.pol_table.specs.Places.{seat_holder, seat_leaving, seat_missing_at, seat_busy_at, seat_held_by, seat_freed_from};
 
 use super::faults::{HoldFault, LeaveFault};
@@ -35,7 +35,7 @@ pub(crate) fn free_seat(seats: &IndexMap<Name, Seat>, tag: Name) -> Result<Seat,
 
 /// The first of these tags that has no seat.
 pub(crate) fn first_missing(seats: &IndexMap<Name, Seat>, tags: &[Name]) -> Option<HoldFault>
-    ensures { result ≡ first_of (seat_missing_at seats.now.entries) tags.now }
+    ensures { result ≡ first_of (map (seat_missing_at seats.now.entries) tags.now) }
 {
     for tag in tags {
         if !seats.contains_key(tag) {
@@ -47,7 +47,7 @@ pub(crate) fn first_missing(seats: &IndexMap<Name, Seat>, tags: &[Name]) -> Opti
 
 /// The first of these tags whose seat is held, with its holder.
 pub(crate) fn first_busy(seats: &IndexMap<Name, Seat>, tags: &[Name]) -> Option<HoldFault>
-    ensures { result ≡ first_of (seat_busy_at seats.now.entries) tags.now }
+    ensures { result ≡ first_of (map (seat_busy_at seats.now.entries) tags.now) }
 {
     for tag in tags {
         if let Some(batch) = holder_of_seat(seats, *tag) {

@@ -3,7 +3,8 @@ ghost use Rattle.std.specs.Prelude.{◌≡◌, ℕ, ◌+◌, List, [], length, O
 ghost use Rattle.std.specs.Borrow.{LendsIf, sem};
 ghost use Rattle.std.specs.Option.{option_copied_mut, option_map};
 ghost use Rattle.std.specs.Str.{bytes_eq};
-ghost use Rattle.pol_table.specs.Berths.{look, part_of, holder_of, with_part, held_by, freed_from, is_among};
+ghost use Rattle.mtp_codes.specs.Names.{is_among};
+ghost use Rattle.pol_table.specs.Berths.{look, part_of, holder_of, with_part, held_by, freed_from};
 ghost use Rattle.pol_table.specs.Answers.{dock_fault, leaving, holding};
 
 use super::faults::{DockFault, HoldFault, LeaveFault};

@@ -1,5 +1,5 @@
 use Rattle.std.proofs.Common.{◌≡◌, drop}
-use Rattle.pol_history.specs.Looking.{is_among}
+use Rattle.mtp_codes.specs.Names.{is_among}
 use Rattle.pol_history.specs.Batches.{tags_of}
 use Rattle.pol_lookback.proofs.batches.binds.Given as goal
 

@@ -1,5 +1,5 @@
 use Rattle.std.proofs.Common.{◌≡◌, drop}
-use Rattle.pol_history.specs.Rules.{first_of}
+use Rattle.mtp_codes.specs.Faults.{first_of}
 use Rattle.pol_lookback.proofs.start_rules.first_of.Given as goal
 
 abbrev pub invariant-loop-rule : goal.invariant-loop-rule

@@ -1,5 +1,5 @@
 use Rattle.std.proofs.Common.{◌≡◌, drop}
-use Rattle.pol_history.specs.Looking.{is_among}
+use Rattle.mtp_codes.specs.Names.{is_among}
 use Rattle.pol_lookback.specs.Holding.{names_in}
 use Rattle.pol_lookback.proofs.start_rules.has_role.Given as goal
 

@@ -4,7 +4,7 @@ use Rattle.std.specs.List.{IsDistinct}
 use Rattle.std.specs.Map.{lookup, keys_of}
 use Rattle.std.specs.Option.{option_map}
 use Rattle.std.specs.Str.{bytes_eq}
-use Rattle.pol_table.specs.Berths.{is_among}
+use Rattle.mtp_codes.specs.Names.{is_among}
 use Rattle.pol_table.specs.Places.{seat_held_by}
 use Rattle.pol_table.proofs.holding.hold_each.Given as goal
 

@@ -1,7 +1,7 @@
 -- The answer is that of the services that are left.
 use Rattle.std.proofs.Common.{◌≡◌, drop, map}
 use Rattle.mtp_desc.specs.ServiceView.{service_view}
-use Rattle.pol_slots.specs.Rest.{not_at_rest}
+use Rattle.pol_events.specs.Refusals.{not_at_rest}
 use Rattle.pol_slots.specs.Slots.{last_control}
 use Rattle.pol_slots.proofs.slot.Slot.at_rest.Given as goal
 

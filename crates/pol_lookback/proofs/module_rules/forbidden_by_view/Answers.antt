@@ -1,5 +1,5 @@
 use Rattle.pol_lookback.proofs.Asked.{no_rule, this_rule}
-use Rattle.pol_lookback.proofs.module_rules.desk_fault.Goals as goal
+use Rattle.pol_lookback.proofs.module_rules.forbidden_by_view.Goals as goal
 
 pub returns-in-Ok : goal.returns-in-Ok
 returns-in-Ok c = no_rule _ _ _ c.in-Ok.ensures
