@@ -11,7 +11,9 @@ use super::role::Role;
 /// procedures are from 1: `specs/Form.antt` says it. Whether the chart is valid is asked beside this.
 #[derive(Drop)]
 pub struct Chart {
+    /// 1 to 64, no two of one name.
     pub roles: Vec<Role>,
+    /// What is run; the other nodes stand under it.
     pub root: Node,
     pub ghost form: { IsTrue (has_form roles.items root) },
 }

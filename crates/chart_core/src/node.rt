@@ -6,11 +6,17 @@ use mtp_codes::{Name, Setting};
 /// the condition on which the step is completed by command; a step without one waits until the service completes.
 #[derive(Drop)]
 pub struct Step {
+    /// The name by which logs and answers tell the step.
     pub name: Name,
+    /// The role whose module has the service.
     pub role: Name,
+    /// A service of that module.
     pub service: Name,
+    /// The number of the procedure, from 1 to 65535.
     pub procedure: u16,
+    /// The parameters that are set before the start; the others keep the values that the module has.
     pub settings: Vec<Setting>,
+    /// Where it is given, the step completes its service as soon as this holds.
     pub finish: Option<Condition>,
 }
 
@@ -32,6 +38,8 @@ pub enum Node {
 #[derive(Drop)]
 #[cycle(node)]
 pub struct Arm {
+    /// The condition on which the arm is taken.
     pub when: Condition,
+    /// What is run where it is taken.
     pub body: Node,
 }

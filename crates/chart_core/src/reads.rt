@@ -13,7 +13,9 @@ use mtp_codes::Name;
 /// A variable that a condition reads: `var` of the module that plays `role`.
 #[derive(Clone, Copy, Debug, PartialEq, Eq)]
 pub struct Read {
+    /// The role whose module reports the variable.
     pub role: Name,
+    /// The name of the variable.
     pub var: Name,
 }
 

@@ -8,9 +8,13 @@ use semver::VersionReq;
 /// as `semver` reads a requirement.
 #[derive(Drop)]
 pub struct Role {
+    /// Its name in the chart.
     pub role: Name,
+    /// The type that a module must have to play it.
     pub type_name: Name,
+    /// The requirement on the version, as the recipe writes it.
     pub wants: Short,
+    /// The same, read.
     pub req: VersionReq,
     pub ghost reads: { IsReadTo wants req },
 }

@@ -23,7 +23,9 @@ pub enum ParamKind {
 /// A parameter of a procedure, whose least value is not above its greatest.
 #[derive(Clone, Copy)]
 pub struct Param {
+    /// Its name in the procedure.
     pub name: Name,
+    /// Its interface, with the range of its values.
     pub kind: ParamKind,
     ghost named: { IsTrue (is_name name) },
     ghost ordered: { IsTrue (is_ordered kind) },

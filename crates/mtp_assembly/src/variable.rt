@@ -21,7 +21,9 @@ pub enum ViewKind {
 /// A variable that a module reports.
 #[derive(Clone, Copy)]
 pub struct View {
+    /// Its name in the module.
     pub name: Name,
+    /// Its interface, which says what its values are.
     pub kind: ViewKind,
     ghost named: { IsTrue (is_name name) },
 }

@@ -20,6 +20,8 @@ pub enum Reading {
 /// A parameter of a procedure with the value that a recipe's step gives it.
 #[derive(Clone, Copy, Debug, PartialEq, Eq)]
 pub struct Setting {
+    /// The name of the parameter.
     pub name: Name,
+    /// The value that it is given.
     pub value: Value,
 }

@@ -20,10 +20,15 @@ use semver::Version;
 /// and no two variables of one name. `version` is what `semver` reads of `version_text`.
 #[derive(Drop)]
 pub struct Description {
+    /// The type of the module, by which roles ask for it.
     pub type_name: Name,
+    /// The version as the description writes it, at most 64 bytes.
     pub version_text: Short,
+    /// The same, read (Semantic Versioning 2.0.0).
     pub version: Version,
+    /// 1 to 32, no two of one name.
     pub services: Vec<Service>,
+    /// At most 64, no two of one name.
     pub variables: Vec<View>,
     ghost typed: { IsTrue (is_name type_name) },
     ghost short: { IsTrue (nat_le (length version_text) 64) },

@@ -13,10 +13,13 @@ use mtp_codes::Name;
 /// A procedure of a service: a number from 1 to 65535 and at most 32 parameters, no two of one name.
 #[derive(Drop)]
 pub struct Procedure {
+    /// From 1 to 65535.
     pub number: u16,
+    /// Whether a start that names no procedure starts this one.
     pub is_default: bool,
     /// Whether the procedure goes from Execute to Completing by itself (VDI/VDE/NAMUR 2658 part 4).
     pub self_completing: bool,
+    /// At most 32, no two of one name.
     pub params: Vec<Param>,
     ghost numbered: { IsTrue (is_between 1 65535 number) },
     ghost few: { IsTrue (is_between 0 32 (length params.items)) },

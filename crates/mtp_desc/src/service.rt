@@ -14,7 +14,9 @@ use mtp_codes::Name;
 /// A service of a module: 1 to 16 procedures, no two of one number, exactly one of them the default.
 #[derive(Drop)]
 pub struct Service {
+    /// Its name in the module.
     pub name: Name,
+    /// 1 to 16, no two of one number, one of them the default.
     pub procedures: Vec<Procedure>,
     ghost named: { IsTrue (is_name name) },
     ghost few: { IsTrue (is_between 1 16 (length procedures.items)) },

@@ -32,7 +32,9 @@ pub enum FaultKind {
 /// What is wrong with a JSON value, and where in it.
 #[derive(Drop)]
 pub struct JsonFault {
+    /// What is wrong.
     pub kind: FaultKind,
+    /// Where it is, from the outermost value inwards.
     pub path: Path,
 }
 

@@ -6,9 +6,13 @@ use mtp_codes::{Name, Setting};
 /// set keep the module's values. `finishes` says that the step completes the procedure by command.
 #[derive(Clone, Copy)]
 pub struct StepDemand<'a> {
+    /// The service that is to be started.
     pub service: Name,
+    /// The number of the procedure, from 1 to 65535.
     pub procedure: u16,
+    /// The parameters that are set.
     pub settings: &'a [Setting],
+    /// Whether the step completes the procedure by command.
     pub finishes: bool,
 }
 

@@ -40,7 +40,9 @@ pub fn serve<S: Source, K: Sink>(
     // causes
     ensures words { result ≢ Status.BadWords }
     ensures read_fault { result ≡ Status.ReadFault → Rose (S.faults source.old) (S.faults source.new) }
+    ensures read_well { result ≢ Status.ReadFault → S.faults source.new ≡ S.faults source.old }
     ensures write_fault { result ≡ Status.WriteFault → Rose (K.faults sink.old) (K.faults sink.new) }
+    ensures written_well { result ≢ Status.WriteFault → K.faults sink.new ≡ K.faults sink.old }
     ensures too_much { result ≡ Status.TooMuchInput → IsTooMuch (S.left source.old) }
     ensures fits { result ≡ Status.Good → Fits (S.left source.old) }
     ensures complete { Completes (S.left source.old) (S.faults source.old) (S.faults source.new) (K.faults sink.old) (K.faults sink.new) result }

@@ -1,6 +1,7 @@
 //! Answers, and the rules by which an event is refused.
 use chart_core::{LogEntry, Why};
-use mtp_codes::{Name, State};
+use mtp_assembly::ValueFault;
+use mtp_codes::{Forbid, Name, State};
 
 /// Why an event is refused. A rule's number and name are those of its answer line; docs/RULES.md says when each holds.
 #[derive(Clone, Copy, Debug, PartialEq, Eq)]
@@ -87,6 +88,36 @@ pub enum Rule {
     SelfCompletes,
     RecipesFull,
     HistoryFull,
+}
+
+impl From<ValueFault> for Rule {
+    ghost use Rattle.std.specs.Prelude.{◌≡◌};
+    ghost use Rattle.pol_events.specs.Refusals.{value_rule};
+
+    ghost from_gives = { λ fault rule. rule ≡ value_rule fault };
+
+    fn from(fault: ValueFault) -> Rule {
+        match fault {
+            ValueFault::WrongKind => Rule::WrongKind,
+            ValueFault::OutOfRange => Rule::OutOfRange,
+        }
+    }
+}
+
+impl From<Forbid> for Rule {
+    ghost use Rattle.std.specs.Prelude.{◌≡◌};
+    ghost use Rattle.pol_events.specs.Refusals.{forbid_rule};
+
+    ghost from_gives = { λ forbid rule. rule ≡ forbid_rule forbid };
+
+    fn from(forbid: Forbid) -> Rule {
+        match forbid {
+            Forbid::ModeForbids => Rule::ModeForbids,
+            Forbid::SelfCompletes => Rule::SelfCompletes,
+            Forbid::StateForbids => Rule::StateForbids,
+            Forbid::NotEnabled => Rule::NotEnabled,
+        }
+    }
 }
 
 /// How a batch was closed: its chart was run to its end; a service of an active step was stopped or aborted; the operator

@@ -9,7 +9,9 @@ use std::sync::Arc;
 /// The module that plays a role of a batch's chart.
 #[derive(Clone, Copy, Debug, PartialEq, Eq)]
 pub struct Bind {
+    /// The role of the chart.
     pub role: Name,
+    /// The tag under which the module is docked.
     pub tag: Name,
 }
 
@@ -109,6 +111,8 @@ pub enum Event {
 /// An event with the answer that the plant gave.
 #[derive(Drop)]
 pub struct Entry {
+    /// What happened.
     pub event: Event,
+    /// What the plant answered.
     pub answer: Answer,
 }

@@ -26,7 +26,9 @@ impl<T> Model for Away<T> {
 /// The ticket that was given is not the one that is kept.
 #[derive(Clone, Copy, Debug, PartialEq, Eq)]
 pub struct WrongTicket {
+    /// The ticket under which the part left.
     pub kept: u32,
+    /// The ticket that was shown.
     pub given: u32,
 }
 

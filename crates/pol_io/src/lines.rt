@@ -81,7 +81,7 @@ impl Lines {
     /// buffer. A line ends at a line feed or at the end of input; a last line without a line feed counts where it has
     /// a byte. Once the end was seen, no source is asked again.
     ///
-    /// `Read` comes only where the source's count of faults rose in this call, and `TooMuch` exactly where 268,435,456
+    /// `Read` comes exactly where the source's count of faults rose in this call, and `TooMuch` exactly where 268,435,456
     /// bytes were taken and another one came. After an `Err` the lines can't be read on.
     pub fn next_line<S: Source>(&mut self, source: &mut S) -> Result<Line<'_>, IoFault>
         requires { IsTrue self.old.sound }

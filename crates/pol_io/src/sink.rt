@@ -23,7 +23,7 @@ pub trait Sink {
     ghost faults: { Self → ℕ };
 
     /// Takes bytes from the front of the piece, at least one where it has one, and says how many. After an `Err` it
-    /// took none. `Failed` comes only where the count of faults rose in this call.
+    /// took none. The count of faults rises in this call exactly where it answers `Failed`.
     fn write(&mut self, piece: &[u8]) -> Result<usize, SinkFault>
         ensures bound { WritesAtMost result piece.now }
         ensures progress { 0 < length piece.now → IfOk result (λ n. 0 < n) }
@@ -32,7 +32,8 @@ pub trait Sink {
 }
 
 /// Writes the whole piece, with further calls for its rest where the sink takes less. An empty piece makes no call.
-/// After an `Err` a prefix was taken that is shorter than the piece.
+/// After an `Err` a prefix was taken that is shorter than the piece. The sink's count of faults rises exactly where the
+/// answer is `Failed`.
 pub fn write_all<K: Sink>(sink: &mut K, piece: &[u8]) -> Result<(), SinkFault>
     ensures ok { OnOk result (Appends (K.held sink.old) (K.held sink.new) piece.now) }
     ensures err { OnErr result ((n : ℕ) × (n < length piece.now)

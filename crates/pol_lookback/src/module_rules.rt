@@ -2,7 +2,7 @@
 ghost use Rattle.std.specs.Prelude.{◌≡◌, IfOk, map};
 ghost use Rattle.mtp_desc.specs.ServiceView.{service_view};
 ghost use Rattle.pol_events.specs.Events.{history_view};
-ghost use Rattle.pol_events.specs.Refusals.{forbidden, in_exchange, misfit, no_service, no_variable, not_an_edge, not_at_rest, service_not_at_rest, value_rule, wrong_ticket};
+ghost use Rattle.pol_events.specs.Refusals.{forbidden, in_exchange, misfit, no_service, no_variable, not_an_edge, not_at_rest, service_not_at_rest, wrong_ticket};
 ghost use Rattle.pol_history.specs.Looking.{past};
 ghost use Rattle.pol_history.specs.Modules.{docking_by, ticket_of, description_by, control_by, view_by};
 ghost use Rattle.pol_history.specs.Batches.{holder_of};
@@ -11,7 +11,7 @@ ghost use Rattle.pol_lookback.specs.Holding.{held_by};
 
 use crate::batches::holder_of;
 use crate::modules::{Docking, control_of, description_of, docking_of, present_tags, view_of};
-use mtp_assembly::{ValueFault, check_view};
+use mtp_assembly::check_view;
 use mtp_codes::{Command, Name, State, Value};
 use mtp_desc::Service;
 use mtp_machine::{edge, is_at_rest};
@@ -146,15 +146,6 @@ pub fn no_variable(history: &[Entry], tag: Name, name: Name) -> Option<Rule>
     }
 }
 
-fn value_rule(fault: ValueFault) -> Rule
-    ensures { result ≡ value_rule fault }
-{
-    match fault {
-        ValueFault::WrongKind => Rule::WrongKind,
-        ValueFault::OutOfRange => Rule::OutOfRange,
-    }
-}
-
 /// The value doesn't fit the variable.
 pub fn misfit(history: &[Entry], tag: Name, name: Name, value: &Value) -> Option<Rule>
     ensures { result ≡ by_description (misfit name value.now) (description_by (past tag (history_view history.now))) }
@@ -163,7 +154,7 @@ pub fn misfit(history: &[Entry], tag: Name, name: Name, value: &Value) -> Option
     let variable = description.variable(name)?;
     match check_view(variable, value) {
         Ok(()) => None,
-        Err(fault) => Some(value_rule(fault)),
+        Err(fault) => Some(fault.into()),
     }
 }
 

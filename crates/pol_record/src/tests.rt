@@ -53,6 +53,30 @@ fn fault_lines(alloc: Global, faults: &[LineFault]) -> Result<Vec<u8>, Fail> {
     Ok(lines)
 }
 
+// The lines of the rules without fields.
+const PLAIN_RULES: &[u8] = br#"{"refused":1,"rule":"TagTaken"}
+{"refused":3,"rule":"PlantFull"}
+{"refused":6,"rule":"NotInExchange"}
+{"refused":8,"rule":"NoService"}
+{"refused":10,"rule":"NoVariable"}
+{"refused":11,"rule":"WrongKind"}
+{"refused":12,"rule":"RecipeKnown"}
+{"refused":13,"rule":"NoRecipe"}
+{"refused":14,"rule":"BatchKnown"}
+{"refused":15,"rule":"NoBatch"}
+{"refused":16,"rule":"BatchClosed"}
+{"refused":26,"rule":"BatchesFull"}
+{"refused":30,"rule":"ModeForbids"}
+{"refused":31,"rule":"StateForbids"}
+{"refused":32,"rule":"NotEnabled"}
+{"refused":33,"rule":"OutOfRange"}
+{"refused":34,"rule":"NotFrozen"}
+{"refused":35,"rule":"AlreadyFrozen"}
+{"refused":36,"rule":"SelfCompletes"}
+{"refused":37,"rule":"RecipesFull"}
+{"refused":38,"rule":"HistoryFull"}
+"#;
+
 #[test]
 fn a_rule_without_fields_has_its_number_and_its_name(rt: HostRuntime) -> Result<(), Fail> {
     let rules = [
@@ -78,32 +102,7 @@ fn a_rule_without_fields_has_its_number_and_its_name(rt: HostRuntime) -> Result<
         Rule::RecipesFull,
         Rule::HistoryFull,
     ];
-    let lines = br#"{"refused":1,"rule":"TagTaken"}
-{"refused":3,"rule":"PlantFull"}
-{"refused":6,"rule":"NotInExchange"}
-{"refused":8,"rule":"NoService"}
-{"refused":10,"rule":"NoVariable"}
-{"refused":11,"rule":"WrongKind"}
-{"refused":12,"rule":"RecipeKnown"}
-{"refused":13,"rule":"NoRecipe"}
-{"refused":14,"rule":"BatchKnown"}
-{"refused":15,"rule":"NoBatch"}
-{"refused":16,"rule":"BatchClosed"}
-{"refused":26,"rule":"BatchesFull"}
-{"refused":30,"rule":"ModeForbids"}
-{"refused":31,"rule":"StateForbids"}
-{"refused":32,"rule":"NotEnabled"}
-{"refused":33,"rule":"OutOfRange"}
-{"refused":34,"rule":"NotFrozen"}
-{"refused":35,"rule":"AlreadyFrozen"}
-{"refused":36,"rule":"SelfCompletes"}
-{"refused":37,"rule":"RecipesFull"}
-{"refused":38,"rule":"HistoryFull"}
-"#;
-    assert_eq!(rt;
-        refusal_lines(rt.alloc(), &rules)?.as_slice(),
-        lines.as_slice()
-    );
+    assert_eq!(rt; refusal_lines(rt.alloc(), &rules)?.as_slice(), PLAIN_RULES);
     Ok(())
 }
 

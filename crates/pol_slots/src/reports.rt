@@ -8,7 +8,7 @@ ghost use Rattle.pol_events.specs.Refusals.{may_follow, not_an_edge, report_faul
 ghost use Rattle.pol_slots.specs.Slots.{slot_tag, slot_description, slot_ticket, last_control, last_value, SameModule, SameControls, SameValues};
 
 use super::slot::Slot;
-use mtp_assembly::{ServiceControl, ValueFault, check_view};
+use mtp_assembly::{ServiceControl, check_view};
 use mtp_codes::{Name, State, Value};
 use mtp_desc::Description;
 use mtp_machine::edge;
@@ -41,11 +41,7 @@ fn fits(description: &Description, name: Name, value: &Value) -> Result<(), Rule
     let Some(variable) = description.variable(name) else {
         return Err(Rule::NoVariable);
     };
-    match check_view(variable, value) {
-        Ok(()) => Ok(()),
-        Err(ValueFault::WrongKind) => Err(Rule::WrongKind),
-        Err(ValueFault::OutOfRange) => Err(Rule::OutOfRange),
-    }
+    Ok(check_view(variable, value)?)
 }
 
 impl Slot {

@@ -1,4 +1,4 @@
-use Rattle.std.proofs.Common.{arith, sym, subst}
+use Rattle.std.proofs.Common.{refl, sym, subst, ◌∙◌}
 use Rattle.std.proofs.lemmas.Result.{err_from_is_err_and}
 use Rattle.pol_events.specs.Events.{entry_view, history_view}
 use Rattle.pol_history.specs.Texts.{batches_text}
@@ -9,7 +9,7 @@ use Rattle.pol_cli.proofs.closing.put_batches.Goals as goal
 pub loop-entry-init : goal.loop-entry-init
 loop-entry-init g c = record {
   so_far = up_to_start _ _ _ (sym (batches-text c.args.history.now));
-  later = omega arith;
+  sound = refl;
 }
 
 pub loop-entry-preserved : goal.loop-entry-preserved
@@ -19,7 +19,7 @@ loop-entry-preserved g c =
     record {
       so_far = up_to_next _ _ _ (start_text history (entry_view c.entry-item.result)) _ _
           (subst (λ rest. WritesUpTo (g.K.Sink.held c.args.sink.now) (g.K.Sink.held c.loop-entry.sink) rest (batches_text history)) cut c.loop-entry.invariant.so_far) c.in_ok-put_batch.ensures.line;
-      later = let before = c.loop-entry.invariant.later in let later = c.in_ok-put_batch.ensures.cause.later in omega (arith, before, later);
+      sound = c.in_ok-put_batch.ensures.cause.done ∙ c.loop-entry.invariant.sound;
     }
 
 pub returns-in_err-put_batch-clause-part : goal.returns-in_err-put_batch-clause-part

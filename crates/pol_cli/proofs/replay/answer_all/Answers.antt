@@ -1,4 +1,4 @@
-use Rattle.std.proofs.Common.{arith}
+use Rattle.std.proofs.Common.{arith, refl, ◌∙◌}
 use Rattle.std.proofs.lemmas.Result.{err_from_is_err_and}
 use Rattle.pol_io.proofs.Known.{counts_kept, counts_trans, Keeps-refl}
 use Rattle.pol_cli.proofs.Serving.{served_none, served_on, served_all, stopped_read, stopped_answer, answer_stops, ahead_spent, fits_in_limit, too_much_counted}
@@ -12,8 +12,8 @@ loop-read-init g c = record {
   spent = λ _. c.requires.fresh.waiting;
   at_end = rw c.requires.fresh.unended (λ ended. cc);
   sound = c.requires.fresh.sound;
-  source_later = omega arith;
-  sink_later = omega arith;
+  source_sound = refl;
+  sink_sound = refl;
 }
 
 pub loop-read-preserved : goal.loop-read-preserved
@@ -28,8 +28,8 @@ loop-read-preserved g c =
       spent = moves.spent;
       at_end = λ ended. moves.at_end ended invariant.at_end;
       sound = moves.sound;
-      source_later = let later = c.in_ok-read.ensures.cause.later in omega (arith, later);
-      sink_later = let later = c.in_ok-answer.ensures.cause.later in omega (arith, later);
+      source_sound = c.in_ok-read.ensures.cause.done ∙ invariant.source_sound;
+      sink_sound = c.in_ok-answer.ensures.cause.done ∙ invariant.sink_sound;
     }
 
 pub returns-clause-answers : goal.returns-clause-answers

@@ -14,8 +14,8 @@ invariant-loop-read g l = record {
   spent : IsTrue l.lines.ended → l.lines.waiting ≡ [];
   at_end : IsTrue l.lines.ended → IsAtEnd (g.S.Source.left l.source);
   sound : IsTrue l.lines.sound;
-  source_later : g.S.Source.faults l.fn.source ≤ g.S.Source.faults l.source;
-  sink_later : g.K.Sink.faults l.fn.sink ≤ g.K.Sink.faults l.sink;
+  source_sound : g.S.Source.faults l.source ≡ g.S.Source.faults l.fn.source;
+  sink_sound : g.K.Sink.faults l.sink ≡ g.K.Sink.faults l.fn.sink;
 }
 
 abbrev pub decreases-loop-read : goal.decreases-loop-read

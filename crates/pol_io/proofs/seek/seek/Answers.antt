@@ -59,5 +59,5 @@ scan-preserved g c =
       ended = c.in_ok-fill.ensures.ended ∙ c.scan.invariant.ended;
       counted = counts_trans _ _ _ _ _ _ c.scan.invariant.counted c.in_ok-fill.ensures.counted;
       unasked = λ needless. absurd (had_to_ask _ _ _ _ c.scan.invariant.ended more.1 (c.scan.invariant.unasked needless).1 no_feed needless);
-      later = let later = c.in_ok-fill.ensures.cause.later in omega (arith, later);
+      sound = c.in_ok-fill.ensures.cause.done ∙ c.scan.invariant.sound;
     }

@@ -32,5 +32,5 @@ pass-preserved g c =
       given = let more = (c.in_ok-fill.ensures.more c.if-not-branch.false).0 in omega (arith, more);
       open_end = (c.in_ok-fill.ensures.ended ∙ unended, c.pass.invariant.open_end.1);
       counted = counts_trans _ _ _ _ _ _ c.pass.invariant.counted c.in_ok-fill.ensures.counted;
-      later = let later = c.in_ok-fill.ensures.cause.later in omega (arith, later);
+      sound = c.in_ok-fill.ensures.cause.done ∙ c.pass.invariant.sound;
     }

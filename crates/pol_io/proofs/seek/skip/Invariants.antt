@@ -1,4 +1,4 @@
-use Rattle.std.proofs.Common.{◌<◌, ◌≤◌, ◌≡◌, ◌-◌, false}
+use Rattle.std.proofs.Common.{◌<◌, ◌≡◌, ◌-◌, false}
 use Rattle.pol_io.specs.Known.{Between, Counts}
 use Rattle.pol_io.specs.Cuts.{PassesLong}
 use Rattle.pol_io.specs.Window.{ahead, given}
@@ -11,7 +11,7 @@ invariant-pass g l = record {
   given : given l.fn.window < l.window.taken;
   open_end : (l.window.ended ≡ false) × (l.fn.window.ended ≡ false);
   counted : Between (Counts l.fn.window.taken l.window.taken) (g.S.Source.left l.fn.source) (g.S.Source.left l.source);
-  later : g.S.Source.faults l.fn.source ≤ g.S.Source.faults l.source;
+  sound : g.S.Source.faults l.source ≡ g.S.Source.faults l.fn.source;
 }
 
 abbrev pub decreases-pass : goal.decreases-pass

@@ -1,4 +1,4 @@
-use Rattle.std.proofs.Common.{◌<◌, arith, length-drop}
+use Rattle.std.proofs.Common.{◌<◌, arith, length-drop, ◌∙◌}
 use Rattle.std.proofs.Math.Seq.{take-add}
 use Rattle.std.proofs.lemmas.List.{take_rest}
 use Rattle.pol_io.proofs.Known.{Appends-trans}
@@ -13,5 +13,5 @@ loop-at-preserved g c = record {
   uncalled = λ none.
       let some : 0 < c.in_ok-at.field-0 = c.in_ok-at.ensures.progress (rw (take_rest, length-drop) (omega arith)) in
       absurd (omega (arith, some, none));
-  later = let later = c.in_ok-at.ensures.cause.later in omega (arith, later);
+  sound = c.in_ok-at.ensures.cause.done ∙ c.loop-at.invariant.sound;
 }

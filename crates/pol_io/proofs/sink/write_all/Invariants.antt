@@ -8,7 +8,7 @@ invariant-loop-at g l = record {
   within : l.at ≤ length l.piece;
   taken : Appends (g.K.Sink.held l.fn.sink) (g.K.Sink.held l.sink) (take l.at l.piece);
   uncalled : l.at ≡ 0 → l.sink ≡ l.fn.sink;
-  later : g.K.Sink.faults l.fn.sink ≤ g.K.Sink.faults l.sink;
+  sound : g.K.Sink.faults l.sink ≡ g.K.Sink.faults l.fn.sink;
 }
 
 abbrev pub decreases-loop-at : goal.decreases-loop-at

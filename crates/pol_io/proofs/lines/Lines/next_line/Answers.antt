@@ -37,7 +37,7 @@ returns-in-Ok-Text g c =
         fault = tt;
         open_end = tt;
         unasked = rw (← c.self.view_is) c.in-Ok-Text.ensures.unasked;
-        cause = record { later = c.in-Ok-Text.ensures.cause.later; failed = tt };
+        cause = record { later = c.in-Ok-Text.ensures.cause.later; failed = tt; done = c.in-Ok-Text.ensures.cause.done; other = tt };
       },
     )
 
@@ -66,6 +66,6 @@ returns-in-Ok-TooLong g c =
         fault = tt;
         open_end = tt;
         unasked = rw (← c.self.view_is) c.in-Ok-TooLong.ensures.unasked;
-        cause = record { later = c.in-Ok-TooLong.ensures.cause.later; failed = tt };
+        cause = record { later = c.in-Ok-TooLong.ensures.cause.later; failed = tt; done = c.in-Ok-TooLong.ensures.cause.done; other = tt };
       },
     )
