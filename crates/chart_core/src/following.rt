@@ -27,6 +27,17 @@ pub struct Followed {
     pub next: u32,
 }
 
+// A part in which nothing changes.
+fn unchanged(done: bool, next: u32) -> Followed
+    ensures { (result.change ≡ None) × (result.done ≡ done) × (result.next ≡ next) }
+{
+    Followed {
+        change: None,
+        done,
+        next,
+    }
+}
+
 // Whether the arm at this place is the first whose condition is true.
 fn is_first(each: &[Arm], place: u32, reads: &[Read], values: &[Reading]) -> bool
     ensures { result ≡ is_first_true (arm_conditions (arms each.now)) place (stored reads.now values.now) }
@@ -215,11 +226,7 @@ pub fn follow(node: &Node, number: u32, marks: &[Progress], entry: &LogEntry) ->
                 next: number + 1 + arms_count(each),
             },
             Progress::Chosen(arm) => follow_arm(each, arm, number + 1, marks, entry),
-            _ => Followed {
-                change: None,
-                done: false,
-                next: number + 1 + arms_count(each),
-            },
+            _ => unchanged(false, number + 1 + arms_count(each)),
         },
         Node::Loop(body, until) => match progress {
             Progress::Untouched => {
@@ -234,11 +241,10 @@ pub fn follow(node: &Node, number: u32, marks: &[Progress], entry: &LogEntry) ->
                     next: inner.next,
                 }
             }
-            _ => Followed {
-                change: None,
-                done: matches!(progress, Progress::Left),
-                next: number + 1 + node_count(body),
-            },
+            _ => unchanged(
+                matches!(progress, Progress::Left),
+                number + 1 + node_count(body),
+            ),
         },
     }
 }
@@ -318,9 +324,5 @@ fn follow_arm(each: &[Arm], arm: u32, first: u32, marks: &[Progress], entry: &Lo
         }
         number += node_count(&each_arm.body);
     }
-    Followed {
-        change: None,
-        done: true,
-        next: number,
-    }
+    unchanged(true, number)
 }

@@ -185,11 +185,7 @@ fn walk(node: &Node, depth: u32, here: Reached, chart: &Chart) -> Result<Reached
                 steps: here.steps + 1,
             }),
         },
-        Node::Seq(kids) => match other_fault(here.number, depth, false, false) {
-            Some(fault) => Err(fault),
-            None => walk_all(kids, depth + 1, next, chart),
-        },
-        Node::Par(kids) => match other_fault(here.number, depth, false, false) {
+        Node::Seq(kids) | Node::Par(kids) => match other_fault(here.number, depth, false, false) {
             Some(fault) => Err(fault),
             None => walk_all(kids, depth + 1, next, chart),
         },

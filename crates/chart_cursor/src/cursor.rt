@@ -14,7 +14,7 @@ ghost use Rattle.chart_cursor.specs.Running.{is_wanted, first_placed, first_runn
 ghost use Rattle.chart_cursor.specs.Next.{IsNext, ready_after, next_after};
 
 use super::next::CursorNext;
-use super::running::{Wanted, name_alone, run};
+use super::running::{first_running, name_alone};
 use super::scanning::scan;
 use super::sight::Seen;
 use chart_core::{Chart, LogEntry, Progress, take_entry, untouched};
@@ -82,7 +82,7 @@ impl Cursor {
         ensures same { (word : List LogEntry) → StandsFor (plan self.now.chart) self.now.marks word → result ≡ next_after (plan self.now.chart) word (S.sights seen.now) }
         ensures whole { (word : List LogEntry) → StandsFor (plan self.now.chart) self.now.marks word → IsComplete (plan self.now.chart) word → result ≡ Whole }
     {
-        scan(&self.chart.root, 0, &self.marks, seen).next
+        scan(&self.chart.root, 0, &self.marks, seen)
     }
 
     /// The first active step whose node is at least `from`, with the node's number; None where there is no such active
@@ -92,8 +92,7 @@ impl Cursor {
         ensures word { (word : List LogEntry) → StandsFor (plan self.now.chart) self.now.marks word
             → result ≡ first_placed (is_wanted from None) (active_steps (plan self.now.chart) word) }
     {
-        let wanted = Wanted { from, role: None };
-        run(&self.chart.root, 0, &self.marks, &wanted).found
+        first_running(&self.chart.root, 0, &self.marks, from, None)
     }
 
     /// The first active step of the role; None where there is none. Walks the chart's nodes once, and takes no memory.
@@ -102,10 +101,6 @@ impl Cursor {
         ensures word { (word : List LogEntry) → StandsFor (plan self.now.chart) self.now.marks word
             → result ≡ name_of (first_placed (is_wanted 0 (Some role)) (active_steps (plan self.now.chart) word)) }
     {
-        let wanted = Wanted {
-            from: 0,
-            role: Some(role),
-        };
-        name_alone(run(&self.chart.root, 0, &self.marks, &wanted).found)
+        name_alone(first_running(&self.chart.root, 0, &self.marks, 0, Some(role)))
     }
 }

@@ -3,17 +3,20 @@
 //! It knows nothing of plants, batches or logs: what is seen of modules comes through the trait `Seen`. A cursor stands
 //! for words by a relation; where a clause speaks of the word, it holds of every word that the cursor stands for. What
 //! comes next is worked out by `next_after` (`specs/Next.antt`); the laws in `laws` say that it is the defined next
-//! entry, that it keeps a run a run, and that it commands only what a recipe may give.
+//! entry, that it keeps a run a run, and that it commands only what a recipe may give. One walk over the open nodes
+//! serves all that is looked for among them (`Look`): what comes next, and which step runs.
 #![tactic(auto)]
 
 mod cursor;
 mod following;
 mod laws;
+mod look;
 mod next;
 mod ready;
 mod running;
 mod scanning;
 mod sight;
+mod walking;
 
 pub use cursor::Cursor;
 pub use following::next_of_log;

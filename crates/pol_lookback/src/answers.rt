@@ -200,11 +200,11 @@ fn event_rule(alloc: Global, history: &[Entry], event: &Event) -> Result<Option<
             bind,
             ..
         } => start_rule(alloc, history, *batch, *recipe, bind),
-        Event::Advance { batch, .. } => Ok(open_rule(history, *batch)),
+        Event::Advance { batch, .. }
+        | Event::StopBatch { batch, .. }
+        | Event::Abandon { batch, .. } => Ok(open_rule(history, *batch)),
         Event::Freeze { batch, .. } => Ok(freeze_rule(history, *batch)),
         Event::Thaw { batch, .. } => Ok(thaw_rule(history, *batch)),
-        Event::StopBatch { batch, .. } => Ok(open_rule(history, *batch)),
-        Event::Abandon { batch, .. } => Ok(open_rule(history, *batch)),
         Event::Plug { tag, .. } => plug_rule(alloc, history, *tag),
         Event::Unplug { tag, .. } => Ok(unplug_rule(history, *tag)),
         Event::Report {

@@ -21,7 +21,7 @@ returns-clause-next g c =
     let same : c.deref.result.now ≡ chart = c.deref.ensures ∙ ap (λ (k : Kept). k.chart) c.self.view_is in
     let marks : c.deref-2.result.now ≡ c.args.self.now.marks = c.deref-2.ensures.value ∙ ap (λ (k : Kept). k.marks) c.self.view_is in
     let valid : IsValid (plan chart) = subst (λ (a : Chart). IsValid (plan a)) (ap (λ (k : Kept). k.chart) c.self.view_is) c.self.invariant.valid in
-    let found = rw (same, marks) at c.scan.ensures.next in
+    let found = rw (same, marks) at c.scan.ensures in
     rw found (next_is (plan chart) (marks_of c.args.self.now.marks) (g.S.Seen.sights c.args.seen.now) word valid (form_tree (plan chart) chart.form) stands)
 
 pub returns-clause-whole : goal.returns-clause-whole
@@ -31,7 +31,7 @@ returns-clause-whole g c =
     let same : c.deref.result.now ≡ chart = c.deref.ensures ∙ ap (λ (k : Kept). k.chart) c.self.view_is in
     let marks : c.deref-2.result.now ≡ c.args.self.now.marks = c.deref-2.ensures.value ∙ ap (λ (k : Kept). k.marks) c.self.view_is in
     let valid : IsValid (plan chart) = subst (λ (a : Chart). IsValid (plan a)) (ap (λ (k : Kept). k.chart) c.self.view_is) c.self.invariant.valid in
-    let found = rw (same, marks) at c.scan.ensures.next in
+    let found = rw (same, marks) at c.scan.ensures in
     found ∙ complete_whole (plan chart) (marks_of c.args.self.now.marks) (g.S.Seen.sights c.args.seen.now) word valid (form_tree (plan chart) chart.form) stands complete
 
 pub returns-clause-same : goal.returns-clause-same
@@ -41,5 +41,5 @@ returns-clause-same g c =
     let same : c.deref.result.now ≡ chart = c.deref.ensures ∙ ap (λ (k : Kept). k.chart) c.self.view_is in
     let marks : c.deref-2.result.now ≡ c.args.self.now.marks = c.deref-2.ensures.value ∙ ap (λ (k : Kept). k.marks) c.self.view_is in
     let valid : IsValid (plan chart) = subst (λ (a : Chart). IsValid (plan a)) (ap (λ (k : Kept). k.chart) c.self.view_is) c.self.invariant.valid in
-    let found = rw (same, marks) at c.scan.ensures.next in
+    let found = rw (same, marks) at c.scan.ensures in
     found ∙ next_same (plan chart) (marks_of c.args.self.now.marks) (g.S.Seen.sights c.args.seen.now) word valid (form_tree (plan chart) chart.form) stands

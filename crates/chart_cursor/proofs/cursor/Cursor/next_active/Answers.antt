@@ -9,8 +9,8 @@ use Rattle.chart_cursor.proofs.Actives.{first_active}
 use Rattle.chart_core.proofs.Few.{few_marks}
 use Rattle.chart_cursor.proofs.cursor.Cursor.next_active.Goals as goal
 
-pub run-requires-clause-short : goal.run-requires-clause-short
-run-requires-clause-short c =
+pub first_running-requires-clause-short : goal.first_running-requires-clause-short
+first_running-requires-clause-short c =
     let few = few_marks c.self.inside.chart.value c.self.inside.marks.items c.self.invariant.valid c.self.invariant.room in
     rw c.deref-2.ensures.value few
 
@@ -21,5 +21,5 @@ returns-clause-word c =
     let same : c.deref.result.now ≡ chart = c.deref.ensures ∙ ap (λ (k : Kept). k.chart) c.self.view_is in
     let marks : c.deref-2.result.now ≡ c.args.self.now.marks = c.deref-2.ensures.value ∙ ap (λ (k : Kept). k.marks) c.self.view_is in
     let valid : IsValid (plan chart) = subst (λ (a : Chart). IsValid (plan a)) (ap (λ (k : Kept). k.chart) c.self.view_is) c.self.invariant.valid in
-    let found = rw (same, marks) at c.run.ensures.found in
+    let found = rw (same, marks) at c.first_running.ensures in
     found ∙ first_active (plan chart) (marks_of c.args.self.now.marks) word (is_wanted c.args.from None) valid stands
