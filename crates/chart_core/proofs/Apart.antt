@@ -91,7 +91,8 @@ decided_number n k None h = cc
 decided_number n k (Some (of_step stage name service procedure)) h = cc
 decided_number n k (Some (of_node node decision values)) h = eqb-true node n (and_left (node == n) _ (some_if _ _ h))
 
-choice_below : (each : Arms) (aside : Bool) (decision : Decision) (values : List Reading) (a : ℕ) → right_choice each aside decision values ≡ Some a → a < arm_count each
+choice_below : (each : Arms) (aside : Bool) (decision : Decision) (values : List Reading) (a : ℕ)
+    → right_choice each aside decision values ≡ Some a → a < arm_count each
 choice_below each aside (chose arm) values a h =
     let r = some_if_is _ arm a h in
     let l : arm < arm_count each = lt_told arm (arm_count each) (and_left (nat_lt arm (arm_count each)) _ r.0) in

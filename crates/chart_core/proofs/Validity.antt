@@ -76,7 +76,8 @@ record StepClear (chart : ChartPlan) (step : StepPlan) (n depth earlier : ℕ) :
   pub new_name : has_name chart.root n step.name ≡ false
   pub known_role : is_among (role_names chart) step.role ≡ true
 
-step_clear : (chart : ChartPlan) (step : StepPlan) (n depth earlier : ℕ) → IsClear chart (visit (leaf step) n depth earlier) → StepClear chart step n depth earlier
+step_clear : (chart : ChartPlan) (step : StepPlan) (n depth earlier : ℕ)
+    → IsClear chart (visit (leaf step) n depth earlier) → StepClear chart step n depth earlier
 step_clear chart step n depth earlier h =
     let none = none_first (node_faults chart (visit (leaf step) n depth earlier)) h in
     record {
@@ -138,12 +139,14 @@ below_found : (has : ℕ → List ℕ → Bool) (n : ℕ) (placed : Placed) → 
 below_found has n placed h count name inside same =
     let l : placed.number < n + 1 + (count - 1) = omega arith in h (count - 1) name l same
 
-behind_found : (one other : ℕ → List ℕ → Bool) (n m : ℕ) (placed : Placed) → IsFound other (n + m) placed → IsFound (λ count name. one count name || other (count - m) name) n placed
+behind_found : (one other : ℕ → List ℕ → Bool) (n m : ℕ) (placed : Placed) → IsFound other (n + m) placed
+    → IsFound (λ count name. one count name || other (count - m) name) n placed
 behind_found one other n m placed h count name inside same =
     let l : placed.number < n + m + (count - m) = omega arith in
     or_right (one count name) (other (count - m) name) (h (count - m) name l same)
 
-front_found : (one other : ℕ → List ℕ → Bool) (n m : ℕ) (placed : Placed) → IsFound one n placed → IsFound (λ count name. one count name || other (count - m) name) n placed
+front_found : (one other : ℕ → List ℕ → Bool) (n m : ℕ) (placed : Placed) → IsFound one n placed
+    → IsFound (λ count name. one count name || other (count - m) name) n placed
 front_found one other n m placed h count name inside same =
     or_left (one count name) (other (count - m) name) (h count name inside same)
 
@@ -188,22 +191,32 @@ rise_append low mid high (p ∷ xs) ys a b (h, i, l) k =
 mutual
   pub steps_rise : (t : Tree) (n : ℕ) → Rise n (n + size t) (steps t n)
   steps_rise (leaf step) n = (omega arith, omega arith, tt)
-  steps_rise (seq each) n = rise_wider (n + 1) (n + 1 + sizes each) n (n + (1 + sizes each)) (all_steps each (n + 1)) (omega arith) (omega arith) (all_rise each (n + 1))
-  steps_rise (par each) n = rise_wider (n + 1) (n + 1 + sizes each) n (n + (1 + sizes each)) (all_steps each (n + 1)) (omega arith) (omega arith) (all_rise each (n + 1))
-  steps_rise (choice each) n = rise_wider (n + 1) (n + 1 + arm_sizes each) n (n + (1 + arm_sizes each)) (arm_steps each (n + 1)) (omega arith) (omega arith) (arms_rise each (n + 1))
-  steps_rise (loop body until) n = rise_wider (n + 1) (n + 1 + size body) n (n + (1 + size body)) (steps body (n + 1)) (omega arith) (omega arith) (steps_rise body (n + 1))
+  steps_rise (seq each) n =
+      rise_wider (n + 1) (n + 1 + sizes each) n (n + (1 + sizes each)) (all_steps each (n + 1)) (omega arith)
+      (omega arith) (all_rise each (n + 1))
+  steps_rise (par each) n =
+      rise_wider (n + 1) (n + 1 + sizes each) n (n + (1 + sizes each)) (all_steps each (n + 1)) (omega arith)
+      (omega arith) (all_rise each (n + 1))
+  steps_rise (choice each) n =
+      rise_wider (n + 1) (n + 1 + arm_sizes each) n (n + (1 + arm_sizes each)) (arm_steps each (n + 1)) (omega arith)
+      (omega arith) (arms_rise each (n + 1))
+  steps_rise (loop body until) n =
+      rise_wider (n + 1) (n + 1 + size body) n (n + (1 + size body)) (steps body (n + 1)) (omega arith) (omega arith)
+      (steps_rise body (n + 1))
 
   all_rise : (ts : Trees) (n : ℕ) → Rise n (n + sizes ts) (all_steps ts n)
   all_rise no_trees n = tt
   all_rise (more_trees t ts) n =
       rise_append n (n + size t) (n + (size t + sizes ts)) (steps t n) (all_steps ts (n + size t)) (omega arith) (omega arith) (steps_rise t n)
-      (rise_wider (n + size t) (n + size t + sizes ts) (n + size t) (n + (size t + sizes ts)) (all_steps ts (n + size t)) (omega arith) (omega arith) (all_rise ts (n + size t)))
+      (rise_wider (n + size t) (n + size t + sizes ts) (n + size t) (n + (size t + sizes ts))
+      (all_steps ts (n + size t)) (omega arith) (omega arith) (all_rise ts (n + size t)))
 
   arms_rise : (ts : Arms) (n : ℕ) → Rise n (n + arm_sizes ts) (arm_steps ts n)
   arms_rise no_arms n = tt
   arms_rise (more_arms when t ts) n =
       rise_append n (n + size t) (n + (size t + arm_sizes ts)) (steps t n) (arm_steps ts (n + size t)) (omega arith) (omega arith) (steps_rise t n)
-      (rise_wider (n + size t) (n + size t + arm_sizes ts) (n + size t) (n + (size t + arm_sizes ts)) (arm_steps ts (n + size t)) (omega arith) (omega arith) (arms_rise ts (n + size t)))
+      (rise_wider (n + size t) (n + size t + arm_sizes ts) (n + size t) (n + (size t + arm_sizes ts))
+      (arm_steps ts (n + size t)) (omega arith) (omega arith) (arms_rise ts (n + size t)))
 
 -- the step's name
 abbrev pub name_of : Placed → List ℕ
@@ -283,11 +296,13 @@ mutual
   bounded chart (leaf step) n d k h f l m =
       let s = step_clear chart step n d k h.0 in record { near = omega arith; few = omega arith }
   bounded chart (seq each) n d k h f l m =
-      let b = all_bounded chart each (n + 1) (d + 1) k h.1 (and_right (nat_le 1 (tree_count each)) _ f) (some_told (tree_count each) (and_left (nat_le 1 (tree_count each)) _ f))
+      let b = all_bounded chart each (n + 1) (d + 1) k h.1 (and_right (nat_le 1 (tree_count each)) _ f)
+      (some_told (tree_count each) (and_left (nat_le 1 (tree_count each)) _ f))
       (omega arith) (omega arith) m in
       record { near = omega arith; few = b.few }
   bounded chart (par each) n d k h f l m =
-      let b = all_bounded chart each (n + 1) (d + 1) k h.1 (and_right (nat_le 2 (tree_count each)) _ f) (two_told (tree_count each) (and_left (nat_le 2 (tree_count each)) _ f))
+      let b = all_bounded chart each (n + 1) (d + 1) k h.1 (and_right (nat_le 2 (tree_count each)) _ f)
+      (two_told (tree_count each) (and_left (nat_le 2 (tree_count each)) _ f))
       (omega arith) (omega arith) m in
       record { near = omega arith; few = b.few }
   bounded chart (choice each) n d k h f l m =
@@ -306,7 +321,9 @@ mutual
       let b = bounded chart t n d k (each_front (IsClear chart) (visits t n d k) [] h) (and_left (is_tree_formed t) _ f) l m in
       record { near = omega (arith, b.near); few = omega (arith, b.few) }
   all_bounded chart (more_trees t (more_trees t1 ts)) n d k h f c e l m =
-      let b = bounded chart t n d k (each_front (IsClear chart) (visits t n d k) (all_visits (more_trees t1 ts) (n + size t) d (k + step_count t)) h) (and_left (is_tree_formed t) _ f) l m in
+      let b = bounded chart t n d k
+      (each_front (IsClear chart) (visits t n d k)
+      (all_visits (more_trees t1 ts) (n + size t) d (k + step_count t)) h) (and_left (is_tree_formed t) _ f) l m in
       let r = all_bounded chart (more_trees t1 ts) (n + size t) d (k + step_count t)
       (each_back (IsClear chart) (visits t n d k) (all_visits (more_trees t1 ts) (n + size t) d (k + step_count t)) h)
       (and_right (is_tree_formed t) _ f) (omega arith) e (omega (arith, b.near)) b.few in
@@ -319,7 +336,10 @@ mutual
       let b = bounded chart t n d k (each_front (IsClear chart) (visits t n d k) [] h) (and_left (is_tree_formed t) _ f) l m in
       record { near = omega (arith, b.near); few = omega (arith, b.few) }
   arms_bounded chart (more_arms when t (more_arms when1 t1 ts)) n d k h f c e l m =
-      let b = bounded chart t n d k (each_front (IsClear chart) (visits t n d k) (arm_visits (more_arms when1 t1 ts) (n + size t) d (k + step_count t)) h) (and_left (is_tree_formed t) _ f) l m in
+      let b = bounded chart t n d k
+      (each_front (IsClear chart) (visits t n d k)
+      (arm_visits (more_arms when1 t1 ts) (n + size t) d (k + step_count t)) h)
+      (and_left (is_tree_formed t) _ f) l m in
       let r = arms_bounded chart (more_arms when1 t1 ts) (n + size t) d (k + step_count t)
       (each_back (IsClear chart) (visits t n d k) (arm_visits (more_arms when1 t1 ts) (n + size t) d (k + step_count t)) h)
       (and_right (is_formula_formed when) _ (and_right (is_tree_formed t) _ f)) (omega arith) e (omega (arith, b.near)) b.few in

@@ -101,7 +101,9 @@ mutual
 
   pub walk_all_ends :
       (chart : ChartPlan) (each : Trees) (depth : ℕ) (here : Reached)
-      → walked_all chart each depth here ≡ unless (first_fault chart (all_visits each here.number depth here.steps)) (behind here (sizes each) (step_counts each))
+      → walked_all chart each depth here
+      ≡ unless (first_fault chart (all_visits each here.number depth here.steps))
+      (behind here (sizes each) (step_counts each))
   walk_all_ends chart no_trees depth here = ap Ok (none_behind here)
   walk_all_ends chart (more_trees each others) depth here =
       across chart (visits each here.number depth here.steps)
@@ -111,7 +113,9 @@ mutual
 
   pub walk_arms_ends :
       (chart : ChartPlan) (each : Arms) (depth : ℕ) (here : Reached)
-      → walked_arms chart each depth here ≡ unless (first_fault chart (arm_visits each here.number depth here.steps)) (behind here (arm_sizes each) (arm_step_counts each))
+      → walked_arms chart each depth here
+      ≡ unless (first_fault chart (arm_visits each here.number depth here.steps))
+      (behind here (arm_sizes each) (arm_step_counts each))
   walk_arms_ends chart no_arms depth here = ap Ok (none_behind here)
   walk_arms_ends chart (more_arms when each others) depth here =
       across chart (visits each here.number depth here.steps)

@@ -15,6 +15,7 @@ pub data Phase : Type 0 where
   finished : Phase
   was_reset : Phase
 
+-- what the later entry says; where it says nothing, what the earlier ones said
 abbrev pub or_earlier : {A : Type 0} → Option A → Option A → Option A
 or_earlier None earlier = earlier
 or_earlier (Some later) earlier = Some later
@@ -39,6 +40,7 @@ phase_by name (Left step state) = when (same_name step name) idle
 phase_by name StopAsked = None
 phase_by name (Asked tag service command) = None
 
+-- a step that no entry says anything of is not running
 abbrev pub or_idle : Option Phase → Phase
 or_idle None = idle
 or_idle (Some phase) = phase
@@ -47,6 +49,7 @@ or_idle (Some phase) = phase
 abbrev pub phase_after : List LogEntry → List ℕ → Phase
 phase_after log name = or_idle (last_of (phase_by name) log)
 
+-- the step runs: it is in any phase but idle
 abbrev pub is_running : Phase → Bool
 is_running idle = false
 is_running started = true
@@ -61,13 +64,14 @@ is_active log placed = is_running (phase_after log placed.step.name)
 abbrev pub active_steps : ChartPlan → List LogEntry → List Placed
 active_steps chart log = filter (is_active log) (steps chart.root 0)
 
--- where a run's entry leaves the step with this name
+-- where an entry of this stage leaves its step
 abbrev pub stage_phase : Stage → Phase
 stage_phase begin = started
 stage_phase finish = finished
 stage_phase reset = was_reset
 stage_phase end = idle
 
+-- where a run's entry leaves the step with this name; nothing where it is no entry of it
 abbrev pub entry_phase : List ℕ → Option ChartEntry → Option Phase
 entry_phase name None = None
 entry_phase name (Some (of_step stage step service procedure)) = when (same_name step name) (stage_phase stage)

@@ -8,6 +8,7 @@ use Rattle.chart_core.specs.declared.progress.Progress.TheVariants.{Untouched, B
 use Rattle.chart_core.specs.declared.progress.Change.{Change}
 use Rattle.chart_core.specs.declared.progress.Change.TheVariants.{Put, Clear}
 
+-- a step has ended
 abbrev pub is_ended : Progress → Bool
 is_ended Untouched = false
 is_ended Begun = false
@@ -17,6 +18,7 @@ is_ended Ended = true
 is_ended (Chosen arm) = false
 is_ended Left = false
 
+-- a loop was left
 abbrev pub is_left : Progress → Bool
 is_left Untouched = false
 is_left Begun = false
@@ -55,14 +57,17 @@ next_progress finishes Finished (Some reset) = Some WasReset
 next_progress finishes WasReset (Some end) = Some Ended
 next_progress finishes progress (Some stage) = None
 
+-- a mark on the node with the number n, where there is one to put there
 abbrev pub put_at : ℕ → Option Progress → Option Change
 put_at n None = None
 put_at n (Some progress) = Some (Put n progress)
 
+-- the mark of a choice on the selection with the number n, where it chooses an arm
 abbrev pub choose_at : ℕ → Option ℕ → Option Change
 choose_at n None = None
 choose_at n (Some arm) = Some (Put n (Chosen arm))
 
+-- the first of two changes, where there is one
 abbrev pub either_change : Option Change → Option Change → Option Change
 either_change None other = other
 either_change (Some change) other = Some change
@@ -77,6 +82,7 @@ change_in_arm choice arm Ended = None
 change_in_arm choice arm (Chosen place) = arm place
 change_in_arm choice arm Left = None
 
+-- of a loop: the change, until it was left
 abbrev pub while_untouched : Option Change → Progress → Option Change
 while_untouched change Untouched = change
 while_untouched change Begun = None

@@ -64,9 +64,11 @@ Complete (step n finishes stage) word = StepRun finishes (map stage word)
 Complete {E} (chain first rest) word =
     (front : List E) × (back : List E) × (word ≡ front ++ back) × Complete first front × Complete rest back
 Complete (beside one other) word =
-    All (λ e. is_of one e || is_of other e) word × Complete one (filter (is_of one) word) × Complete other (filter (is_of other) word)
+    All (λ e. is_of one e || is_of other e) word × Complete one (filter (is_of one) word)
+    × Complete other (filter (is_of other) word)
 Complete {E} (select n count own chooses bodies) word =
-    (arm : ℕ) × (e : E) × (back : List E) × (word ≡ e ∷ back) × (arm < count) × (chooses e ≡ Some arm) × Complete (bodies arm) back
+    (arm : ℕ) × (e : E) × (back : List E) × (word ≡ e ∷ back) × (arm < count) × (chooses e ≡ Some arm)
+    × Complete (bodies arm) back
 Complete (repeat n after body own turns leaves) word = Rounds (Complete body) turns (Closing (Complete body) leaves) word
 
 -- The word is a partial run: of a step a prefix of a complete run; of one course and then another a partial run of the
@@ -79,9 +81,11 @@ Partial (step n finishes stage) word = (others : List (Option Stage)) × StepRun
 Partial {E} (chain first rest) word =
     Partial first word ⊎ ((front : List E) × (back : List E) × (word ≡ front ++ back) × Complete first front × Partial rest back)
 Partial (beside one other) word =
-    All (λ e. is_of one e || is_of other e) word × Partial one (filter (is_of one) word) × Partial other (filter (is_of other) word)
+    All (λ e. is_of one e || is_of other e) word × Partial one (filter (is_of one) word)
+    × Partial other (filter (is_of other) word)
 Partial {E} (select n count own chooses bodies) word =
     (word ≡ [])
-    ⊎ ((arm : ℕ) × (e : E) × (back : List E) × (word ≡ e ∷ back) × (arm < count) × (chooses e ≡ Some arm) × Partial (bodies arm) back)
+    ⊎ ((arm : ℕ) × (e : E) × (back : List E) × (word ≡ e ∷ back) × (arm < count) × (chooses e ≡ Some arm)
+    × Partial (bodies arm) back)
 Partial (repeat n after body own turns leaves) word =
     Rounds (Complete body) turns (λ back. Partial body back ⊎ Closing (Complete body) leaves back) word

@@ -24,6 +24,7 @@ may_compare Ne (Bit value) = true
 may_compare Ge (Bit value) = false
 may_compare Gt (Bit value) = false
 
+-- how many conditions stand in the list
 abbrev pub formula_count : Formulas → ℕ
 formula_count no_formulas = 0
 formula_count (more_formulas each others) = suc (formula_count others)
@@ -71,6 +72,7 @@ abbrev mutual
 abbrev pub is_formula_formed : Formula → Bool
 is_formula_formed each = has_parts_formed each && (nat_le (test_count each) 16 && nat_le (nesting each) 8)
 
+-- a finish, where there is one, has such a condition
 abbrev pub is_finish_formed : Option Formula → Bool
 is_finish_formed None = true
 is_finish_formed (Some condition) = is_formula_formed condition
@@ -82,6 +84,7 @@ is_step_formed step =
     && (nat_le (length step.settings) 32
     && (are_distinct (map (λ setting. setting.name) step.settings) && is_finish_formed step.finish))
 
+-- how many nodes stand in the list
 abbrev pub tree_count : Trees → ℕ
 tree_count no_trees = 0
 tree_count (more_trees each others) = suc (tree_count others)

@@ -23,10 +23,12 @@ mutual
     no_formulas : Formulas
     more_formulas : Formula → Formulas → Formulas
 
+-- plain conditions in a list, as a condition holds them
 abbrev pub formulas_of : List Formula → Formulas
 formulas_of [] = no_formulas
 formulas_of (each ∷ others) = more_formulas each (formulas_of others)
 
+-- a condition as plain data, where those within it are so already
 abbrev pub formula_step : Condition-F Formula → Formula
 formula_step (Condition-F.Const value) = constant value
 formula_step (Condition-F.All each) = all_of (formulas_of each.items)

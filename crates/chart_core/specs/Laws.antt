@@ -15,7 +15,8 @@ NamesAreDistinct = (chart : ChartPlan) → IsValid chart → Distinct (names cha
 -- two of its steps that have one name are one step
 abbrev pub NamesTellSteps : Type 0
 NamesTellSteps =
-    (chart : ChartPlan) (one other : Placed) → IsValid chart → Contains (steps chart.root 0) one → Contains (steps chart.root 0) other
+    (chart : ChartPlan) (one other : Placed) → IsValid chart → Contains (steps chart.root 0) one
+    → Contains (steps chart.root 0) other
     → one.step.name ≡ other.step.name → one ≡ other
 
 -- the role of each of its steps is one of its roles

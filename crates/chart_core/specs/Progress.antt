@@ -53,7 +53,8 @@ Stands nothing marks word = word ≡ []
 Stands (step n finishes stage) marks word = Had finishes (marks n) (map stage word)
 Stands {E} (chain first rest) marks word =
     (Stands first marks word × Fresh rest marks)
-    ⊎ ((front : List E) × (back : List E) × (word ≡ front ++ back) × Done first marks × Stands first marks front × Stands rest marks back)
+    ⊎ ((front : List E) × (back : List E) × (word ≡ front ++ back) × Done first marks × Stands first marks front
+    × Stands rest marks back)
 Stands (beside one other) marks word =
     All (λ e. is_of one e || is_of other e) word
     × Stands one marks (filter (is_of one) word) × Stands other marks (filter (is_of other) word)

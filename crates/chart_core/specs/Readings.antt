@@ -15,8 +15,10 @@ pub record IsKept (items : List Reading) (len : ℕ) : Type 0 where
 abbrev pub filled_up : List Reading → List Reading
 filled_up used = used ++ replicate (4 - length used) (Bit false)
 
+-- as many items are in use as the length says
 pub length-used : (items : List Reading) (len : ℕ) → IsKept items len → length (take len items) ≡ len
 length-used items len kept = let inside : len ≤ length items = omega arith in length-take-le len items inside
 
+-- the items in use, with blanks behind them, are all the items
 pub filled_up-used : (items : List Reading) (len : ℕ) → IsKept items len → filled_up (take len items) ≡ items
 filled_up-used items len kept = rw (length-used items len kept, ← kept.blanks, take-append-drop len items)

@@ -41,6 +41,7 @@ arm_reads each = reads_of (arm_conditions each)
 abbrev pub loop_reads : Formula → List Read
 loop_reads until = reads_of (more_formulas until no_formulas)
 
+-- of a decision with its readings: the arm that it chooses rightly
 abbrev pub right_choice : Arms → Bool → Decision → List Reading → Option ℕ
 right_choice each aside (chose arm) values =
     if nat_lt arm (arm_count each) && (aside || is_first_true (arm_conditions each) arm (stored (arm_reads each) values))
@@ -53,6 +54,7 @@ abbrev pub right_arm : Arms → Bool → Option Decided → Option ℕ
 right_arm each aside None = None
 right_arm each aside (Some decided) = right_choice each aside decided.decision decided.values
 
+-- of a decision with its readings: it turns the loop rightly
 abbrev pub right_turn : Formula → Bool → Decision → List Reading → Bool
 right_turn until aside (chose arm) values = false
 right_turn until aside turn values = aside || not (holds until (stored (loop_reads until) values))
@@ -63,6 +65,7 @@ abbrev pub turns_rightly : Formula → Bool → Option Decided → Bool
 turns_rightly until aside None = false
 turns_rightly until aside (Some decided) = right_turn until aside decided.decision decided.values
 
+-- of a decision with its readings: it leaves the loop rightly
 abbrev pub right_leave : Formula → Bool → Decision → List Reading → Bool
 right_leave until aside (chose arm) values = false
 right_leave until aside turn values = false

@@ -40,14 +40,17 @@ pub record ArmPlan : Type 0 where
   pub when : Formula
   pub body : Tree
 
+-- plain nodes in a list, as a node holds them
 abbrev pub trees_of : List Tree → Trees
 trees_of [] = no_trees
 trees_of (each ∷ others) = more_trees each (trees_of others)
 
+-- plain arms in a list, as a selection holds them
 abbrev pub arms_of : List ArmPlan → Arms
 arms_of [] = no_arms
 arms_of (each ∷ others) = more_arms each.when each.body (arms_of others)
 
+-- the condition of a finish as plain data, where there is one
 abbrev pub finish_plan : Option Condition → Option Formula
 finish_plan None = None
 finish_plan (Some condition) = Some (formula condition)
@@ -64,6 +67,7 @@ step_plan step =
       finish = finish_plan step.finish;
     }
 
+-- a node as plain data, where the nodes and arms within it are so already
 abbrev pub node_step : Node-F Tree ArmPlan → Tree
 node_step (Node-F.Step step) = leaf (step_plan step)
 node_step (Node-F.Seq each) = seq (trees_of each.items)
@@ -71,6 +75,7 @@ node_step (Node-F.Par each) = par (trees_of each.items)
 node_step (Node-F.Sel each) = choice (arms_of each.items)
 node_step (Node-F.Loop body until) = loop body.value (formula until)
 
+-- an arm as plain data, where its body is so already
 abbrev pub arm_step : Arm-F Tree ArmPlan → ArmPlan
 arm_step arm = record { when = formula arm.when; body = arm.body }
 

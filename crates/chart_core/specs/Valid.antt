@@ -161,7 +161,8 @@ node_faults chart node =
     ∷ when (on_step node.step (λ step. nat_le 256 node.earlier)) (TooManySteps node.number)
     ∷ when (on_step node.step (λ step. has_name chart.root node.number step.name)) (StepTwice node.number)
     ∷ when
-    (on_step node.step (λ step. not (is_among (role_names chart) step.role)) || some_reads_unknown node.conditions (role_names chart))
+    (on_step node.step (λ step. not (is_among (role_names chart) step.role))
+    || some_reads_unknown node.conditions (role_names chart))
     (UnknownRole node.number)
     ∷ when (on_step node.step (λ step. clashes chart.root node.number step.role step.service)) (SameService node.number)
     ∷ when (nat_lt 4 (length (reads_of node.conditions))) (TooManyReads node.number)

@@ -31,15 +31,18 @@ step_on here = record { number = here.number + 1; steps = here.steps + 1 }
 -- the walk through a tree at this depth, from here
 abbrev mutual
   pub walked : ChartPlan → Tree → ℕ → Reached → Walk
-  walked chart (leaf step) depth here = stop_at (node_fault chart (visit (leaf step) here.number depth here.steps)) (Ok (step_on here))
+  walked chart (leaf step) depth here =
+      stop_at (node_fault chart (visit (leaf step) here.number depth here.steps)) (Ok (step_on here))
   walked chart (seq each) depth here =
       stop_at (node_fault chart (visit (seq each) here.number depth here.steps)) (walked_all chart each (depth + 1) (one_on here))
   walked chart (par each) depth here =
       stop_at (node_fault chart (visit (par each) here.number depth here.steps)) (walked_all chart each (depth + 1) (one_on here))
   walked chart (choice each) depth here =
-      stop_at (node_fault chart (visit (choice each) here.number depth here.steps)) (walked_arms chart each (depth + 1) (one_on here))
+      stop_at (node_fault chart (visit (choice each) here.number depth here.steps))
+      (walked_arms chart each (depth + 1) (one_on here))
   walked chart (loop body until) depth here =
-      stop_at (node_fault chart (visit (loop body until) here.number depth here.steps)) (walked chart body (depth + 1) (one_on here))
+      stop_at (node_fault chart (visit (loop body until) here.number depth here.steps))
+      (walked chart body (depth + 1) (one_on here))
 
   pub walked_all : ChartPlan → Trees → ℕ → Reached → Walk
   walked_all chart no_trees depth here = Ok here
@@ -47,4 +50,5 @@ abbrev mutual
 
   pub walked_arms : ChartPlan → Arms → ℕ → Reached → Walk
   walked_arms chart no_arms depth here = Ok here
-  walked_arms chart (more_arms when each others) depth here = and_on (walked chart each depth here) (walked_arms chart others depth)
+  walked_arms chart (more_arms when each others) depth here =
+      and_on (walked chart each depth here) (walked_arms chart others depth)

@@ -56,7 +56,8 @@ fn is_first(each: &[Arm], place: u32, reads: &[Read], values: &[Reading]) -> boo
 
 // How far the step has come after the entry, where it may come next.
 fn step_next(step: &Step, progress: Progress, entry: &LogEntry) -> Option<Progress>
-    ensures { result ≡ next_progress (is_some (step_plan step.now).finish) progress (stage_of (step_plan step.now) (chart_entry entry.now)) }
+    ensures { result ≡ next_progress (is_some (step_plan step.now).finish) progress
+        (stage_of (step_plan step.now) (chart_entry entry.now)) }
 {
     match (entry, progress) {
         (

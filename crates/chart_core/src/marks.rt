@@ -66,7 +66,8 @@ pub fn take_entry(chart: &Chart, marks: &mut [Progress], entry: &LogEntry) -> bo
     ensures refused { IsFalse result → (log back : List LogEntry) → StandsFor (plan chart.now) marks.old log
         → IsPartial (plan chart.now) (log ++ (entry.now ∷ back)) → ⊥ }
     ensures unchanged { IsFalse result → marks.new ≡ marks.old }
-    ensures moves { (i : ℕ) → marks_of marks.new i ≡ moved (marks_of marks.old) (change_by (course_of (plan chart.now)) (marks_of marks.old) (judged entry.now)) i }
+    ensures moves { (i : ℕ) → marks_of marks.new i
+        ≡ moved (marks_of marks.old) (change_by (course_of (plan chart.now)) (marks_of marks.old) (judged entry.now)) i }
 {
     match follow(&chart.root, 0, marks, entry).change {
         Some(change) => {
@@ -81,8 +82,10 @@ pub fn take_entry(chart: &Chart, marks: &mut [Progress], entry: &LogEntry) -> bo
 pub fn is_done(chart: &Chart, marks: &[Progress]) -> bool
     requires valid { IsValid (plan chart.now) }
     requires room { length marks.now ≡ size (tree chart.now.root) }
-    ensures done { IsTrue result → (log : List LogEntry) → StandsFor (plan chart.now) marks.now log → IsComplete (plan chart.now) log }
-    ensures complete { (log : List LogEntry) → StandsFor (plan chart.now) marks.now log → IsComplete (plan chart.now) log → IsTrue result }
+    ensures done { IsTrue result → (log : List LogEntry) → StandsFor (plan chart.now) marks.now log
+        → IsComplete (plan chart.now) log }
+    ensures complete { (log : List LogEntry) → StandsFor (plan chart.now) marks.now log
+        → IsComplete (plan chart.now) log → IsTrue result }
 {
     // Asked with an entry that is of no node.
     follow(&chart.root, 0, marks, &LogEntry::StopAsked).done

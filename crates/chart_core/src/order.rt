@@ -53,7 +53,8 @@ fn put_arms<'a>(each: &'a [Arm], found: &mut Vec<&'a Step>) -> Result<(), AllocE
 /// AllocError where memory is wanting for one reference for each step.
 #[tactic(auto, using(crate::proofs::Ordered::plans_are))]
 pub fn steps_in_order(alloc: Global, chart: &Chart) -> Result<Vec<&Step>, AllocError>
-    ensures { IfOk result (λ found. map (λ step. step_plan step.now) found.items ≡ map (λ placed. placed.step) (steps (tree chart.now.root) 0)) }
+    ensures { IfOk result (λ found. map (λ step. step_plan step.now) found.items
+        ≡ map (λ placed. placed.step) (steps (tree chart.now.root) 0)) }
 {
     let mut found = Vec::new(alloc);
     put_steps(&chart.root, &mut found)?;

@@ -97,7 +97,8 @@ fn reads_too_much(condition: &Condition) -> bool
 }
 
 fn finish_has_unknown(finish: &Option<Condition>, roles: &[Role]) -> bool
-    ensures { result ≡ some_reads_unknown (finish_conditions (finish_plan finish.now)) (map (λ role. role.role) (map role_plan roles.now)) }
+    ensures { result ≡ some_reads_unknown (finish_conditions (finish_plan finish.now))
+        (map (λ role. role.role) (map role_plan roles.now)) }
 {
     match finish {
         Some(condition) => has_unknown(condition, roles),

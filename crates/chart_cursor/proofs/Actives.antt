@@ -45,7 +45,8 @@ runs (s ∷ ss) = run_of s.number s.node (phase_of s.progress) ++ runs ss
 runs_append : (xs ys : List Spot) → runs (xs ++ ys) ≡ runs xs ++ runs ys
 runs_append [] ys = refl
 runs_append (s ∷ ss) ys =
-    ap (λ ps. run_of s.number s.node (phase_of s.progress) ++ ps) (runs_append ss ys) ∙ sym (append_assoc (run_of s.number s.node (phase_of s.progress)) (runs ss) (runs ys))
+    ap (λ ps. run_of s.number s.node (phase_of s.progress) ++ ps) (runs_append ss ys)
+    ∙ sym (append_assoc (run_of s.number s.node (phase_of s.progress)) (runs ss) (runs ys))
 
 -- what holds of each name of a tree holds of the names of its steps
 mutual
@@ -66,7 +67,8 @@ mutual
   on_arm_names no_arms n P h = tt
   on_arm_names (more_arms c t each) n P h =
       each_append (λ p. P p.step.name) (steps t n) (arm_steps each (n + size t))
-      (on_names t n P (λ x i. h x (in_left x (names t) (arm_names each) i))) (on_arm_names each (n + size t) P (λ x i. h x (in_right x (names t) (arm_names each) i)))
+      (on_names t n P (λ x i. h x (in_left x (names t) (arm_names each) i)))
+      (on_arm_names each (n + size t) P (λ x i. h x (in_right x (names t) (arm_names each) i)))
 
 -- a word leaves a step idle
 abbrev LeavesIdle : List Judged → List ℕ → Type 0
@@ -86,7 +88,8 @@ alike v w (p ∷ ps) (h, k) =
     ap (λ o. if is_running o then p ∷ filter (is_live w) ps else filter (is_live w) ps) h
     ∙ ap (λ qs. if is_live v p then p ∷ qs else qs) (alike v w ps k)
 
-step_runs : (s : StepPlan) (n : ℕ) (m : Progress) → runs (step_spots n (leaf s) m) ≡ (if is_running (phase_of m) then record { number = n; step = s } ∷ [] else [])
+step_runs : (s : StepPlan) (n : ℕ) (m : Progress)
+    → runs (step_spots n (leaf s) m) ≡ (if is_running (phase_of m) then record { number = n; step = s } ∷ [] else [])
 step_runs s n Untouched = refl
 step_runs s n Begun = refl
 step_runs s n Finished = refl
@@ -103,7 +106,8 @@ if_runs true xs ys ps h k = h refl
 if_runs false xs ys ps h k = k refl
 
 mutual
-  pub lives : (t : Tree) (n : ℕ) (f : Marks) (w : List Judged) → Distinct (names t) → Stands (course t n) f w → runs (spots t n f) ≡ filter (is_live w) (steps t n)
+  pub lives : (t : Tree) (n : ℕ) (f : Marks) (w : List Judged) → Distinct (names t) → Stands (course t n) f w
+      → runs (spots t n f) ≡ filter (is_live w) (steps t n)
   lives (leaf s) n f w d h =
       let phase = ap or_idle (leaf_phase s n s.name w refl (stands_of (course (leaf s) n) f w tt h)) ∙ had_phase (is_some s.finish) (f n) _ h in
       step_runs s n (f n) ∙ ap (λ o. if is_running o then record { number = n; step = s } ∷ [] else []) (sym phase)
@@ -115,21 +119,26 @@ mutual
   lives (choice each) n f w d (inr (a, e, v, q, l, c, x, y)) =
       ap (λ m. runs (choice_spots n (choice each) (λ a. arm_spots each (n + 1) a f) m)) x
       ∙ arm_lives each (n + 1) a f v d y
-      ∙ sym (alike v w (arm_steps each (n + 1)) (on_arm_names each (n + 1) (LeavesAlike v w) (λ name i. ap or_idle (phase_head name e v w q (arm_says each n name e a c)))))
+      ∙ sym (alike v w (arm_steps each (n + 1))
+      (on_arm_names each (n + 1) (LeavesAlike v w)
+      (λ name i. ap or_idle (phase_head name e v w q (arm_says each n name e a c)))))
   lives (loop t until) n f w d (inr (x, y)) =
       ap (λ m. runs (loop_spots n (loop t until) (is_done (course t (n + 1)) f) (spots t (n + 1) f) m)) x
       ∙ sym (quiet w (steps t (n + 1)) (on_names t (n + 1) (LeavesIdle w) (λ name i. complete_idle (loop t until) n w name d i y)))
   lives (loop t until) n f w d (inl (x, y)) =
-      let r = rounds_last_phase t (n + 1) f (λ e. turns_rightly until e.aside (decision_at n (loop_reads until) e)) d (λ name e k. turns_says until n name e k) w y in
+      let r = rounds_last_phase t (n + 1) f (λ e. turns_rightly until e.aside (decision_at n (loop_reads until) e)) d
+      (λ name e k. turns_says until n name e k) w y in
       let same = alike r.0 w (steps t (n + 1)) (on_names t (n + 1) (LeavesAlike r.0 w) r.2) in
       ap (λ m. runs (loop_spots n (loop t until) (is_done (course t (n + 1)) f) (spots t (n + 1) f) m)) x
-      ∙ if_runs (is_done (course t (n + 1)) f) (record { number = n; node = loop t until; progress = Untouched } ∷ []) (spots t (n + 1) f) (filter (is_live w) (steps t (n + 1)))
+      ∙ if_runs (is_done (course t (n + 1)) f) (record { number = n; node = loop t until; progress = Untouched } ∷ [])
+      (spots t (n + 1) f) (filter (is_live w) (steps t (n + 1)))
       (λ z. sym (same ∙ quiet r.0 (steps t (n + 1))
       (on_names t (n + 1) (LeavesIdle r.0)
       (λ name i. complete_idle t (n + 1) r.0 name d i (done_complete (course t (n + 1)) f r.0 (sound t (n + 1) d) r.1 (done_of (course t (n + 1)) f z))))))
       (λ z. lives t (n + 1) f r.0 d r.1 ∙ sym same)
 
-  pub turn_lives : (ts : Trees) (n : ℕ) (f : Marks) (w : List Judged) → Distinct (all_names ts) → Stands (in_turn ts n) f w → runs (turn_spots ts n f) ≡ filter (is_live w) (all_steps ts n)
+  pub turn_lives : (ts : Trees) (n : ℕ) (f : Marks) (w : List Judged) → Distinct (all_names ts)
+      → Stands (in_turn ts n) f w → runs (turn_spots ts n f) ≡ filter (is_live w) (all_steps ts n)
   turn_lives no_trees n f w d h = refl
   turn_lives (more_trees t ts) n f w d (inl (x, r)) =
       let front = distinct_front (names t) (all_names ts) d in
@@ -142,7 +151,8 @@ mutual
       let none : filter (is_live []) (all_steps ts (n + size t)) ≡ []
       = quiet [] (all_steps ts (n + size t)) (on_all_names ts (n + size t) (LeavesIdle []) (λ name i. refl)) in
       let cut : filter (is_live w) (all_steps (more_trees t ts) n) ≡ filter (is_live w) (steps t n)
-      = filter-append (is_live w) (steps t n) (all_steps ts (n + size t)) ∙ ap (λ ps. filter (is_live w) (steps t n) ++ ps) rest ∙ append-nil (filter (is_live w) (steps t n)) in
+      = filter-append (is_live w) (steps t n) (all_steps ts (n + size t))
+      ∙ ap (λ ps. filter (is_live w) (steps t n) ++ ps) rest ∙ append-nil (filter (is_live w) (steps t n)) in
       if_runs (is_done (course t n) f) (turn_spots ts (n + size t) f) (spots t n f) (filter (is_live w) (all_steps (more_trees t ts) n))
       (λ z. turn_lives ts (n + size t) f [] back (fresh_stands (in_turn ts (n + size t)) f (turn_sound ts (n + size t) back) r) ∙ none
       ∙ sym (cut ∙ quiet w (steps t n)
@@ -171,7 +181,8 @@ mutual
       (λ z. turn_lives ts (n + size t) f v back y ∙ sym cut)
       (λ z. let clash : true ≡ false = sym (of_done (course t n) f g) ∙ z in cc)
 
-  pub once_lives : (ts : Trees) (n : ℕ) (f : Marks) (w : List Judged) → Distinct (all_names ts) → Stands (at_once ts n) f w → runs (once_spots ts n f) ≡ filter (is_live w) (all_steps ts n)
+  pub once_lives : (ts : Trees) (n : ℕ) (f : Marks) (w : List Judged) → Distinct (all_names ts)
+      → Stands (at_once ts n) f w → runs (once_spots ts n f) ≡ filter (is_live w) (all_steps ts n)
   once_lives no_trees n f w d h = refl
   once_lives (more_trees t ts) n f w d (l, x, y) =
       let front = distinct_front (names t) (all_names ts) d in
@@ -194,7 +205,8 @@ mutual
       ∙ ap (λ ps. filter (is_live w) (steps t n) ++ ps) (once_lives ts (n + size t) f v back y ∙ sym rest)
       ∙ sym (filter-append (is_live w) (steps t n) (all_steps ts (n + size t)))
 
-  pub arm_lives : (each : Arms) (n a : ℕ) (f : Marks) (w : List Judged) → Distinct (arm_names each) → Stands (arm_at each n a) f w → runs (arm_spots each n a f) ≡ filter (is_live w) (arm_steps each n)
+  pub arm_lives : (each : Arms) (n a : ℕ) (f : Marks) (w : List Judged) → Distinct (arm_names each)
+      → Stands (arm_at each n a) f w → runs (arm_spots each n a f) ≡ filter (is_live w) (arm_steps each n)
   arm_lives no_arms n a f w d h = refl
   arm_lives (more_arms c t each) n zero f w d h =
       let front = distinct_front (names t) (arm_names each) d in
@@ -204,7 +216,8 @@ mutual
       (λ name i. ap or_idle (silent name (is_of (course t n)) w (tree_silent t n name (λ j. distinct_apart name (names t) (arm_names each) d j i))
       (stands_of (course t n) f w (sound t n front) h)))) in
       lives t n f w front h
-      ∙ sym (filter-append (is_live w) (steps t n) (arm_steps each (n + size t)) ∙ ap (λ ps. filter (is_live w) (steps t n) ++ ps) rest ∙ append-nil (filter (is_live w) (steps t n)))
+      ∙ sym (filter-append (is_live w) (steps t n) (arm_steps each (n + size t))
+      ∙ ap (λ ps. filter (is_live w) (steps t n) ++ ps) rest ∙ append-nil (filter (is_live w) (steps t n)))
   arm_lives (more_arms c t each) n (suc a) f w d h =
       let back = distinct_back (names t) (arm_names each) d in
       let first : filter (is_live w) (steps t n) ≡ []
@@ -218,14 +231,16 @@ mutual
       ∙ sym (filter-append (is_live w) (steps t n) (arm_steps each (n + size t)) ∙ ap (λ ps. ps ++ filter (is_live w) (arm_steps each (n + size t))) first)
 
 -- the active steps, told by the log or by its word
-active_live : (chart : ChartPlan) (log : List LogEntry) (ps : List Placed) → All (is_of (course_of chart)) (word log) → filter (is_active log) ps ≡ filter (is_live (word log)) ps
+active_live : (chart : ChartPlan) (log : List LogEntry) (ps : List Placed) → All (is_of (course_of chart)) (word log)
+    → filter (is_active log) ps ≡ filter (is_live (word log)) ps
 active_live chart log [] a = refl
 active_live chart log (p ∷ ps) a =
     ap (λ o. if is_running (or_idle o) then p ∷ filter (is_active log) ps else filter (is_active log) ps) (log_phase chart p.step.name log a)
     ∙ ap (λ qs. if is_live (word log) p then p ∷ qs else qs) (active_live chart log ps a)
 
 -- Of every log that the marks stand for: the running steps among the open nodes are the active ones.
-pub runs_active : (chart : ChartPlan) (f : Marks) (log : List LogEntry) → IsValid chart → Stands (course_of chart) f (word log) → runs (spots chart.root 0 f) ≡ active_steps chart log
+pub runs_active : (chart : ChartPlan) (f : Marks) (log : List LogEntry) → IsValid chart
+    → Stands (course_of chart) f (word log) → runs (spots chart.root 0 f) ≡ active_steps chart log
 runs_active chart f log valid h =
     lives chart.root 0 f (word log) (valid_distinct chart valid) h
     ∙ sym (active_live chart log (steps chart.root 0) (stands_of (course_of chart) f (word log) (chart_sound chart valid) h))
@@ -235,10 +250,12 @@ placed_one : (wanted : ℕ → StepPlan → Bool) (n : ℕ) (node : Tree) (phase
 placed_one wanted n (leaf s) phase rest =
     elim (is_running phase) as (λ b. or_later (if b && wanted n s then Some (n, s.name) else None) (first_placed wanted rest)
     ≡ first_placed wanted ((if b then record { number = n; step = s } ∷ [] else []) ++ rest)) [
-      | true ↦ (elim (wanted n s) as (λ b. or_later (if b then Some (n, s.name) else None) (first_placed wanted rest) ≡ (if b then Some (n, s.name) else first_placed wanted rest)) [
-        | true ↦ refl
-        | false ↦ refl
-      ])
+      | true ↦ (elim (wanted n s) as
+          (λ b. or_later (if b then Some (n, s.name) else None) (first_placed wanted rest)
+          ≡ (if b then Some (n, s.name) else first_placed wanted rest)) [
+            | true ↦ refl
+            | false ↦ refl
+          ])
       | false ↦ refl
     ]
 placed_one wanted n (seq each) phase rest = refl

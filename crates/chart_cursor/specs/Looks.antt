@@ -16,5 +16,6 @@ look_running running spot =
     record {
       from = running.from;
       role = running.role;
-      found = or_later running.found (running_node (is_wanted running.from running.role) spot.number spot.node (phase_of spot.progress));
+      found = or_later running.found
+          (running_node (is_wanted running.from running.role) spot.number spot.node (phase_of spot.progress));
     }

@@ -9,6 +9,7 @@ use Rattle.chart_cursor.specs.Spots.{Spot, phase_of}
 abbrev pub Running : Type 0
 Running = ℕ × List ℕ
 
+-- the step is of this role, where one is given
 abbrev pub has_role : Option (List ℕ) → StepPlan → Bool
 has_role None step = true
 has_role (Some role) step = same_name step.role role
@@ -25,6 +26,7 @@ running_node wanted n (par each) phase = None
 running_node wanted n (choice each) phase = None
 running_node wanted n (loop body until) phase = None
 
+-- the running step, or else the later one
 abbrev pub or_later : Option Running → Option Running → Option Running
 or_later None later = later
 or_later (Some running) later = Some running
@@ -32,7 +34,8 @@ or_later (Some running) later = Some running
 -- the first of these open nodes that is a wanted step and runs
 abbrev pub first_running : (ℕ → StepPlan → Bool) → List Spot → Option Running
 first_running wanted [] = None
-first_running wanted (spot ∷ others) = or_later (running_node wanted spot.number spot.node (phase_of spot.progress)) (first_running wanted others)
+first_running wanted (spot ∷ others) =
+    or_later (running_node wanted spot.number spot.node (phase_of spot.progress)) (first_running wanted others)
 
 -- the name alone
 abbrev pub name_of : Option Running → Option (List ℕ)

@@ -79,8 +79,10 @@ impl Cursor {
     pub fn first_ready<S: Seen>(&self, seen: &S) -> CursorNext
         ensures next { (word : List LogEntry) → StandsFor (plan self.now.chart) self.now.marks word
             → IsNext (plan self.now.chart) word (ready_after (plan self.now.chart) word (S.sights seen.now)) result }
-        ensures same { (word : List LogEntry) → StandsFor (plan self.now.chart) self.now.marks word → result ≡ next_after (plan self.now.chart) word (S.sights seen.now) }
-        ensures whole { (word : List LogEntry) → StandsFor (plan self.now.chart) self.now.marks word → IsComplete (plan self.now.chart) word → result ≡ Whole }
+        ensures same { (word : List LogEntry) → StandsFor (plan self.now.chart) self.now.marks word
+            → result ≡ next_after (plan self.now.chart) word (S.sights seen.now) }
+        ensures whole { (word : List LogEntry) → StandsFor (plan self.now.chart) self.now.marks word
+            → IsComplete (plan self.now.chart) word → result ≡ Whole }
     {
         scan(&self.chart.root, 0, &self.marks, seen)
     }
@@ -88,7 +90,8 @@ impl Cursor {
     /// The first active step whose node is at least `from`, with the node's number; None where there is no such active
     /// step. Walks the chart's nodes once, and takes no memory.
     pub fn next_active(&self, from: u32) -> Option<(u32, Name)>
-        ensures marks { result ≡ first_running (is_wanted from None) (spots (tree self.now.chart.root) 0 (marks_of self.now.marks)) }
+        ensures marks { result ≡ first_running (is_wanted from None)
+            (spots (tree self.now.chart.root) 0 (marks_of self.now.marks)) }
         ensures word { (word : List LogEntry) → StandsFor (plan self.now.chart) self.now.marks word
             → result ≡ first_placed (is_wanted from None) (active_steps (plan self.now.chart) word) }
     {
@@ -97,7 +100,8 @@ impl Cursor {
 
     /// The first active step of the role; None where there is none. Walks the chart's nodes once, and takes no memory.
     pub fn active_on(&self, role: Name) -> Option<Name>
-        ensures marks { result ≡ name_of (first_running (is_wanted 0 (Some role)) (spots (tree self.now.chart.root) 0 (marks_of self.now.marks))) }
+        ensures marks { result ≡ name_of (first_running (is_wanted 0 (Some role))
+            (spots (tree self.now.chart.root) 0 (marks_of self.now.marks))) }
         ensures word { (word : List LogEntry) → StandsFor (plan self.now.chart) self.now.marks word
             → result ≡ name_of (first_placed (is_wanted 0 (Some role)) (active_steps (plan self.now.chart) word)) }
     {

@@ -60,7 +60,9 @@ unfolding listed
 listed_again no_formulas = refl
 listed_again (more_formulas one each) = ap (more_formulas one) (listed_again each)
 
-test_again : (depth : ℕ) (role variable : List ℕ) (op : Op) (value : Compared) → may_compare op value ≡ true → is_formula_sound (test role variable op value) ≡ true → condition_within (suc depth) (written_formula (test role variable op value)) ≡ Ok (test role variable op value)
+test_again : (depth : ℕ) (role variable : List ℕ) (op : Op) (value : Compared) → may_compare op value ≡ true
+    → is_formula_sound (test role variable op value) ≡ true
+    → condition_within (suc depth) (written_formula (test role variable op value)) ≡ Ok (test role variable op value)
 unfolding condition_within condition_by_key test_form written_formula
 test_again depth role variable op value may sound =
     let named = and_parts (is_name role) (is_name variable && is_compared_sound value) sound in
@@ -70,7 +72,9 @@ test_again depth role variable op value may sound =
 mutual
   unfolding condition_within condition_by_key const_form all_form any_form not_form written_formula written_formulas listed each
 
-  within_again : (condition : Formula) (depth : ℕ) → has_parts_formed condition ≡ true → is_formula_sound condition ≡ true → nesting condition ≤ depth → condition_within depth (written_formula condition) ≡ Ok condition
+  within_again : (condition : Formula) (depth : ℕ) → has_parts_formed condition ≡ true
+      → is_formula_sound condition ≡ true → nesting condition ≤ depth
+      → condition_within depth (written_formula condition) ≡ Ok condition
   within_again (constant holds) zero formed sound deep = absurd (omega arith)
   within_again (all_of each) zero formed sound deep = absurd (omega arith)
   within_again (any_of each) zero formed sound deep = absurd (omega arith)
@@ -86,7 +90,9 @@ mutual
   within_again (not_of inner) (suc depth) formed sound deep = rw (within_again inner depth formed sound (omega arith)) refl
   within_again (test role variable op value) (suc depth) formed sound deep = test_again depth role variable op value formed sound
 
-  all_again : (conditions : Formulas) (depth place : ℕ) → have_parts_formed conditions ≡ true → are_formulas_sound conditions ≡ true → nestings conditions ≤ depth → each (condition_within depth) place (written_formulas conditions) ≡ Ok (listed conditions)
+  all_again : (conditions : Formulas) (depth place : ℕ) → have_parts_formed conditions ≡ true
+      → are_formulas_sound conditions ≡ true → nestings conditions ≤ depth
+      → each (condition_within depth) place (written_formulas conditions) ≡ Ok (listed conditions)
   all_again no_formulas depth place formed sound deep = refl
   all_again (more_formulas one others) depth place formed sound deep =
       let parts = and_parts (has_parts_formed one) (have_parts_formed others) formed in
@@ -94,7 +100,8 @@ mutual
       rw (within_again one depth parts.0 sounds.0 (omega arith), all_again others depth (suc place) parts.1 sounds.1 (omega arith)) refl
 
 -- a condition that is written is read back
-pub condition_again : (condition : Formula) → is_formula_formed condition ≡ true → is_formula_sound condition ≡ true → condition_of (written_formula condition) ≡ Ok condition
+pub condition_again : (condition : Formula) → is_formula_formed condition ≡ true → is_formula_sound condition ≡ true
+    → condition_of (written_formula condition) ≡ Ok condition
 unfolding condition_of
 condition_again condition formed sound =
     let parts = and_parts (has_parts_formed condition) (nat_le (test_count condition) 16 && nat_le (nesting condition) 8) formed in
@@ -120,7 +127,9 @@ record AreFields (step : StepPlan) : Type 0 where
   pub unlike : repeats_by same_setting step.settings ≡ false
 
 fields_again : (step : StepPlan) (finish : Option Formula) → AreFields step → is_finish_formed finish ≡ true → is_finish_sound finish ≡ true
-    → step_of (object (finish_first finish (step_keys step.name step.procedure step.role step.service (written_settings step.settings)))) ≡ Ok (record step { finish = finish })
+    → step_of (object (finish_first finish
+    (step_keys step.name step.procedure step.role step.service (written_settings step.settings))))
+    ≡ Ok (record step { finish = finish })
 unfolding step_of
 fields_again step None are formed sound =
     rw (are.named, are.role, are.service, are.procedure, len_again written_setting step.settings, are.few, each_again setting_of written_setting is_setting_sound setting_again 0 step.settings are.settings, are.unlike) refl
@@ -134,11 +143,19 @@ some_settings n few = rw few (grind (arith, nat_tests))
 step_again : (step : StepPlan) → is_step_formed step ≡ true → is_step_sound step ≡ true → step_of (written_step step) ≡ Ok step
 unfolding written_step
 step_again step formed sound =
-    let a = and_parts (nat_le 1 step.procedure) (nat_le (length step.settings) 32 && (are_distinct (map (λ setting. setting.name) step.settings) && is_finish_formed step.finish)) formed in
+    let a = and_parts (nat_le 1 step.procedure)
+    (nat_le (length step.settings) 32
+    && (are_distinct (map (λ setting. setting.name) step.settings) && is_finish_formed step.finish)) formed in
     let b = and_parts (nat_le (length step.settings) 32) (are_distinct (map (λ setting. setting.name) step.settings) && is_finish_formed step.finish) a.1 in
     let c = and_parts (are_distinct (map (λ setting. setting.name) step.settings)) (is_finish_formed step.finish) b.1 in
-    let n = and_parts (is_name step.name) (is_name step.role && (is_name step.service && (nat_le step.procedure 65535 && (list_all is_setting_sound step.settings && is_finish_sound step.finish)))) sound in
-    let r = and_parts (is_name step.role) (is_name step.service && (nat_le step.procedure 65535 && (list_all is_setting_sound step.settings && is_finish_sound step.finish))) n.1 in
+    let n = and_parts (is_name step.name)
+    (is_name step.role && (is_name step.service
+    && (nat_le step.procedure 65535
+    && (list_all is_setting_sound step.settings && is_finish_sound step.finish)))) sound in
+    let r = and_parts (is_name step.role)
+    (is_name step.service
+    && (nat_le step.procedure 65535
+    && (list_all is_setting_sound step.settings && is_finish_sound step.finish))) n.1 in
     let s = and_parts (is_name step.service) (nat_le step.procedure 65535 && (list_all is_setting_sound step.settings && is_finish_sound step.finish)) r.1 in
     let p = and_parts (nat_le step.procedure 65535) (list_all is_setting_sound step.settings && is_finish_sound step.finish) s.1 in
     let e = and_parts (list_all is_setting_sound step.settings) (is_finish_sound step.finish) p.1 in
@@ -161,7 +178,10 @@ step_is_object : (step : StepPlan) → object_here (written_step step) ≡ Ok tt
 unfolding written_step
 step_is_object step = refl
 
-has_step_by : (step : StepPlan) (finish : Option Formula) → has (codes "step") (object (finish_first finish (step_keys step.name step.procedure step.role step.service (written_settings step.settings)))) ≡ true
+has_step_by : (step : StepPlan) (finish : Option Formula)
+    → has (codes "step") (object
+    (finish_first finish (step_keys step.name step.procedure step.role step.service (written_settings step.settings))))
+    ≡ true
 has_step_by step None = refl
 has_step_by step (Some finish) = refl
 
@@ -169,7 +189,8 @@ has_step : (step : StepPlan) → has (codes "step") (written_step step) ≡ true
 unfolding written_step
 has_step step = has_step_by step step.finish
 
-leaf_again : (depth : ℕ) (step : StepPlan) → is_step_formed step ≡ true → is_step_sound step ≡ true → tree_within (suc depth) (written_tree (leaf step)) ≡ Ok (leaf step)
+leaf_again : (depth : ℕ) (step : StepPlan) → is_step_formed step ≡ true → is_step_sound step ≡ true
+    → tree_within (suc depth) (written_tree (leaf step)) ≡ Ok (leaf step)
 unfolding tree_within node_by_key step_form written_tree
 leaf_again depth step formed sound = rw (step_is_object step, has_step step, step_again step formed sound) refl
 
@@ -207,7 +228,8 @@ mutual
   unfolding tree_within node_by_key seq_form par_form sel_form loop_form arm_of written_tree written_trees written_arms nodes plans each
 
   -- a node that is written is read back, where none lies deeper than the reading goes
-  pub tree_within_again : (node : Tree) (depth : ℕ) → is_tree_formed node ≡ true → is_tree_sound node ≡ true → levels node ≤ depth → tree_within depth (written_tree node) ≡ Ok node
+  pub tree_within_again : (node : Tree) (depth : ℕ) → is_tree_formed node ≡ true → is_tree_sound node ≡ true
+      → levels node ≤ depth → tree_within depth (written_tree node) ≡ Ok node
   tree_within_again (leaf step) zero formed sound deep = absurd (omega arith)
   tree_within_again (seq each) zero formed sound deep = absurd (omega arith)
   tree_within_again (par each) zero formed sound deep = absurd (omega arith)
@@ -228,21 +250,28 @@ mutual
       let sounds = and_parts (is_tree_sound body) (is_formula_sound until) sound in
       rw (tree_within_again body depth parts.0 sounds.0 (omega arith), condition_again until parts.1 sounds.1) refl
 
-  trees_again : (trees : Trees) (depth place : ℕ) → are_trees_formed trees ≡ true → are_trees_sound trees ≡ true → all_levels trees ≤ depth → each (tree_within depth) place (written_trees trees) ≡ Ok (nodes trees)
+  trees_again : (trees : Trees) (depth place : ℕ) → are_trees_formed trees ≡ true → are_trees_sound trees ≡ true
+      → all_levels trees ≤ depth → each (tree_within depth) place (written_trees trees) ≡ Ok (nodes trees)
   trees_again no_trees depth place formed sound deep = refl
   trees_again (more_trees one others) depth place formed sound deep =
       let parts = and_parts (is_tree_formed one) (are_trees_formed others) formed in
       let sounds = and_parts (is_tree_sound one) (are_trees_sound others) sound in
       rw (tree_within_again one depth parts.0 sounds.0 (omega arith), trees_again others depth (suc place) parts.1 sounds.1 (omega arith)) refl
 
-  arms_again : (arms : Arms) (depth place : ℕ) → are_arms_formed arms ≡ true → are_arms_sound arms ≡ true → arm_levels arms ≤ depth → each (arm_of (tree_within depth)) place (written_arms arms) ≡ Ok (plans arms)
+  arms_again : (arms : Arms) (depth place : ℕ) → are_arms_formed arms ≡ true → are_arms_sound arms ≡ true
+      → arm_levels arms ≤ depth → each (arm_of (tree_within depth)) place (written_arms arms) ≡ Ok (plans arms)
   arms_again no_arms depth place formed sound deep = refl
   arms_again (more_arms when one others) depth place formed sound deep =
       let parts = and_parts (is_tree_formed one) (is_formula_formed when && are_arms_formed others) formed in
       let rest = and_parts (is_formula_formed when) (are_arms_formed others) parts.1 in
       let sounds = and_parts (is_formula_sound when) (is_tree_sound one && are_arms_sound others) sound in
       let more = and_parts (is_tree_sound one) (are_arms_sound others) sounds.1 in
-      rw (condition_again when rest.0 sounds.0, tree_within_again one depth parts.0 more.0 (omega arith), arms_again others depth (suc place) rest.1 more.1 (omega arith)) refl
+      rw (
+        condition_again when rest.0 sounds.0,
+        tree_within_again one depth parts.0 more.0
+            (omega arith),
+        arms_again others depth (suc place) rest.1 more.1 (omega arith),
+      ) refl
 
 -- a node that is written is read back, where no node lies deeper than 127
 pub tree_again : (node : Tree) → is_tree_formed node ≡ true → is_tree_sound node ≡ true → levels node ≤ 127 → tree_of (written_tree node) ≡ Ok node
@@ -268,7 +297,8 @@ role_again role written =
     let required = what_is_ok (requirement_of role.wants) typed.1 in
     rw (named.0, typed.0, parts.1, required.1) refl
 
-all_of_both : (roles : List RolePlan) → list_all is_role_sound roles ≡ true → list_all (λ role. nat_le (length role.wants) 64) roles ≡ true → list_all is_role_written roles ≡ true
+all_of_both : (roles : List RolePlan) → list_all is_role_sound roles ≡ true
+    → list_all (λ role. nat_le (length role.wants) 64) roles ≡ true → list_all is_role_written roles ≡ true
 all_of_both [] sound short = refl
 all_of_both (role ∷ roles) sound short =
     let sounds = and_parts (is_role_sound role) (list_all is_role_sound roles) sound in
@@ -287,14 +317,16 @@ roles_again roles sized sound =
 sized_told : (chart : ChartPlan) → is_chart_form chart ≡ true → are_roles_sized chart.roles ≡ true
 sized_told chart formed =
     let parts = and_parts (are_roles_formed chart) (is_tree_formed chart.root) formed in
-    let sizes = and_parts (is_between 1 64 (length chart.roles)) (are_distinct (role_names chart) && list_all (λ role. nat_le (length role.wants) 64) chart.roles) parts.0 in
+    let sizes = and_parts (is_between 1 64 (length chart.roles))
+    (are_distinct (role_names chart) && list_all (λ role. nat_le (length role.wants) 64) chart.roles) parts.0 in
     let texts = and_parts (are_distinct (role_names chart)) (list_all (λ role. nat_le (length role.wants) 64) chart.roles) sizes.1 in
     rw (sizes.0, texts.1) refl
 
 unlike_told : (chart : ChartPlan) → is_chart_form chart ≡ true → repeats_by same_role chart.roles ≡ false
 unlike_told chart formed =
     let parts = and_parts (are_roles_formed chart) (is_tree_formed chart.root) formed in
-    let sizes = and_parts (is_between 1 64 (length chart.roles)) (are_distinct (role_names chart) && list_all (λ role. nat_le (length role.wants) 64) chart.roles) parts.0 in
+    let sizes = and_parts (is_between 1 64 (length chart.roles))
+    (are_distinct (role_names chart) && list_all (λ role. nat_le (length role.wants) 64) chart.roles) parts.0 in
     let texts = and_parts (are_distinct (role_names chart)) (list_all (λ role. nat_le (length role.wants) 64) chart.roles) sizes.1 in
     not-true (repeats_by same_role chart.roles) (sym (distinct_told (λ role. role.role) chart.roles) ∙ texts.0)
 
@@ -309,11 +341,14 @@ roles_of_chart_again chart formed sound =
     roles_again chart.roles (sized_told chart formed) (and_parts (list_all is_role_sound chart.roles) (is_tree_sound chart.root) sound).0
 
 -- the written root of a chart is read back
-pub root_again : (chart : ChartPlan) → is_chart_form chart ≡ true → is_sound chart ≡ true → levels chart.root ≤ 127 → tree_of (written_tree chart.root) ≡ Ok chart.root
+pub root_again : (chart : ChartPlan) → is_chart_form chart ≡ true → is_sound chart ≡ true → levels chart.root ≤ 127
+    → tree_of (written_tree chart.root) ≡ Ok chart.root
 root_again chart formed sound deep =
-    tree_again chart.root (and_parts (are_roles_formed chart) (is_tree_formed chart.root) formed).1 (and_parts (list_all is_role_sound chart.roles) (is_tree_sound chart.root) sound).1 deep
+    tree_again chart.root (and_parts (are_roles_formed chart) (is_tree_formed chart.root) formed).1
+    (and_parts (list_all is_role_sound chart.roles) (is_tree_sound chart.root) sound).1 deep
 
 -- a chart that is written is read back
-pub chart_again : (chart : ChartPlan) → is_chart_form chart ≡ true → is_sound chart ≡ true → levels chart.root ≤ 127 → chart_of (written_roles chart.roles) (written_tree chart.root) ≡ Ok chart
+pub chart_again : (chart : ChartPlan) → is_chart_form chart ≡ true → is_sound chart ≡ true → levels chart.root ≤ 127
+    → chart_of (written_roles chart.roles) (written_tree chart.root) ≡ Ok chart
 unfolding chart_of
 chart_again chart formed sound deep = rw (roles_of_chart_again chart formed sound, root_again chart formed sound deep, chart_from_again chart formed) refl

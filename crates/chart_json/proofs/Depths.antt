@@ -67,13 +67,17 @@ setting_depth : (setting : Setting) → depth (written_setting setting) ≤ 1
 unfolding written_setting
 setting_depth setting = omega (arith, scalar_depth setting.value)
 
-finish_depth : (step : StepPlan) (finish : Option Formula) → is_finish_formed finish ≡ true → depth (object (finish_first finish (step_keys step.name step.procedure step.role step.service (written_settings step.settings)))) ≤ 17
+finish_depth : (step : StepPlan) (finish : Option Formula) → is_finish_formed finish ≡ true
+    → depth (object (finish_first finish
+    (step_keys step.name step.procedure step.role step.service (written_settings step.settings)))) ≤ 17
 finish_depth step None formed = omega (arith, items_depth_below written_setting 1 setting_depth step.settings)
 finish_depth step (Some finish) formed = omega (arith, condition_depth finish formed, items_depth_below written_setting 1 setting_depth step.settings)
 
 step_parts : (step : StepPlan) → is_step_formed step ≡ true → is_finish_formed step.finish ≡ true
 step_parts step formed =
-    let a = and_parts (nat_le 1 step.procedure) (nat_le (length step.settings) 32 && (are_distinct (map (λ setting. setting.name) step.settings) && is_finish_formed step.finish)) formed in
+    let a = and_parts (nat_le 1 step.procedure)
+    (nat_le (length step.settings) 32
+    && (are_distinct (map (λ setting. setting.name) step.settings) && is_finish_formed step.finish)) formed in
     let b = and_parts (nat_le (length step.settings) 32) (are_distinct (map (λ setting. setting.name) step.settings) && is_finish_formed step.finish) a.1 in
     (and_parts (are_distinct (map (λ setting. setting.name) step.settings)) (is_finish_formed step.finish) b.1).1
 

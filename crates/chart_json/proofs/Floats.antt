@@ -52,7 +52,9 @@ setting_whole : (setting : Setting) → has_float (written_setting setting) ≡ 
 unfolding written_setting
 setting_whole setting = rw (scalar_whole setting.value) refl
 
-finish_whole : (step : StepPlan) (finish : Option Formula) → has_float (object (finish_first finish (step_keys step.name step.procedure step.role step.service (written_settings step.settings)))) ≡ false
+finish_whole : (step : StepPlan) (finish : Option Formula)
+    → has_float (object (finish_first finish
+    (step_keys step.name step.procedure step.role step.service (written_settings step.settings)))) ≡ false
 finish_whole step None = rw (items_whole written_setting setting_whole step.settings) refl
 finish_whole step (Some finish) = rw (formula_whole finish, items_whole written_setting setting_whole step.settings) refl
 

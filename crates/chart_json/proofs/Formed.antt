@@ -53,27 +53,35 @@ const_parts value = search any_before
 all_parts : (inner : Data → Reading Formula) → ((value : Data) → IfOk (inner value) HasParts) → (value : Data) → IfOk (all_form inner value) HasParts
 unfolding all_form
 all_parts inner told value =
-    told_before (IsListOf (is_between 1 16) has_parts_formed) HasParts (list (codes "all") 1 16 inner value) (λ each. nothing_but (codes "all") value >>= λ _. Ok (all_of (formulas_of each)))
+    told_before (IsListOf (is_between 1 16) has_parts_formed) HasParts (list (codes "all") 1 16 inner value)
+    (λ each. nothing_but (codes "all") value >>= λ _. Ok (all_of (formulas_of each)))
     (told_list (is_between 1 16) has_parts_formed (codes "all") (items_in 1 16) inner (told_items 1 16) told value)
-    (λ each are. any_before HasParts (nothing_but (codes "all") value) (λ _. Ok (all_of (formulas_of each))) (λ _. rw (count_formulas each, are.0, parts_of_all each, are.1) refl))
+    (λ each are. any_before HasParts (nothing_but (codes "all") value) (λ _. Ok (all_of (formulas_of each)))
+    (λ _. rw (count_formulas each, are.0, parts_of_all each, are.1) refl))
 
 any_parts : (inner : Data → Reading Formula) → ((value : Data) → IfOk (inner value) HasParts) → (value : Data) → IfOk (any_form inner value) HasParts
 unfolding any_form
 any_parts inner told value =
-    told_before (IsListOf (is_between 1 16) has_parts_formed) HasParts (list (codes "any") 1 16 inner value) (λ each. nothing_but (codes "any") value >>= λ _. Ok (any_of (formulas_of each)))
+    told_before (IsListOf (is_between 1 16) has_parts_formed) HasParts (list (codes "any") 1 16 inner value)
+    (λ each. nothing_but (codes "any") value >>= λ _. Ok (any_of (formulas_of each)))
     (told_list (is_between 1 16) has_parts_formed (codes "any") (items_in 1 16) inner (told_items 1 16) told value)
-    (λ each are. any_before HasParts (nothing_but (codes "any") value) (λ _. Ok (any_of (formulas_of each))) (λ _. rw (count_formulas each, are.0, parts_of_all each, are.1) refl))
+    (λ each are. any_before HasParts (nothing_but (codes "any") value) (λ _. Ok (any_of (formulas_of each)))
+    (λ _. rw (count_formulas each, are.0, parts_of_all each, are.1) refl))
 
 not_parts : (inner : Data → Reading Formula) → ((value : Data) → IfOk (inner value) HasParts) → (value : Data) → IfOk (not_form inner value) HasParts
 unfolding not_form
 not_parts inner told value =
-    told_before HasParts HasParts (inside (codes "not") inner value) (λ condition. nothing_but (codes "not") value >>= λ _. Ok (not_of condition)) (told_inside HasParts (codes "not") inner told value)
+    told_before HasParts HasParts (inside (codes "not") inner value)
+    (λ condition. nothing_but (codes "not") value >>= λ _. Ok (not_of condition))
+    (told_inside HasParts (codes "not") inner told value)
     (λ condition formed. any_before HasParts (nothing_but (codes "not") value) (λ _. Ok (not_of condition)) (λ _. formed))
 
 -- a test that was asked may compare
-tested : (variable role : List ℕ) (op : Op) (against : Compared) → IfOk (refused_if (not (may_compare op against)) Unsound >>= λ _. Ok (test variable role op against)) HasParts
+tested : (variable role : List ℕ) (op : Op) (against : Compared)
+    → IfOk (refused_if (not (may_compare op against)) Unsound >>= λ _. Ok (test variable role op against)) HasParts
 tested variable role op against =
-    told_before (λ _. not (may_compare op against) ≡ false) HasParts (refused_if (not (may_compare op against)) Unsound) (λ _. Ok (test variable role op against)) (kept (not (may_compare op against)) Unsound)
+    told_before (λ _. not (may_compare op against) ≡ false) HasParts (refused_if (not (may_compare op against)) Unsound)
+    (λ _. Ok (test variable role op against)) (kept (not (may_compare op against)) Unsound)
     (λ _ may. not_false (may_compare op against) may)
 
 test_parts : (value : Data) → IfOk (test_form value) HasParts
@@ -98,9 +106,12 @@ IsFormed condition = is_formula_formed condition ≡ true
 pub condition_formed : (value : Data) → IfOk (condition_of value) IsFormed
 unfolding condition_of
 condition_formed value =
-    told_before HasParts IsFormed (condition_within max_depth value) (λ condition. refused_if (not (is_small condition)) OutOfRange >>= λ _. Ok condition) (within_parts max_depth value)
+    told_before HasParts IsFormed (condition_within max_depth value)
+    (λ condition. refused_if (not (is_small condition)) OutOfRange >>= λ _. Ok condition)
+    (within_parts max_depth value)
     (λ condition formed.
-    told_before (λ _. not (is_small condition) ≡ false) IsFormed (refused_if (not (is_small condition)) OutOfRange) (λ _. Ok condition) (kept (not (is_small condition)) OutOfRange)
+    told_before (λ _. not (is_small condition) ≡ false) IsFormed (refused_if (not (is_small condition)) OutOfRange)
+    (λ _. Ok condition) (kept (not (is_small condition)) OutOfRange)
     (λ _ small. rw (formed, not_false (is_small condition) small) refl))
 
 -- ---- steps
@@ -123,7 +134,12 @@ neither false b = refl
 pub distinct_told : {A : Type 0} (key : A → List ℕ) (xs : List A) → are_distinct (map key xs) ≡ not (repeats_by (λ x other. bytes_eq (key x) (key other)) xs)
 distinct_told key [] = refl
 distinct_told key (x ∷ xs) =
-    rw (among_told key x xs, distinct_told key xs, neither (list_any (λ other. bytes_eq (key x) (key other)) xs) (repeats_by (λ x other. bytes_eq (key x) (key other)) xs)) refl
+    rw (
+      among_told key x xs,
+      distinct_told key xs,
+      neither (list_any (λ other. bytes_eq (key x) (key other)) xs)
+          (repeats_by (λ x other. bytes_eq (key x) (key other)) xs),
+    ) refl
 
 from_one : (n : ℕ) → is_between 1 65535 n ≡ true → nat_le 1 n ≡ true
 from_one n is_within = (and_parts (nat_le 1 n) (nat_le n 65535) is_within).0
@@ -139,15 +155,25 @@ ruled_step named role service procedure settings finish value =
     under (codes "settings") (refused_if (repeats_by same_setting settings) Repeated) >>= λ _.
     Ok (record { name = named; role = role; service = service; procedure = procedure; settings = settings; finish = finish })
 
-ruled : (named role service : List ℕ) (procedure : ℕ) (settings : List Setting) (finish : Option Formula) (value : Data) → nat_le 1 procedure ≡ true → nat_le (length settings) 32 ≡ true → is_finish_formed finish ≡ true
+ruled : (named role service : List ℕ) (procedure : ℕ) (settings : List Setting) (finish : Option Formula) (value : Data)
+    → nat_le 1 procedure ≡ true → nat_le (length settings) 32 ≡ true → is_finish_formed finish ≡ true
     → IfOk (ruled_step named role service procedure settings finish value) IsStep
 ruled named role service procedure settings finish value numbered few formed =
     any_before IsStep (nothing_but (codes "step role service procedure settings finish") value)
-    (λ _. under (codes "settings") (refused_if (repeats_by same_setting settings) Repeated) >>= λ _. Ok (record { name = named; role = role; service = service; procedure = procedure; settings = settings; finish = finish }))
+    (λ _. under (codes "settings") (refused_if (repeats_by same_setting settings) Repeated)
+    >>= λ _. Ok (record {
+      name = named;
+      role = role;
+      service = service;
+      procedure = procedure;
+      settings = settings;
+      finish = finish;
+    }))
     (λ _.
     told_before (λ _. repeats_by same_setting settings ≡ false) IsStep (under (codes "settings") (refused_if (repeats_by same_setting settings) Repeated))
     (λ _. Ok (record { name = named; role = role; service = service; procedure = procedure; settings = settings; finish = finish }))
-    (told_at (λ _. repeats_by same_setting settings ≡ false) (Key (codes "settings")) (refused_if (repeats_by same_setting settings) Repeated) (kept (repeats_by same_setting settings) Repeated))
+    (told_at (λ _. repeats_by same_setting settings ≡ false) (Key (codes "settings"))
+    (refused_if (repeats_by same_setting settings) Repeated) (kept (repeats_by same_setting settings) Repeated))
     (λ _ unlike. rw (numbered, few, distinct_told (λ setting. setting.name) settings, unlike, formed) refl))
 
 -- the fields from the procedure on
@@ -158,16 +184,21 @@ rest_of_step : (named role service : List ℕ) (value : Data)
     ruled_step named role service procedure settings finish value) IsStep
 rest_of_step named role service value =
     told_before (λ procedure. is_between 1 65535 procedure ≡ true) IsStep (need (codes "procedure") (count 1 65535) value)
-    (λ procedure. list_or_none (codes "settings") 0 32 setting_of value >>= λ settings. inside_if_there (codes "finish") condition_of value >>= λ finish. ruled_step named role service procedure settings finish value)
+    (λ procedure. list_or_none (codes "settings") 0 32 setting_of value
+    >>= λ settings. inside_if_there (codes "finish") condition_of value
+    >>= λ finish. ruled_step named role service procedure settings finish value)
     (told_need (λ procedure. is_between 1 65535 procedure ≡ true) (codes "procedure") (count 1 65535) (told_count 1 65535) value)
     (λ procedure numbered.
     told_before (IsListOf (is_between 0 32) (λ _. true)) IsStep (list_or_none (codes "settings") 0 32 setting_of value)
     (λ settings. inside_if_there (codes "finish") condition_of value >>= λ finish. ruled_step named role service procedure settings finish value)
-    (told_list_or_none (is_between 0 32) (λ _. true) (codes "settings") (items_in 0 32) setting_of refl (told_items 0 32) (λ value. any_value (setting_of value)) value)
+    (told_list_or_none (is_between 0 32) (λ _. true) (codes "settings") (items_in 0 32) setting_of refl
+    (told_items 0 32) (λ value. any_value (setting_of value)) value)
     (λ settings few.
-    told_before (λ finish. is_finish_formed finish ≡ true) IsStep (inside_if_there (codes "finish") condition_of value) (λ finish. ruled_step named role service procedure settings finish value)
+    told_before (λ finish. is_finish_formed finish ≡ true) IsStep (inside_if_there (codes "finish") condition_of value)
+    (λ finish. ruled_step named role service procedure settings finish value)
     (told_inside_if_there (λ finish. is_finish_formed finish ≡ true) (codes "finish") condition_of refl condition_formed value)
-    (λ finish formed. ruled named role service procedure settings finish value (from_one procedure numbered) (and_parts (nat_le 0 (length settings)) (nat_le (length settings) 32) few.0).1 formed)))
+    (λ finish formed. ruled named role service procedure settings finish value (from_one procedure numbered)
+    (and_parts (nat_le 0 (length settings)) (nat_le (length settings) 32) few.0).1 formed)))
 
 step_formed : (value : Data) → IfOk (step_of value) IsStep
 unfolding step_of
@@ -206,16 +237,20 @@ leaf_formed value = told_before IsStep IsNode (step_of value) (λ step. Ok (leaf
 seq_formed : (inner : Data → Reading Tree) → ((value : Data) → IfOk (inner value) IsNode) → (value : Data) → IfOk (seq_form inner value) IsNode
 unfolding seq_form
 seq_formed inner told value =
-    told_before (IsListOf (nat_le 1) is_tree_formed) IsNode (list_from (codes "seq") 1 inner value) (λ nodes. nothing_but (codes "seq") value >>= λ _. Ok (seq (trees_of nodes)))
+    told_before (IsListOf (nat_le 1) is_tree_formed) IsNode (list_from (codes "seq") 1 inner value)
+    (λ nodes. nothing_but (codes "seq") value >>= λ _. Ok (seq (trees_of nodes)))
     (told_list (nat_le 1) is_tree_formed (codes "seq") (items_from 1) inner (told_items_from 1) told value)
-    (λ nodes are. any_before IsNode (nothing_but (codes "seq") value) (λ _. Ok (seq (trees_of nodes))) (λ _. rw (count_trees nodes, are.0, trees_all nodes, are.1) refl))
+    (λ nodes are. any_before IsNode (nothing_but (codes "seq") value) (λ _. Ok (seq (trees_of nodes)))
+    (λ _. rw (count_trees nodes, are.0, trees_all nodes, are.1) refl))
 
 par_formed : (inner : Data → Reading Tree) → ((value : Data) → IfOk (inner value) IsNode) → (value : Data) → IfOk (par_form inner value) IsNode
 unfolding par_form
 par_formed inner told value =
-    told_before (IsListOf (nat_le 2) is_tree_formed) IsNode (list_from (codes "par") 2 inner value) (λ nodes. nothing_but (codes "par") value >>= λ _. Ok (par (trees_of nodes)))
+    told_before (IsListOf (nat_le 2) is_tree_formed) IsNode (list_from (codes "par") 2 inner value)
+    (λ nodes. nothing_but (codes "par") value >>= λ _. Ok (par (trees_of nodes)))
     (told_list (nat_le 2) is_tree_formed (codes "par") (items_from 2) inner (told_items_from 2) told value)
-    (λ nodes are. any_before IsNode (nothing_but (codes "par") value) (λ _. Ok (par (trees_of nodes))) (λ _. rw (count_trees nodes, are.0, trees_all nodes, are.1) refl))
+    (λ nodes are. any_before IsNode (nothing_but (codes "par") value) (λ _. Ok (par (trees_of nodes)))
+    (λ _. rw (count_trees nodes, are.0, trees_all nodes, are.1) refl))
 
 -- the arm is formed
 abbrev IsArm : ArmPlan → Type 0
@@ -225,33 +260,46 @@ arm_formed : (inner : Data → Reading Tree) → ((value : Data) → IfOk (inner
 unfolding arm_of
 arm_formed inner told value =
     any_before IsArm (object_here value)
-    (λ _. inside (codes "when") condition_of value >>= λ when. inside (codes "then") inner value >>= λ body. nothing_but (codes "when then") value >>= λ _. Ok (record { when = when; body = body }))
+    (λ _. inside (codes "when") condition_of value >>= λ when. inside (codes "then") inner value
+    >>= λ body. nothing_but (codes "when then") value >>= λ _. Ok (record { when = when; body = body }))
     (λ _.
-    told_before IsFormed IsArm (inside (codes "when") condition_of value) (λ when. inside (codes "then") inner value >>= λ body. nothing_but (codes "when then") value >>= λ _. Ok (record { when = when; body = body }))
+    told_before IsFormed IsArm (inside (codes "when") condition_of value)
+    (λ when. inside (codes "then") inner value >>= λ body. nothing_but (codes "when then") value
+    >>= λ _. Ok (record { when = when; body = body }))
     (told_inside IsFormed (codes "when") condition_of condition_formed value)
     (λ when when_formed.
-    told_before IsNode IsArm (inside (codes "then") inner value) (λ body. nothing_but (codes "when then") value >>= λ _. Ok (record { when = when; body = body })) (told_inside IsNode (codes "then") inner told value)
-    (λ body body_formed. any_before IsArm (nothing_but (codes "when then") value) (λ _. Ok (record { when = when; body = body })) (λ _. rw (body_formed, when_formed) refl))))
+    told_before IsNode IsArm (inside (codes "then") inner value)
+    (λ body. nothing_but (codes "when then") value >>= λ _. Ok (record { when = when; body = body }))
+    (told_inside IsNode (codes "then") inner told value)
+    (λ body body_formed. any_before IsArm (nothing_but (codes "when then") value)
+    (λ _. Ok (record { when = when; body = body })) (λ _. rw (body_formed, when_formed) refl))))
 
 sel_formed : (inner : Data → Reading Tree) → ((value : Data) → IfOk (inner value) IsNode) → (value : Data) → IfOk (sel_form inner value) IsNode
 unfolding sel_form
 sel_formed inner told value =
-    told_before (IsListOf (is_between 1 16) is_arm_formed) IsNode (list (codes "sel") 1 16 (arm_of inner) value) (λ arms. nothing_but (codes "sel") value >>= λ _. Ok (choice (arms_of arms)))
+    told_before (IsListOf (is_between 1 16) is_arm_formed) IsNode (list (codes "sel") 1 16 (arm_of inner) value)
+    (λ arms. nothing_but (codes "sel") value >>= λ _. Ok (choice (arms_of arms)))
     (told_list (is_between 1 16) is_arm_formed (codes "sel") (items_in 1 16) (arm_of inner) (told_items 1 16) (arm_formed inner told) value)
-    (λ arms are. any_before IsNode (nothing_but (codes "sel") value) (λ _. Ok (choice (arms_of arms))) (λ _. rw (count_arms arms, are.0, arms_all arms, are.1) refl))
+    (λ arms are. any_before IsNode (nothing_but (codes "sel") value) (λ _. Ok (choice (arms_of arms)))
+    (λ _. rw (count_arms arms, are.0, arms_all arms, are.1) refl))
 
 loop_formed : (inner : Data → Reading Tree) → ((value : Data) → IfOk (inner value) IsNode) → (value : Data) → IfOk (loop_form inner value) IsNode
 unfolding loop_form
 loop_formed inner told value =
-    told_before IsNode IsNode (inside (codes "loop") inner value) (λ body. inside (codes "until") condition_of value >>= λ until. nothing_but (codes "loop until") value >>= λ _. Ok (loop body until))
+    told_before IsNode IsNode (inside (codes "loop") inner value)
+    (λ body. inside (codes "until") condition_of value >>= λ until. nothing_but (codes "loop until") value
+    >>= λ _. Ok (loop body until))
     (told_inside IsNode (codes "loop") inner told value)
     (λ body body_formed.
-    told_before IsFormed IsNode (inside (codes "until") condition_of value) (λ until. nothing_but (codes "loop until") value >>= λ _. Ok (loop body until)) (told_inside IsFormed (codes "until") condition_of condition_formed value)
+    told_before IsFormed IsNode (inside (codes "until") condition_of value)
+    (λ until. nothing_but (codes "loop until") value >>= λ _. Ok (loop body until))
+    (told_inside IsFormed (codes "until") condition_of condition_formed value)
     (λ until until_formed. any_before IsNode (nothing_but (codes "loop until") value) (λ _. Ok (loop body until)) (λ _. rw (body_formed, until_formed) refl)))
 
 node_by_key_formed : (inner : Data → Reading Tree) → ((value : Data) → IfOk (inner value) IsNode) → (value : Data) → IfOk (node_by_key inner value) IsNode
 unfolding node_by_key
-node_by_key_formed inner told value = search (either, leaf_formed value, seq_formed inner told value, par_formed inner told value, sel_formed inner told value, loop_formed inner told value) depth 12
+node_by_key_formed inner told value =
+    search (either, leaf_formed value, seq_formed inner told value, par_formed inner told value, sel_formed inner told value, loop_formed inner told value) depth 12
 
 within_formed : (depth : ℕ) (value : Data) → IfOk (tree_within depth value) IsNode
 unfolding tree_within
@@ -280,7 +328,9 @@ wants_short : (role type_name : List ℕ) (value : Data)
     Ok (record { role = role; type_name = type_name; wants = wants })) IsShort
 wants_short role type_name value =
     told_before (λ wants. nat_le (length wants) 64 ≡ true) IsShort (need (codes "version") (text_to 64) value)
-    (λ wants. under (codes "version") (here (requirement_of wants)) >>= λ _. nothing_but (codes "role type version") value >>= λ _. Ok (record { role = role; type_name = type_name; wants = wants }))
+    (λ wants. under (codes "version") (here (requirement_of wants))
+    >>= λ _. nothing_but (codes "role type version") value
+    >>= λ _. Ok (record { role = role; type_name = type_name; wants = wants }))
     (told_need (λ wants. nat_le (length wants) 64 ≡ true) (codes "version") (text_to 64) (told_text 64) value)
     (λ wants short. search (any_before, short))
 
@@ -295,10 +345,13 @@ roles_sized value =
     told_before (HasSize (is_between 1 64)) (λ roles. are_roles_sized roles ≡ true) (here (items_in 1 64 value)) (λ values. each role_of 0 values)
     (told_here (HasSize (is_between 1 64)) (items_in 1 64 value) (told_items 1 64 value))
     (λ values sized.
-    IfOk-weaker (each role_of 0 values) (IsListOf (is_between 1 64) is_role_short) (λ roles. are_roles_sized roles ≡ true) (λ roles are. rw (are.0, are.1) refl) (told_all (is_between 1 64) is_role_short role_of role_short values sized))
+    IfOk-weaker (each role_of 0 values) (IsListOf (is_between 1 64) is_role_short)
+    (λ roles. are_roles_sized roles ≡ true) (λ roles are. rw (are.0, are.1) refl)
+    (told_all (is_between 1 64) is_role_short role_of role_short values sized))
 
 -- sized roles of which none is named twice, and a formed node, are a chart's form
-pub chart_formed : (roles : List RolePlan) (root : Tree) → are_roles_sized roles ≡ true → is_tree_formed root ≡ true → repeats_by same_role roles ≡ false → is_chart_form (record { roles = roles; root = root }) ≡ true
+pub chart_formed : (roles : List RolePlan) (root : Tree) → are_roles_sized roles ≡ true → is_tree_formed root ≡ true
+    → repeats_by same_role roles ≡ false → is_chart_form (record { roles = roles; root = root }) ≡ true
 chart_formed roles root sized formed unlike =
     let parts = and_parts (is_between 1 64 (length roles)) (list_all is_role_short roles) sized in
     rw (parts.0, distinct_told (λ role. role.role) roles, unlike, parts.1, formed) refl

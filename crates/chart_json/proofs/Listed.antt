@@ -16,13 +16,17 @@ use Rattle.chart_core.specs.declared.node.Node.{Node}
 use Rattle.chart_core.proofs.Items.{arm_laid}
 use Rattle.chart_json.specs.Written.{written_arm, written_arms, written_formula, written_formulas, written_role, written_roles, written_tree, written_trees}
 
-formulas_items : (conditions : List Condition) → items_of (map (λ condition. written_formula (formula condition)) conditions) ≡ written_formulas (formulas conditions)
+formulas_items : (conditions : List Condition)
+    → items_of (map (λ condition. written_formula (formula condition)) conditions)
+    ≡ written_formulas (formulas conditions)
 unfolding written_formulas
 formulas_items [] = refl
 formulas_items (condition ∷ conditions) = ap (item (written_formula (formula condition))) (formulas_items conditions)
 
 -- a list of the written forms of these conditions
-pub conditions_written : (list : Vec Value Global) (conditions : List Condition) → map view list.items ≡ map (λ condition. written_formula (formula condition)) conditions → view (Array list) ≡ array (written_formulas (formulas conditions))
+pub conditions_written : (list : Vec Value Global) (conditions : List Condition)
+    → map view list.items ≡ map (λ condition. written_formula (formula condition)) conditions
+    → view (Array list) ≡ array (written_formulas (formulas conditions))
 conditions_written list conditions each_is = view-Array list ∙ ap (λ values. array (items_of values)) each_is ∙ ap array (formulas_items conditions)
 
 trees_items : (nodes : List Node) → items_of (map (λ node. written_tree (tree node)) nodes) ≡ written_trees (trees nodes)
@@ -31,19 +35,29 @@ trees_items [] = refl
 trees_items (node ∷ nodes) = ap (item (written_tree (tree node))) (trees_items nodes)
 
 -- a list of the written forms of these nodes
-pub nodes_written : (list : Vec Value Global) (nodes : List Node) → map view list.items ≡ map (λ node. written_tree (tree node)) nodes → view (Array list) ≡ array (written_trees (trees nodes))
+pub nodes_written : (list : Vec Value Global) (nodes : List Node)
+    → map view list.items ≡ map (λ node. written_tree (tree node)) nodes
+    → view (Array list) ≡ array (written_trees (trees nodes))
 nodes_written list nodes each_is = view-Array list ∙ ap (λ values. array (items_of values)) each_is ∙ ap array (trees_items nodes)
 
-arms_items : (each : List Arm) → items_of (map (λ arm. written_arm (written_formula (formula arm.when)) (written_tree (tree arm.body))) each) ≡ written_arms (arms each)
+arms_items : (each : List Arm)
+    → items_of (map (λ arm. written_arm (written_formula (formula arm.when)) (written_tree (tree arm.body))) each)
+    ≡ written_arms (arms each)
 unfolding written_arms
 arms_items [] = refl
 arms_items (arm ∷ each) = rw arm_laid (ap (item (written_arm (written_formula (formula arm.when)) (written_tree (tree arm.body)))) (arms_items each))
 
 -- a list of the written forms of these arms
-pub arms_written : (list : Vec Value Global) (each : List Arm) → map view list.items ≡ map (λ arm. written_arm (written_formula (formula arm.when)) (written_tree (tree arm.body))) each → view (Array list) ≡ array (written_arms (arms each))
+pub arms_written : (list : Vec Value Global) (each : List Arm)
+    → map view list.items
+    ≡ map (λ arm. written_arm (written_formula (formula arm.when)) (written_tree (tree arm.body))) each
+    → view (Array list) ≡ array (written_arms (arms each))
 arms_written list each each_is = view-Array list ∙ ap (λ values. array (items_of values)) each_is ∙ ap array (arms_items each)
 
 -- a list of the written forms of these roles
-pub roles_written : (list : Vec Value Global) (roles : List Role) → map view list.items ≡ map (λ role. written_role (role_plan role)) roles → view (Array list) ≡ written_roles (map role_plan roles)
+pub roles_written : (list : Vec Value Global) (roles : List Role)
+    → map view list.items ≡ map (λ role. written_role (role_plan role)) roles
+    → view (Array list) ≡ written_roles (map role_plan roles)
 unfolding written_roles
-roles_written list roles each_is = view-Array list ∙ ap (λ values. array (items_of values)) each_is ∙ ap (λ values. array (items_of values)) (sym (map_map written_role role_plan roles))
+roles_written list roles each_is = view-Array list ∙ ap (λ values. array (items_of values)) each_is
+    ∙ ap (λ values. array (items_of values)) (sym (map_map written_role role_plan roles))

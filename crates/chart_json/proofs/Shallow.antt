@@ -23,9 +23,12 @@ depth_told : (depth : ℕ) → nat_lt 16 depth ≡ false → depth ≤ 16
 depth_told depth test = grind (arith, nat_tests)
 
 -- a node with no fault lies at most 16 deep
-node_shallow : (chart : ChartPlan) (node : Visit) (rest : Option ChartFault) → option_or (when (nat_lt 16 node.depth) (TooDeep node.number)) rest ≡ None → node.depth ≤ 16
+node_shallow : (chart : ChartPlan) (node : Visit) (rest : Option ChartFault)
+    → option_or (when (nat_lt 16 node.depth) (TooDeep node.number)) rest ≡ None → node.depth ≤ 16
 node_shallow chart node rest none =
-    depth_told node.depth (not_there (nat_lt 16 node.depth) (TooDeep node.number) (neither_faulty (when (nat_lt 16 node.depth) (TooDeep node.number)) rest none).0)
+    depth_told node.depth
+    (not_there (nat_lt 16 node.depth) (TooDeep node.number)
+    (neither_faulty (when (nat_lt 16 node.depth) (TooDeep node.number)) rest none).0)
 
 both_clear : (chart : ChartPlan) (xs ys : List Visit) → first_fault chart (xs ++ ys) ≡ None → (first_fault chart xs ≡ None) × (first_fault chart ys ≡ None)
 both_clear chart [] ys none = (refl, none)
@@ -37,7 +40,8 @@ both_clear chart (x ∷ xs) ys none =
 mutual
   shallow : (chart : ChartPlan) (t : Tree) (n d k : ℕ) → first_fault chart (visits t n d k) ≡ None → levels t + d ≤ 17
   shallow chart (leaf step) n d k none =
-      let here : d ≤ 16 = node_shallow chart (visit (leaf step) n d k) _ (neither_faulty (node_fault chart (visit (leaf step) n d k)) None none).0 in omega arith
+      let here : d ≤ 16 = node_shallow chart (visit (leaf step) n d k) _
+      (neither_faulty (node_fault chart (visit (leaf step) n d k)) None none).0 in omega arith
   shallow chart (seq each) n d k none =
       let parts = neither_faulty (node_fault chart (visit (seq each) n d k)) (first_fault chart (all_visits each (n + 1) (d + 1) k)) none in
       let here : d ≤ 16 = node_shallow chart (visit (seq each) n d k) _ parts.0 in

@@ -24,7 +24,8 @@ any_before P (Ok x) next has = has x
 any_before P (Err fault) next has = tt
 
 -- what is known of what is read before serves for what is read next
-pub told_before : {A B : Type 0} (Q : A → Type 0) (P : B → Type 0) (read : Reading A) (next : A → Reading B) → IfOk read Q → ((x : A) → Q x → IfOk (next x) P) → IfOk (read >>= next) P
+pub told_before : {A B : Type 0} (Q : A → Type 0) (P : B → Type 0) (read : Reading A) (next : A → Reading B)
+    → IfOk read Q → ((x : A) → Q x → IfOk (next x) P) → IfOk (read >>= next) P
 told_before Q P (Ok x) next told has = has x told
 told_before Q P (Err fault) next told has = tt
 
@@ -57,26 +58,31 @@ pub kept : (broken : Bool) (kind : FaultKind) → IfOk (refused_if broken kind) 
 kept true kind = tt
 kept false kind = refl
 
-told_present : {A : Type 0} (P : A → Type 0) (form : Data → Finding A) → ((value : Data) → IfOk (form value) P) → (found : Option Data) → IfOk (present form found) P
+told_present : {A : Type 0} (P : A → Type 0) (form : Data → Finding A) → ((value : Data) → IfOk (form value) P)
+    → (found : Option Data) → IfOk (present form found) P
 told_present P form told None = tt
 told_present P form told (Some value) = told value
 
 -- the value at a key that must be there
-pub told_need : {A : Type 0} (P : A → Type 0) (key : List ℕ) (form : Data → Finding A) → ((value : Data) → IfOk (form value) P) → (value : Data) → IfOk (need key form value) P
+pub told_need : {A : Type 0} (P : A → Type 0) (key : List ℕ) (form : Data → Finding A)
+    → ((value : Data) → IfOk (form value) P) → (value : Data) → IfOk (need key form value) P
 told_need P key form told value =
     told_at P (Key key) (here (present form (get key value))) (told_here P (present form (get key value)) (told_present P form told (get key value)))
 
 -- the value at a key that must be there, by a form of its own
-pub told_inside : {A : Type 0} (P : A → Type 0) (key : List ℕ) (form : Data → Reading A) → ((value : Data) → IfOk (form value) P) → (value : Data) → IfOk (inside key form value) P
+pub told_inside : {A : Type 0} (P : A → Type 0) (key : List ℕ) (form : Data → Reading A)
+    → ((value : Data) → IfOk (form value) P) → (value : Data) → IfOk (inside key form value) P
 told_inside P key form told value =
     any_before P (need key anything value) (λ inner. under key (form inner)) (λ inner. told_at P (Key key) (form inner) (told inner))
 
-told_by_form : {A : Type 0} (P : Option A → Type 0) (form : Data → Reading A) → P None → ((value : Data) → IfOk (form value) (λ x. P (Some x))) → (found : Option Data) → IfOk (by_form form found) P
+told_by_form : {A : Type 0} (P : Option A → Type 0) (form : Data → Reading A) → P None
+    → ((value : Data) → IfOk (form value) (λ x. P (Some x))) → (found : Option Data) → IfOk (by_form form found) P
 told_by_form P form absent told None = absent
 told_by_form P form absent told (Some value) = told_before (λ x. P (Some x)) P (form value) (λ x. Ok (Some x)) (told value) (λ x has. has)
 
 -- the same where the key may be absent
-pub told_inside_if_there : {A : Type 0} (P : Option A → Type 0) (key : List ℕ) (form : Data → Reading A) → P None → ((value : Data) → IfOk (form value) (λ x. P (Some x))) → (value : Data) → IfOk (inside_if_there key form value) P
+pub told_inside_if_there : {A : Type 0} (P : Option A → Type 0) (key : List ℕ) (form : Data → Reading A) → P None
+    → ((value : Data) → IfOk (form value) (λ x. P (Some x))) → (value : Data) → IfOk (inside_if_there key form value) P
 told_inside_if_there P key form absent told value = told_at P (Key key) (by_form form (get key value)) (told_by_form P form absent told (get key value))
 
 -- a number from low to high
@@ -120,14 +126,18 @@ told_items_from low value = told_sized_from low (as_array value)
 abbrev AreRead : {A : Type 0} → (A → Bool) → Items → List A → Type 0
 AreRead test values found = (length found ≡ items_len values) × (list_all test found ≡ true)
 
-told_each : {A : Type 0} (test : A → Bool) (form : Data → Reading A) → ((value : Data) → IfOk (form value) (λ x. test x ≡ true)) → (place : ℕ) (values : Items) → IfOk (each form place values) (AreRead test values)
+told_each : {A : Type 0} (test : A → Bool) (form : Data → Reading A)
+    → ((value : Data) → IfOk (form value) (λ x. test x ≡ true)) → (place : ℕ) (values : Items)
+    → IfOk (each form place values) (AreRead test values)
 unfolding each
 told_each test form told place no_items = (refl, refl)
 told_each test form told place (item value rest) =
-    told_before (λ x. test x ≡ true) (AreRead test (item value rest)) (in_place place (form value)) (λ first. each form (suc place) rest >>= λ others. Ok (first ∷ others))
+    told_before (λ x. test x ≡ true) (AreRead test (item value rest)) (in_place place (form value))
+    (λ first. each form (suc place) rest >>= λ others. Ok (first ∷ others))
     (told_at (λ x. test x ≡ true) (Place place) (form value) (told value))
     (λ first passes.
-    told_before (AreRead test rest) (AreRead test (item value rest)) (each form (suc place) rest) (λ others. Ok (first ∷ others)) (told_each test form told (suc place) rest)
+    told_before (AreRead test rest) (AreRead test (item value rest)) (each form (suc place) rest)
+    (λ others. Ok (first ∷ others)) (told_each test form told (suc place) rest)
     (λ others are. (ap suc are.0, rw (passes, are.1) refl)))
 
 -- the list has such a size, and each item passes the test
@@ -135,13 +145,17 @@ abbrev pub IsListOf : {A : Type 0} → (ℕ → Bool) → (A → Bool) → List 
 IsListOf size test found = (size (length found) ≡ true) × (list_all test found ≡ true)
 
 -- items that were read one by one from a list of such a size
-pub told_all : {A : Type 0} (size : ℕ → Bool) (test : A → Bool) (form : Data → Reading A) → ((value : Data) → IfOk (form value) (λ x. test x ≡ true)) → (values : Items) → HasSize size values → IfOk (each form 0 values) (IsListOf size test)
+pub told_all : {A : Type 0} (size : ℕ → Bool) (test : A → Bool) (form : Data → Reading A)
+    → ((value : Data) → IfOk (form value) (λ x. test x ≡ true)) → (values : Items) → HasSize size values
+    → IfOk (each form 0 values) (IsListOf size test)
 told_all size test form told values sized =
     IfOk-weaker (each form 0 values) (AreRead test values) (IsListOf size test) (λ found are. (rw are.0 sized, are.1)) (told_each test form told 0 values)
 
 -- the same at a key
-pub told_list : {A : Type 0} (size : ℕ → Bool) (test : A → Bool) (key : List ℕ) (leaf : Data → Finding Items) (form : Data → Reading A) → ((value : Data) → IfOk (leaf value) (HasSize size))
-    → ((value : Data) → IfOk (form value) (λ x. test x ≡ true)) → (value : Data) → IfOk (need key leaf value >>= λ values. under key (each form 0 values)) (IsListOf size test)
+pub told_list : {A : Type 0} (size : ℕ → Bool) (test : A → Bool) (key : List ℕ) (leaf : Data
+    → Finding Items) (form : Data → Reading A) → ((value : Data) → IfOk (leaf value) (HasSize size))
+    → ((value : Data) → IfOk (form value) (λ x. test x ≡ true)) → (value : Data)
+    → IfOk (need key leaf value >>= λ values. under key (each form 0 values)) (IsListOf size test)
 told_list size test key leaf form told_leaf told value =
     told_before (HasSize size) (IsListOf size test) (need key leaf value) (λ values. under key (each form 0 values))
     (told_need (HasSize size) key leaf told_leaf value)
@@ -151,18 +165,23 @@ told_some : {A : Type 0} (P : A → Type 0) (found : Finding A) → IfOk found P
 told_some P (Ok x) told = told
 told_some P (Err kind) told = tt
 
-told_if_present : {A : Type 0} (P : A → Type 0) (leaf : Data → Finding A) → ((value : Data) → IfOk (leaf value) P) → (found : Option Data) → IfOk (if_present leaf found) (λ values. IfSome values P)
+told_if_present : {A : Type 0} (P : A → Type 0) (leaf : Data → Finding A) → ((value : Data) → IfOk (leaf value) P)
+    → (found : Option Data) → IfOk (if_present leaf found) (λ values. IfSome values P)
 told_if_present P leaf told None = tt
 told_if_present P leaf told (Some value) = told_some P (leaf value) (told value)
 
-told_each_or_none : {A : Type 0} (size : ℕ → Bool) (test : A → Bool) (key : List ℕ) (form : Data → Reading A) → size 0 ≡ true → ((value : Data) → IfOk (form value) (λ x. test x ≡ true))
+told_each_or_none : {A : Type 0} (size : ℕ → Bool) (test : A → Bool) (key : List ℕ) (form : Data → Reading A)
+    → size 0 ≡ true → ((value : Data) → IfOk (form value) (λ x. test x ≡ true))
     → (values : Option Items) → IfSome values (HasSize size) → IfOk (each_or_none key form values) (IsListOf size test)
 told_each_or_none size test key form absent told None sized = (absent, refl)
-told_each_or_none size test key form absent told (Some values) sized = told_at (IsListOf size test) (Key key) (each form 0 values) (told_all size test form told values sized)
+told_each_or_none size test key form absent told (Some values) sized =
+    told_at (IsListOf size test) (Key key) (each form 0 values) (told_all size test form told values sized)
 
 -- the same where the key may be absent, if the empty list will do
-pub told_list_or_none : {A : Type 0} (size : ℕ → Bool) (test : A → Bool) (key : List ℕ) (leaf : Data → Finding Items) (form : Data → Reading A) → size 0 ≡ true → ((value : Data) → IfOk (leaf value) (HasSize size))
-    → ((value : Data) → IfOk (form value) (λ x. test x ≡ true)) → (value : Data) → IfOk (optional key leaf value >>= λ values. each_or_none key form values) (IsListOf size test)
+pub told_list_or_none : {A : Type 0} (size : ℕ → Bool) (test : A → Bool) (key : List ℕ) (leaf : Data
+    → Finding Items) (form : Data → Reading A) → size 0 ≡ true → ((value : Data) → IfOk (leaf value) (HasSize size))
+    → ((value : Data) → IfOk (form value) (λ x. test x ≡ true)) → (value : Data)
+    → IfOk (optional key leaf value >>= λ values. each_or_none key form values) (IsListOf size test)
 told_list_or_none size test key leaf form absent told_leaf told value =
     told_before (λ values. IfSome values (HasSize size)) (IsListOf size test) (optional key leaf value) (λ values. each_or_none key form values)
     (told_at (λ values. IfSome values (HasSize size)) (Key key) (here (if_present leaf (get key value)))
@@ -170,7 +189,8 @@ told_list_or_none size test key leaf form absent told_leaf told value =
     (λ values sized. told_each_or_none size test key form absent told values sized)
 
 -- what the code gives has what its form tells
-pub told_of : {X Y : Type 0} (see : X → Y) (P : Y → Type 0) (result : Result X JsonRefusal) (read : Reading Y) → Gives see result read → IfOk read P → IfOk result (λ x. P (see x))
+pub told_of : {X Y : Type 0} (see : X → Y) (P : Y → Type 0) (result : Result X JsonRefusal) (read : Reading Y)
+    → Gives see result read → IfOk read P → IfOk result (λ x. P (see x))
 told_of see P (Ok x) read gives told = rw gives at told
 told_of see P (Err refusal) read gives told = tt
 

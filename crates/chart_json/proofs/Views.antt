@@ -14,12 +14,14 @@ use Rattle.chart_core.specs.declared.condition.Condition.{Condition}
 use Rattle.chart_json.specs.Requirement.{requirement_of}
 
 -- settings are plain data as they are
-pub settings_seen : (result : Result (Vec Setting Global) JsonRefusal) (read : Reading (List Setting)) → Gives (λ found. map (λ setting. setting) found.items) result read → Gives (λ found. found.items) result read
+pub settings_seen : (result : Result (Vec Setting Global) JsonRefusal) (read : Reading (List Setting))
+    → Gives (λ found. map (λ setting. setting) found.items) result read → Gives (λ found. found.items) result read
 settings_seen (Ok found) read gives = gives ∙ ap Ok (map-id found.items)
 settings_seen (Err refusal) read gives = gives
 
 -- a finish that may be absent
-pub finish_seen : (result : Result (Option Condition) JsonRefusal) (read : Reading (Option Formula)) → Gives (option_map formula) result read → Gives finish_plan result read
+pub finish_seen : (result : Result (Option Condition) JsonRefusal) (read : Reading (Option Formula))
+    → Gives (option_map formula) result read → Gives finish_plan result read
 finish_seen (Ok None) read gives = gives
 finish_seen (Ok (Some finish)) read gives = gives
 finish_seen (Err refusal) read gives = gives

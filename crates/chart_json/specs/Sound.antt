@@ -38,6 +38,7 @@ abbrev mutual
 abbrev pub is_setting_sound : Setting → Bool
 is_setting_sound setting = is_name setting.name && is_scalar setting.value
 
+-- a finish, where there is one, has a sound condition
 abbrev pub is_finish_sound : Option Formula → Bool
 is_finish_sound None = true
 is_finish_sound (Some finish) = is_formula_sound finish

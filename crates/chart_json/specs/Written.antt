@@ -52,7 +52,9 @@ unfoldable mutual
 
 -- a setting, with every key
 unfoldable pub written_setting : Setting → Data
-written_setting setting = object (member (codes "name") (string setting.name) (member (codes "value") (scalar_data setting.value) no_members))
+written_setting setting = object
+    (member (codes "name") (string setting.name)
+    (member (codes "value") (scalar_data setting.value) no_members))
 
 -- the keys that every step has
 abbrev pub step_keys : List ℕ → ℕ → List ℕ → List ℕ → Data → Members

@@ -166,7 +166,8 @@ fn read_each_under(
     depth: u32,
 ) -> Result<Vec<Condition>, JsonRefusal>
     requires { IsTrue (is_name key.now) }
-    ensures { Gives (λ found. map formula found.items) result (under key.now (each (condition_within depth) 0 (items_view values.now))) }
+    ensures { Gives (λ found. map formula found.items) result
+        (under key.now (each (condition_within depth) 0 (items_view values.now))) }
 {
     under(key, read_each(alloc, values, depth))
 }

@@ -150,7 +150,8 @@ fn read_arms_under(
     depth: u32,
 ) -> Result<Vec<Arm>, JsonRefusal>
     requires { IsTrue (is_name key.now) }
-    ensures { Gives (λ found. map arm_plan found.items) result (under key.now (each (arm_of (tree_within depth)) 0 (items_view values.now))) }
+    ensures { Gives (λ found. map arm_plan found.items) result
+        (under key.now (each (arm_of (tree_within depth)) 0 (items_view values.now))) }
 {
     under(key, read_each_arm(alloc, values, depth))
 }

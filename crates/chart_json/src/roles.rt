@@ -24,7 +24,8 @@ use std::alloc::{AllocError, Global};
 pub struct RoleJson;
 
 fn requirement_under(alloc: Global, text: &str) -> Result<VersionReq, JsonRefusal>
-    ensures gives { Gives (λ req. map comparator_view req.comparators.items) result (under (codes "version") (found_here (requirement_of text.now))) }
+    ensures gives { Gives (λ req. map comparator_view req.comparators.items) result
+        (under (codes "version") (found_here (requirement_of text.now))) }
     ensures reads { IfOk result (λ req. IsReadTo text.now req) }
 {
     match VersionReq::parse(alloc, text) {

@@ -43,7 +43,11 @@ fn test_object(
     variable: Name,
     against: Value,
 ) -> Result<Value, AllocError>
-    ensures { IfOk result (λ value. view value ≡ object (member (codes "op") (string (op_word op)) (member (codes "role") (string role) (member (codes "test") (string variable) (member (codes "value") (view against) no_members))))) }
+    ensures { IfOk result (λ value. view value ≡ object
+        (member (codes "op") (string (op_word op))
+        (member (codes "role") (string role)
+        (member (codes "test") (string variable)
+        (member (codes "value") (view against) no_members))))) }
 {
     let op = op_word(op);
     let role = role.as_str();

@@ -65,7 +65,8 @@ fn finished_step(
     service: &str,
     settings: Value,
 ) -> Result<Value, AllocError>
-    ensures { IfOk result (λ value. view value ≡ object (member (codes "finish") (view finish) (step_keys name.now procedure role.now service.now (view settings)))) }
+    ensures { IfOk result (λ value. view value ≡ object
+        (member (codes "finish") (view finish) (step_keys name.now procedure role.now service.now (view settings)))) }
 {
     json!(in alloc; {
         "finish": finish,

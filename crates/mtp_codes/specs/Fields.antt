@@ -10,12 +10,18 @@ use Rattle.mtp_codes.specs.declared.short.Short.TheInside as kept_text
 abbrev pub name_fields : List ℕ → kept_name.Inside
 name_fields name = record { bytes = padded 32 name; len = length name }
 
-pub name_fields-kept : (fields : kept_name.Inside) → IsKeptName fields.bytes fields.len → name_fields (take fields.len fields.bytes) ≡ fields
-name_fields-kept fields kept = rw (padded-used 32 fields.bytes fields.len kept.padding, length-used 32 fields.bytes fields.len kept.padding)
+-- the fields that keep the bytes in use are the fields themselves
+pub name_fields-kept : (fields : kept_name.Inside) → IsKeptName fields.bytes fields.len
+    → name_fields (take fields.len fields.bytes) ≡ fields
+name_fields-kept fields kept =
+    rw (padded-used 32 fields.bytes fields.len kept.padding, length-used 32 fields.bytes fields.len kept.padding)
 
 -- the fields that keep a short text
 abbrev pub text_fields : List ℕ → kept_text.Inside
 text_fields text = record { bytes = padded 254 text; len = length text }
 
-pub text_fields-kept : (fields : kept_text.Inside) → IsKeptText fields.bytes fields.len → text_fields (take fields.len fields.bytes) ≡ fields
-text_fields-kept fields kept = rw (padded-used 254 fields.bytes fields.len kept.padding, length-used 254 fields.bytes fields.len kept.padding)
+-- the fields that keep the bytes in use are the fields themselves
+pub text_fields-kept : (fields : kept_text.Inside) → IsKeptText fields.bytes fields.len
+    → text_fields (take fields.len fields.bytes) ≡ fields
+text_fields-kept fields kept =
+    rw (padded-used 254 fields.bytes fields.len kept.padding, length-used 254 fields.bytes fields.len kept.padding)

@@ -13,8 +13,10 @@ pub record IsPadded (room : ℕ) (bytes : List ℕ) (len : ℕ) : Type 0 where
 abbrev pub padded : ℕ → List ℕ → List ℕ
 padded room used = used ++ replicate (room - length used) 0
 
+-- as many bytes are in use as the length says
 pub length-used : (room : ℕ) (bytes : List ℕ) (len : ℕ) → IsPadded room bytes len → length (take len bytes) ≡ len
 length-used room bytes len kept = let inside : len ≤ length bytes = omega arith in length-take-le len bytes inside
 
+-- the bytes in use, with zeros behind them, are all the bytes
 pub padded-used : (room : ℕ) (bytes : List ℕ) (len : ℕ) → IsPadded room bytes len → padded room (take len bytes) ≡ bytes
 padded-used room bytes len kept = rw (length-used room bytes len kept, ← kept.zeros, take-append-drop len bytes)

@@ -18,7 +18,8 @@ use Rattle.mtp_desc.specs.Plain.{ProcedureForm, ServiceForm, DescriptionForm, sa
 use Rattle.mtp_desc.specs.Written.{written_param, written_variable, written_procedure, written_service, written_description}
 use Rattle.mtp_desc.proofs.Sound.{is_param, is_variable, is_procedure, is_service, IsDescription}
 
-kind_again : (named : List ℕ) (kind : ParamKind) → is_name named ≡ true → is_ordered kind ≡ true → param_of (written_param (record { name = named; kind = kind })) ≡ Ok (record { name = named; kind = kind })
+kind_again : (named : List ℕ) (kind : ParamKind) → is_name named ≡ true → is_ordered kind ≡ true
+    → param_of (written_param (record { name = named; kind = kind })) ≡ Ok (record { name = named; kind = kind })
 unfolding param_of written_param ranged_param free_param
 kind_again named (Ana min max) is ordered =
     let low = and_parts (is_within least_i64 greatest_i64 min) (is_within least_i64 greatest_i64 max && not (int_lt max min)) ordered in
@@ -34,7 +35,8 @@ kind_again named Text is ordered = rw is refl
 pub param_again : (param : ParamForm) → is_param param ≡ true → param_of (written_param param) ≡ Ok param
 param_again param sound = let parts = and_parts (is_name param.name) (is_ordered param.kind) sound in kind_again param.name param.kind parts.0 parts.1
 
-variable_kind_again : (named : List ℕ) (kind : ViewKind) → is_name named ≡ true → variable_of (written_variable (record { name = named; kind = kind })) ≡ Ok (record { name = named; kind = kind })
+variable_kind_again : (named : List ℕ) (kind : ViewKind) → is_name named ≡ true
+    → variable_of (written_variable (record { name = named; kind = kind })) ≡ Ok (record { name = named; kind = kind })
 unfolding variable_of written_variable
 variable_kind_again named variable.Ana is = rw is refl
 variable_kind_again named variable.DInt is = rw is refl
@@ -47,17 +49,26 @@ variable_again variable sound = variable_kind_again variable.name variable.kind 
 pub procedure_again : (procedure : ProcedureForm) → is_procedure procedure ≡ true → procedure_of (written_procedure procedure) ≡ Ok procedure
 unfolding procedure_of written_procedure
 procedure_again procedure sound =
-    let numbered = and_parts (is_between 1 65535 procedure.number) (is_between 0 32 (length procedure.params) && (list_all is_param procedure.params && not (repeats_by same_param procedure.params))) sound in
-    let few = and_parts (is_between 0 32 (length procedure.params)) (list_all is_param procedure.params && not (repeats_by same_param procedure.params)) numbered.1 in
+    let numbered = and_parts (is_between 1 65535 procedure.number)
+    (is_between 0 32 (length procedure.params)
+    && (list_all is_param procedure.params && not (repeats_by same_param procedure.params))) sound in
+    let few = and_parts (is_between 0 32 (length procedure.params))
+    (list_all is_param procedure.params && not (repeats_by same_param procedure.params)) numbered.1 in
     let each = and_parts (list_all is_param procedure.params) (not (repeats_by same_param procedure.params)) few.1 in
     rw (numbered.0, len_again written_param procedure.params, few.0, each_again param_of written_param is_param param_again 0 procedure.params each.0, not-true (repeats_by same_param procedure.params) each.1) refl
 
 pub service_again : (service : ServiceForm) → is_service service ≡ true → service_of (written_service service) ≡ Ok service
 unfolding service_of ruled_service written_service
 service_again service sound =
-    let named = and_parts (is_name service.name) (is_between 1 16 (length service.procedures) && (list_all is_procedure service.procedures && (not (repeats_by same_procedure service.procedures) && has_one_default service.procedures))) sound in
-    let few = and_parts (is_between 1 16 (length service.procedures)) (list_all is_procedure service.procedures && (not (repeats_by same_procedure service.procedures) && has_one_default service.procedures)) named.1 in
-    let each = and_parts (list_all is_procedure service.procedures) (not (repeats_by same_procedure service.procedures) && has_one_default service.procedures) few.1 in
+    let named = and_parts (is_name service.name)
+    (is_between 1 16 (length service.procedures)
+    && (list_all is_procedure service.procedures
+    && (not (repeats_by same_procedure service.procedures) && has_one_default service.procedures))) sound in
+    let few = and_parts (is_between 1 16 (length service.procedures))
+    (list_all is_procedure service.procedures
+    && (not (repeats_by same_procedure service.procedures) && has_one_default service.procedures)) named.1 in
+    let each = and_parts (list_all is_procedure service.procedures)
+    (not (repeats_by same_procedure service.procedures) && has_one_default service.procedures) few.1 in
     let ruled = and_parts (not (repeats_by same_procedure service.procedures)) (has_one_default service.procedures) each.1 in
     rw (named.0, len_again written_procedure service.procedures, few.0, each_again procedure_of written_procedure is_procedure procedure_again 0 service.procedures each.0, not-true (repeats_by same_procedure service.procedures) ruled.0, ruled.1) refl
 

@@ -31,12 +31,16 @@ is_variable variable = is_name variable.name
 -- the procedure has a number, and few parameters, no two of one name
 abbrev pub is_procedure : ProcedureForm → Bool
 is_procedure procedure =
-    is_between 1 65535 procedure.number && (is_between 0 32 (length procedure.params) && (list_all is_param procedure.params && not (repeats_by same_param procedure.params)))
+    is_between 1 65535 procedure.number
+    && (is_between 0 32 (length procedure.params)
+    && (list_all is_param procedure.params && not (repeats_by same_param procedure.params)))
 
 -- the service has a name, and some procedures, no two of one number and one of them the default
 abbrev pub is_service : ServiceForm → Bool
 is_service service =
-    is_name service.name && (is_between 1 16 (length service.procedures) && (list_all is_procedure service.procedures && (not (repeats_by same_procedure service.procedures) && has_one_default service.procedures)))
+    is_name service.name && (is_between 1 16 (length service.procedures)
+    && (list_all is_procedure service.procedures
+    && (not (repeats_by same_procedure service.procedures) && has_one_default service.procedures)))
 
 -- where every item is in its form, so is each of a list
 pub all_sound : {X Y : Type 0} (view : X → Y) (test : Y → Bool) → ((x : X) → test (view x) ≡ true) → (xs : List X) → list_all test (map view xs) ≡ true

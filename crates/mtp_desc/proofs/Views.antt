@@ -13,7 +13,8 @@ fold_map view step start (x ∷ xs) = fold_map view step (step start (view x)) x
 pub count_map : {X Y : Type 0} (view : X → Y) (test : Y → Bool) (xs : List X) → count_by test (map view xs) ≡ count_by (λ x. test (view x)) xs
 count_map view test xs = fold_map view (λ a y. a + cond (test y) 1 0) 0 xs
 
-found_by : {X Y : Type 0} (view : X → Y) (passes : Bool) (x : X) (ours : Option Y) (theirs : Option X) → ours ≡ option_map view theirs → cond passes (Some (view x)) ours ≡ option_map view (cond passes (Some x) theirs)
+found_by : {X Y : Type 0} (view : X → Y) (passes : Bool) (x : X) (ours : Option Y) (theirs : Option X)
+    → ours ≡ option_map view theirs → cond passes (Some (view x)) ours ≡ option_map view (cond passes (Some x) theirs)
 found_by view true x ours theirs e = refl
 found_by view false x ours theirs e = e
 
@@ -23,7 +24,9 @@ find_map view test [] = refl
 find_map view test (x ∷ xs) = found_by view (test (view x)) x (find test (map view xs)) (find (λ y. test (view y)) xs) (find_map view test xs)
 
 -- what was found, seen through the view, is what is found among the views
-pub looks_up : {X Y : Type 0} (view : X → Y) (test : Y → Bool) (xs : List X) (found : Option (Bor X)) → option_map (λ x. x.now) found ≡ find (λ x. test (view x)) xs → option_map (λ x. view x.now) found ≡ find test (map view xs)
+pub looks_up : {X Y : Type 0} (view : X → Y) (test : Y → Bool) (xs : List X) (found : Option (Bor X))
+    → option_map (λ x. x.now) found ≡ find (λ x. test (view x)) xs
+    → option_map (λ x. view x.now) found ≡ find test (map view xs)
 looks_up view test xs None is = rw (find_map view test xs, ← is) refl
 looks_up view test xs (Some x) is = rw (find_map view test xs, ← is) refl
 
@@ -36,7 +39,8 @@ pub position_map : {X Y : Type 0} (view : X → Y) (test : Y → Bool) (xs : Lis
 position_map view test xs = rw (prefix_len-map view (λ y. not (test y)) xs, length-map xs view) refl
 
 none_in_step : {X : Type 0} (test : X → Bool) (start : ℕ) (x : X) (xs : List X) (passes : Bool) → test x ≡ passes → cond (test x) (Some x) (find test xs) ≡ None
-    → ((n : ℕ) → find test xs ≡ None → fold (λ a y. a + cond (test y) 1 0) n xs ≡ n) → fold (λ a y. a + cond (test y) 1 0) (start + cond (test x) 1 0) xs ≡ start
+    → ((n : ℕ) → find test xs ≡ None → fold (λ a y. a + cond (test y) 1 0) n xs ≡ n)
+    → fold (λ a y. a + cond (test y) 1 0) (start + cond (test x) 1 0) xs ≡ start
 none_in_step test start x xs true e none rest = let clash : Some x ≡ None = rw e at none in absurd cc
 none_in_step test start x xs false e none rest = rw (e, add-zero) (rest start (rw e at none))
 

@@ -102,4 +102,10 @@ description_of value =
     nothing_but (codes "type version services variables") value >>= λ _.
     under (codes "services") (refused_if (repeats_by same_service services) Repeated) >>= λ _.
     under (codes "variables") (refused_if (repeats_by same_variable variables) Repeated) >>= λ _.
-    Ok (record { type_name = type_name; version_text = version_text; version = version; services = services; variables = variables })
+    Ok (record {
+      type_name = type_name;
+      version_text = version_text;
+      version = version;
+      services = services;
+      variables = variables;
+    })

@@ -6,4 +6,9 @@ use Rattle.mtp_desc.specs.Plain.{ProcedureForm}
 
 -- a procedure as plain data
 abbrev pub procedure_view : Procedure → ProcedureForm
-procedure_view procedure = record { number = procedure.number; is_default = procedure.is_default; self_completing = procedure.self_completing; params = map param_view procedure.params.items }
+procedure_view procedure = record {
+  number = procedure.number;
+  is_default = procedure.is_default;
+  self_completing = procedure.self_completing;
+  params = map param_view procedure.params.items;
+}

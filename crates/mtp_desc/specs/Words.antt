@@ -8,9 +8,11 @@ use Rattle.mtp_desc.specs.declared.words.ParamWord.TheVariants as param
 -- the kinds of parameters
 abbrev pub param_words : List (List ℕ × ParamWord)
 param_words =
-    (codes "AnaServParam", param.Ana) ∷ (codes "DIntServParam", param.DInt) ∷ (codes "BinServParam", param.Bin) ∷ (codes "StringServParam", param.Text) ∷ []
+    (codes "AnaServParam", param.Ana) ∷ (codes "DIntServParam", param.DInt)
+    ∷ (codes "BinServParam", param.Bin) ∷ (codes "StringServParam", param.Text) ∷ []
 
 -- the kinds of variables
 abbrev pub variable_words : List (List ℕ × ViewKind)
 variable_words =
-    (codes "AnaView", variable.Ana) ∷ (codes "DIntView", variable.DInt) ∷ (codes "BinView", variable.Bin) ∷ (codes "StringView", variable.Text) ∷ []
+    (codes "AnaView", variable.Ana) ∷ (codes "DIntView", variable.DInt)
+    ∷ (codes "BinView", variable.Bin) ∷ (codes "StringView", variable.Text) ∷ []

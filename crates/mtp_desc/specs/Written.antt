@@ -12,7 +12,11 @@ use Rattle.mtp_desc.specs.Plain.{ProcedureForm, ServiceForm, DescriptionForm}
 
 -- a name and a kind with its least and its greatest value
 abbrev pub ranged : List ℕ → List ℕ → ℤ → ℤ → Data
-ranged named kind min max = object (member (codes "kind") (string kind) (member (codes "max") (number (of_integer max)) (member (codes "min") (number (of_integer min)) (member (codes "name") (string named) no_members))))
+ranged named kind min max = object
+    (member (codes "kind") (string kind)
+    (member (codes "max") (number (of_integer max))
+    (member (codes "min") (number (of_integer min))
+    (member (codes "name") (string named) no_members))))
 
 -- a name and a kind alone
 abbrev pub free : List ℕ → List ℕ → Data

@@ -75,7 +75,11 @@ fn procedure_object(
     params: Value,
     self_completing: bool,
 ) -> Result<Value, AllocError>
-    ensures { IfOk result (λ value. view value ≡ object (member (codes "default") (boolean is_default) (member (codes "number") (whole (unsigned number)) (member (codes "params") (view params) (member (codes "self_completing") (boolean self_completing) no_members))))) }
+    ensures { IfOk result (λ value. view value ≡ object
+        (member (codes "default") (boolean is_default)
+        (member (codes "number") (whole (unsigned number))
+        (member (codes "params") (view params)
+        (member (codes "self_completing") (boolean self_completing) no_members))))) }
 {
     json!(in alloc; {
         "default": is_default,

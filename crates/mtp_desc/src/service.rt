@@ -45,7 +45,8 @@ impl Service {
 
     /// The procedure of this number.
     pub fn procedure(&self, number: u16) -> Option<&Procedure>
-        ensures { option_map (λ procedure. procedure_view procedure.now) result ≡ procedure_numbered number (service_view self.now) }
+        ensures { option_map (λ procedure. procedure_view procedure.now) result
+            ≡ procedure_numbered number (service_view self.now) }
     {
         find_procedure(&self.procedures, number)
     }

@@ -41,7 +41,8 @@ fn only_procedures(alloc: Global) -> Result<Vec<Procedure>, AllocError>
 
 fn procedures_or(alloc: Global, found: Option<Vec<Procedure>>) -> Result<Vec<Procedure>, AllocError>
     requires { IfSome found (λ list. IsTrue (is_between 1 16 (length list.items))) }
-    ensures value { IfOk result (λ procedures. map procedure_view procedures.items ≡ unwrap_or (option_map (λ list. map procedure_view list.items) found) (only_procedure ∷ [])) }
+    ensures value { IfOk result (λ procedures. map procedure_view procedures.items
+        ≡ unwrap_or (option_map (λ list. map procedure_view list.items) found) (only_procedure ∷ [])) }
     ensures size { IfOk result (λ procedures. IsTrue (is_between 1 16 (length procedures.items))) }
 {
     match found {
@@ -118,7 +119,9 @@ impl Alike for ServiceJson {
 }
 
 fn service_object(alloc: Global, name: Name, procedures: Value) -> Result<Value, AllocError>
-    ensures { IfOk result (λ value. view value ≡ object (member (codes "name") (string name) (member (codes "procedures") (view procedures) no_members))) }
+    ensures { IfOk result (λ value. view value ≡ object
+        (member (codes "name") (string name)
+        (member (codes "procedures") (view procedures) no_members))) }
 {
     let name = name.as_str();
     json!(in alloc; {"name": name, "procedures": procedures})

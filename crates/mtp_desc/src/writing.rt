@@ -24,7 +24,11 @@ fn description_object(
     variables: Value,
     version_text: Short,
 ) -> Result<Value, AllocError>
-    ensures { IfOk result (λ value. view value ≡ object (member (codes "services") (view services) (member (codes "type") (string type_name) (member (codes "variables") (view variables) (member (codes "version") (string version_text) no_members))))) }
+    ensures { IfOk result (λ value. view value ≡ object
+        (member (codes "services") (view services)
+        (member (codes "type") (string type_name)
+        (member (codes "variables") (view variables)
+        (member (codes "version") (string version_text) no_members))))) }
 {
     let type_name = type_name.as_str();
     let version = version_text.as_str();

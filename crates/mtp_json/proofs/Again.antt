@@ -20,7 +20,9 @@ whole_again (pos n) = refl
 whole_again (negsuc n) = refl
 
 -- items that are each read back are read back as a list
-pub each_again : {A : Type 0} (form : Data → Reading A) (written : A → Data) (test : A → Bool) (again : (x : A) → test x ≡ true → form (written x) ≡ Ok x) (place : ℕ) (xs : List A) → list_all test xs ≡ true → each form place (items_of (map written xs)) ≡ Ok xs
+pub each_again : {A : Type 0} (form : Data → Reading A) (written : A → Data) (test : A → Bool) (again : (x : A)
+    → test x ≡ true → form (written x) ≡ Ok x) (place : ℕ) (xs : List A) → list_all test xs ≡ true
+    → each form place (items_of (map written xs)) ≡ Ok xs
 unfolding each
 each_again form written test again place [] all = refl
 each_again form written test again place (x ∷ xs) all =
@@ -33,7 +35,8 @@ len_again written [] = refl
 len_again written (x ∷ xs) = ap suc (len_again written xs)
 
 -- a written list nests no deeper than its items
-pub items_depth_below : {A : Type 0} (written : A → Data) (limit : ℕ) → ((x : A) → depth (written x) ≤ limit) → (xs : List A) → items_depth (items_of (map written xs)) ≤ limit
+pub items_depth_below : {A : Type 0} (written : A → Data) (limit : ℕ) → ((x : A) → depth (written x) ≤ limit)
+    → (xs : List A) → items_depth (items_of (map written xs)) ≤ limit
 items_depth_below written limit each_below [] = omega arith
 items_depth_below written limit each_below (x ∷ xs) = omega (arith, each_below x, items_depth_below written limit each_below xs)
 
@@ -43,7 +46,8 @@ of_integer-whole (pos n) = refl
 of_integer-whole (negsuc n) = refl
 
 -- a written list has no float where no item has one
-pub items_whole : {A : Type 0} (written : A → Data) → ((x : A) → has_float (written x) ≡ false) → (xs : List A) → items_have_float (items_of (map written xs)) ≡ false
+pub items_whole : {A : Type 0} (written : A → Data) → ((x : A) → has_float (written x) ≡ false) → (xs : List A)
+    → items_have_float (items_of (map written xs)) ≡ false
 items_whole written whole [] = refl
 items_whole written whole (x ∷ xs) = rw (whole x, items_whole written whole xs) refl
 

@@ -15,7 +15,8 @@ any_map : {X Y : Type 0} (view : X → Y) (test : Y → Bool) (xs : List X) → 
 any_map view test [] = refl
 any_map view test (x ∷ xs) = ap (λ b. test (view x) || b) (any_map view test xs)
 
-pub repeats_map : {X Y : Type 0} (view : X → Y) (same : Y → Y → Bool) (xs : List X) → repeats_by same (map view xs) ≡ repeats_by (λ x y. same (view x) (view y)) xs
+pub repeats_map : {X Y : Type 0} (view : X → Y) (same : Y → Y → Bool) (xs : List X)
+    → repeats_by same (map view xs) ≡ repeats_by (λ x y. same (view x) (view y)) xs
 repeats_map view same [] = refl
 repeats_map view same (x ∷ xs) = rw (any_map view (same (view x)) xs, repeats_map view same xs) refl
 
@@ -24,5 +25,6 @@ map_map outer inner [] = refl
 map_map outer inner (x ∷ xs) = ap (λ ys. outer (inner x) ∷ ys) (map_map outer inner xs)
 
 -- values that are the written forms of items, one by one
-pub written_items : {X Y : Type 0} (written : Y → Data) (plain : X → Y) (values : List Value) (xs : List X) → map view values ≡ map (λ x. written (plain x)) xs → items_view values ≡ items_of (map written (map plain xs))
+pub written_items : {X Y : Type 0} (written : Y → Data) (plain : X → Y) (values : List Value) (xs : List X)
+    → map view values ≡ map (λ x. written (plain x)) xs → items_view values ≡ items_of (map written (map plain xs))
 written_items written plain values xs each_is = rw (map_map written plain xs) (ap items_of each_is)

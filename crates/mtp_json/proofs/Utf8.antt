@@ -15,6 +15,7 @@ pub not_utf8_is : (bytes : List ℕ) → (IsUtf8 bytes → ⊥) → is_utf8 byte
 not_utf8_is bytes refuted = by_test bytes (is_utf8 bytes) refl refuted
 
 -- where text was put behind text, there is text
-pub still_utf8 : {E : Type 0} (result : Result ⊤ E) (old more new : List ℕ) → new ≡ (if is_ok result then old ++ more else old) → IsUtf8 more → OnOk result (IsUtf8 old → IsUtf8 new)
+pub still_utf8 : {E : Type 0} (result : Result ⊤ E) (old more new : List ℕ)
+    → new ≡ (if is_ok result then old ++ more else old) → IsUtf8 more → OnOk result (IsUtf8 old → IsUtf8 new)
 still_utf8 (Ok unit) old more new is text = λ so_far. rw is (IsUtf8-append old more so_far text)
 still_utf8 (Err error) old more new is text = tt

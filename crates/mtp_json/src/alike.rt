@@ -59,7 +59,8 @@ pub fn unlike_under<T: Alike>(
     items: &[T::Item],
 ) -> Result<(), JsonRefusal>
     requires { IsTrue (is_name key.now) }
-    ensures gives { Gives (λ unit. unit) result (under key.now (refused_if (repeats_by T.same (map T.plain items.now)) FaultKind.Repeated)) }
+    ensures gives { Gives (λ unit. unit) result
+        (under key.now (refused_if (repeats_by T.same (map T.plain items.now)) FaultKind.Repeated)) }
     ensures kept { OnOk result (repeats_by T.same (map T.plain items.now) ≡ false) }
 {
     refused_under(alloc, key, repeats::<T>(items), FaultKind::Repeated)

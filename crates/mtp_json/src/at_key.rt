@@ -265,7 +265,8 @@ pub fn list_if<'a>(
     high: usize,
 ) -> Result<Option<&'a [Value]>, JsonRefusal>
     requires { IsTrue (is_name key.now) }
-    ensures gives { Gives (option_map (λ list. items_view list.now)) result (optional key.now (items_in low high) (view object.now)) }
+    ensures gives { Gives (option_map (λ list. items_view list.now)) result
+        (optional key.now (items_in low high) (view object.now)) }
     ensures size { IfOk result (λ found. IfSome found (λ list. IsTrue (is_between low high (length list.now)))) }
 {
     match object.get(key) {

@@ -99,7 +99,8 @@ pub fn list_if_there<T: FromJson>(
     high: usize,
 ) -> Result<Option<Vec<T::Item>>, JsonRefusal>
     requires { IsTrue (is_name key.now) }
-    ensures gives { Gives (option_map (λ found. map T.plain found.items)) result (list_if_there key.now low high T.form (view object.now)) }
+    ensures gives { Gives (option_map (λ found. map T.plain found.items)) result
+        (list_if_there key.now low high T.form (view object.now)) }
     ensures size { IfOk result (λ there. IfSome there (λ found. IsTrue (is_between low high (length found.items)))) }
 {
     match list_if(alloc, object, key, low, high)? {

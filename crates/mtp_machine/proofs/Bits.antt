@@ -33,14 +33,17 @@ every_target = search
 
 -- it does so for every state and command
 target_by_mask : (state : State) (command : Command) → MaskHasTarget state command
-target_by_mask state command = of_each_command (MaskHasTarget state) (of_each_state (λ from. AllByRecursion (MaskHasTarget from) every_command) every_target state) command
+target_by_mask state command =
+    of_each_command (MaskHasTarget state)
+    (of_each_state (λ from. AllByRecursion (MaskHasTarget from) every_command) every_target state) command
 
 -- where a bit is set, the first is chosen
 chosen : {A : Type 0} (bits : ℕ) (target other : A) → bits ≢ 0 → (if not (bits == 0) then target else other) ≡ target
 chosen bits target other set = rw (ne_eqb bits 0 set) refl
 
 -- a command whose bit is set leads to its goal
-pub target_where_bit : (state : State) (command : Command) → bit_and (enabled_mask state) (command_number command) ≢ 0 → command_target state command ≡ Some (command_goal command)
+pub target_where_bit : (state : State) (command : Command) → bit_and (enabled_mask state) (command_number command) ≢ 0
+    → command_target state command ≡ Some (command_goal command)
 target_where_bit state command set = target_by_mask state command ∙ chosen _ (Some (command_goal command)) None set
 
 -- a command whose bit is not set does not leave the state

@@ -18,7 +18,8 @@ has_params procedure settings = list_all (λ setting. is_some (param_named setti
 
 -- what is wrong with the value that a parameter is set to
 abbrev pub setting_fault : ProcedureForm → Setting → Option ValueFault
-setting_fault procedure setting = option_and_then (λ param. value_fault param.kind setting.value) (param_named setting.name procedure)
+setting_fault procedure setting =
+    option_and_then (λ param. value_fault param.kind setting.value) (param_named setting.name procedure)
 
 -- the fault of the first setting that has one
 abbrev pub settings_fault : ProcedureForm → List Setting → Option ValueFault

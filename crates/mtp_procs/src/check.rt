@@ -63,7 +63,8 @@ fn check_procedure(
 /// that is set is missing, or the step completes the procedure by command exactly where it completes by itself; else the
 /// fault of the first setting whose value doesn't fit, as `check_value` says.
 pub fn check_step(description: &Description, demand: &StepDemand) -> Result<(), StepFault>
-    ensures { result ≡ done_unless (step_fault (description_view description.now) demand.now.service demand.now.procedure demand.now.settings.now demand.now.finishes) }
+    ensures { result ≡ done_unless (step_fault (description_view description.now)
+        demand.now.service demand.now.procedure demand.now.settings.now demand.now.finishes) }
 {
     let Some(service) = description.service(demand.service) else {
         return Err(StepFault::NotCovered);

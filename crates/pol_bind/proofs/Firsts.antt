@@ -17,7 +17,9 @@ map_or : {X Y : Type 0} (part : X → Y) (one other : Option X) → option_map p
 map_or part None other = refl
 map_or part (Some x) other = refl
 
-found_append : {X Y : Type 0} (part : X → Y) (property : X → Bool) (xs ys : List X) → option_map part (find property (xs ++ ys)) ≡ option_or (option_map part (find property xs)) (option_map part (find property ys))
+found_append : {X Y : Type 0} (part : X → Y) (property : X → Bool) (xs ys : List X)
+    → option_map part (find property (xs ++ ys))
+    ≡ option_or (option_map part (find property xs)) (option_map part (find property ys))
 found_append part property xs ys = ap (option_map part) (find-append property xs ys) ∙ map_or part (find property xs) (find property ys)
 
 variable_append :
@@ -47,12 +49,24 @@ mutual
   pub first_among_is : (property : StepPlan → Bool) (each : Trees) (n : ℕ) → first_name_among property each ≡ name_of_first property (all_steps each n)
   first_among_is property no_trees n = refl
   first_among_is property (more_trees each others) n =
-      rw (name_append property (steps each n) (all_steps others (n + size each)), ← first_is property each n, ← first_among_is property others (n + size each)) refl
+      rw (
+        name_append property (steps each n)
+            (all_steps others (n + size each)),
+        ← first_is property each n,
+        ← first_among_is property others
+            (n + size each),
+      ) refl
 
   pub first_in_arms_is : (property : StepPlan → Bool) (each : Arms) (n : ℕ) → first_name_in_arms property each ≡ name_of_first property (arm_steps each n)
   first_in_arms_is property no_arms n = refl
   first_in_arms_is property (more_arms when each others) n =
-      rw (name_append property (steps each n) (arm_steps others (n + size each)), ← first_is property each n, ← first_in_arms_is property others (n + size each)) refl
+      rw (
+        name_append property (steps each n)
+            (arm_steps others (n + size each)),
+        ← first_is property each n,
+        ← first_in_arms_is property others
+            (n + size each),
+      ) refl
 
 one_variable : (each : TestPlan) (b : Bool) → cond b (Some each.variable) None ≡ option_map (λ (test : TestPlan). test.variable) (cond b (Some each) None)
 one_variable each true = refl
@@ -73,7 +87,8 @@ mutual
   test_among_is property (more_formulas each others) =
       rw (variable_append property (tests_of each) (tests_of_all others), ← test_is property each, ← test_among_is property others) refl
 
-test_in_finish_is : (property : TestPlan → Bool) (finish : Option Formula) → variable_in_finish property finish ≡ variable_of_first property (finish_tests finish)
+test_in_finish_is : (property : TestPlan → Bool) (finish : Option Formula)
+    → variable_in_finish property finish ≡ variable_of_first property (finish_tests finish)
 test_in_finish_is property None = refl
 test_in_finish_is property (Some condition) = test_is property condition
 
@@ -84,7 +99,12 @@ mutual
   test_under_is property (seq each) = test_under_all_is property each
   test_under_is property (par each) = test_under_all_is property each
   test_under_is property (choice each) =
-      rw (variable_append property (tests_of_all (arm_conditions each)) (tests_in_arms each), ← test_among_is property (arm_conditions each), ← test_under_arms_is property each) refl
+      rw (
+        variable_append property (tests_of_all (arm_conditions each)) (tests_in_arms each),
+        ← test_among_is property
+            (arm_conditions each),
+        ← test_under_arms_is property each,
+      ) refl
   test_under_is property (loop body until) =
       rw (variable_append property (tests_of until) (tests_in body), ← test_is property until, ← test_under_is property body) refl
 
@@ -106,7 +126,9 @@ found_is_any part property x false rest others same = same
 -- one is found exactly where some test has the property
 pub found_where_any : (property : TestPlan → Bool) (xs : List TestPlan) → is_some (variable_of_first property xs) ≡ list_any property xs
 found_where_any property [] = refl
-found_where_any property (x ∷ xs) = found_is_any (λ test. test.variable) property x (property x) (find property xs) (list_any property xs) (found_where_any property xs)
+found_where_any property (x ∷ xs) =
+    found_is_any (λ test. test.variable) property x (property x) (find property xs) (list_any property xs)
+    (found_where_any property xs)
 
 none_more : (ours theirs same misfits rest : Bool) → (ours && misfits || rest) ≡ false → (ours && (same && misfits) || theirs) ≡ theirs
 none_more true theirs true true rest h = cc

@@ -20,7 +20,8 @@ abbrev mutual
 
   pub first_name_in_arms : (StepPlan → Bool) → Arms → Option (List ℕ)
   first_name_in_arms property no_arms = None
-  first_name_in_arms property (more_arms when each others) = option_or (first_name property each) (first_name_in_arms property others)
+  first_name_in_arms property (more_arms when each others) =
+      option_or (first_name property each) (first_name_in_arms property others)
 
 -- the variable of the first test of the condition with this property
 abbrev mutual

@@ -94,7 +94,8 @@ fn missing_by(role: Name, fault: CoverFault) -> Name
 /// of the role and that is missing, is a text, or is a number tested against a truth value or the other way round. Takes
 /// no memory. Where all fits, its time grows with the chart's tests; else at most with their square.
 pub fn covers(chart: &Chart, role: Name, description: &Description) -> Result<(), Rule>
-    ensures { result ≡ done_unless (option_map (cover_rule role) (cover_fault (plan chart.now) role (description_view description.now))) }
+    ensures { result ≡ done_unless
+        (option_map (cover_rule role) (cover_fault (plan chart.now) role (description_view description.now))) }
 {
     match check_cover(chart, role, description) {
         Ok(()) => Ok(()),

@@ -78,7 +78,8 @@ struct Refused<'a> {
 }
 
 impl<'a> Picks for Refused<'a> {
-    ghost property = { λ wanted test. is_refused_test (tree wanted.root.now) wanted.role (description_view wanted.description.now) test };
+    ghost property = { λ wanted test.
+        is_refused_test (tree wanted.root.now) wanted.role (description_view wanted.description.now) test };
 
     #[tactic(auto, using(crate::proofs::Firsts::found_where_any))]
     fn picks(&self, role: Name, variable: Name, value: Reading) -> bool {
@@ -95,7 +96,8 @@ impl<'a> Picks for Refused<'a> {
 /// the chart once where every test fits, else once more for each test before the one that it finds.
 #[tactic(auto, using(crate::proofs::Firsts::none_refused))]
 pub fn refused_variable(root: &Node, role: Name, description: &Description) -> Option<Name>
-    ensures { result ≡ variable_of_first (is_refused_test (tree root.now) role (description_view description.now)) (tests_in (tree root.now)) }
+    ensures { result ≡ variable_of_first (is_refused_test (tree root.now) role (description_view description.now))
+        (tests_in (tree root.now)) }
 {
     let misfits = Misfits { role, description };
     let refused = Refused {

@@ -25,12 +25,14 @@ use Rattle.pol_cli.specs.Sayings.{saying_view, reply_text, after_saying}
 use Rattle.pol_cli.specs.Served.{Answered, Served, Says, stop_of, Leaves, LeavesPart, WritesSome, WritesPart, WritesLess, Writes, AnswersTaken, AnswersSome}
 
 -- what comes of one piece
-piece_text : (history : History) (piece : List ℕ) (saying : lines.Saying) → rows_text (rows_after history (as_item piece saying ∷ [])) ≡ reply_text history saying
+piece_text : (history : History) (piece : List ℕ) (saying : lines.Saying)
+    → rows_text (rows_after history (as_item piece saying ∷ [])) ≡ reply_text history saying
 piece_text history piece lines.nothing = refl
 piece_text history piece (lines.a_fault fault) = append-nil _
 piece_text history piece (lines.an_event event) = append-nil _
 
-piece_history : (history : History) (piece : List ℕ) (saying : lines.Saying) → history_after history (events_in (as_item piece saying ∷ [])) ≡ after_saying history saying
+piece_history : (history : History) (piece : List ℕ) (saying : lines.Saying)
+    → history_after history (events_in (as_item piece saying ∷ [])) ≡ after_saying history saying
 piece_history history piece lines.nothing = refl
 piece_history history piece (lines.a_fault fault) = refl
 piece_history history piece (lines.an_event event) = refl
@@ -39,7 +41,8 @@ module _ (done piece : List ℕ) (whole : IsTrue (is_whole done)) (alone : piece
   answers-next : answers_of (done ++ piece) ≡ answers_of done ++ reply_text (history_of done) (saying_of (line_of piece))
   answers-next =
       answers_of-append done piece whole
-      ∙ ap (λ text. answers_of done ++ text) (ap (λ ps. rows_text (rows_after (history_of done) (map item_of ps))) alone ∙ piece_text (history_of done) piece (saying_of (line_of piece)))
+      ∙ ap (λ text. answers_of done ++ text) (ap (λ ps. rows_text (rows_after (history_of done) (map item_of ps))) alone
+      ∙ piece_text (history_of done) piece (saying_of (line_of piece)))
 
   history-next : history_of (done ++ piece) ≡ after_saying (history_of done) (saying_of (line_of piece))
   history-next =
@@ -50,7 +53,8 @@ module _ (done piece : List ℕ) (whole : IsTrue (is_whole done)) (alone : piece
 some-text : (text piece rest : List ℕ) → pieces text ≡ piece ∷ pieces rest → text ≡ [] → ⊥
 some-text text piece rest are none = let empty : pieces text ≡ [] = rw none in absurd (cc)
 
-whole-done : (before ended : Bool) (done text line rest : List ℕ) → IsTrue (is_whole done || before) → (before ≡ true → text ≡ []) → IsFirstLine ended line text rest → IsTrue (is_whole done)
+whole-done : (before ended : Bool) (done text line rest : List ℕ) → IsTrue (is_whole done || before)
+    → (before ≡ true → text ≡ []) → IsFirstLine ended line text rest → IsTrue (is_whole done)
 whole-done true ended done text line rest whole spent first = absurd (some-text text first.piece rest first.pieces_are (spent refl))
 whole-done false ended done text line rest whole spent first = go (is_whole done) whole
   where
@@ -68,17 +72,23 @@ served_next held a b history history' before ended bytes text rest line served s
     record {
       done = served.done ++ first.piece;
       so_far = done_next before ended bytes served.done text line rest served.so_far first;
-      history_is = after ∙ (ap (λ h. after_saying h (saying_of line)) served.history_is ∙ (ap (λ l. after_saying (history_of served.done) (saying_of l)) first.line_is ∙ sym (history-next served.done first.piece whole alone)));
-      appended = rw (answers-next served.done first.piece whole alone, ← first.line_is, ← served.history_is) (Appends-trans held a b (answers_of served.done) (reply_text history (saying_of line)) served.appended appended);
+      history_is = after ∙ (ap (λ h. after_saying h (saying_of line)) served.history_is
+          ∙ (ap (λ l. after_saying (history_of served.done) (saying_of l)) first.line_is
+          ∙ sym (history-next served.done first.piece whole alone)));
+      appended = rw (answers-next served.done first.piece whole alone, ← first.line_is, ← served.history_is)
+          (Appends-trans held a b (answers_of served.done)
+          (reply_text history (saying_of line)) served.appended appended);
     }
 
 -- nothing is ahead where the end was seen and nothing waits
-pub ahead_spent : (ended : Bool) (waiting : List ℕ) (left : Option (List ℕ)) → (IsTrue ended → waiting ≡ []) → ended ≡ true → IsAtEnd (joined ended waiting left)
+pub ahead_spent : (ended : Bool) (waiting : List ℕ) (left : Option (List ℕ)) → (IsTrue ended → waiting ≡ [])
+    → ended ≡ true → IsAtEnd (joined ended waiting left)
 ahead_spent true waiting left spent is = spent refl
 ahead_spent false waiting left spent is = cc
 
 -- the same of bytes that are known
-pub served_on : (held a b : Option (List ℕ)) (history history' : History) (before ended : Bool) (start text rest : Option (List ℕ)) (read : Result Saying AllocError) →
+pub served_on : (held a b : Option (List ℕ)) (history history' : History) (before ended : Bool)
+    (start text rest : Option (List ℕ)) (read : Result Saying AllocError) →
     Between (Served held a history before) start text → (before ≡ true → IsAtEnd text) → Between (Says (Some read) ended) text rest → IsOk read →
     IfOk read (λ saying. Appends a b (reply_text history (saying_view saying))) → IfOk read (λ saying. history' ≡ after_saying history (saying_view saying)) →
     Between (Served held b history' ended) start rest
@@ -105,7 +115,8 @@ regroup a b c d = rw (append_assoc a b (c ++ d), append_assoc a (b ++ c) d, appe
 
 -- where the end was seen, a proper part of the output was written
 stop-at_end : (held a b : Option (List ℕ)) (history : History) (before ended : Bool) (bytes text line left : List ℕ) →
-    Served held a history before bytes text → (before ≡ true → text ≡ []) → IsFirstLine ended line text [] → WritesSome a b (reply_text history (saying_of line)) → left ≡ [] →
+    Served held a history before bytes text → (before ≡ true → text ≡ []) → IsFirstLine ended line text []
+    → WritesSome a b (reply_text history (saying_of line)) → left ≡ [] →
     WritesLess held b bytes left
 stop-at_end held a b history before ended bytes text line left served spent first some none =
     let whole = whole-done before ended served.done text line [] served.so_far.whole spent first in
@@ -120,14 +131,16 @@ stop-at_end held a b history before ended bytes text line left served spent firs
         more = some.more ++ closing_text (history_of bytes);
         appended = Appends-trans held a b (answers_of served.done) some.written served.appended some.appended;
         part = regroup (answers_of served.done) some.written some.more (closing_text (history_of bytes))
-            ∙ ap (λ text. text ++ closing_text (history_of bytes)) (ap (λ text. answers_of served.done ++ text) reply ∙ (sym (answers-next served.done first.piece whole alone) ∙ ap answers_of (sym all)));
+            ∙ ap (λ text. text ++ closing_text (history_of bytes)) (ap (λ text. answers_of served.done ++ text) reply
+            ∙ (sym (answers-next served.done first.piece whole alone) ∙ ap answers_of (sym all)));
         some = some_closing some.more (history_of bytes);
       };
     }
 
 -- where it wasn't, a front part of the answers to the lines whose line feed was taken
 stop-within : (held a b : Option (List ℕ)) (history : History) (before : Bool) (bytes text line waiting left : List ℕ) →
-    Served held a history before bytes text → (before ≡ true → text ≡ []) → IsFirstLine false line text (waiting ++ left) → WritesSome a b (reply_text history (saying_of line)) →
+    Served held a history before bytes text → (before ≡ true → text ≡ [])
+    → IsFirstLine false line text (waiting ++ left) → WritesSome a b (reply_text history (saying_of line)) →
     AnswersSome held b bytes left
 stop-within held a b history before bytes text line waiting left served spent first some =
     let whole = whole-done before false served.done text line (waiting ++ left) served.so_far.whole spent first in
@@ -140,7 +153,9 @@ stop-within held a b history before bytes text line waiting left served spent fi
     record {
       whole = (served.done ++ first.piece) ++ rest.0;
       part = rest.1;
-      cut = served.so_far.cut ∙ (ap (λ tail. served.done ++ tail) (first.cut ∙ ap (λ tail. first.piece ++ (tail ++ left)) rest.2) ∙ parts served.done first.piece rest.0 rest.1 left);
+      cut = served.so_far.cut
+          ∙ (ap (λ tail. served.done ++ tail) (first.cut ∙ ap (λ tail. first.piece ++ (tail ++ left)) rest.2)
+          ∙ parts served.done first.piece rest.0 rest.1 left);
       whole_lines = whole-append (served.done ++ first.piece) rest.0 one rest.3;
       no_feed = rest.4;
       written = answers_of served.done ++ some.written;
@@ -159,7 +174,9 @@ stop-within held a b history before bytes text line waiting left served spent fi
     parts a b c d e = rw (append_assoc ((a ++ b) ++ c) d e, append_assoc (a ++ b) c (d ++ e), append_assoc a b (c ++ (d ++ e)), append_assoc c d e)
 
 -- the answer to a line was not written whole
-pub stopped_answer : (held a b : Option (List ℕ)) (history : History) (before ended : Bool) (start text : Option (List ℕ)) (waiting : List ℕ) (left : Option (List ℕ)) (taken : ℕ) (read : Result Saying AllocError) →
+pub stopped_answer : (held a b : Option (List ℕ)) (history : History) (before ended : Bool)
+    (start text : Option (List ℕ)) (waiting : List ℕ) (left : Option (List ℕ)) (taken : ℕ)
+    (read : Result Saying AllocError) →
     Between (Served held a history before) start text → (before ≡ true → IsAtEnd text) → Between (Says (Some read) ended) text (joined ended waiting left) →
     Between (Counts 0 taken) start left → (IsTrue ended → waiting ≡ []) → (IsTrue ended → IsAtEnd left) →
     ((said : lines.Saying) → IfOk read (λ saying. saying_view saying ≡ said) → WritesSome a b (reply_text history said)) →
@@ -178,7 +195,8 @@ either-true false true unended either = absurd (cc)
 either-true false false unended either = either
 
 -- the source failed, or gave too much, in the middle of a line
-taken-exactly : (held a : Option (List ℕ)) (history : History) (before : Bool) (bytes text left : List ℕ) → Served held a history before bytes text → before ≡ false →
+taken-exactly : (held a : Option (List ℕ)) (history : History) (before : Bool) (bytes text left : List ℕ)
+    → Served held a history before bytes text → before ≡ false →
     Passes text left → AnswersTaken held a bytes left
 taken-exactly held a history before bytes text left served unended passes = record {
   whole = served.done;
@@ -196,7 +214,11 @@ stopped_read held a history before start text left left' taken Read served unend
     (λ bytes rest after here passes. taken-exactly held a history before bytes rest after here unended passes) served (stops.read refl).1
 stopped_read held a history before start text left left' taken TooMuch served unended stops =
     between_trans (Served held a history before) PassesMore (Leaves StopTooMuch held a) start text left'
-    (λ bytes rest after here passes. (passes.last, taken-exactly held a history before bytes rest (passes.last ∷ after) here unended passes.passes)) served (stops.too_much refl).1
+    (λ bytes rest after here passes. (
+      passes.last,
+      taken-exactly held a history before bytes rest
+          (passes.last ∷ after) here unended passes.passes,
+    )) served (stops.too_much refl).1
 
 -- the input was read to its end
 pub served_all : (held a : Option (List ℕ)) (history : History) (before ended : Bool) (start text rest left : Option (List ℕ)) (taken : ℕ) →
@@ -211,13 +233,15 @@ served_all held a history before ended (Some bytes) (Some text) (Some rest) (Som
     record { read = at_end; history_is = served.history_is ∙ ap history_of (sym all); written = rw all served.appended }
 
 -- nothing was answered yet
-pub served_none : (held start : Option (List ℕ)) (ended : Bool) (waiting : List ℕ) → waiting ≡ [] → ended ≡ false → Between (Served held held [] ended) start (joined ended waiting start)
+pub served_none : (held start : Option (List ℕ)) (ended : Bool) (waiting : List ℕ) → waiting ≡ [] → ended ≡ false
+    → Between (Served held held [] ended) start (joined ended waiting start)
 served_none held None ended waiting none unended = tt
 served_none held (Some bytes) ended waiting none unended =
     rw (none, unended) (record { done = []; so_far = done_none false bytes refl; history_is = refl; appended = Appends-none held held (Keeps-refl held) })
 
 -- all bytes were counted
-pub fits_in_limit : (start left : Option (List ℕ)) (taken : ℕ) → Between (Counts 0 taken) start left → IsAtEnd left → taken ≤ 268435456 → IfSome start (λ bytes. length bytes ≤ 268435456)
+pub fits_in_limit : (start left : Option (List ℕ)) (taken : ℕ) → Between (Counts 0 taken) start left → IsAtEnd left
+    → taken ≤ 268435456 → IfSome start (λ bytes. length bytes ≤ 268435456)
 fits_in_limit None left taken counted at_end limit = tt
 fits_in_limit (Some bytes) None taken counted at_end limit = absurd counted
 fits_in_limit (Some bytes) (Some left) taken counted at_end limit = let none : length left ≡ 0 = rw at_end refl in omega arith
@@ -228,7 +252,8 @@ over_in_limit (Some bytes) None counted = absurd counted
 over_in_limit (Some bytes) (Some left) counted = omega arith
 
 -- too much input was counted
-pub too_much_counted : (start text left left' : Option (List ℕ)) (taken : ℕ) (fault : IoFault) → Between (Counts 0 taken) start left → Stops taken text left left' fault →
+pub too_much_counted : (start text left left' : Option (List ℕ)) (taken : ℕ) (fault : IoFault)
+    → Between (Counts 0 taken) start left → Stops taken text left left' fault →
     stop_of fault ≡ StopTooMuch → IfSome start (λ bytes. 268435456 < length bytes)
 too_much_counted start text left left' taken Read counted stops is = cc
 too_much_counted start text left left' taken TooMuch counted stops is =
@@ -266,10 +291,15 @@ pub ended_well : (result : Result (Unit {0}) Stop) (held a b start left : Option
 ended_well (Ok value) held a b start left history answers appended =
     between_weaker (Answered held a history) (Writes output_of held b) start left
     (λ bytes rest done.
-    record { read = done.read; written = Appends-trans held a b (answers_of bytes) (closing_text (history_of bytes)) done.written (rw done.history_is at appended) }) answers
+    record {
+      read = done.read;
+      written = Appends-trans held a b (answers_of bytes) (closing_text (history_of bytes)) done.written
+          (rw done.history_is at appended);
+    }) answers
 ended_well (Err stop) held a b start left history answers appended = tt
 
-end-broken : (held a b start left : Option (List ℕ)) (history : History) → Between (Answered held a history) start left → WritesPart a b (closing_text history) →
+end-broken : (held a b start left : Option (List ℕ)) (history : History) → Between (Answered held a history) start left
+    → WritesPart a b (closing_text history) →
     Between (λ bytes rest. AnswersSome held b bytes rest ⊎ WritesLess held b bytes rest) start left
 end-broken held a b start left history answers part =
     between_weaker (Answered held a history) (λ bytes rest. AnswersSome held b bytes rest ⊎ WritesLess held b bytes rest) start left
@@ -286,9 +316,12 @@ end-broken held a b start left history answers part =
 
 -- the closing lines were not written whole
 pub end_stopped : (result : Result (Unit {0}) Stop) (held a b start left : Option (List ℕ)) (history : History) → Between (Answered held a history) start left →
-    OnErr result (WritesPart a b (closing_text history)) → IfErr result (λ stop. (stop ≡ StopRead → ⊥) × (stop ≡ StopTooMuch → ⊥)) → IfErr result (λ stop. Between (Leaves stop held b) start left)
+    OnErr result (WritesPart a b (closing_text history))
+    → IfErr result (λ stop. (stop ≡ StopRead → ⊥) × (stop ≡ StopTooMuch → ⊥))
+    → IfErr result (λ stop. Between (Leaves stop held b) start left)
 end_stopped (Ok value) held a b start left history answers part only = tt
-end_stopped (Err stop) held a b start left history answers part only = answer_stops stop held b start left only.0 only.1 (end-broken held a b start left history answers part)
+end_stopped (Err stop) held a b start left history answers part only =
+    answer_stops stop held b start left only.0 only.1 (end-broken held a b start left history answers part)
 
 -- nothing was read or written
 pub untouched : (held start : Option (List ℕ)) → Between (LeavesPart held held) start start

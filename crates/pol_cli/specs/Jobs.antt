@@ -15,4 +15,5 @@ IsTooMuch left = IfSome left (λ bytes. 268435456 < length bytes)
 -- with no fault of source or sink and an input that fits, the status is Good or OutOfMemory
 abbrev pub Completes : Option (List ℕ) → ℕ → ℕ → ℕ → ℕ → Status → Type 0
 Completes left source source' sink sink' status =
-    ¬ Rose source source' → ¬ Rose sink sink' → IfSome left (λ bytes. length bytes ≤ 268435456 → (status ≡ Good) ⊎ (status ≡ OutOfMemory))
+    ¬ Rose source source' → ¬ Rose sink sink'
+    → IfSome left (λ bytes. length bytes ≤ 268435456 → (status ≡ Good) ⊎ (status ≡ OutOfMemory))

@@ -53,7 +53,8 @@ pub record WritesSome (held held' : Option (List ℕ)) (all : List ℕ) : Type 0
 -- the next line, as it was read where there was memory; or the end
 abbrev pub Says : Option (Result Saying AllocError) → Bool → List ℕ → List ℕ → Type 0
 Says None ended text rest = (text ≡ []) × (rest ≡ [])
-Says (Some read) ended text rest = (line : List ℕ) × IsFirstLine ended line text rest × IfOk read (λ saying. saying_view saying ≡ saying_of line)
+Says (Some read) ended text rest =
+    (line : List ℕ) × IsFirstLine ended line text rest × IfOk read (λ saying. saying_view saying ≡ saying_of line)
 
 -- nothing was read yet
 pub record IsFresh (lines : Reading) : Type 0 where
@@ -84,6 +85,10 @@ pub record AnswersTaken (held held' : Option (List ℕ)) (bytes left : List ℕ)
   pub no_feed : IsTrue (has_no_feed part)
   pub written : Appends held held' (answers_of whole)
 
+-- the same, where one byte more was taken than an input may have
+abbrev pub AnswersTakenAndMore : Option (List ℕ) → Option (List ℕ) → List ℕ → List ℕ → Type 0
+AnswersTakenAndMore held held' bytes left = (last : ℕ) × AnswersTaken held held' bytes (last ∷ left)
+
 -- what was written is a front part of those lines
 pub record AnswersSome (held held' : Option (List ℕ)) (bytes left : List ℕ) : Type 0 where
   pub whole : List ℕ
@@ -109,7 +114,7 @@ LeavesPart held held' bytes left = AnswersSome held held' bytes left ⊎ WritesL
 -- what was written where the replay stopped for this cause
 abbrev pub Leaves : Stop → Option (List ℕ) → Option (List ℕ) → List ℕ → List ℕ → Type 0
 Leaves Read held held' bytes left = AnswersTaken held held' bytes left
-Leaves TooMuch held held' bytes left = (last : ℕ) × AnswersTaken held held' bytes (last ∷ left)
+Leaves TooMuch held held' bytes left = AnswersTakenAndMore held held' bytes left
 Leaves Write held held' bytes left = LeavesPart held held' bytes left
 Leaves Memory held held' bytes left = LeavesPart held held' bytes left
 

@@ -1,5 +1,5 @@
 //! Answering a journal line by line.
-ghost use Rattle.std.specs.Prelude.{◌≡◌, ◌≤◌, ◌<◌, ℕ, [], length, take, true, false, IsTrue, IsOk, IfSome, IfNone, OnSome, IfOk, IfErr, OnOk, OnErr};
+ghost use Rattle.std.specs.Prelude.{◌≡◌, ◌≤◌, ◌<◌, ℕ, [], take, true, false, IsTrue, IsOk, IfSome, IfNone, OnSome, IfOk, IfErr, OnOk, OnErr};
 ghost use Rattle.std.specs.Io.KnownBytes.{Appends, Keeps, IsAtEnd};
 ghost use Rattle.pol_events.specs.Events.{event_view, history_view};
 ghost use Rattle.pol_events.specs.Orderly.{is_orderly};
@@ -12,6 +12,7 @@ ghost use Rattle.pol_io.specs.Faults.{Stops};
 ghost use Rattle.pol_io.specs.Reading.{ahead, given};
 ghost use Rattle.pol_io.specs.Causes.{HasCauseOf};
 ghost use Rattle.pol_cli.specs.Sayings.{IsOrderly, saying_view, reply_text, after_saying};
+ghost use Rattle.pol_cli.specs.Jobs.{Fits, IsTooMuch};
 ghost use Rattle.pol_cli.specs.Served.{Answered, IsFresh, Says, Moves, Leaves, WritesSome, Writes};
 
 use crate::closing::close;
@@ -27,7 +28,8 @@ use std::alloc::{AllocError, Global};
 fn respond(plant: &mut Plant, event: Event) -> Result<Answer, AllocError>
     requires { IsTrue (is_orderly (event_view event)) }
     ensures answer { IfOk result (λ answer. answer ≡ answer_of (history_view plant.old) (event_view event)) }
-    ensures history { OnOk result (history_view plant.new ≡ recorded (entry_of (history_view plant.old) (event_view event)) (history_view plant.old)) }
+    ensures history { OnOk result (history_view plant.new
+        ≡ recorded (entry_of (history_view plant.old) (event_view event)) (history_view plant.old)) }
 {
     match plant.apply(event) {
         Ok(answer) => Ok(answer),
@@ -43,9 +45,12 @@ fn answer_event<K: Sink>(
     event: Event,
 ) -> Result<(), Stop>
     requires { IsTrue (is_orderly (event_view event)) }
-    ensures line { OnOk result (Appends (K.held sink.old) (K.held sink.new) (answer_text (answer_of (history_view plant.old) (event_view event)))) }
-    ensures history { OnOk result (history_view plant.new ≡ recorded (entry_of (history_view plant.old) (event_view event)) (history_view plant.old)) }
-    ensures part { OnErr result (WritesSome (K.held sink.old) (K.held sink.new) (answer_text (answer_of (history_view plant.old) (event_view event)))) }
+    ensures line { OnOk result (Appends (K.held sink.old) (K.held sink.new)
+        (answer_text (answer_of (history_view plant.old) (event_view event)))) }
+    ensures history { OnOk result (history_view plant.new
+        ≡ recorded (entry_of (history_view plant.old) (event_view event)) (history_view plant.old)) }
+    ensures part { OnErr result (WritesSome (K.held sink.old) (K.held sink.new)
+        (answer_text (answer_of (history_view plant.old) (event_view event)))) }
     ensures cause { HasCauseOf Stop.Write (K.faults sink.old) (K.faults sink.new) result }
     ensures only { IfErr result (λ stop. (stop ≡ Stop.Read → ⊥) × (stop ≡ Stop.TooMuch → ⊥)) }
 {
@@ -63,10 +68,13 @@ fn answer<K: Sink>(
     read: Result<Saying, AllocError>,
 ) -> Result<(), Stop>
     requires { IfOk read IsOrderly }
-    ensures line { OnOk result (IfOk read (λ saying. Appends (K.held sink.old) (K.held sink.new) (reply_text (history_view plant.old) (saying_view saying)))) }
-    ensures history { OnOk result (IfOk read (λ saying. history_view plant.new ≡ after_saying (history_view plant.old) (saying_view saying))) }
+    ensures line { OnOk result (IfOk read (λ saying.
+        Appends (K.held sink.old) (K.held sink.new) (reply_text (history_view plant.old) (saying_view saying)))) }
+    ensures history { OnOk result (IfOk read (λ saying.
+        history_view plant.new ≡ after_saying (history_view plant.old) (saying_view saying))) }
     ensures was_read { OnOk result (IsOk read) }
-    ensures part { OnErr result ((said : Said) → IfOk read (λ saying. saying_view saying ≡ said) → WritesSome (K.held sink.old) (K.held sink.new) (reply_text (history_view plant.old) said)) }
+    ensures part { OnErr result ((said : Said) → IfOk read (λ saying. saying_view saying ≡ said)
+        → WritesSome (K.held sink.old) (K.held sink.new) (reply_text (history_view plant.old) said)) }
     ensures cause { HasCauseOf Stop.Write (K.faults sink.old) (K.faults sink.new) result }
     ensures only { IfErr result (λ stop. (stop ≡ Stop.Read → ⊥) × (stop ≡ Stop.TooMuch → ⊥)) }
 {
@@ -85,12 +93,14 @@ fn next_saying<S: Source>(
     source: &mut S,
 ) -> Result<Option<Result<Saying, AllocError>>, IoFault>
     requires { IsTrue lines.old.sound }
-    ensures says { IfOk result (λ said. Between (Says said lines.new.ended) (ahead lines.old (S.left source.old)) (ahead lines.new (S.left source.new))) }
+    ensures says { IfOk result (λ said. Between (Says said lines.new.ended)
+        (ahead lines.old (S.left source.old)) (ahead lines.new (S.left source.new))) }
     ensures orderly { IfOk result (λ said. IfSome said (λ read. IfOk read IsOrderly)) }
     ensures gives { IfOk result (λ said. OnSome said (given lines.old < given lines.new)) }
     ensures moves { OnOk result (Moves (S.left source.old) (S.left source.new) lines.old lines.new) }
     ensures ends { IfOk result (λ said. IfNone said (IsTrue lines.new.ended)) }
-    ensures fault { IfErr result (λ fault. Stops lines.old.taken (ahead lines.old (S.left source.old)) (S.left source.old) (S.left source.new) fault) }
+    ensures fault { IfErr result (λ fault.
+        Stops lines.old.taken (ahead lines.old (S.left source.old)) (S.left source.old) (S.left source.new) fault) }
     ensures open_end { OnErr result (lines.old.ended ≡ false) }
     ensures cause { HasCauseOf IoFault.Read (S.faults source.old) (S.faults source.new) result }
 {
@@ -112,10 +122,12 @@ fn answer_all<S: Source, K: Sink>(
 ) -> Result<(), Stop>
     requires fresh { IsFresh lines.old }
     requires empty { plant.old ≡ [] }
-    ensures answers { OnOk result (Between (Answered (K.held sink.old) (K.held sink.new) (history_view plant.new)) (S.left source.old) (S.left source.new)) }
-    ensures leaves { IfErr result (λ stop. Between (Leaves stop (K.held sink.old) (K.held sink.new)) (S.left source.old) (S.left source.new)) }
-    ensures fits { OnOk result (IfSome (S.left source.old) (λ bytes. length bytes ≤ 268435456)) }
-    ensures too_much { IfErr result (λ stop. stop ≡ Stop.TooMuch → IfSome (S.left source.old) (λ bytes. 268435456 < length bytes)) }
+    ensures answers { OnOk result (Between (Answered (K.held sink.old) (K.held sink.new) (history_view plant.new))
+        (S.left source.old) (S.left source.new)) }
+    ensures leaves { IfErr result (λ stop. Between (Leaves stop (K.held sink.old) (K.held sink.new))
+        (S.left source.old) (S.left source.new)) }
+    ensures fits { OnOk result (Fits (S.left source.old)) }
+    ensures too_much { IfErr result (λ stop. stop ≡ Stop.TooMuch → IsTooMuch (S.left source.old)) }
     ensures read_cause { HasCauseOf Stop.Read (S.faults source.old) (S.faults source.new) result }
     ensures write_cause { HasCauseOf Stop.Write (K.faults sink.old) (K.faults sink.new) result }
 {
@@ -127,10 +139,12 @@ fn answer_all<S: Source, K: Sink>(
 
 /// Answers each line of the source, and then writes the line of each batch and the end line.
 pub fn replay<S: Source, K: Sink>(alloc: Global, source: &mut S, sink: &mut K) -> Result<(), Stop>
-    ensures output { OnOk result (Between (Writes output_of (K.held sink.old) (K.held sink.new)) (S.left source.old) (S.left source.new)) }
-    ensures leaves { IfErr result (λ stop. Between (Leaves stop (K.held sink.old) (K.held sink.new)) (S.left source.old) (S.left source.new)) }
-    ensures fits { OnOk result (IfSome (S.left source.old) (λ bytes. length bytes ≤ 268435456)) }
-    ensures too_much { IfErr result (λ stop. stop ≡ Stop.TooMuch → IfSome (S.left source.old) (λ bytes. 268435456 < length bytes)) }
+    ensures output { OnOk result (Between (Writes output_of (K.held sink.old) (K.held sink.new))
+        (S.left source.old) (S.left source.new)) }
+    ensures leaves { IfErr result (λ stop. Between (Leaves stop (K.held sink.old) (K.held sink.new))
+        (S.left source.old) (S.left source.new)) }
+    ensures fits { OnOk result (Fits (S.left source.old)) }
+    ensures too_much { IfErr result (λ stop. stop ≡ Stop.TooMuch → IsTooMuch (S.left source.old)) }
     ensures read_cause { HasCauseOf Stop.Read (S.faults source.old) (S.faults source.new) result }
     ensures write_cause { HasCauseOf Stop.Write (K.faults sink.old) (K.faults sink.new) result }
 {

@@ -9,7 +9,7 @@ ghost use Rattle.pol_io.specs.Known.{Between};
 ghost use Rattle.pol_io.specs.Causes.{Rose};
 ghost use Rattle.pol_cli.specs.Legal.{InputsAreLegal};
 ghost use Rattle.pol_cli.specs.Jobs.{Fits, IsTooMuch, Completes};
-ghost use Rattle.pol_cli.specs.Served.{AnswersTaken, LeavesPart, Writes};
+ghost use Rattle.pol_cli.specs.Served.{AnswersTaken, AnswersTakenAndMore, LeavesPart, Writes};
 
 use crate::legal::inputs_are_legal;
 use crate::replay::replay;
@@ -31,7 +31,8 @@ pub fn serve<S: Source, K: Sink>(
     sink: &mut K,
 ) -> Status
     // the journal theorem
-    ensures output { result ≡ Status.Good → Between (Writes output_of (K.held sink.old) (K.held sink.new)) (S.left source.old) (S.left source.new) }
+    ensures output { result ≡ Status.Good
+        → Between (Writes output_of (K.held sink.old) (K.held sink.new)) (S.left source.old) (S.left source.new) }
     ensures legal { InputsAreLegal }
     ensures permitted { CommandsArePermitted }
     ensures paths { ReportsArePaths }
@@ -45,11 +46,15 @@ pub fn serve<S: Source, K: Sink>(
     ensures written_well { result ≢ Status.WriteFault → K.faults sink.new ≡ K.faults sink.old }
     ensures too_much { result ≡ Status.TooMuchInput → IsTooMuch (S.left source.old) }
     ensures fits { result ≡ Status.Good → Fits (S.left source.old) }
-    ensures complete { Completes (S.left source.old) (S.faults source.old) (S.faults source.new) (K.faults sink.old) (K.faults sink.new) result }
+    ensures complete { Completes (S.left source.old) (S.faults source.old) (S.faults source.new)
+        (K.faults sink.old) (K.faults sink.new) result }
     // what was written before a fault
-    ensures taken { result ≡ Status.ReadFault → Between (AnswersTaken (K.held sink.old) (K.held sink.new)) (S.left source.old) (S.left source.new) }
-    ensures taken_and_more { result ≡ Status.TooMuchInput → Between (λ bytes left. (last : ℕ) × AnswersTaken (K.held sink.old) (K.held sink.new) bytes (last ∷ left)) (S.left source.old) (S.left source.new) }
-    ensures part { (result ≡ Status.WriteFault) ⊎ (result ≡ Status.OutOfMemory) → Between (LeavesPart (K.held sink.old) (K.held sink.new)) (S.left source.old) (S.left source.new) }
+    ensures taken { result ≡ Status.ReadFault
+        → Between (AnswersTaken (K.held sink.old) (K.held sink.new)) (S.left source.old) (S.left source.new) }
+    ensures taken_and_more { result ≡ Status.TooMuchInput
+        → Between (AnswersTakenAndMore (K.held sink.old) (K.held sink.new)) (S.left source.old) (S.left source.new) }
+    ensures part { (result ≡ Status.WriteFault) ⊎ (result ≡ Status.OutOfMemory)
+        → Between (LeavesPart (K.held sink.old) (K.held sink.new)) (S.left source.old) (S.left source.new) }
 {
     inputs_are_legal();
     commands_are_permitted();

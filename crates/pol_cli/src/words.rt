@@ -11,7 +11,7 @@ ghost use Rattle.pol_words.specs.Words.{Means, texts_of};
 ghost use Rattle.pol_words.specs.declared.Task.{Task};
 ghost use Rattle.pol_cli.specs.Legal.{InputsAreLegal};
 ghost use Rattle.pol_cli.specs.Jobs.{Fits, IsTooMuch, Completes};
-ghost use Rattle.pol_cli.specs.Served.{AnswersTaken, LeavesPart, Writes};
+ghost use Rattle.pol_cli.specs.Served.{AnswersTaken, AnswersTakenAndMore, LeavesPart, Writes};
 
 use crate::legal::inputs_are_legal;
 use crate::serial::serve;
@@ -32,7 +32,8 @@ pub fn top<S: Source, K: Sink>(
     sink: &mut K,
 ) -> Status
     // the journal theorem
-    ensures output { result ≡ Status.Good → Between (Writes output_of (K.held sink.old) (K.held sink.new)) (S.left source.old) (S.left source.new) }
+    ensures output { result ≡ Status.Good
+        → Between (Writes output_of (K.held sink.old) (K.held sink.new)) (S.left source.old) (S.left source.new) }
     ensures legal { InputsAreLegal }
     ensures permitted { CommandsArePermitted }
     ensures paths { ReportsArePaths }
@@ -41,7 +42,8 @@ pub fn top<S: Source, K: Sink>(
     // words
     ensures meant { result ≡ Status.Good → (task : Task) × Means (texts_of words.now) task }
     ensures bad_words { result ≡ Status.BadWords → (task : Task) → Means (texts_of words.now) task → ⊥ }
-    ensures refused { ((task : Task) → Means (texts_of words.now) task → ⊥) → (result ≡ Status.BadWords) ⊎ (result ≡ Status.OutOfMemory) }
+    ensures refused { ((task : Task) → Means (texts_of words.now) task → ⊥)
+        → (result ≡ Status.BadWords) ⊎ (result ≡ Status.OutOfMemory) }
     ensures untouched { result ≡ Status.BadWords → (source.new ≡ source.old) × (sink.new ≡ sink.old) }
     // causes
     ensures read_fault { result ≡ Status.ReadFault → Rose (S.faults source.old) (S.faults source.new) }
@@ -50,11 +52,16 @@ pub fn top<S: Source, K: Sink>(
     ensures written_well { result ≢ Status.WriteFault → K.faults sink.new ≡ K.faults sink.old }
     ensures too_much { result ≡ Status.TooMuchInput → IsTooMuch (S.left source.old) }
     ensures fits { result ≡ Status.Good → Fits (S.left source.old) }
-    ensures complete { result ≢ Status.BadWords → Completes (S.left source.old) (S.faults source.old) (S.faults source.new) (K.faults sink.old) (K.faults sink.new) result }
+    ensures complete { result ≢ Status.BadWords
+        → Completes (S.left source.old) (S.faults source.old) (S.faults source.new)
+        (K.faults sink.old) (K.faults sink.new) result }
     // what was written before a fault
-    ensures taken { result ≡ Status.ReadFault → Between (AnswersTaken (K.held sink.old) (K.held sink.new)) (S.left source.old) (S.left source.new) }
-    ensures taken_and_more { result ≡ Status.TooMuchInput → Between (λ bytes left. (last : ℕ) × AnswersTaken (K.held sink.old) (K.held sink.new) bytes (last ∷ left)) (S.left source.old) (S.left source.new) }
-    ensures part { (result ≡ Status.WriteFault) ⊎ (result ≡ Status.OutOfMemory) → Between (LeavesPart (K.held sink.old) (K.held sink.new)) (S.left source.old) (S.left source.new) }
+    ensures taken { result ≡ Status.ReadFault
+        → Between (AnswersTaken (K.held sink.old) (K.held sink.new)) (S.left source.old) (S.left source.new) }
+    ensures taken_and_more { result ≡ Status.TooMuchInput
+        → Between (AnswersTakenAndMore (K.held sink.old) (K.held sink.new)) (S.left source.old) (S.left source.new) }
+    ensures part { (result ≡ Status.WriteFault) ⊎ (result ≡ Status.OutOfMemory)
+        → Between (LeavesPart (K.held sink.old) (K.held sink.new)) (S.left source.old) (S.left source.new) }
 {
     inputs_are_legal();
     commands_are_permitted();

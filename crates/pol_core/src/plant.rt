@@ -80,7 +80,8 @@ impl Plant {
     pub fn apply(&mut self, event: Event) -> Result<Answer, (Event, AllocError)>
         requires orderly { IsTrue (is_orderly (event_view event)) }
         ensures answer { IfOk result (λ answer. answer ≡ answer_of (history_view self.old) (event_view event)) }
-        ensures history { OnOk result (history_view self.new ≡ recorded (entry_of (history_view self.old) (event_view event)) (history_view self.old)) }
+        ensures history { OnOk result (history_view self.new
+            ≡ recorded (entry_of (history_view self.old) (event_view event)) (history_view self.old)) }
         ensures unchanged { IfErr result (λ back. (self.new ≡ self.old) × (back.0 ≡ event)) }
     {
         if self.history.len() >= LONGEST_HISTORY {

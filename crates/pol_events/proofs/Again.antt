@@ -102,10 +102,13 @@ origin_again External = refl
 plug_again : (at : ℕ) (tag : List ℕ) (description : DescriptionForm) → is_stamped at tag ≡ true → IsDescription description
     → event_in (written_plug at tag (written_description description)) ≡ Ok (plug at tag description)
 unfolding event_in plug_in written_plug
-plug_again at tag description held sound = let stamped = and_parts (is_between 0 greatest_u64 at) (is_name tag) held in rw (stamped.0, stamped.1, description_again description sound) refl
+plug_again at tag description held sound = let stamped =
+    and_parts (is_between 0 greatest_u64 at) (is_name tag) held in rw
+    (stamped.0, stamped.1, description_again description sound) refl
 
 -- a written event that names a tag alone is read back by its form
-tag_again : (word : List ℕ) (event : ℕ → List ℕ → EventForm) (at : ℕ) (tag : List ℕ) → is_stamped at tag ≡ true → tag_in event (written_tag word at tag) ≡ Ok (event at tag)
+tag_again : (word : List ℕ) (event : ℕ → List ℕ → EventForm) (at : ℕ) (tag : List ℕ) → is_stamped at tag ≡ true
+    → tag_in event (written_tag word at tag) ≡ Ok (event at tag)
 unfolding tag_in written_tag
 tag_again word event at tag held = let stamped = and_parts (is_between 0 greatest_u64 at) (is_name tag) held in rw (stamped.0, stamped.1) refl
 
@@ -140,7 +143,8 @@ desk_again at tag service order held =
     rw (stamped.0, stamped.1, parts.1, command_again order) refl
 
 -- a written end of an exchange is read back
-exchange_end_again : (at : ℕ) (tag : List ℕ) (ticket : ℕ) (description : DescriptionForm) → (is_stamped at tag && is_between 0 greatest_u32 ticket) ≡ true → IsDescription description
+exchange_end_again : (at : ℕ) (tag : List ℕ) (ticket : ℕ) (description : DescriptionForm)
+    → (is_stamped at tag && is_between 0 greatest_u32 ticket) ≡ true → IsDescription description
     → event_in (written_exchange_end at tag ticket (written_description description)) ≡ Ok (exchange_end at tag ticket description)
 unfolding event_in exchange_end_in written_exchange_end
 exchange_end_again at tag ticket description held sound =
@@ -188,7 +192,8 @@ each_again (bind ∷ binds) held =
     rw (named.0, named.1, each_again binds parts.1) refl
 
 -- written binds are read back
-binds_again : (binds : List Bind) → (nat_le (length binds) 64 && rise binds) ≡ true → list_all is_held_bind binds ≡ true → binds_of (written_binds binds) ≡ Ok binds
+binds_again : (binds : List Bind) → (nat_le (length binds) 64 && rise binds) ≡ true → list_all is_held_bind binds ≡ true
+    → binds_of (written_binds binds) ≡ Ok binds
 unfolding binds_of written_binds
 binds_again binds orderly held =
     let parts = and_parts (nat_le (length binds) 64) (rise binds) orderly in
@@ -205,7 +210,8 @@ start_again at batch named binds held orderly =
     rw (stamped.0, stamped.1, bound.0, binds_again binds orderly bound.1) refl
 
 -- a written event that names a batch alone is read back by its form
-batch_again : (word : List ℕ) (event : ℕ → List ℕ → EventForm) (at : ℕ) (batch : List ℕ) → is_stamped at batch ≡ true → batch_in event (written_batch word at batch) ≡ Ok (event at batch)
+batch_again : (word : List ℕ) (event : ℕ → List ℕ → EventForm) (at : ℕ) (batch : List ℕ) → is_stamped at batch ≡ true
+    → batch_in event (written_batch word at batch) ≡ Ok (event at batch)
 unfolding batch_in written_batch
 batch_again word event at batch held = let stamped = and_parts (is_between 0 greatest_u64 at) (is_name batch) held in rw (stamped.0, stamped.1) refl
 
@@ -221,13 +227,16 @@ faultless (recipe at name chart) orderly = is_none-none (chart_fault chart) (and
 faultless _ orderly = refl
 
 -- a written event is read back
-pub event_again : (event : Event) → is_held (event_view event) ≡ true → is_orderly (event_view event) ≡ true → event_in (written_event (event_view event)) ≡ Ok (event_view event)
+pub event_again : (event : Event) → is_held (event_view event) ≡ true → is_orderly (event_view event) ≡ true
+    → event_in (written_event (event_view event)) ≡ Ok (event_view event)
 unfolding event_in written_tag written_batch
 event_again (Plug at tag desc) held orderly = plug_again at tag (description_view desc.value) held (description_sound desc.value)
 event_again (Unplug at tag) held orderly = tag_again (codes "unplug") unplug at tag held
 event_again (Report at tag service control) held orderly = report_again at tag service control held
 event_again (Variable at tag name value) held orderly = variable_again at tag name value held
-event_again (Recipe at name chart) held orderly = recipe_again at name (plan chart.value) chart.value.form held (faultless (recipe at name (plan chart.value)) orderly)
+event_again (Recipe at name chart) held orderly =
+    recipe_again at name (plan chart.value) chart.value.form held
+    (faultless (recipe at name (plan chart.value)) orderly)
 event_again (Start at batch name bind) held orderly = start_again at batch name bind.items held orderly
 event_again (Advance at batch) held orderly = batch_again (codes "advance") advance at batch held
 event_again (Freeze at batch) held orderly = batch_again (codes "freeze") freeze at batch held
@@ -240,6 +249,7 @@ event_again (ExchangeEnd at tag ticket desc) held orderly = exchange_end_again a
 event_again (ExchangeCancel at tag ticket) held orderly = exchange_cancel_again at tag ticket held
 
 -- a text that is read as a value is a line that says what the value says, if that is orderly
-pub line_again : (text : List ℕ) (value : Data) (event : EventForm) → IsUtf8 text → read text ≡ Some value → event_in value ≡ Ok event → is_orderly event ≡ true → event_of text ≡ Ok event
+pub line_again : (text : List ℕ) (value : Data) (event : EventForm) → IsUtf8 text → read text ≡ Some value
+    → event_in value ≡ Ok event → is_orderly event ≡ true → event_of text ≡ Ok event
 unfolding event_of json_of
 line_again text value event utf8 is again orderly = rw (utf8_is text utf8, is, again, faultless event orderly) refl

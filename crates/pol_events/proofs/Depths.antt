@@ -41,7 +41,12 @@ event_depth (Plug at tag desc) orderly = omega (arith, description_depth (descri
 event_depth (Variable at tag name value) orderly = omega (arith, scalar_depth value)
 event_depth (Recipe at name chart) orderly =
     let chart_plan = plan chart.value in
-    omega (arith, roles_depth chart_plan.roles, root_depth chart_plan chart.value.form (valid_shallow chart_plan (faultless (recipe at name chart_plan) orderly)))
+    omega (
+      arith,
+      roles_depth chart_plan.roles,
+      root_depth chart_plan chart.value.form
+          (valid_shallow chart_plan (faultless (recipe at name chart_plan) orderly)),
+    )
 event_depth (Start at batch name bind) orderly = omega (arith, binds-depth bind.items)
 event_depth (ExchangeEnd at tag ticket desc) orderly = omega (arith, description_depth (description_view desc.value))
 event_depth _ orderly = omega arith

@@ -33,7 +33,8 @@ texts_of [] = refl
 texts_of (entry ∷ entries) = ap (λ b. is_some (as_str (view entry.1)) && b) (texts_of entries)
 
 -- whether every value is a text is asked of the values
-pub texts_by_values : (object : BTreeMap (String Global) Value) → are_texts (members_view object.entries) ≡ list_all (λ value. is_some (as_str (view value))) (map_values object)
+pub texts_by_values : (object : BTreeMap (String Global) Value)
+    → are_texts (members_view object.entries) ≡ list_all (λ value. is_some (as_str (view value))) (map_values object)
 texts_by_values object = texts_of object.entries
 
 -- there are as many members as entries
@@ -45,10 +46,13 @@ as_many entries = members_len-members_view entries
 
 -- one more member was read
 pub reads_next : (front new : List Bind) (left rest : List Entry) (entry : Entry) (bind : Bind) (total : Reading (List Bind)) → left ≡ entry ∷ rest
-    → bind_of (string_bytes entry.0) (view entry.1) ≡ Ok bind → new ≡ front ++ bind ∷ [] → with_front front (each_bind (members_view left)) ≡ total → with_front new (each_bind (members_view rest)) ≡ total
+    → bind_of (string_bytes entry.0) (view entry.1) ≡ Ok bind → new ≡ front ++ bind ∷ []
+    → with_front front (each_bind (members_view left)) ≡ total → with_front new (each_bind (members_view rest)) ≡ total
 unfolding each_bind
 reads_next front new left rest entry bind total is read pushed so_far =
-    let one : with_front front (each_bind (members_view left)) ≡ with_front (front ++ bind ∷ []) (each_bind (members_view rest)) = rw (is, read) (regroup front bind (each_bind (members_view rest))) in
+    let one : with_front front (each_bind (members_view left))
+    ≡ with_front (front ++ bind ∷ []) (each_bind (members_view rest)) =
+    rw (is, read) (regroup front bind (each_bind (members_view rest))) in
     rw pushed (sym one ∙ so_far)
 
 -- a member has a fault
@@ -59,7 +63,8 @@ stops_at Memory front left rest entry total is fails so_far = tt
 stops_at (Fault fault) front left rest entry total is fails so_far = sym so_far ∙ rw (is, fails) refl
 
 -- all members were read
-pub is_done : (front : List Bind) (left : List Entry) (total : Reading (List Bind)) → left ≡ [] → with_front front (each_bind (members_view left)) ≡ total → total ≡ Ok front
+pub is_done : (front : List Bind) (left : List Entry) (total : Reading (List Bind)) → left ≡ []
+    → with_front front (each_bind (members_view left)) ≡ total → total ≡ Ok front
 unfolding each_bind
 is_done front left total is so_far = sym so_far ∙ rw is (ap (λ binds. Ok binds) (append-nil front))
 
@@ -67,7 +72,9 @@ is_done front left total is so_far = sym so_far ∙ rw is (ap (λ binds. Ok bind
 abbrev HasRole : List ℕ → Bind → Type 0
 HasRole key bind = bind.role ≡ key
 
-named-by : (is_named : Bool) (key : List ℕ) (value : Data) → IfOk (here (if is_named then Ok key else Err OutOfRange) >>= λ role. here (name value) >>= λ tag. Ok (record { role = role; tag = tag })) (HasRole key)
+named-by : (is_named : Bool) (key : List ℕ) (value : Data)
+    → IfOk (here (if is_named then Ok key else Err OutOfRange) >>= λ role. here (name value)
+    >>= λ tag. Ok (record { role = role; tag = tag })) (HasRole key)
 named-by true key value = any_before (HasRole key) (here (name value)) _ (λ tag. refl)
 named-by false key value = tt
 
@@ -79,7 +86,9 @@ keys-read : (entries : List Entry) → IfOk (each_bind (members_view entries)) (
 unfolding each_bind
 keys-read [] = refl
 keys-read (entry ∷ entries) =
-    told_before (HasRole (string_bytes entry.0)) (AreKeys (entry ∷ entries)) (bind_of (string_bytes entry.0) (view entry.1)) _ (named-by (is_name (string_bytes entry.0)) (string_bytes entry.0) (view entry.1)) (λ bind role.
+    told_before (HasRole (string_bytes entry.0)) (AreKeys (entry ∷ entries))
+    (bind_of (string_bytes entry.0) (view entry.1)) _
+    (named-by (is_name (string_bytes entry.0)) (string_bytes entry.0) (view entry.1)) (λ bind role.
     told_before (AreKeys entries) (AreKeys (entry ∷ entries)) (each_bind (members_view entries)) _ (keys-read entries) (λ binds keys. rw (role, keys) refl))
 
 keys-rise : (entries : List Entry) (binds : List Bind) → AreKeys entries binds → IsStrictlySortedBy string_cmp (keys_of entries) → rise binds ≡ true
@@ -95,7 +104,8 @@ keys-rise (entry ∷ other ∷ entries) (bind ∷ next ∷ binds) same sorted =
     rw (first, second, sorted.0.0, keys-rise (other ∷ entries) (next ∷ binds) rest sorted.1) refl
 
 -- binds that were read of members whose keys ascend rise
-pub read_binds_rise : (entries : List Entry) (binds : List Bind) → IsStrictlySortedBy string_cmp (keys_of entries) → each_bind (members_view entries) ≡ Ok binds → rise binds ≡ true
+pub read_binds_rise : (entries : List Entry) (binds : List Bind) → IsStrictlySortedBy string_cmp (keys_of entries)
+    → each_bind (members_view entries) ≡ Ok binds → rise binds ≡ true
 read_binds_rise entries binds sorted read = let keys : AreKeys entries binds = rw read at (keys-read entries) in keys-rise entries binds keys sorted
 
 -- there are as many binds as members

@@ -36,7 +36,8 @@ start-orderly value =
     any_before IsOrderly (need (codes "at") (count 0 greatest_u64) value) _ (λ at.
     any_before IsOrderly (need (codes "batch") name value) _ (λ batch.
     any_before IsOrderly (need (codes "recipe") name value) _ (λ named.
-    told_before AreOrderly IsOrderly (inside (codes "bind") binds_of value) _ (told_inside AreOrderly (codes "bind") binds_of binds_orderly value) (λ binds orderly.
+    told_before AreOrderly IsOrderly (inside (codes "bind") binds_of value) _
+    (told_inside AreOrderly (codes "bind") binds_of binds_orderly value) (λ binds orderly.
     any_before IsOrderly (nothing_but (codes "ev at batch recipe bind") value) _ (λ _ _. orderly)))))
 
 -- a chart that is formed and has no fault is orderly
@@ -50,7 +51,8 @@ unfolding chart_from
 made-orderly at named roles root sized formed = go (repeats_by same_role roles) refl
   where
     go : (broken : Bool) → repeats_by same_role roles ≡ broken →
-        IfOk ((under (codes "roles") (refused_if broken Repeated) >>= λ _. Ok (record { roles = roles; root = root })) >>= λ chart. Ok (recipe at named chart)) IsOrderly
+        IfOk ((under (codes "roles") (refused_if broken Repeated) >>= λ _. Ok (record { roles = roles; root = root }))
+        >>= λ chart. Ok (recipe at named chart)) IsOrderly
     go true is = tt
     go false is = λ none. sound-chart (record { roles = roles; root = root }) (chart_formed roles root sized formed is) none
 
@@ -88,7 +90,8 @@ read-orderly : (line : List ℕ) → IfOk (read_of line) IsOrderly
 unfolding event_in
 read-orderly line = search (rules, any_before, kind-orderly)
 
-valid-orderly : (found event : EventForm) (fault : Option ChartFault) → fault_within found ≡ fault → IsOrderly found → unless_faulty found fault ≡ Ok event → is_orderly event ≡ true
+valid-orderly : (found event : EventForm) (fault : Option ChartFault) → fault_within found ≡ fault → IsOrderly found
+    → unless_faulty found fault ≡ Ok event → is_orderly event ≡ true
 valid-orderly found event None none orderly is = let same : found ≡ event = cc in rw (← same) (orderly none)
 valid-orderly found event (Some fault) some orderly is = absurd cc
 
@@ -102,6 +105,7 @@ unfolding event_of
 line_orderly line event is = said-orderly (read_of line) event (read-orderly line) is
 
 -- what was told of a line is orderly
-pub told_orderly : (line : List ℕ) (result : Result Event LineRefusal) → Tells result (event_of line) → IfOk result (λ event. IsTrue (is_orderly (event_view event)))
+pub told_orderly : (line : List ℕ) (result : Result Event LineRefusal) → Tells result (event_of line)
+    → IfOk result (λ event. IsTrue (is_orderly (event_view event)))
 told_orderly line (Ok event) tells = line_orderly line (event_view event) tells
 told_orderly line (Err refusal) tells = tt

@@ -52,7 +52,8 @@ leads-with bind other (next ∷ binds) before leading = leads-placed bind other 
 reversed : (bind next : Bind) → compared bind next ≡ Greater → stands_before next bind ≡ true
 reversed bind next after = rw (nat_list_cmp_total.antisymm next.role bind.role, after) refl
 
-rise-placed : (bind next : Bind) (binds : List Bind) (order : Ordering) → compared bind next ≡ order → rise (next ∷ binds) ≡ true → (rise binds ≡ true → rise (with_bind bind binds) ≡ true)
+rise-placed : (bind next : Bind) (binds : List Bind) (order : Ordering) → compared bind next ≡ order
+    → rise (next ∷ binds) ≡ true → (rise binds ≡ true → rise (with_bind bind binds) ≡ true)
     → rise (match_ordering order (bind ∷ next ∷ binds) (next ∷ binds) (next ∷ with_bind bind binds)) ≡ true
 rise-placed bind next binds Less is rising rest = rw (is, rising) refl
 rise-placed bind next binds Equal is rising rest = rising
@@ -84,22 +85,27 @@ pub by_role-few : (binds : List Bind) → length (by_role binds) ≤ length bind
 by_role-few [] = omega arith
 by_role-few (bind ∷ binds) = omega (arith, length-with bind (by_role binds), by_role-few binds)
 
-before-each : (bind next : Bind) (binds : List Bind) → stands_before bind next ≡ true → rise (next ∷ binds) ≡ true → list_all (stands_before bind) (next ∷ binds) ≡ true
+before-each : (bind next : Bind) (binds : List Bind) → stands_before bind next ≡ true → rise (next ∷ binds) ≡ true
+    → list_all (stands_before bind) (next ∷ binds) ≡ true
 before-each bind next [] before rising = rw before refl
 before-each bind next (other ∷ binds) before rising =
     let parts = and_parts (stands_before next other) (rise (other ∷ binds)) rising in
-    let further : stands_before bind other ≡ true = ap is_lt (nat_list_cmp_total.trans bind.role next.role other.role (less (compared bind next) before) (less (compared next other) parts.0)) in
+    let further : stands_before bind other ≡ true =
+    ap is_lt (nat_list_cmp_total.trans bind.role next.role other.role (less (compared bind next) before)
+    (less (compared next other) parts.0)) in
     rw (before, before-each bind other binds further parts.1) refl
 
 -- the first of rising binds stands before each of the others
 pub first-before : (bind : Bind) (binds : List Bind) → rise (bind ∷ binds) ≡ true → list_all (stands_before bind) binds ≡ true
 first-before bind [] rising = refl
-first-before bind (next ∷ binds) rising = let parts = and_parts (stands_before bind next) (rise (next ∷ binds)) rising in before-each bind next binds parts.0 parts.1
+first-before bind (next ∷ binds) rising = let parts =
+    and_parts (stands_before bind next) (rise (next ∷ binds)) rising in before-each bind next binds parts.0 parts.1
 
 unlike : (bind other : Bind) → stands_before bind other ≡ true → bytes_eq bind.role other.role ≡ false
 unlike bind other before = sym (is_eq-slice_cmp bind.role other.role) ∙ ap is_eq (less (compared bind other) before)
 
-unlike-each : (bind : Bind) (binds : List Bind) → list_all (stands_before bind) binds ≡ true → list_all (λ other. not (bytes_eq bind.role other.role)) binds ≡ true
+unlike-each : (bind : Bind) (binds : List Bind) → list_all (stands_before bind) binds ≡ true
+    → list_all (λ other. not (bytes_eq bind.role other.role)) binds ≡ true
 unlike-each bind [] before = refl
 unlike-each bind (other ∷ binds) before =
     let parts = and_parts (stands_before bind other) (list_all (stands_before bind) binds) before in

@@ -11,7 +11,8 @@ use Rattle.pol_events.specs.declared.kind.EventKind.TheVariants.{Plug, Unplug, R
 abbrev pub kind_words : List (List ℕ × EventKind)
 kind_words =
     (codes "plug", Plug) ∷ (codes "unplug", Unplug) ∷ (codes "report", Report) ∷ (codes "variable", Variable)
-    ∷ (codes "recipe", Recipe) ∷ (codes "start", Start) ∷ (codes "advance", Advance) ∷ (codes "freeze", Freeze) ∷ (codes "thaw", Thaw)
+    ∷ (codes "recipe", Recipe) ∷ (codes "start", Start) ∷ (codes "advance", Advance) ∷ (codes "freeze", Freeze)
+    ∷ (codes "thaw", Thaw)
     ∷ (codes "stop", Stop) ∷ (codes "abandon", Abandon) ∷ (codes "desk", Desk) ∷ (codes "exchange_begin", ExchangeBegin)
     ∷ (codes "exchange_end", ExchangeEnd) ∷ (codes "exchange_cancel", ExchangeCancel) ∷ []
 

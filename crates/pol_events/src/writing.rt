@@ -24,7 +24,8 @@ use std::alloc::{AllocError, Global};
 
 fn write_event(alloc: Global, event: &Event) -> Result<Value, AllocError>
     requires { IsTrue (is_orderly (event_view event.now)) }
-    ensures { IfOk result (λ value. (view value ≡ written_event (event_view event.now)) × (is_held (event_view event.now) ≡ true)) }
+    ensures { IfOk result
+        (λ value. (view value ≡ written_event (event_view event.now)) × (is_held (event_view event.now) ≡ true)) }
 {
     match event {
         Event::Plug { at, tag, desc } => write_plug(alloc, *at, *tag, desc),
@@ -81,7 +82,8 @@ pub fn event_value(alloc: Global, event: &Event) -> Result<Value, AllocError>
     ensures reads_back { IfOk result (λ value. event_in (view value) ≡ Ok (event_view event.now)) }
     ensures nests { IfOk result (λ value. depth (view value) ≤ max_depth) }
     ensures whole { IfOk result (λ value. has_float (view value) ≡ false) }
-    ensures line { IfOk result (λ value. (text : List ℕ) → IsUtf8 text → read text ≡ Some (view value) → event_of text ≡ Ok (event_view event.now)) }
+    ensures line { IfOk result (λ value. (text : List ℕ) → IsUtf8 text
+        → read text ≡ Some (view value) → event_of text ≡ Ok (event_view event.now)) }
 {
     write_event(alloc, event)
 }

@@ -153,7 +153,8 @@ pub fn write_exchange_end(
     ticket: u32,
     desc: &Description,
 ) -> Result<Value, AllocError>
-    ensures value { IfOk result (λ value. view value ≡ written_exchange_end at tag ticket (written_description (description_view desc.now))) }
+    ensures value { IfOk result
+        (λ value. view value ≡ written_exchange_end at tag ticket (written_description (description_view desc.now))) }
     ensures held { IfOk result (λ _. is_held (exchange_end at tag ticket (description_view desc.now)) ≡ true) }
 {
     let desc = write_description(alloc, desc)?;

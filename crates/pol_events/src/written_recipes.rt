@@ -30,7 +30,8 @@ fn recipe_object(
 
 /// A recipe with every key of its form.
 pub fn write_recipe(alloc: Global, at: u64, name: Name, chart: &Chart) -> Result<Value, AllocError>
-    ensures value { IfOk result (λ value. view value ≡ written_recipe at name (written_roles (plan chart.now).roles) (written_tree (plan chart.now).root)) }
+    ensures value { IfOk result (λ value. view value
+        ≡ written_recipe at name (written_roles (plan chart.now).roles) (written_tree (plan chart.now).root)) }
     ensures held { IfOk result (λ _. is_held (recipe at name (plan chart.now)) ≡ true) }
 {
     let (roles, root) = write_chart(alloc, chart)?;

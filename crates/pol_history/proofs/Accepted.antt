@@ -30,7 +30,8 @@ accepted-none history event accepted =
     (none-holds (when (is_full history) HistoryFull ∷ rules history event) (otherwise history event) accepted).1
 
 -- and is answered by what is answered otherwise
-pub accepted-otherwise : (history : History) (event : EventForm) → is_accepted (answer_of history event) ≡ true → answer_of history event ≡ otherwise history event
+pub accepted-otherwise : (history : History) (event : EventForm) → is_accepted (answer_of history event) ≡ true
+    → answer_of history event ≡ otherwise history event
 accepted-otherwise history event accepted =
     otherwise-it-is (when (is_full history) HistoryFull ∷ rules history event) (otherwise history event)
     (none-holds (when (is_full history) HistoryFull ∷ rules history event) (otherwise history event) accepted)

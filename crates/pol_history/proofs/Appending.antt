@@ -15,7 +15,8 @@ events_in-append (blank piece ∷ items) others = events_in-append items others
 events_in-append (faulty piece fault ∷ items) others = events_in-append items others
 events_in-append (happening piece event ∷ items) others = ap (λ events. event ∷ events) (events_in-append items others)
 
-history_after-append : (history : History) (events others : List EventForm) → history_after history (events ++ others) ≡ history_after (history_after history events) others
+history_after-append : (history : History) (events others : List EventForm)
+    → history_after history (events ++ others) ≡ history_after (history_after history events) others
 history_after-append history [] others = refl
 history_after-append history (event ∷ events) others = history_after-append (recorded (entry_of history event) history) events others
 

@@ -28,7 +28,8 @@ pub all-of : {X : Type 0} (P : X → Type 0) → ((x : X) → P x) → (xs : Lis
 all-of P each [] = tt
 all-of P each (x ∷ xs) = (each x, all-of P each xs)
 
-filters-step : {X : Type 0} (first second : X → Bool) (x : X) (xs ys : List X) (one two : Bool) → first x ≡ one → second x ≡ two → filter first xs ≡ filter second ys →
+filters-step : {X : Type 0} (first second : X → Bool) (x : X) (xs ys : List X) (one two : Bool) → first x ≡ one
+    → second x ≡ two → filter first xs ≡ filter second ys →
     filter first (cond two (x ∷ xs) xs) ≡ filter second (cond one (x ∷ ys) ys)
 filters-step first second x xs ys true true is also same = rw (is, also, same)
 filters-step first second x xs ys true false is also same = rw (also, same)

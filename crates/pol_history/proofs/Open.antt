@@ -20,7 +20,8 @@ open-before history entry batch is = go (is_accepted_of_batch batch entry) is
     go false is = is
 
 -- where it is a holder, it was found and is open
-pub open-some : (history : History) (found : Option (List ℕ)) (batch : List ℕ) → if_open history found ≡ Some batch → (found ≡ Some batch) × (outcome_of history batch ≡ None)
+pub open-some : (history : History) (found : Option (List ℕ)) (batch : List ℕ) → if_open history found ≡ Some batch
+    → (found ≡ Some batch) × (outcome_of history batch ≡ None)
 open-some history None batch is = cc
 open-some history (Some other) batch is = go (outcome_of history other) refl is
   where

@@ -80,7 +80,9 @@ step history tag service (report at other named control) of_tag accepted path = 
     passed = allowed control.state (control_by named (past other history))
         (accepted-none history (report at other named control) accepted).1.1.1.0
 
-    go : (same : Bool) → bytes_eq named service ≡ same → is_path_back (states_in service (since_docking (entry_of history (report at other named control) ∷ past tag history))) ≡ true
+    go : (same : Bool) → bytes_eq named service ≡ same
+        → is_path_back (states_in service
+        (since_docking (entry_of history (report at other named control) ∷ past tag history))) ≡ true
     go false is = rw is path
     go true is =
         let here : comes_after (control_by service (past tag history)) control.state ≡ true =

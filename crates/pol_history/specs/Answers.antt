@@ -11,13 +11,13 @@ use Rattle.pol_events.specs.declared.answer.Next.TheVariants as next
 use Rattle.pol_events.specs.declared.answer.Outcome.TheVariants.{Abandoned}
 use Rattle.pol_events.specs.declared.answer.Answer.{Answer}
 use Rattle.pol_events.specs.declared.answer.Answer.TheVariants.{Done, Ticket, Did, Waiting, Closed, Refused}
-use Rattle.pol_events.specs.Refusals.{no_service, not_an_edge, no_variable, misfit, forbidden, not_at_rest, in_exchange, wrong_ticket}
+use Rattle.pol_events.specs.Refusals.{no_service, not_an_edge, no_variable, misfit, forbidden, in_exchange, wrong_ticket}
 use Rattle.pol_events.specs.declared.event.Bind.{Bind}
 use Rattle.pol_history.specs.Looking.{History, past, past_of_batch, recipes}
 use Rattle.pol_history.specs.Modules.{docking_by, ticket_of, description_by, control_by, view_by, next_ticket}
 use Rattle.pol_history.specs.Batches.{start_by, chart_named, log_by, has_broken, was_stopped, holder_of}
 use Rattle.pol_history.specs.Following.{next_of}
-use Rattle.pol_history.specs.Rules.{tag_taken, no_module, not_in_exchange, plant_full, by_description, by_view, not_reported, recipe_known, recipes_full, no_recipe, batch_known, no_batch, batch_closed, already_frozen, not_frozen, batches_full, role_unbound, role_unknown, one_module_twice, modules_unfit, busy, by_holder, active_step, held_back}
+use Rattle.pol_history.specs.Rules.{tag_taken, no_module, not_in_exchange, plant_full, module_not_at_rest, by_description, by_view, not_reported, recipe_known, recipes_full, no_recipe, batch_known, no_batch, batch_closed, already_frozen, not_frozen, batches_full, role_unbound, role_unknown, one_module_twice, modules_unfit, busy, by_holder, active_step, held_back}
 
 -- the rules of a start, by the chart of its recipe
 abbrev pub start_rules : History → List ℕ → List Bind → Option ChartPlan → List (Option Rule)
@@ -84,7 +84,7 @@ rules history (exchange_begin at tag) =
     no_module tag (docking_by (past tag history))
     ∷ in_exchange tag (ticket_of (docking_by (past tag history)))
     ∷ active_step history tag
-    ∷ by_description (λ description. not_at_rest (λ service. control_by service (past tag history)) description.services) (description_by (past tag history))
+    ∷ by_description (module_not_at_rest (past tag history)) (description_by (past tag history))
     ∷ []
 rules history (exchange_end at tag ticket description) =
     no_module tag (docking_by (past tag history))

@@ -132,9 +132,11 @@ next_by chart frozen log seen =
 -- the next entry of a batch with this start, if its recipe is there, by its past and the pasts of the modules
 abbrev pub next_of_started : History → History → (List ℕ → History) → Started → Option Next
 next_of_started recipes past pasts started =
-    option_map (λ chart. next_by chart (is_frozen_by past) (log_by past) (sights_by started.binds pasts)) (chart_by recipes (Some started))
+    option_map (λ chart. next_by chart (is_frozen_by past) (log_by past) (sights_by started.binds pasts))
+    (chart_by recipes (Some started))
 
 -- the next entry of the batch, if it was started
 abbrev pub next_of : History → List ℕ → Option Next
 next_of history batch =
-    option_and_then (next_of_started (recipes history) (past_of_batch batch history) (λ tag. past tag history)) (start_of history batch)
+    option_and_then (next_of_started (recipes history) (past_of_batch batch history) (λ tag. past tag history))
+    (start_of history batch)

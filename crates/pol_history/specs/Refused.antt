@@ -15,5 +15,6 @@ pub record ChangesNothing (entry : EntryForm) (history : History) : Type 0 where
   pub present : present_tags (entry ∷ history) ≡ present_tags history
   pub batches : batches (entry ∷ history) ≡ batches history
 
+-- A refused event changes nothing that is looked back at.
 abbrev pub RefusedChangesNothing : Type 0
 RefusedChangesNothing = (entry : EntryForm) (history : History) → is_accepted entry.answer ≡ false → ChangesNothing entry history

@@ -9,12 +9,12 @@ use Rattle.mtp_desc.specs.Plain.{DescriptionForm}
 use Rattle.chart_core.specs.Roles.{ChartPlan}
 use Rattle.chart_core.specs.Trees.{StepPlan, steps}
 use Rattle.mtp_procs.specs.Covers.{cover_fault, missing_by}
-use Rattle.pol_events.specs.Refusals.{cover_rule, in_exchange}
+use Rattle.pol_events.specs.Refusals.{cover_rule, in_exchange, not_at_rest}
 use Rattle.pol_events.specs.declared.answer.Rule.{Rule}
 use Rattle.pol_events.specs.declared.answer.Rule.TheVariants.{TagTaken, NoModule, PlantFull, NotInExchange, RecipeKnown, NoRecipe, BatchKnown, NoBatch, BatchClosed, RoleUnbound, RoleUnknown, OneModuleTwice, NotReported, NotIdle, Busy, BatchesFull, ActiveStep, HeldBack, NotFrozen, AlreadyFrozen, RecipesFull}
 use Rattle.pol_events.specs.declared.event.Bind.{Bind}
 use Rattle.pol_history.specs.Looking.{History, past, past_of_batch, recipes}
-use Rattle.pol_history.specs.Modules.{Docking, absent, docked, away, docking_by, description_by, view_by, present_tags, ticket_of}
+use Rattle.pol_history.specs.Modules.{Docking, absent, docked, away, docking_by, description_by, control_by, view_by, present_tags, ticket_of}
 use Rattle.pol_history.specs.Batches.{Started, start_by, chart_named, chart_by, bound_tag, bound_role, outcome_by, is_frozen_by, log_by, active, holder_of, is_start}
 
 -- ---- whether a tag is docked
@@ -63,6 +63,10 @@ abbrev pub not_idle : List ℕ → List ℕ → Option ServiceView → Option Ru
 not_idle tag service None = None
 not_idle tag service (Some view) = when (not (is_idle view.control.state)) (NotIdle tag service view.control.state)
 
+-- the first service of the module that reported last that it isn't at rest
+abbrev pub module_not_at_rest : History → DescriptionForm → Option Rule
+module_not_at_rest past description = not_at_rest (λ service. control_by service past) description.services
+
 -- ---- recipes
 
 -- a recipe of this name is known
@@ -91,10 +95,11 @@ no_batch started = when (is_none started) NoBatch
 abbrev pub batch_closed : History → Option Rule
 batch_closed past = when (is_some (outcome_by past)) BatchClosed
 
--- the batch is frozen; is not frozen
+-- the batch is frozen
 abbrev pub already_frozen : History → Option Rule
 already_frozen past = when (is_frozen_by past) AlreadyFrozen
 
+-- the batch is not frozen
 abbrev pub not_frozen : History → Option Rule
 not_frozen past = when (not (is_frozen_by past)) NotFrozen
 
@@ -137,10 +142,13 @@ abbrev pub services_of : ChartPlan → List ℕ → List (List ℕ)
 services_of chart role =
     map (λ step. step.service) (filter (λ step. same_name step.role role) (map (λ placed. placed.step) (steps chart.root 0)))
 
+-- the service wasn't reported, or isn't idle
+abbrev pub unready : List ℕ → History → List ℕ → Option Rule
+unready tag past service = option_or (not_reported tag service (view_by service past)) (not_idle tag service (view_by service past))
+
 -- the first of these services that wasn't reported or isn't idle
 abbrev pub not_ready : List ℕ → History → List (List ℕ) → Option Rule
-not_ready tag past services =
-    first_of (map (λ service. option_or (not_reported tag service (view_by service past)) (not_idle tag service (view_by service past))) services)
+not_ready tag past services = first_of (map (unready tag past) services)
 
 -- what is wrong with the module of a role, by the module's past
 abbrev pub module_rules : ChartPlan → List ℕ → List ℕ → History → List (Option Rule)
@@ -221,4 +229,5 @@ uncovered_by recipes tag description batch past =
 -- the new module doesn't cover its role in the batch that holds the tag
 abbrev pub held_back : History → List ℕ → DescriptionForm → Option Rule
 held_back history tag description =
-    by_holder (λ batch. uncovered_by (recipes history) tag description batch (past_of_batch batch history)) (holder_of history tag)
+    by_holder (λ batch. uncovered_by (recipes history) tag description batch (past_of_batch batch history))
+    (holder_of history tag)

@@ -40,68 +40,104 @@ plain_refusal n rule =
 
 -- a rule with a batch
 unfoldable pub batch_refusal : ℕ → List ℕ → List ℕ → Data
-batch_refusal n rule batch =
-    object (member (codes "batch") (string batch) (member (codes "refused") (whole n) (member (codes "rule") (string rule) no_members)))
+batch_refusal n rule batch = object
+    (member (codes "batch") (string batch)
+    (member (codes "refused") (whole n)
+    (member (codes "rule") (string rule) no_members)))
 
 -- a rule with a tag
 unfoldable pub tag_refusal : ℕ → List ℕ → List ℕ → Data
-tag_refusal n rule tag =
-    object (member (codes "refused") (whole n) (member (codes "rule") (string rule) (member (codes "tag") (string tag) no_members)))
+tag_refusal n rule tag = object
+    (member (codes "refused") (whole n)
+    (member (codes "rule") (string rule)
+    (member (codes "tag") (string tag) no_members)))
 
 -- a rule with a role
 unfoldable pub role_refusal : ℕ → List ℕ → List ℕ → Data
-role_refusal n rule role =
-    object (member (codes "refused") (whole n) (member (codes "role") (string role) (member (codes "rule") (string rule) no_members)))
+role_refusal n rule role = object
+    (member (codes "refused") (whole n)
+    (member (codes "role") (string role)
+    (member (codes "rule") (string rule) no_members)))
 
 -- a rule with what is missing
 unfoldable pub missing_refusal : ℕ → List ℕ → List ℕ → Data
-missing_refusal n rule missing =
-    object (member (codes "missing") (string missing) (member (codes "refused") (whole n) (member (codes "rule") (string rule) no_members)))
+missing_refusal n rule missing = object
+    (member (codes "missing") (string missing)
+    (member (codes "refused") (whole n)
+    (member (codes "rule") (string rule) no_members)))
 
 -- a rule with a tag and its ticket
 unfoldable pub ticket_refusal : ℕ → List ℕ → List ℕ → ℕ → Data
-ticket_refusal n rule tag ticket =
-    object (member (codes "refused") (whole n) (member (codes "rule") (string rule) (member (codes "tag") (string tag) (member (codes "ticket") (whole ticket) no_members))))
+ticket_refusal n rule tag ticket = object
+    (member (codes "refused") (whole n)
+    (member (codes "rule") (string rule)
+    (member (codes "tag") (string tag)
+    (member (codes "ticket") (whole ticket) no_members))))
 
 -- a rule with the ticket that was given and the one that is kept
 unfoldable pub tickets_refusal : ℕ → List ℕ → ℕ → ℕ → Data
-tickets_refusal n rule given kept =
-    object (member (codes "given") (whole given) (member (codes "kept") (whole kept) (member (codes "refused") (whole n) (member (codes "rule") (string rule) no_members))))
+tickets_refusal n rule given kept = object
+    (member (codes "given") (whole given)
+    (member (codes "kept") (whole kept)
+    (member (codes "refused") (whole n)
+    (member (codes "rule") (string rule) no_members))))
 
 -- a rule with a state and the one that was to follow it
 unfoldable pub edge_refusal : ℕ → List ℕ → ℕ → ℕ → Data
-edge_refusal n rule from to =
-    object (member (codes "from") (whole from) (member (codes "refused") (whole n) (member (codes "rule") (string rule) (member (codes "to") (whole to) no_members))))
+edge_refusal n rule from to = object
+    (member (codes "from") (whole from)
+    (member (codes "refused") (whole n)
+    (member (codes "rule") (string rule)
+    (member (codes "to") (whole to) no_members))))
 
 -- a rule with a tag and a name of its module
 unfoldable pub name_refusal : ℕ → List ℕ → List ℕ → List ℕ → Data
-name_refusal n rule name tag =
-    object (member (codes "name") (string name) (member (codes "refused") (whole n) (member (codes "rule") (string rule) (member (codes "tag") (string tag) no_members))))
+name_refusal n rule name tag = object
+    (member (codes "name") (string name)
+    (member (codes "refused") (whole n)
+    (member (codes "rule") (string rule)
+    (member (codes "tag") (string tag) no_members))))
 
 -- a rule with a service and its state
 unfoldable pub state_refusal : ℕ → List ℕ → List ℕ → ℕ → Data
-state_refusal n rule service state =
-    object (member (codes "refused") (whole n) (member (codes "rule") (string rule) (member (codes "service") (string service) (member (codes "state") (whole state) no_members))))
+state_refusal n rule service state = object
+    (member (codes "refused") (whole n)
+    (member (codes "rule") (string rule)
+    (member (codes "service") (string service)
+    (member (codes "state") (whole state) no_members))))
 
 -- a rule with a tag, a service of its module and its state
 unfoldable pub service_refusal : ℕ → List ℕ → List ℕ → ℕ → List ℕ → Data
-service_refusal n rule service state tag =
-    object (member (codes "refused") (whole n) (member (codes "rule") (string rule) (member (codes "service") (string service) (member (codes "state") (whole state) (member (codes "tag") (string tag) no_members)))))
+service_refusal n rule service state tag = object
+    (member (codes "refused") (whole n)
+    (member (codes "rule") (string rule)
+    (member (codes "service") (string service)
+    (member (codes "state") (whole state)
+    (member (codes "tag") (string tag) no_members)))))
 
 -- a rule with a batch and a tag
 unfoldable pub holder_refusal : ℕ → List ℕ → List ℕ → List ℕ → Data
-holder_refusal n rule batch tag =
-    object (member (codes "batch") (string batch) (member (codes "refused") (whole n) (member (codes "rule") (string rule) (member (codes "tag") (string tag) no_members))))
+holder_refusal n rule batch tag = object
+    (member (codes "batch") (string batch)
+    (member (codes "refused") (whole n)
+    (member (codes "rule") (string rule)
+    (member (codes "tag") (string tag) no_members))))
 
 -- a rule with a batch and its step
 unfoldable pub step_refusal : ℕ → List ℕ → List ℕ → List ℕ → Data
-step_refusal n rule batch step =
-    object (member (codes "batch") (string batch) (member (codes "refused") (whole n) (member (codes "rule") (string rule) (member (codes "step") (string step) no_members))))
+step_refusal n rule batch step = object
+    (member (codes "batch") (string batch)
+    (member (codes "refused") (whole n)
+    (member (codes "rule") (string rule)
+    (member (codes "step") (string step) no_members))))
 
 -- a rule with a batch and what is missing
 unfoldable pub lack_refusal : ℕ → List ℕ → List ℕ → List ℕ → Data
-lack_refusal n rule batch missing =
-    object (member (codes "batch") (string batch) (member (codes "missing") (string missing) (member (codes "refused") (whole n) (member (codes "rule") (string rule) no_members))))
+lack_refusal n rule batch missing = object
+    (member (codes "batch") (string batch)
+    (member (codes "missing") (string missing)
+    (member (codes "refused") (whole n)
+    (member (codes "rule") (string rule) no_members))))
 
 -- a refusal
 abbrev pub refusal_data : Rule → Data
@@ -157,13 +193,20 @@ readings_data values = array (items_of (map reading_data values))
 
 -- a step is started
 unfoldable pub start_data : ℕ → List ℕ → List ℕ → List ℕ → Data
-start_data procedure service step tag =
-    object (member (codes "do") (string (codes "start")) (member (codes "procedure") (whole procedure) (member (codes "service") (string service) (member (codes "step") (string step) (member (codes "tag") (string tag) no_members)))))
+start_data procedure service step tag = object
+    (member (codes "do") (string (codes "start"))
+    (member (codes "procedure") (whole procedure)
+    (member (codes "service") (string service)
+    (member (codes "step") (string step)
+    (member (codes "tag") (string tag) no_members)))))
 
 -- a command to the service of a step
 unfoldable pub command_data : List ℕ → List ℕ → List ℕ → List ℕ → Data
-command_data kind service step tag =
-    object (member (codes "do") (string kind) (member (codes "service") (string service) (member (codes "step") (string step) (member (codes "tag") (string tag) no_members))))
+command_data kind service step tag = object
+    (member (codes "do") (string kind)
+    (member (codes "service") (string service)
+    (member (codes "step") (string step)
+    (member (codes "tag") (string tag) no_members))))
 
 -- an entry of a step alone
 unfoldable pub step_data : List ℕ → List ℕ → Data
@@ -172,23 +215,33 @@ step_data kind step =
 
 -- a selection has chosen an arm
 unfoldable pub choice_data : ℕ → ℕ → Data → Data
-choice_data arm node values =
-    object (member (codes "arm") (whole arm) (member (codes "do") (string (codes "chose")) (member (codes "node") (whole node) (member (codes "values") (values) no_members))))
+choice_data arm node values = object
+    (member (codes "arm") (whole arm)
+    (member (codes "do") (string (codes "chose"))
+    (member (codes "node") (whole node)
+    (member (codes "values") (values) no_members))))
 
 -- a loop is turned or left
 unfoldable pub round_data : List ℕ → ℕ → Data → Data
-round_data kind node values =
-    object (member (codes "do") (string kind) (member (codes "node") (whole node) (member (codes "values") (values) no_members)))
+round_data kind node values = object
+    (member (codes "do") (string kind)
+    (member (codes "node") (whole node)
+    (member (codes "values") (values) no_members)))
 
 -- a step and the state in which it was found
 unfoldable pub state_data : List ℕ → ℕ → List ℕ → Data
-state_data kind state step =
-    object (member (codes "do") (string kind) (member (codes "state") (whole state) (member (codes "step") (string step) no_members)))
+state_data kind state step = object
+    (member (codes "do") (string kind)
+    (member (codes "state") (whole state)
+    (member (codes "step") (string step) no_members)))
 
 -- a command of the operator
 unfoldable pub asked_data : ℕ → List ℕ → List ℕ → Data
-asked_data command service tag =
-    object (member (codes "command") (whole command) (member (codes "do") (string (codes "asked")) (member (codes "service") (string service) (member (codes "tag") (string tag) no_members))))
+asked_data command service tag = object
+    (member (codes "command") (whole command)
+    (member (codes "do") (string (codes "asked"))
+    (member (codes "service") (string service)
+    (member (codes "tag") (string tag) no_members))))
 
 -- an entry without fields
 unfoldable pub wish_data : List ℕ → Data
@@ -231,18 +284,24 @@ away_data tag =
 
 -- a service or a variable was not reported
 unfoldable pub unreported_data : List ℕ → List ℕ → Data
-unreported_data name tag =
-    object (member (codes "name") (string name) (member (codes "tag") (string tag) (member (codes "wait") (string (codes "NotReported")) no_members)))
+unreported_data name tag = object
+    (member (codes "name") (string name)
+    (member (codes "tag") (string tag)
+    (member (codes "wait") (string (codes "NotReported")) no_members)))
 
 -- a step waits for another state of its service
 unfoldable pub in_state_data : ℕ → List ℕ → Data
-in_state_data state step =
-    object (member (codes "state") (whole state) (member (codes "step") (string step) (member (codes "wait") (string (codes "InState")) no_members)))
+in_state_data state step = object
+    (member (codes "state") (whole state)
+    (member (codes "step") (string step)
+    (member (codes "wait") (string (codes "InState")) no_members)))
 
 -- a command of a step is forbidden
 unfoldable pub forbidden_data : List ℕ → List ℕ → Data
-forbidden_data by step =
-    object (member (codes "by") (string by) (member (codes "step") (string step) (member (codes "wait") (string (codes "Forbidden")) no_members)))
+forbidden_data by step = object
+    (member (codes "by") (string by)
+    (member (codes "step") (string step)
+    (member (codes "wait") (string (codes "Forbidden")) no_members)))
 
 -- the finish of a step is not met
 unfoldable pub unmet_data : List ℕ → Data
@@ -311,8 +370,12 @@ outcome_text (Some outcome) = outcome_name outcome
 
 -- a batch: its name, its binds, its log, its outcome and its recipe
 unfoldable pub batch_object : List ℕ → Data → Data → List ℕ → List ℕ → Data
-batch_object batch binds log outcome recipe =
-    object (member (codes "batch") (string batch) (member (codes "bind") binds (member (codes "log") log (member (codes "outcome") (string outcome) (member (codes "recipe") (string recipe) no_members)))))
+batch_object batch binds log outcome recipe = object
+    (member (codes "batch") (string batch)
+    (member (codes "bind") binds
+    (member (codes "log") log
+    (member (codes "outcome") (string outcome)
+    (member (codes "recipe") (string recipe) no_members)))))
 
 -- a batch with its start, its log and its outcome
 abbrev pub batch_data : List ℕ → Started → List LogEntry → Option Outcome → Data
@@ -356,8 +419,10 @@ bad_data kind path = object (member (codes "bad") (string kind) (member (codes "
 
 -- a fault of a chart and its node
 unfoldable pub bad_chart : List ℕ → ℕ → Data
-bad_chart fault node =
-    object (member (codes "bad") (string (codes "BadChart")) (member (codes "fault") (string fault) (member (codes "node") (whole node) no_members)))
+bad_chart fault node = object
+    (member (codes "bad") (string (codes "BadChart"))
+    (member (codes "fault") (string fault)
+    (member (codes "node") (whole node) no_members)))
 
 -- a fault of a chart
 abbrev pub chart_fault_data : ChartFault → Data

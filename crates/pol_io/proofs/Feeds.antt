@@ -37,11 +37,14 @@ pub feed_parts : (bytes : List ℕ) (i : ℕ) → FeedAt bytes i → bytes ≡ t
 feed_parts bytes i at = sym (take-append-drop i bytes) ∙ ap (λ r. take i bytes ++ r) (drop_more bytes i 0 at.within ∙ ap (λ b. b ∷ drop (i + 1) bytes) at.feed)
 
 -- a scan that found nothing behind what was scanned went through all that waits
-pub scanned_all : (items looked : List ℕ) (i j n : ℕ) → looked ≡ items → IsTrue (has_no_feed (take n (slice_range items i j))) → IsTrue (has_no_feed (slice_range looked (i + n) j)) → IsTrue (has_no_feed (slice_range items i j))
+pub scanned_all : (items looked : List ℕ) (i j n : ℕ) → looked ≡ items
+    → IsTrue (has_no_feed (take n (slice_range items i j))) → IsTrue (has_no_feed (slice_range looked (i + n) j))
+    → IsTrue (has_no_feed (slice_range items i j))
 scanned_all items looked i j n same scanned rest = no_feed-whole (slice_range items i j) n scanned (rw (same, range_drop items i j n) at rest)
 
 -- the source had to be asked: the end wasn't seen, and no whole line waited
-pub had_to_ask : (before now : Bool) (bytes waiting : List ℕ) → now ≡ before → now ≡ false → waiting ≡ bytes → IsTrue (has_no_feed waiting) → IsTrue (before || not (has_no_feed bytes)) → ⊥
+pub had_to_ask : (before now : Bool) (bytes waiting : List ℕ) → now ≡ before → now ≡ false → waiting ≡ bytes
+    → IsTrue (has_no_feed waiting) → IsTrue (before || not (has_no_feed bytes)) → ⊥
 had_to_ask before now bytes waiting kept unended same no_feed needless =
     let unfed : has_no_feed bytes ≡ true = rw same at no_feed in
     let asked : (before || not (has_no_feed bytes)) ≡ false = rw (← kept, unended, unfed) in

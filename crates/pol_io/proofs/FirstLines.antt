@@ -30,17 +30,28 @@ first_line ended line text rest spent cuts =
     cuts.cut
 
 -- what follows a fact about the rest, where nothing waits once the end was seen
-between_spent : (P Q : List ℕ → List ℕ → Type 0) (ended : Bool) (a left : Option (List ℕ)) (waiting : List ℕ) → ((t r : List ℕ) → (IsTrue ended → r ≡ []) → P t r → Q t r) → (IsTrue ended → waiting ≡ []) → Between P a (joined ended waiting left) → Between Q a (joined ended waiting left)
+between_spent : (P Q : List ℕ → List ℕ → Type 0) (ended : Bool) (a left : Option (List ℕ)) (waiting : List ℕ)
+    → ((t r : List ℕ) → (IsTrue ended → r ≡ []) → P t r → Q t r) → (IsTrue ended → waiting ≡ [])
+    → Between P a (joined ended waiting left) → Between Q a (joined ended waiting left)
 between_spent P Q ended None left waiting step spent p = tt
 between_spent P Q true (Some t) left waiting step spent p = step t waiting spent p
 between_spent P Q false (Some t) None waiting step spent p = absurd p
 between_spent P Q false (Some t) (Some r) waiting step spent p = step t (waiting ++ r) (λ is. absurd (cc)) p
 
-pub first_line_known : (ended : Bool) (line : List ℕ) (a left : Option (List ℕ)) (waiting : List ℕ) → (IsTrue ended → waiting ≡ []) → Between (Cuts ended line) a (joined ended waiting left) → Between (λ t r. IsFirstLine ended line t r) a (joined ended waiting left)
-first_line_known ended line a left waiting spent cuts = between_spent (Cuts ended line) (λ t r. IsFirstLine ended line t r) ended a left waiting (first_line ended line) spent cuts
+pub first_line_known : (ended : Bool) (line : List ℕ) (a left : Option (List ℕ)) (waiting : List ℕ)
+    → (IsTrue ended → waiting ≡ []) → Between (Cuts ended line) a (joined ended waiting left)
+    → Between (λ t r. IsFirstLine ended line t r) a (joined ended waiting left)
+first_line_known ended line a left waiting spent cuts =
+    between_spent (Cuts ended line) (λ t r. IsFirstLine ended line t r) ended a left waiting
+    (first_line ended line) spent cuts
 
-pub long_line_known : (n : ℕ) (ended : Bool) (a left : Option (List ℕ)) (waiting : List ℕ) → (IsTrue ended → waiting ≡ []) → Between (CutsLong n ended) a (joined ended waiting left) → Between (λ t r. (line : List ℕ) × IsFirstLine ended line t r × (n < length line)) a (joined ended waiting left)
-long_line_known n ended a left waiting spent cuts = between_spent (CutsLong n ended) (λ t r. (line : List ℕ) × IsFirstLine ended line t r × (n < length line)) ended a left waiting (λ t r gone cut. (cut.line, first_line ended cut.line t r gone cut.cuts, cut.long)) spent cuts
+pub long_line_known : (n : ℕ) (ended : Bool) (a left : Option (List ℕ)) (waiting : List ℕ)
+    → (IsTrue ended → waiting ≡ []) → Between (CutsLong n ended) a (joined ended waiting left)
+    → Between (λ t r. (line : List ℕ) × IsFirstLine ended line t r × (n < length line)) a (joined ended waiting left)
+long_line_known n ended a left waiting spent cuts =
+    between_spent (CutsLong n ended)
+    (λ t r. (line : List ℕ) × IsFirstLine ended line t r × (n < length line)) ended a left waiting
+    (λ t r gone cut. (cut.line, first_line ended cut.line t r gone cut.cuts, cut.long)) spent cuts
 
 -- nothing is done yet
 pub done_none : (ended : Bool) (bytes : List ℕ) → ended ≡ false → IsDone ended bytes [] bytes
@@ -58,29 +69,37 @@ still_whole : (a b ended : Bool) → (a ≡ true → b ≡ true) → IsTrue (a |
 still_whole true b ended step either = or_left b ended (step refl)
 still_whole false b ended step either = or_right b ended either
 
-done_line : (ended : Bool) (bytes done text line rest : List ℕ) → bytes ≡ done ++ text → pieces bytes ≡ pieces done ++ pieces text → is_whole done ≡ true → (first : IsFirstLine ended line text rest) → IsDone ended bytes (done ++ first.piece) rest
+done_line : (ended : Bool) (bytes done text line rest : List ℕ) → bytes ≡ done ++ text
+    → pieces bytes ≡ pieces done ++ pieces text → is_whole done ≡ true → (first : IsFirstLine ended line text rest)
+    → IsDone ended bytes (done ++ first.piece) rest
 done_line ended bytes done text line rest cut are whole first =
     let alone = pieces-piece text first.piece (pieces rest) first.pieces_are in
     record {
       cut = cut ∙ (ap (λ zs. done ++ zs) first.cut ∙ sym (append_assoc done first.piece rest));
-      pieces_are = are ∙ (ap (λ zs. pieces done ++ zs) first.pieces_are ∙ (sym (append_assoc (pieces done) (first.piece ∷ []) (pieces rest)) ∙ ap (λ zs. zs ++ pieces rest) (sym (pieces-append done first.piece whole ∙ ap (λ zs. pieces done ++ zs) alone))));
+      pieces_are = are ∙ (ap (λ zs. pieces done ++ zs) first.pieces_are
+          ∙ (sym (append_assoc (pieces done) (first.piece ∷ []) (pieces rest))
+          ∙ ap (λ zs. zs ++ pieces rest)
+          (sym (pieces-append done first.piece whole ∙ ap (λ zs. pieces done ++ zs) alone))));
       whole = still_whole (is_whole first.piece) (is_whole (done ++ first.piece)) ended (λ last. whole-append done first.piece whole last) first.whole;
       spent = first.spent;
     }
 
 -- one more line is done
-pub done_next : (before ended : Bool) (bytes done text line rest : List ℕ) → IsDone before bytes done text → (first : IsFirstLine ended line text rest) → IsDone ended bytes (done ++ first.piece) rest
+pub done_next : (before ended : Bool) (bytes done text line rest : List ℕ) → IsDone before bytes done text
+    → (first : IsFirstLine ended line text rest) → IsDone ended bytes (done ++ first.piece) rest
 done_next before ended bytes done text line rest so_far first =
     either_way before (IsDone ended bytes (done ++ first.piece) rest)
     (λ at_end. absurd (some_text text first.piece rest first.pieces_are (so_far.spent at_end)))
     (λ unended. done_line ended bytes done text line rest so_far.cut so_far.pieces_are (left_true (is_whole done) before so_far.whole unended) first)
 
 -- how many pieces are done then
-pub pieces_next : (before ended : Bool) (bytes done text line rest : List ℕ) → IsDone before bytes done text → (first : IsFirstLine ended line text rest) → pieces (done ++ first.piece) ≡ pieces done ++ first.piece ∷ []
+pub pieces_next : (before ended : Bool) (bytes done text line rest : List ℕ) → IsDone before bytes done text
+    → (first : IsFirstLine ended line text rest) → pieces (done ++ first.piece) ≡ pieces done ++ first.piece ∷ []
 pieces_next before ended bytes done text line rest so_far first =
     either_way before (pieces (done ++ first.piece) ≡ pieces done ++ first.piece ∷ [])
     (λ at_end. absurd (some_text text first.piece rest first.pieces_are (so_far.spent at_end)))
-    (λ unended. pieces-append done first.piece (left_true (is_whole done) before so_far.whole unended) ∙ ap (λ zs. pieces done ++ zs) (pieces-piece text first.piece (pieces rest) first.pieces_are))
+    (λ unended. pieces-append done first.piece (left_true (is_whole done) before so_far.whole unended)
+    ∙ ap (λ zs. pieces done ++ zs) (pieces-piece text first.piece (pieces rest) first.pieces_are))
 
 -- all is done
 pub done_all : (ended : Bool) (bytes done rest : List ℕ) → IsDone ended bytes done rest → rest ≡ [] → done ≡ bytes

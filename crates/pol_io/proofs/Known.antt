@@ -10,13 +10,15 @@ between_weaker P Q (Some x) None step p = absurd p
 between_weaker P Q (Some x) (Some y) step p = step x y p
 
 -- two facts at once
-pub between_both : (P Q R : List ℕ → List ℕ → Type 0) (a b : Option (List ℕ)) → ((x y : List ℕ) → P x y → Q x y → R x y) → Between P a b → Between Q a b → Between R a b
+pub between_both : (P Q R : List ℕ → List ℕ → Type 0) (a b : Option (List ℕ)) → ((x y : List ℕ) → P x y → Q x y → R x y)
+    → Between P a b → Between Q a b → Between R a b
 between_both P Q R None b step p q = tt
 between_both P Q R (Some x) None step p q = absurd p
 between_both P Q R (Some x) (Some y) step p q = step x y p q
 
 -- one call after another
-pub between_trans : (P Q R : List ℕ → List ℕ → Type 0) (a b c : Option (List ℕ)) → ((x y z : List ℕ) → P x y → Q y z → R x z) → Between P a b → Between Q b c → Between R a c
+pub between_trans : (P Q R : List ℕ → List ℕ → Type 0) (a b c : Option (List ℕ))
+    → ((x y z : List ℕ) → P x y → Q y z → R x z) → Between P a b → Between Q b c → Between R a c
 between_trans P Q R None b c step p q = tt
 between_trans P Q R (Some x) None c step p q = absurd p
 between_trans P Q R (Some x) (Some y) None step p q = absurd q
@@ -59,14 +61,16 @@ Consumes-trans (Some x) (Some y) None xs ys p q = absurd q
 Consumes-trans (Some x) (Some y) (Some z) xs ys p q = rw (p, q) (sym (append_assoc xs ys z))
 
 -- what was consumed waits behind what waited
-pub joined-consumed : (ended : Bool) (old new : Option (List ℕ)) (waited more : List ℕ) → ended ≡ false → Consumes old new more → Keeps (joined ended waited old) (joined ended (waited ++ more) new)
+pub joined-consumed : (ended : Bool) (old new : Option (List ℕ)) (waited more : List ℕ) → ended ≡ false
+    → Consumes old new more → Keeps (joined ended waited old) (joined ended (waited ++ more) new)
 joined-consumed true old new waited more unended took = absurd (cc)
 joined-consumed false None new waited more unended took = tt
 joined-consumed false (Some xs) None waited more unended took = absurd took
 joined-consumed false (Some xs) (Some ys) waited more unended took = rw took (append_assoc waited more ys)
 
 -- at the end all that is ahead waits
-pub joined-at_end : (ended : Bool) (left left' : Option (List ℕ)) (waiting : List ℕ) → Keeps left left' → IsAtEnd left' → Keeps (joined ended waiting left) (Some waiting)
+pub joined-at_end : (ended : Bool) (left left' : Option (List ℕ)) (waiting : List ℕ) → Keeps left left' → IsAtEnd left'
+    → Keeps (joined ended waiting left) (Some waiting)
 joined-at_end true left left' waiting kept end = refl
 joined-at_end false None left' waiting kept end = tt
 joined-at_end false (Some xs) None waiting kept end = absurd kept

@@ -49,7 +49,8 @@ cut_some true x ps = omega arith
 cut_some false x [] = omega arith
 cut_some false x (p ∷ ps) = omega arith
 
-cut_append : (b : Bool) (x : ℕ) (ps qs tail : List (List ℕ)) → qs ≡ ps ++ tail → 0 < length ps → (if b then (x ∷ []) ∷ qs else onto_first x qs) ≡ (if b then (x ∷ []) ∷ ps else onto_first x ps) ++ tail
+cut_append : (b : Bool) (x : ℕ) (ps qs tail : List (List ℕ)) → qs ≡ ps ++ tail → 0 < length ps
+    → (if b then (x ∷ []) ∷ qs else onto_first x qs) ≡ (if b then (x ∷ []) ∷ ps else onto_first x ps) ++ tail
 cut_append true x ps qs tail parts some = ap (λ zs. (x ∷ []) ∷ zs) parts
 cut_append false x ps qs tail parts some = ap (λ zs. onto_first x zs) parts ∙ onto_first-append x ps tail some
 
@@ -57,9 +58,12 @@ cut_append false x ps qs tail parts some = ap (λ zs. onto_first x zs) parts ∙
 pub pieces-append : (done rest : List ℕ) → IsTrue (is_whole done) → pieces (done ++ rest) ≡ pieces done ++ pieces rest
 pieces-append [] rest whole = refl
 pieces-append (x ∷ []) rest whole = rw whole
-pieces-append (x ∷ (y ∷ ys)) rest whole = cut_append (x == 10) x (pieces (y ∷ ys)) (pieces (y ∷ (ys ++ rest))) (pieces rest) (pieces-append (y ∷ ys) rest whole) (cut_some (y == 10) y (pieces ys))
+pieces-append (x ∷ (y ∷ ys)) rest whole =
+    cut_append (x == 10) x (pieces (y ∷ ys)) (pieces (y ∷ (ys ++ rest))) (pieces rest)
+    (pieces-append (y ∷ ys) rest whole) (cut_some (y == 10) y (pieces ys))
 
-cut_joined : (b : Bool) (x : ℕ) (ps : List (List ℕ)) → flat_map (λ piece. piece) (if b then (x ∷ []) ∷ ps else onto_first x ps) ≡ x ∷ flat_map (λ piece. piece) ps
+cut_joined : (b : Bool) (x : ℕ) (ps : List (List ℕ))
+    → flat_map (λ piece. piece) (if b then (x ∷ []) ∷ ps else onto_first x ps) ≡ x ∷ flat_map (λ piece. piece) ps
 cut_joined true x ps = refl
 cut_joined false x [] = refl
 cut_joined false x (p ∷ ps) = refl
@@ -76,7 +80,9 @@ one_piece : (b : Bool) (x : ℕ) → (if b then (x ∷ []) ∷ [] else onto_firs
 one_piece true x = refl
 one_piece false x = refl
 
-cut_alone : (b : Bool) (x : ℕ) (ps tail : List (List ℕ)) (piece : List ℕ) → (x == 10) ≡ b → ((p : List ℕ) (t : List (List ℕ)) → ps ≡ p ∷ t → pieces p ≡ p ∷ []) → (if b then (x ∷ []) ∷ ps else onto_first x ps) ≡ piece ∷ tail → pieces piece ≡ piece ∷ []
+cut_alone : (b : Bool) (x : ℕ) (ps tail : List (List ℕ)) (piece : List ℕ) → (x == 10) ≡ b
+    → ((p : List ℕ) (t : List (List ℕ)) → ps ≡ p ∷ t → pieces p ≡ p ∷ [])
+    → (if b then (x ∷ []) ∷ ps else onto_first x ps) ≡ piece ∷ tail → pieces piece ≡ piece ∷ []
 cut_alone true x ps tail piece test alone same = rw (← head_is (x ∷ []) piece ps tail same) (one_piece (x == 10) x)
 cut_alone false x [] tail piece test alone same = rw (← head_is (x ∷ []) piece [] tail same) (one_piece (x == 10) x)
 cut_alone false x (p ∷ ps) tail piece test alone same =

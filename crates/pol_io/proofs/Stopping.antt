@@ -44,7 +44,8 @@ Passes-PassesMore : (x y z : List ℕ) → Passes x y → PassesMore y z → Pas
 Passes-PassesMore x y z p q = record { last = q.last; passes = Passes-trans x y (q.last ∷ z) p q.passes }
 
 -- a fault after some bytes were passed over
-pub stops_after : (text left middle left' : Option (List ℕ)) (t u : ℕ) (fault : IoFault) → Between Passes text middle → Between (Counts t u) left middle → Stops u middle middle left' fault → Stops t text left left' fault
+pub stops_after : (text left middle left' : Option (List ℕ)) (t u : ℕ) (fault : IoFault) → Between Passes text middle
+    → Between (Counts t u) left middle → Stops u middle middle left' fault → Stops t text left left' fault
 stops_after text left middle left' t u fault passes counted stops = record {
   reached = stops.reached;
   counted = counts_trans left middle left' t u stops.reached counted stops.counted;
@@ -53,7 +54,8 @@ stops_after text left middle left' t u fault passes counted stops = record {
 }
 
 -- all that waited was passed over
-pub passed : (ended : Bool) (text left : Option (List ℕ)) (waiting : List ℕ) → ended ≡ false → IsTrue (has_no_feed waiting) → Keeps text (joined ended waiting left) → Between Passes text left
+pub passed : (ended : Bool) (text left : Option (List ℕ)) (waiting : List ℕ) → ended ≡ false
+    → IsTrue (has_no_feed waiting) → Keeps text (joined ended waiting left) → Between Passes text left
 passed true text left waiting unended no_feed kept = absurd (cc)
 passed false None left waiting unended no_feed kept = tt
 passed false (Some text) None waiting unended no_feed kept = absurd kept

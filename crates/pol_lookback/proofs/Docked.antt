@@ -17,18 +17,24 @@ left_is past (exchange_end at tag ticket description) answer = refl
 left_is past (exchange_cancel at tag ticket) answer = refl
 left_is past _ answer = refl
 
-seen_or : (first second : Option modules.Docking) → docking_seen (unwrap_or (option_or first second) modules.absent) ≡ unwrap_or (option_or (option_map docking_seen first) (option_map docking_seen second)) Absent
+seen_or : (first second : Option modules.Docking)
+    → docking_seen (unwrap_or (option_or first second) modules.absent)
+    ≡ unwrap_or (option_or (option_map docking_seen first) (option_map docking_seen second)) Absent
 seen_or None None = refl
 seen_or None (Some docking) = refl
 seen_or (Some docking) second = refl
 
-last_left : (whole past : History) → option_map docking_seen (last_of (λ entry. modules.docking_after whole entry.event entry.answer) past) ≡ last_of docking_left past
+last_left : (whole past : History)
+    → option_map docking_seen (last_of (λ entry. modules.docking_after whole entry.event entry.answer) past)
+    ≡ last_of docking_left past
 last_left whole [] = refl
 last_left whole (entry ∷ older) = go (modules.docking_after whole entry.event entry.answer) (left_is whole entry.event entry.answer) (last_left whole older)
   where
     go : (here : Option modules.Docking) → option_map docking_seen here ≡ docking_left entry →
         option_map docking_seen (last_of (λ entry. modules.docking_after whole entry.event entry.answer) older) ≡ last_of docking_left older →
-        option_map docking_seen (option_or here (last_of (λ entry. modules.docking_after whole entry.event entry.answer) older)) ≡ option_or (docking_left entry) (last_of docking_left older)
+        option_map docking_seen
+        (option_or here (last_of (λ entry. modules.docking_after whole entry.event entry.answer) older))
+        ≡ option_or (docking_left entry) (last_of docking_left older)
     go None is rest = rest ∙ rw (← is) refl
     go (Some docking) is rest = rw (← is) refl
 

@@ -20,12 +20,15 @@ taken_is modules.absent = refl
 taken_is (modules.docked count) = refl
 taken_is (modules.away ticket) = refl
 
-pub no_module_is : (tag : List ℕ) (docking : modules.Docking) → no_module tag docking ≡ by_docking (Some (NoModule tag)) None (λ ticket. None) (docking_seen docking)
+pub no_module_is : (tag : List ℕ) (docking : modules.Docking)
+    → no_module tag docking ≡ by_docking (Some (NoModule tag)) None (λ ticket. None) (docking_seen docking)
 no_module_is tag modules.absent = refl
 no_module_is tag (modules.docked count) = refl
 no_module_is tag (modules.away ticket) = refl
 
-pub in_exchange_is : (tag : List ℕ) (docking : modules.Docking) → in_exchange tag (modules.ticket_of docking) ≡ by_docking None None (λ ticket. Some (InExchange tag ticket)) (docking_seen docking)
+pub in_exchange_is : (tag : List ℕ) (docking : modules.Docking)
+    → in_exchange tag (modules.ticket_of docking)
+    ≡ by_docking None None (λ ticket. Some (InExchange tag ticket)) (docking_seen docking)
 in_exchange_is tag modules.absent = refl
 in_exchange_is tag (modules.docked count) = refl
 in_exchange_is tag (modules.away ticket) = refl
@@ -35,7 +38,9 @@ not_in_exchange_is modules.absent = refl
 not_in_exchange_is (modules.docked count) = refl
 not_in_exchange_is (modules.away ticket) = refl
 
-pub wrong_ticket_is : (given : ℕ) (docking : modules.Docking) → wrong_ticket given (modules.ticket_of docking) ≡ by_docking None None (λ kept. when (not (kept == given)) (WrongTicket kept given)) (docking_seen docking)
+pub wrong_ticket_is : (given : ℕ) (docking : modules.Docking)
+    → wrong_ticket given (modules.ticket_of docking)
+    ≡ by_docking None None (λ kept. when (not (kept == given)) (WrongTicket kept given)) (docking_seen docking)
 wrong_ticket_is given modules.absent = refl
 wrong_ticket_is given (modules.docked count) = refl
 wrong_ticket_is given (modules.away ticket) = refl

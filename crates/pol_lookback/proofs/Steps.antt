@@ -22,13 +22,16 @@ use Rattle.pol_history.specs.Batches.{charted, chart_named, active}
 use Rattle.pol_history.specs.Runs.{IsOrderly}
 use Rattle.pol_lookback.specs.Starts.{is_active_plan}
 
-filter_first : (log : List LogEntry) (all : List Placed) → filter (is_active_plan log) (map (λ placed. placed.step) all) ≡ map (λ placed. placed.step) (filter (is_active log) all)
+filter_first : (log : List LogEntry) (all : List Placed)
+    → filter (is_active_plan log) (map (λ placed. placed.step) all)
+    ≡ map (λ placed. placed.step) (filter (is_active log) all)
 unfolding is_active_plan
 filter_first log [] = refl
 filter_first log (placed ∷ others) = go (is_running (phase_after log placed.step.name)) (filter_first log others)
   where
     go : (running : Bool) → filter (is_active_plan log) (map (λ placed. placed.step) others) ≡ map (λ placed. placed.step) (filter (is_active log) others) →
-        cond running (placed.step ∷ filter (is_active_plan log) (map (λ placed. placed.step) others)) (filter (is_active_plan log) (map (λ placed. placed.step) others))
+        cond running (placed.step ∷ filter (is_active_plan log) (map (λ placed. placed.step) others))
+        (filter (is_active_plan log) (map (λ placed. placed.step) others))
         ≡ map (λ placed. placed.step) (cond running (placed ∷ filter (is_active log) others) (filter (is_active log) others))
     go true rest = ap (λ steps. placed.step ∷ steps) rest
     go false rest = rest
@@ -74,6 +77,7 @@ recipe_valid name (entry ∷ history) chart orderly is = go (is_accepted_recipe 
     go false is rest = rest is
 
 -- the first of the steps from a place on is kept where it passes the test
-pub kept_first : (test : StepPlan → Bool) (steps : List (Bor Step)) (i : ℕ) (step : Bor Step) → i < length steps → step ≡ get_or steps i step → test (step_plan step.now) ≡ true →
+pub kept_first : (test : StepPlan → Bool) (steps : List (Bor Step)) (i : ℕ) (step : Bor Step) → i < length steps
+    → step ≡ get_or steps i step → test (step_plan step.now) ≡ true →
     step_plan step.now ∷ filter test (plans_seen (drop (suc i) steps)) ≡ filter test (plans_seen (drop i steps))
 kept_first test steps i step inside same passes = rw (drop-cons steps i step inside, ← same, passes) refl

@@ -16,11 +16,15 @@ abbrev pub held_back_for : List ℕ → Option (List ℕ) → Option Rule
 held_back_for batch None = None
 held_back_for batch (Some missing) = Some (HeldBack batch missing)
 
-lacks : (batch role : List ℕ) (fault : Option CoverFault) → option_map (λ fault. HeldBack batch (missing_by role fault)) fault ≡ held_back_for batch (option_map (missing_by role) fault)
+lacks : (batch role : List ℕ) (fault : Option CoverFault)
+    → option_map (λ fault. HeldBack batch (missing_by role fault)) fault
+    ≡ held_back_for batch (option_map (missing_by role) fault)
 lacks batch role None = refl
 lacks batch role (Some fault) = refl
 
-pub uncovered_is : (recipes past : History) (tag : List ℕ) (description : DescriptionForm) (batch : List ℕ) (started : Started) (chart : ChartPlan) (role : List ℕ) →
+pub uncovered_is : (recipes past : History) (tag : List ℕ) (description : DescriptionForm) (batch : List ℕ)
+    (started : Started) (chart : ChartPlan) (role : List ℕ) →
     start_by past ≡ Some started → chart_named started.recipe recipes ≡ Some chart → bound_role started.binds tag ≡ Some role →
     uncovered_by recipes tag description batch past ≡ held_back_for batch (option_map (missing_by role) (cover_fault chart role description))
-uncovered_is recipes past tag description batch started chart role is charted bound = rw (is, charted, bound) (lacks batch role (cover_fault chart role description))
+uncovered_is recipes past tag description batch started chart role is charted bound =
+    rw (is, charted, bound) (lacks batch role (cover_fault chart role description))

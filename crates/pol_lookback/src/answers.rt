@@ -38,7 +38,8 @@ use std::alloc::{AllocError, Global};
 const LONGEST_HISTORY: usize = 200_000;
 
 fn plug_rule(alloc: Global, history: &[Entry], tag: Name) -> Result<Option<Rule>, AllocError>
-    ensures { IfOk result (λ rule. rule ≡ first_of (tag_taken (docking_by (past tag (history_view history.now))) ∷ plant_full (history_view history.now) ∷ [])) }
+    ensures { IfOk result (λ rule. rule ≡ first_of
+        (tag_taken (docking_by (past tag (history_view history.now))) ∷ plant_full (history_view history.now) ∷ [])) }
 {
     Ok(first_of(&[tag_taken(history, tag), plant_full(alloc, history)?]))
 }
@@ -81,7 +82,9 @@ fn variable_rule(history: &[Entry], tag: Name, name: Name, value: &Value) -> Opt
 }
 
 fn recipe_rule(history: &[Entry], name: Name) -> Option<Rule>
-    ensures { result ≡ first_of (recipe_known name (recipes (history_view history.now)) ∷ recipes_full (recipes (history_view history.now)) ∷ []) }
+    ensures { result ≡ first_of
+        (recipe_known name (recipes (history_view history.now))
+        ∷ recipes_full (recipes (history_view history.now)) ∷ []) }
 {
     first_of(&[recipe_known(history, name), recipes_full(history)])
 }
@@ -119,7 +122,9 @@ fn start_rule(
 
 // The rules that each event of an open batch has.
 fn open_rule(history: &[Entry], batch: Name) -> Option<Rule>
-    ensures { result ≡ first_of (no_batch (start_by (past_of_batch batch (history_view history.now))) ∷ batch_closed (past_of_batch batch (history_view history.now)) ∷ []) }
+    ensures { result ≡ first_of
+        (no_batch (start_by (past_of_batch batch (history_view history.now)))
+        ∷ batch_closed (past_of_batch batch (history_view history.now)) ∷ []) }
 {
     first_of(&[no_batch(history, batch), batch_closed(history, batch)])
 }
@@ -168,7 +173,8 @@ fn begin_rule(alloc: Global, history: &[Entry], tag: Name) -> Result<Option<Rule
 }
 
 fn end_rule(history: &[Entry], tag: Name, ticket: u32, description: &Description) -> Option<Rule>
-    ensures { result ≡ first_of (rules (history_view history.now) (exchange_end 0 tag ticket (description_view description.now))) }
+    ensures { result ≡ first_of
+        (rules (history_view history.now) (exchange_end 0 tag ticket (description_view description.now))) }
 {
     first_of(&[
         no_module(history, tag),

@@ -122,7 +122,8 @@ fn is_on(binds: &[Bind], role: Name, tag: Name) -> bool
 
 // The name of the first active step whose role has the tag.
 fn step_on(binds: &[Bind], tag: Name, steps: &[&Step], log: &[LogEntry]) -> Option<Name>
-    ensures { result ≡ option_map (λ step. step.name) (step_on binds.now tag (filter (is_active_plan log.now) (plans_seen steps.now))) }
+    ensures { result ≡ option_map (λ step. step.name)
+        (step_on binds.now tag (filter (is_active_plan log.now) (plans_seen steps.now))) }
 {
     for step in steps {
         if !is_active_step(step, log) {
@@ -142,7 +143,8 @@ fn active_step_of(
     tag: Name,
     batch: Name,
 ) -> Result<Option<Rule>, AllocError>
-    ensures { IfOk result (λ rule. rule ≡ active_step_on (recipes (history_view history.now)) tag batch (past_of_batch batch (history_view history.now))) }
+    ensures { IfOk result (λ rule. rule
+        ≡ active_step_on (recipes (history_view history.now)) tag batch (past_of_batch batch (history_view history.now))) }
 {
     let Some(start) = start_of(history, batch) else {
         return Ok(None);
@@ -175,7 +177,8 @@ fn uncovered_by(
     description: &Description,
     batch: Name,
 ) -> Option<Rule>
-    ensures { result ≡ uncovered_by (recipes (history_view history.now)) tag (description_view description.now) batch (past_of_batch batch (history_view history.now)) }
+    ensures { result ≡ uncovered_by (recipes (history_view history.now)) tag (description_view description.now) batch
+        (past_of_batch batch (history_view history.now)) }
 {
     let Some(start) = start_of(history, batch) else {
         return None;

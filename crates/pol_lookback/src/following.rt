@@ -46,7 +46,8 @@ pub fn is_active_step(step: &Step, log: &[LogEntry]) -> bool
 
 /// The steps of the chart in chart order.
 pub fn chart_steps(alloc: Global, chart: &Chart) -> Result<Vec<&Step>, AllocError>
-    ensures { IfOk result (λ steps. (log : List LogEntry) → filter (is_active_plan log) (plans_seen steps.items) ≡ active (plan chart.now) log) }
+    ensures { IfOk result (λ steps. (log : List LogEntry)
+        → filter (is_active_plan log) (plans_seen steps.items) ≡ active (plan chart.now) log) }
 {
     steps_in_order(alloc, chart)
 }
@@ -94,7 +95,10 @@ fn stop_step(step: &Step, tag: Name, sight: Sight) -> Next
 // An active step of a batch that is stopped, by what is seen of its service.
 #[tactic(auto, using(crate::proofs::Steps::role_or_itself))]
 fn stop_seen(seen: &Sights, step: &Step) -> Next
-    ensures { (broken : Bool) (others : List StepPlan) → result ≡ stop_next (sights_by seen.now.binds.now (λ tag. past tag (history_view seen.now.history.now))) broken (step_plan step.now ∷ others) }
+    ensures { (broken : Bool) (others : List StepPlan)
+        → result ≡ stop_next
+        (sights_by seen.now.binds.now (λ tag. past tag (history_view seen.now.history.now)))
+        broken (step_plan step.now ∷ others) }
 {
     let tag = seen.tag(step.role).unwrap_or(step.role);
     stop_step(step, tag, seen.view(step.role, step.service))
@@ -102,7 +106,9 @@ fn stop_seen(seen: &Sights, step: &Step) -> Next
 
 // A batch that is stopped: its first active step, and when there is none it is closed.
 fn stop_next(seen: &Sights, broken: bool, steps: &[&Step], log: &[LogEntry]) -> Next
-    ensures { result ≡ stop_next (sights_by seen.now.binds.now (λ tag. past tag (history_view seen.now.history.now))) broken (filter (is_active_plan log.now) (plans_seen steps.now)) }
+    ensures { result ≡ stop_next
+        (sights_by seen.now.binds.now (λ tag. past tag (history_view seen.now.history.now)))
+        broken (filter (is_active_plan log.now) (plans_seen steps.now)) }
 {
     for step in steps {
         if is_active_step(step, log) {
@@ -136,7 +142,9 @@ fn broken_step(step: &Step, sight: Sight) -> Option<LogEntry>
 
 // The entry Broke of the first active step whose service is stopped or aborted.
 fn first_broken(seen: &Sights, steps: &[&Step], log: &[LogEntry]) -> Option<LogEntry>
-    ensures { result ≡ first_broken (sights_by seen.now.binds.now (λ tag. past tag (history_view seen.now.history.now))) (filter (is_active_plan log.now) (plans_seen steps.now)) }
+    ensures { result ≡ first_broken
+        (sights_by seen.now.binds.now (λ tag. past tag (history_view seen.now.history.now)))
+        (filter (is_active_plan log.now) (plans_seen steps.now)) }
 {
     for step in steps {
         if !is_active_step(step, log) {
@@ -167,7 +175,8 @@ fn next_by(
     seen: &Sights,
 ) -> Result<Next, AllocError>
     requires { IsValid (plan chart.now) }
-    ensures { IfOk result (λ next. next ≡ next_by (plan chart.now) frozen log.now (sights_by seen.now.binds.now (λ tag. past tag (history_view seen.now.history.now)))) }
+    ensures { IfOk result (λ next. next ≡ next_by (plan chart.now) frozen log.now
+        (sights_by seen.now.binds.now (λ tag. past tag (history_view seen.now.history.now)))) }
 {
     if frozen {
         return Ok(Next::Waiting(Why::Frozen));
@@ -193,7 +202,10 @@ fn next_of_start(
     chart: &Chart,
 ) -> Result<Next, AllocError>
     requires { IsValid (plan chart.now) }
-    ensures { IfOk result (λ next. next ≡ next_by (plan chart.now) (is_frozen_by (past_of_batch batch (history_view history.now))) (log_by (past_of_batch batch (history_view history.now))) (sights_by start.entry.binds.now (λ tag. past tag (history_view history.now)))) }
+    ensures { IfOk result (λ next. next ≡ next_by (plan chart.now)
+        (is_frozen_by (past_of_batch batch (history_view history.now)))
+        (log_by (past_of_batch batch (history_view history.now)))
+        (sights_by start.entry.binds.now (λ tag. past tag (history_view history.now)))) }
 {
     let seen = Sights {
         history,

@@ -6,7 +6,7 @@ ghost use Rattle.pol_events.specs.Refusals.{forbidden, in_exchange, misfit, no_s
 ghost use Rattle.pol_history.specs.Looking.{past};
 ghost use Rattle.pol_history.specs.Modules.{docking_by, ticket_of, description_by, control_by, view_by};
 ghost use Rattle.pol_history.specs.Batches.{holder_of};
-ghost use Rattle.pol_history.specs.Rules.{by_description, by_holder, by_view, no_module, not_idle, not_in_exchange, not_reported, plant_full, tag_taken};
+ghost use Rattle.pol_history.specs.Rules.{by_description, by_holder, by_view, module_not_at_rest, no_module, not_idle, not_in_exchange, not_reported, plant_full, tag_taken};
 ghost use Rattle.pol_lookback.specs.Holding.{held_by};
 
 use crate::batches::holder_of;
@@ -214,7 +214,8 @@ fn service_not_at_rest(history: &[Entry], tag: Name, service: Name) -> Option<Ru
 
 // The first of the services that isn't at rest.
 fn first_not_at_rest(history: &[Entry], tag: Name, services: &[Service]) -> Option<Rule>
-    ensures { result ≡ not_at_rest (λ service. control_by service (past tag (history_view history.now))) (map service_view services.now) }
+    ensures { result ≡ not_at_rest (λ service. control_by service (past tag (history_view history.now)))
+        (map service_view services.now) }
 {
     for service in services {
         if let Some(rule) = service_not_at_rest(history, tag, service.name) {
@@ -226,7 +227,8 @@ fn first_not_at_rest(history: &[Entry], tag: Name, services: &[Service]) -> Opti
 
 /// The module isn't at rest; the first service that isn't, in the description's order.
 pub fn not_at_rest(history: &[Entry], tag: Name) -> Option<Rule>
-    ensures { result ≡ by_description (λ description. not_at_rest (λ service. control_by service (past tag (history_view history.now))) description.services) (description_by (past tag (history_view history.now))) }
+    ensures { result ≡ by_description (module_not_at_rest (past tag (history_view history.now)))
+        (description_by (past tag (history_view history.now))) }
 {
     let description = description_of(history, tag)?;
     first_not_at_rest(history, tag, &description.services)

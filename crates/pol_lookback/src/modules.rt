@@ -69,7 +69,8 @@ fn described(event: &Event) -> Option<&Description>
 
 /// The description of the tag: that of its last plug, or of the last end of an exchange.
 pub fn description_of(history: &[Entry], tag: Name) -> Option<&Description>
-    ensures { option_map (λ description. description_view description.now) result ≡ description_by (past tag (history_view history.now)) }
+    ensures { option_map (λ description. description_view description.now) result
+        ≡ description_by (past tag (history_view history.now)) }
 {
     let mut rest = history;
     while let Some((entry, older)) = newest(rest) {
@@ -163,7 +164,8 @@ pub fn value_of(history: &[Entry], tag: Name, name: Name) -> Option<Value>
 
 // Whether the procedure completes by itself, by the module's description.
 fn completes(description: Option<&Description>, service: Name, procedure: u16) -> bool
-    ensures { result ≡ completes_by service procedure (option_map (λ description. description_view description.now) description.entry) }
+    ensures { result ≡ completes_by service procedure
+        (option_map (λ description. description_view description.now) description.entry) }
 {
     match description {
         Some(description) => description.self_completes(service, procedure),
@@ -216,7 +218,8 @@ fn tags_without(alloc: Global, tag: Name, tags: &[Name]) -> Result<Vec<Name>, Al
 
 // The tags with that of a plug, without that of an unplug.
 fn tags_after(alloc: Global, tags: Vec<Name>, entry: &Entry) -> Result<Vec<Name>, AllocError>
-    ensures { IfOk result (λ after. after.items ≡ present_after (event_view entry.now.event) (is_accepted entry.now.answer) tags.items) }
+    ensures { IfOk result
+        (λ after. after.items ≡ present_after (event_view entry.now.event) (is_accepted entry.now.answer) tags.items) }
 {
     match &entry.event {
         Event::Plug { tag, .. } if is_accepted(&entry.answer) => {

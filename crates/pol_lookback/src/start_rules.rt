@@ -1,6 +1,5 @@
 //! The rules of a start: its binds against the roles of the recipe, then its modules one after another.
 ghost use Rattle.std.specs.Prelude.{◌≡◌, [], IfOk};
-ghost use Rattle.std.specs.Option.{option_or};
 ghost use Rattle.mtp_codes.specs.Names.{same_name, is_among};
 ghost use Rattle.mtp_codes.specs.Faults.{first_of};
 ghost use Rattle.chart_core.specs.Charts.{plan};
@@ -8,9 +7,9 @@ ghost use Rattle.chart_core.specs.Roles.{role_names};
 ghost use Rattle.chart_core.specs.Order.{plans_seen};
 ghost use Rattle.pol_events.specs.Events.{history_view};
 ghost use Rattle.pol_history.specs.Looking.{past};
-ghost use Rattle.pol_history.specs.Modules.{description_by, view_by};
+ghost use Rattle.pol_history.specs.Modules.{description_by};
 ghost use Rattle.pol_history.specs.Batches.{bound_tag};
-ghost use Rattle.pol_history.specs.Rules.{busy, busy_role, is_bound_before, module_rule, modules_unfit, not_covered, not_idle, not_ready, not_reported, one_module_twice, role_unbound, role_unknown, twice};
+ghost use Rattle.pol_history.specs.Rules.{busy, busy_role, is_bound_before, module_rule, modules_unfit, not_covered, not_ready, one_module_twice, role_unbound, role_unknown, twice, unready};
 ghost use Rattle.pol_lookback.specs.Holding.{names_in, services_in, steps_of};
 
 use crate::batches::holder_of;
@@ -116,7 +115,7 @@ fn is_of_role(step: &Step, role: Name) -> bool
 }
 
 fn unready(history: &[Entry], tag: Name, service: Name) -> Option<Rule>
-    ensures { result ≡ option_or (not_reported tag service (view_by service (past tag (history_view history.now)))) (not_idle tag service (view_by service (past tag (history_view history.now)))) }
+    ensures { result ≡ unready tag (past tag (history_view history.now)) service }
 {
     match not_reported(history, tag, service) {
         Some(rule) => Some(rule),
@@ -190,7 +189,8 @@ pub fn modules_unfit(
     chart: &Chart,
     binds: &[Bind],
 ) -> Result<Option<Rule>, AllocError>
-    ensures { IfOk result (λ rule. rule ≡ modules_unfit (history_view history.now) (plan chart.now) binds.now (role_names (plan chart.now))) }
+    ensures { IfOk result (λ rule. rule
+        ≡ modules_unfit (history_view history.now) (plan chart.now) binds.now (role_names (plan chart.now))) }
 {
     let steps = steps_in_order(alloc, chart)?;
     Ok(first_unfit(history, chart, binds, &steps, &chart.roles))

@@ -46,6 +46,7 @@ binds-whole [] = refl
 binds-whole (bind ∷ binds) = binds-whole binds
 
 -- a batch
-pub batch_whole : (batch : List ℕ) (started : Started) (log : List LogEntry) (outcome : Option Outcome) → has_float (batch_data batch started log outcome) ≡ false
+pub batch_whole : (batch : List ℕ) (started : Started) (log : List LogEntry) (outcome : Option Outcome)
+    → has_float (batch_data batch started log outcome) ≡ false
 unfolding batch_object written_binds
 batch_whole batch started log outcome = rw (binds-whole started.binds, log-whole log) refl

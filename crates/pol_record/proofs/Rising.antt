@@ -20,7 +20,8 @@ starting-rises (start at batch name binds) started orderly is =
 starting-rises _ started orderly is = cc
 
 -- in an orderly history
-pub start_rises : (batch : List ℕ) (history : History) (started : Started) → IsOrderly history → start_by (past_of_batch batch history) ≡ Some started → rise started.binds ≡ true
+pub start_rises : (batch : List ℕ) (history : History) (started : Started) → IsOrderly history
+    → start_by (past_of_batch batch history) ≡ Some started → rise started.binds ≡ true
 start_rises batch [] started orderly is = cc
 start_rises batch (entry ∷ history) started orderly is = go (is_accepted_of_batch batch entry) is (start_rises batch history started orderly.1)
   where

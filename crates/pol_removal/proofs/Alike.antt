@@ -53,7 +53,8 @@ open-or-none : (less : History) (batch : List ℕ) (holder : Option (List ℕ)) 
 open-or-none less batch holder held = go (outcome_of less batch) refl
   where
     go : (outcome : Option Outcome) → outcome_of less batch ≡ outcome →
-        (cond (is_none (outcome_of less batch)) (Some batch) None ≡ None) ⊎ ((cond (is_none (outcome_of less batch)) (Some batch) None ≡ Some batch) × (holder ≡ Some batch))
+        (cond (is_none (outcome_of less batch)) (Some batch) None ≡ None)
+        ⊎ ((cond (is_none (outcome_of less batch)) (Some batch) None ≡ Some batch) × (holder ≡ Some batch))
     go None is = inr (rw is, held is)
     go (Some outcome) is = inl (rw is)
 
@@ -66,10 +67,13 @@ holders-alike : (tags bound : List (List ℕ)) (history : History) → AllByRecu
     (tag : List ℕ) → HolderAlike bound history (filter (stays tags bound) history) tag
 holders-alike tags bound history covered owned tag = go (last_of (takes tag) (filter (stays tags bound) history)) refl
   where
-    go : (taken : Option (List ℕ)) → last_of (takes tag) (filter (stays tags bound) history) ≡ taken → HolderAlike bound history (filter (stays tags bound) history) tag
+    go : (taken : Option (List ℕ)) → last_of (takes tag) (filter (stays tags bound) history) ≡ taken
+        → HolderAlike bound history (filter (stays tags bound) history) tag
     go None is = inl (ap (if_open (filter (stays tags bound) history)) is)
     go (Some batch) is =
-        let (entry, (holds, stay), took) = last_of-all (λ entry. Owned history entry × (stays tags bound entry ≡ true)) (takes tag) (filter (stays tags bound) history) batch
+        let (entry, (holds, stay), took) =
+        last_of-all (λ entry. Owned history entry × (stays tags bound entry ≡ true)) (takes tag)
+        (filter (stays tags bound) history) batch
         (all-kept (Owned history) (stays tags bound) history owned) is in
         let parts = takes-parts (is_accepted entry.answer) (taking tag entry.event) batch took in
         let outside = batch-outside tags bound batch entry stay (taking-batch tag batch entry.event parts.1) in
@@ -87,7 +91,9 @@ start-binds _ started is = cc
 starts-apart : (tags bound : List (List ℕ)) (history : History) → AllByRecursion (Covered tags bound) history → (batch : List ℕ) (started : Started) →
     is_among bound batch ≡ false → start_of history batch ≡ Some started → is_some_among tags (tags_of started.binds) ≡ false
 starts-apart tags bound history covered batch started outside is =
-    let (entry, (covers, of_it), said) = last_of-all (λ entry. Covered tags bound entry × (is_accepted_of_batch batch entry ≡ true)) (λ entry. starting entry.event)
+    let (entry, (covers, of_it), said) =
+    last_of-all (λ entry. Covered tags bound entry × (is_accepted_of_batch batch entry ≡ true))
+    (λ entry. starting entry.event)
     (past_of_batch batch history) started (all-kept (Covered tags bound) (is_accepted_of_batch batch) history covered) is in
     let parts = and_parts (is_batch batch (subject entry.event)) (is_accepted entry.answer) of_it in
     ap (λ binds. is_some_among tags (tags_of binds)) (sym (start-binds entry.event started said))

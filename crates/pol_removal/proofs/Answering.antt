@@ -31,7 +31,8 @@ active-another recipes tag batch past =
     then-another _ (λ started. then-another _ (λ chart. map-another _ (λ step. refl) (step_on started.binds tag (active chart (log_by past))))
     (chart_by recipes (Some started))) (start_by past)
 
-back-another : (recipes : History) (tag : List ℕ) (description : DescriptionForm) (batch : List ℕ) (past : History) → IsForAnother (uncovered_by recipes tag description batch past)
+back-another : (recipes : History) (tag : List ℕ) (description : DescriptionForm) (batch : List ℕ) (past : History)
+    → IsForAnother (uncovered_by recipes tag description batch past)
 back-another recipes tag description batch past =
     then-another _ (λ started. then-another _ (λ chart. then-another _ (λ role. map-another _ (λ fault. refl) (cover_fault chart role description))
     (bound_role started.binds tag)) (chart_by recipes (Some started))) (start_by past)
@@ -39,7 +40,9 @@ back-another recipes tag description batch past =
 module _ (tags bound : List (List ℕ)) (whole less : History) (alike : Alike tags bound whole less) where
   -- ---- rules for another's sake
 
-  held-falls : (tag : List ℕ) → Falls (by_holder (λ batch. Some (Held batch)) (holder_of whole tag)) (by_holder (λ batch. Some (Held batch)) (holder_of less tag))
+  held-falls : (tag : List ℕ)
+      → Falls (by_holder (λ batch. Some (Held batch)) (holder_of whole tag))
+      (by_holder (λ batch. Some (Held batch)) (holder_of less tag))
   held-falls tag = holder-falls bound whole less tag _ _ (λ batch. inl refl) (λ batch out. refl) (alike.holders tag)
 
   active-falls : (tag : List ℕ) → Falls (active_step whole tag) (active_step less tag)
@@ -84,15 +87,30 @@ module _ (tags bound : List (List ℕ)) (whole less : History) (alike : Alike ta
       AllFall (start_rules whole batch binds chart) (start_rules less batch binds chart)
   start-falls batch binds out apart None = (inr refl, tt)
   start-falls batch binds out apart (Some chart) =
-      rw (alike.batch_pasts batch out)
-      (inr refl, (inr refl, (inr refl, (inr refl, (inr (modules-same chart binds apart (role_names chart)), (busy-falls binds (role_names chart), (batches-fall, tt)))))))
+      rw (alike.batch_pasts batch out) (
+        inr refl,
+        (
+          inr refl,
+          (
+            inr refl,
+            (
+              inr refl,
+              (
+                inr (modules-same chart binds apart (role_names chart)),
+                (busy-falls binds (role_names chart), (batches-fall, tt)),
+              ),
+            ),
+          ),
+        ),
+      )
 
   -- ---- the next entry of a batch
 
   sees : List Bind → (List ℕ → List ℕ → Sight) → (List ℕ → List ℕ → ReadingSight) → Sights
   sees binds views readings = record { tag = bound_tag binds; view = views; reading = readings }
 
-  sights-same : (binds : List Bind) → is_some_among tags (tags_of binds) ≡ false → sights_by binds (λ tag. past tag less) ≡ sights_by binds (λ tag. past tag whole)
+  sights-same : (binds : List Bind) → is_some_among tags (tags_of binds) ≡ false
+      → sights_by binds (λ tag. past tag less) ≡ sights_by binds (λ tag. past tag whole)
   unfolding sees
   sights-same binds apart =
       ap (λ views. sees binds views (λ role name. variable_sight (λ tag. past tag less) name (bound_tag binds role)))
@@ -118,7 +136,9 @@ module _ (tags bound : List (List ℕ)) (whole less : History) (alike : Alike ta
           ≡ option_and_then (next_of_started (recipes whole) (past_of_batch batch whole) (λ tag. past tag whole)) started
       go None is = refl
       go (Some started) is =
-          ap (λ seen. option_map (λ chart. next_by chart (is_frozen_by (past_of_batch batch whole)) (log_by (past_of_batch batch whole)) seen) (chart_by (recipes whole) (Some started)))
+          ap (λ seen. option_map
+          (λ chart. next_by chart (is_frozen_by (past_of_batch batch whole))
+          (log_by (past_of_batch batch whole)) seen) (chart_by (recipes whole) (Some started)))
           (sights-same started.binds (alike.apart batch started out is))
 
   -- ---- all kinds
@@ -150,6 +170,7 @@ module _ (tags bound : List (List ℕ)) (whole less : History) (alike : Alike ta
   pub answered-alike : (event : EventForm) → is_of tags bound (subject event) ≡ false → binds_one tags event ≡ false →
       is_refused_for_another (answer_of whole event) ≡ false → answer_of less event ≡ answer_of whole event
   answered-alike event out apart own =
-      first-falls (when (is_full whole) HistoryFull ∷ rules whole event) (when (is_full less) HistoryFull ∷ rules less event) (otherwise whole event) (otherwise less event)
+      first-falls (when (is_full whole) HistoryFull ∷ rules whole event)
+      (when (is_full less) HistoryFull ∷ rules less event) (otherwise whole event) (otherwise less event)
       (when-falls HistoryFull refl (is_full whole) (is_full less) (fewer-reach 200000 (length less) (length whole) alike.fewer), rules-fall event out apart)
       (otherwise-same event out) own

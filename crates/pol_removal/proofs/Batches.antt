@@ -34,7 +34,8 @@ recorded-stay tags bound [] history = refl
 recorded-stay tags bound (entry ∷ entries) history = go (stays tags bound entry) refl (recorded-stay tags bound entries (recorded entry history))
   where
     go : (stay : Bool) → stays tags bound entry ≡ stay →
-        recorded_all (filter (stays tags bound) (recorded entry history)) (filter (stays tags bound) entries) ≡ filter (stays tags bound) (recorded_all (recorded entry history) entries) →
+        recorded_all (filter (stays tags bound) (recorded entry history)) (filter (stays tags bound) entries)
+        ≡ filter (stays tags bound) (recorded_all (recorded entry history) entries) →
         recorded_all (filter (stays tags bound) history) (if stay then entry ∷ filter (stays tags bound) entries else filter (stays tags bound) entries)
         ≡ filter (stays tags bound) (recorded_all (recorded entry history) entries)
     go false is rest = rw (← dropped tags bound entry history is) rest
@@ -42,7 +43,8 @@ recorded-stay tags bound (entry ∷ entries) history = go (stays tags bound entr
 
 -- the history that the events that stay leave is the history without the concerned entries
 pub history-without : (tags : List (List ℕ)) (events : List EventForm) → AreOrderly events →
-    history_after [] (map (λ entry. entry.event) (entries_without tags events)) ≡ filter (stays tags (bound_batches tags (run_of events))) (history_after [] events)
+    history_after [] (map (λ entry. entry.event) (entries_without tags events))
+    ≡ filter (stays tags (bound_batches tags (run_of events))) (history_after [] events)
 history-without tags events orderly =
     recorded-run (map (λ entry. entry.event) (entries_without tags events)) []
     ∙ ap (recorded_all []) (events-removed tags events orderly)
@@ -55,7 +57,8 @@ covered-all tags bound [] history covers covered = covered
 covered-all tags bound (entry ∷ entries) history covers covered =
     covered-all tags bound entries (recorded entry history) covers.1 (covered-recorded tags bound entry history covers.0 covered)
 
-pub covered-after : (tags : List (List ℕ)) (events : List EventForm) → AllByRecursion (Covered tags (bound_batches tags (run_of events))) (history_after [] events)
+pub covered-after : (tags : List (List ℕ)) (events : List EventForm)
+    → AllByRecursion (Covered tags (bound_batches tags (run_of events))) (history_after [] events)
 covered-after tags events =
     rw (recorded-run events []) (covered-all tags (bound_batches tags (run_of events)) (run_of events) [] (bound-covers tags (run_of events)) tt)
 

@@ -19,7 +19,8 @@ of-more tags bound (Some batch) (of_module tag) is = is
 of-more tags bound (Some batch) (of_batch other) is = or_right (bytes_eq batch other) (is_among bound other) is
 of-more tags bound (Some batch) (of_recipe name) is = is
 
-of-started : (tags bound : List (List ℕ)) (event : EventForm) → binds_one tags event ≡ true → is_of tags (cons_option (started_batch event) bound) (subject event) ≡ true
+of-started : (tags bound : List (List ℕ)) (event : EventForm) → binds_one tags event ≡ true
+    → is_of tags (cons_option (started_batch event) bound) (subject event) ≡ true
 of-started tags bound (start at batch name binds) one = or_left (bytes_eq batch batch) (is_among bound batch) (same-refl batch)
 of-started tags bound _ one = cc
 
@@ -31,7 +32,8 @@ bound-covers tags [] = tt
 bound-covers tags (entry ∷ entries) = (
   covered-first tags (bound_batches tags entries) entry,
   all-map (Covered tags (bound_batches tags entries)) (Covered tags (bound_batches tags (entry ∷ entries)))
-      (λ other covers is. of-more tags (bound_batches tags entries) (bound_batch tags entry) (subject other.event) (covers is)) entries (bound-covers tags entries),
+      (λ other covers is. of-more tags (bound_batches tags entries) (bound_batch tags entry) (subject other.event)
+      (covers is)) entries (bound-covers tags entries),
 )
 
 pub covered-recorded : (tags bound : List (List ℕ)) (entry : EntryForm) (history : History) → Covered tags bound entry →

@@ -7,7 +7,9 @@ use Rattle.std.proofs.lemmas.List.Elements.{filter-append}
 
 pub filter-reverse : {X : Type 0} (keeps : X → Bool) (xs : List X) → reverse (filter keeps xs) ≡ filter keeps (reverse xs)
 filter-reverse keeps [] = refl
-filter-reverse {X} keeps (x ∷ xs) = sym (ap (filter keeps) (reverse-append (x ∷ []) xs) ∙ filter-append keeps (reverse xs) (x ∷ []) ∙ go (keeps x) (filter-reverse keeps xs))
+filter-reverse {X} keeps (x ∷ xs) =
+    sym (ap (filter keeps) (reverse-append (x ∷ []) xs) ∙ filter-append keeps (reverse xs) (x ∷ [])
+    ∙ go (keeps x) (filter-reverse keeps xs))
   where
     go : (kept : Bool) → reverse (filter keeps xs) ≡ filter keeps (reverse xs) →
         filter keeps (reverse xs) ++ cond kept (x ∷ []) [] ≡ reverse (cond kept (x ∷ filter keeps xs) (filter keeps xs))

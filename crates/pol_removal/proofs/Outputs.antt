@@ -12,12 +12,14 @@ use Rattle.pol_removal.proofs.Reading.{events-orderly, item_in, IsReadBack, read
 use Rattle.pol_removal.proofs.Rows.{items-of-rows, staying_rows, staying-events, rows-stay}
 use Rattle.pol_removal.proofs.Batches.{history-without, covered-after, batch-lines-stay}
 
-kept-read-back : (keeps : Row → Bool) (rows : List Row) → AllByRecursion IsReadBack rows → map item_of (map piece_of (filter keeps rows)) ≡ map item_in (filter keeps rows)
+kept-read-back : (keeps : Row → Bool) (rows : List Row) → AllByRecursion IsReadBack rows
+    → map item_of (map piece_of (filter keeps rows)) ≡ map item_in (filter keeps rows)
 kept-read-back keeps [] all = refl
 kept-read-back keeps (row ∷ rows) all = go (keeps row) (kept-read-back keeps rows all.1)
   where
     go : (kept : Bool) → map item_of (map piece_of (filter keeps rows)) ≡ map item_in (filter keeps rows) →
-        map item_of (map piece_of (cond kept (row ∷ filter keeps rows) (filter keeps rows))) ≡ map item_in (cond kept (row ∷ filter keeps rows) (filter keeps rows))
+        map item_of (map piece_of (cond kept (row ∷ filter keeps rows) (filter keeps rows)))
+        ≡ map item_in (cond kept (row ∷ filter keeps rows) (filter keeps rows))
     go true rest = rw (all.0, rest)
     go false rest = rest
 
@@ -41,7 +43,8 @@ lines-removed tags bytes =
     let orderly = events-orderly (pieces bytes) in
     let bound = bound_batches tags (run_of (events_in (items_of bytes))) in
     ap (λ items. rows_text (rows_after [] items) ++ closing_text (history_after [] (events_in items))) (items-without tags bytes)
-    ∙ ap (λ rows. rows_text rows ++ closing_text (history_after [] (events_in (map item_in (rows_without tags bytes))))) (rows-stay tags (items_of bytes) orderly)
+    ∙ ap (λ rows. rows_text rows ++ closing_text (history_after [] (events_in (map item_in (rows_without tags bytes)))))
+    (rows-stay tags (items_of bytes) orderly)
     ∙ ap (λ history. rows_text (rows_without tags bytes) ++ closing_text history) (closing-stays tags (items_of bytes) orderly)
     ∙ ap (λ lines. rows_text (rows_without tags bytes) ++ (lines ++ end_text))
     (batch-lines-stay tags bound (history_after [] (events_in (items_of bytes))) (covered-after tags (events_in (items_of bytes))))

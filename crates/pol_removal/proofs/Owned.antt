@@ -25,7 +25,8 @@ abbrev pub Owned : History → EntryForm → Type 0
 Owned history entry = (batch tag : List ℕ) → takes tag entry ≡ Some batch → outcome_of history batch ≡ None → holder_of history tag ≡ Some batch
 
 -- an entry that takes a module is accepted, and its event takes the module
-pub takes-parts : (accepted : Bool) (taken : Option (List ℕ)) (batch : List ℕ) → cond accepted taken None ≡ Some batch → (accepted ≡ true) × (taken ≡ Some batch)
+pub takes-parts : (accepted : Bool) (taken : Option (List ℕ)) (batch : List ℕ) → cond accepted taken None ≡ Some batch
+    → (accepted ≡ true) × (taken ≡ Some batch)
 takes-parts true taken batch is = (refl, is)
 takes-parts false taken batch is = cc
 
@@ -69,7 +70,8 @@ clash : {A : Type 0} (holder : Option (List ℕ)) (batch : List ℕ) → holder 
 clash None batch none some = cc
 clash (Some other) batch none some = cc
 
-owned-more : (history : History) (event : EventForm) → is_orderly event ≡ true → (entry : EntryForm) → Owned history entry → Owned (entry_of history event ∷ history) entry
+owned-more : (history : History) (event : EventForm) → is_orderly event ≡ true → (entry : EntryForm)
+    → Owned history entry → Owned (entry_of history event ∷ history) entry
 owned-more history event orderly entry owned batch tag took is = go (takes tag (entry_of history event)) refl
   where
     held : holder_of history tag ≡ Some batch

@@ -47,6 +47,7 @@ pieces-joined {X} piece_of (x ∷ xs) cut = go xs cut.1 (pieces-joined piece_of 
     go : (xs : List X) → IsTrue (is_whole (piece_of x)) ⊎ (map piece_of xs ≡ []) → pieces (flat_map piece_of xs) ≡ map piece_of xs →
         pieces (piece_of x ++ flat_map piece_of xs) ≡ piece_of x ∷ map piece_of xs
     go xs (inl whole) rest =
-        pieces-append (piece_of x) (flat_map piece_of xs) whole ∙ ap (λ first. first ++ pieces (flat_map piece_of xs)) cut.0 ∙ ap (λ rest. piece_of x ∷ rest) rest
+        pieces-append (piece_of x) (flat_map piece_of xs) whole
+        ∙ ap (λ first. first ++ pieces (flat_map piece_of xs)) cut.0 ∙ ap (λ rest. piece_of x ∷ rest) rest
     go [] (inr none) rest = ap pieces (append-nil (piece_of x)) ∙ cut.0
     go (y ∷ ys) (inr none) rest = cc

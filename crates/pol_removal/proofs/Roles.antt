@@ -30,7 +30,8 @@ another-role bind (other ∷ binds) role others inside =
     parts : (not (bytes_eq bind.role other.role) ≡ true) × (list_all (λ other. not (bytes_eq bind.role other.role)) binds ≡ true)
     parts = and_parts (not (bytes_eq bind.role other.role)) (list_all (λ other. not (bytes_eq bind.role other.role)) binds) others
 
-    go : (bytes_eq other.role role ≡ true) ⊎ (is_among (roles_of binds) role ≡ true) → (is_among (roles_of binds) role ≡ true → bytes_eq bind.role role ≡ false) →
+    go : (bytes_eq other.role role ≡ true) ⊎ (is_among (roles_of binds) role ≡ true)
+        → (is_among (roles_of binds) role ≡ true → bytes_eq bind.role role ≡ false) →
         bytes_eq bind.role role ≡ false
     go (inl same) rest = ap (bytes_eq bind.role) (sym (same-true other.role role same)) ∙ not-true (bytes_eq bind.role other.role) parts.0
     go (inr more) rest = rest more
@@ -77,7 +78,8 @@ known-role roles (bind ∷ binds) role none inside =
     go true is none (inr more) rest = rest none more
 
 -- where no name of the list meets a rule, this one doesn't
-pub none-met : (rule : List ℕ → Option Rule) (names : List (List ℕ)) (name : List ℕ) → first_of (map rule names) ≡ None → is_among names name ≡ true → rule name ≡ None
+pub none-met : (rule : List ℕ → Option Rule) (names : List (List ℕ)) (name : List ℕ) → first_of (map rule names) ≡ None
+    → is_among names name ≡ true → rule name ≡ None
 none-met rule [] name none inside = cc
 none-met rule (each ∷ names) name none inside =
     go (rule each) refl none (or_cases (bytes_eq each name) (is_among names name) inside) (none-met rule names name)

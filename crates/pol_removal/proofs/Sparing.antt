@@ -64,7 +64,8 @@ past-stays tags bound history tag outside =
 
 -- ---- batches
 
-pub other-batch : (tags bound : List (List ℕ)) (batch : List ℕ) (of : Subject) → is_batch batch of ≡ true → is_among bound batch ≡ false → is_of tags bound of ≡ false
+pub other-batch : (tags bound : List (List ℕ)) (batch : List ℕ) (of : Subject) → is_batch batch of ≡ true
+    → is_among bound batch ≡ false → is_of tags bound of ≡ false
 other-batch tags bound batch (of_module tag) same outside = cc
 other-batch tags bound batch (of_batch other) same outside = rw (same-true other batch same) outside
 other-batch tags bound batch (of_recipe name) same outside = cc

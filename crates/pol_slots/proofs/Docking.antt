@@ -56,4 +56,5 @@ pub docked_again :
     (old new : Slot) (described : DescriptionForm) (berth : Berth) → IsBack berth new.berth → slot_tag new ≡ slot_tag old
     → slot_description new ≡ described → slot_begins new ≡ slot_begins old → IsDocked old new described
 docked_again old new described berth back tag description begins =
-    docked_fresh old new described (told_in new.berth) (docked_told new.berth back.docked) (forgotten_nothing (told_in berth) (told_in new.berth) back.forgotten) tag description begins
+    docked_fresh old new described (told_in new.berth) (docked_told new.berth back.docked)
+    (forgotten_nothing (told_in berth) (told_in new.berth) back.forgotten) tag description begins

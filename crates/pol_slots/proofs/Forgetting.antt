@@ -28,7 +28,8 @@ module _ {K X : Type 0} where
   next (entry ∷ entries) (suc place) = ap (λ rest. (entry.0, None) ∷ rest) (next entries place)
 
   -- one more is forgotten
-  pub forgotten_next : (entries now : List (K × Option X)) (place : ℕ) → now ≡ forgotten place entries → set_value_at now place None ≡ forgotten (place + 1) entries
+  pub forgotten_next : (entries now : List (K × Option X)) (place : ℕ) → now ≡ forgotten place entries
+      → set_value_at now place None ≡ forgotten (place + 1) entries
   forgotten_next entries now place is = rw (is, add-one place) (next entries place)
 
   -- once all are forgotten, each name has none

@@ -3,14 +3,17 @@ use Rattle.std.proofs.Common.{◌≡◌, Bool, true, false, ◌||◌, cond, List
 use Rattle.std.specs.Prelude.{option_and_then, find, if◌then◌else◌}
 use Rattle.std.specs.List.{list_any}
 
-found_or : {Y : Type 0} (passes : Bool) (y : Y) (rest : Option Y) (others : Bool) → is_some rest ≡ others → is_some (cond passes (Some y) rest) ≡ (passes || others)
+found_or : {Y : Type 0} (passes : Bool) (y : Y) (rest : Option Y) (others : Bool) → is_some rest ≡ others
+    → is_some (cond passes (Some y) rest) ≡ (passes || others)
 found_or true y rest others same = refl
 found_or false y rest others same = same
 
 -- one of the views is found exactly where some item has a view that passes
 pub found_where_any : {X Y : Type 0} (view : X → Y) (test : Y → Bool) (xs : List X) → is_some (find test (map view xs)) ≡ list_any (λ x. test (view x)) xs
 found_where_any view test [] = refl
-found_where_any view test (x ∷ xs) = found_or (test (view x)) (view x) (find test (map view xs)) (list_any (λ x. test (view x)) xs) (found_where_any view test xs)
+found_where_any view test (x ∷ xs) =
+    found_or (test (view x)) (view x) (find test (map view xs)) (list_any (λ x. test (view x)) xs)
+    (found_where_any view test xs)
 
 known_if : {A : Type 0} (any : Bool) (last : A) → is_some (if any then Some last else None) ≡ any
 known_if true last = refl
@@ -27,5 +30,6 @@ nothing_if true last is = is
 nothing_if false last is = refl
 
 -- and was told nothing
-pub told_nothing_where : {A : Type 0} (any : Bool) (found : Option (Option A)) → found ≡ (if any then Some None else None) → option_and_then (λ last. last) found ≡ None
+pub told_nothing_where : {A : Type 0} (any : Bool) (found : Option (Option A))
+    → found ≡ (if any then Some None else None) → option_and_then (λ last. last) found ≡ None
 told_nothing_where any found is = ap (λ each. option_and_then (λ last. last) each) is ∙ nothing_if any None refl

@@ -61,7 +61,9 @@ impl Slot {
     // The service may report the state.
     #[tactic(auto, unfolding(crate::specs::Slots::last_control))]
     fn check_report(&self, service: Name, state: State) -> Result<(), Rule>
-        ensures { result ≡ done_unless (option_or (in_exchange (slot_tag self.now) (slot_ticket self.now)) (report_fault service state (slot_description self.now) (last_control self.now service))) }
+        ensures { result ≡ done_unless (option_or
+            (in_exchange (slot_tag self.now) (slot_ticket self.now))
+            (report_fault service state (slot_description self.now) (last_control self.now service))) }
     {
         self.docked()?;
         let Some(last) = self.berth.control(service) else {
@@ -72,7 +74,9 @@ impl Slot {
 
     // The variable may have the value.
     fn check_value(&self, name: Name, value: &Value) -> Result<(), Rule>
-        ensures { result ≡ done_unless (option_or (in_exchange (slot_tag self.now) (slot_ticket self.now)) (variable_fault name value.now (slot_description self.now))) }
+        ensures { result ≡ done_unless (option_or
+            (in_exchange (slot_tag self.now) (slot_ticket self.now))
+            (variable_fault name value.now (slot_description self.now))) }
     {
         self.docked()?;
         fits(&self.description, name, value)
@@ -85,8 +89,11 @@ impl Slot {
     /// from it. After a refusal the slot is unchanged.
     #[tactic(auto, unfolding(crate::specs::Slots::last_control, crate::specs::Slots::last_value))]
     pub fn report(&mut self, service: Name, control: ServiceControl) -> Result<(), Rule>
-        ensures answer { result ≡ done_unless (option_or (in_exchange (slot_tag self.old) (slot_ticket self.old)) (report_fault service control.state (slot_description self.old) (last_control self.old service))) }
-        ensures reported { OnOk result ((other : List ℕ) → last_control self.new other ≡ (if bytes_eq service other then Some control else last_control self.old other)) }
+        ensures answer { result ≡ done_unless (option_or
+            (in_exchange (slot_tag self.old) (slot_ticket self.old))
+            (report_fault service control.state (slot_description self.old) (last_control self.old service))) }
+        ensures reported { OnOk result ((other : List ℕ) → last_control self.new other
+            ≡ (if bytes_eq service other then Some control else last_control self.old other)) }
         ensures same_module { SameModule self.old self.new }
         ensures values { SameValues self.old self.new }
         ensures unchanged { OnErr result (SameControls self.old self.new) }
@@ -102,8 +109,11 @@ impl Slot {
     /// variable; `WrongKind` and `OutOfRange` as `check_view` says of the value. After a refusal the slot is unchanged.
     #[tactic(auto, unfolding(crate::specs::Slots::last_control, crate::specs::Slots::last_value))]
     pub fn variable(&mut self, name: Name, value: Value) -> Result<(), Rule>
-        ensures answer { result ≡ done_unless (option_or (in_exchange (slot_tag self.old) (slot_ticket self.old)) (variable_fault name value (slot_description self.old))) }
-        ensures reported { OnOk result ((other : List ℕ) → last_value self.new other ≡ (if bytes_eq name other then Some value else last_value self.old other)) }
+        ensures answer { result ≡ done_unless (option_or
+            (in_exchange (slot_tag self.old) (slot_ticket self.old))
+            (variable_fault name value (slot_description self.old))) }
+        ensures reported { OnOk result ((other : List ℕ) → last_value self.new other
+            ≡ (if bytes_eq name other then Some value else last_value self.old other)) }
         ensures same_module { SameModule self.old self.new }
         ensures controls { SameControls self.old self.new }
         ensures unchanged { OnErr result (SameValues self.old self.new) }

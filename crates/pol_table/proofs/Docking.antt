@@ -35,10 +35,12 @@ pub record Docks {T : Type 0} (tag : List ℕ) (seat : Seat) (part : T) (old new
 module _ {T : Type 0} (tag : List ℕ) (seat : Seat) (part : T) (old new : List (List ℕ × Seat)) (parts after : List (Option T))
     (docks : Docks tag seat part old new parts after) where
   -- a tag that is found is the new one, or was found before
-  found_after : (other : List ℕ) (value : Seat) → lookup (bytes_eq other) new ≡ Some value → ((tag ≡ other) × (value ≡ seat)) ⊎ (lookup (bytes_eq other) old ≡ Some value)
+  found_after : (other : List ℕ) (value : Seat) → lookup (bytes_eq other) new ≡ Some value
+      → ((tag ≡ other) × (value ≡ seat)) ⊎ (lookup (bytes_eq other) old ≡ Some value)
   found_after other value found = go (bytes_eq tag other) refl (sym (docks.added other) ∙ found)
     where
-      go : (same : Bool) → bytes_eq tag other ≡ same → cond same (Some seat) (lookup (bytes_eq other) old) ≡ Some value → ((tag ≡ other) × (value ≡ seat)) ⊎ (lookup (bytes_eq other) old ≡ Some value)
+      go : (same : Bool) → bytes_eq tag other ≡ same → cond same (Some seat) (lookup (bytes_eq other) old) ≡ Some value
+          → ((tag ≡ other) × (value ≡ seat)) ⊎ (lookup (bytes_eq other) old ≡ Some value)
       go true same is = inl (one_tag tag other same, sym (same_Some _ _ is))
       go false same is = inr is
 
@@ -68,12 +70,17 @@ module _ {T : Type 0} (tag : List ℕ) (seat : Seat) (part : T) (old new : List 
 
   -- the new tag has the new berth, and each other tag the one that it had
   pub look-docked : (other : List ℕ)
-      → look other (berths_of new after) ≡ (if bytes_eq tag other then Some (record { part = part; holder = seat.holder }) else look other (berths_of old parts))
+      → look other (berths_of new after)
+      ≡ (if bytes_eq tag other then Some (record { part = part; holder = seat.holder })
+      else look other (berths_of old parts))
   look-docked other =
-      rw (look-berths_of new after sound-docked other, look-berths_of old parts docks.sound other, docks.added other) (go (bytes_eq tag other) (lookup (bytes_eq other) old) refl)
+      rw (look-berths_of new after sound-docked other, look-berths_of old parts docks.sound other, docks.added other)
+      (go (bytes_eq tag other) (lookup (bytes_eq other) old) refl)
     where
       go : (same : Bool) (found : Option Seat) → lookup (bytes_eq other) old ≡ found
-          → option_and_then (berth_at after) (cond same (Some seat) found) ≡ (if same then Some (record { part = part; holder = seat.holder }) else option_and_then (berth_at parts) found)
+          → option_and_then (berth_at after) (cond same (Some seat) found)
+          ≡ (if same then Some (record { part = part; holder = seat.holder })
+          else option_and_then (berth_at parts) found)
       go true found is = rw docks.docked refl
       go false None is = refl
       go false (Some value) is = rw (docks.others value.place (elsewhere other value is)) refl
@@ -94,10 +101,12 @@ pub record Leaves {T : Type 0} (tag : List ℕ) (seat : Seat) (old new : List (L
 module _ {T : Type 0} (tag : List ℕ) (seat : Seat) (old new : List (List ℕ × Seat)) (parts after : List (Option T))
     (leaves : Leaves tag seat old new parts after) where
   -- a tag that is found was found before, and is another one
-  found_before : (other : List ℕ) (value : Seat) → lookup (bytes_eq other) new ≡ Some value → (bytes_eq tag other ≡ false) × (lookup (bytes_eq other) old ≡ Some value)
+  found_before : (other : List ℕ) (value : Seat) → lookup (bytes_eq other) new ≡ Some value
+      → (bytes_eq tag other ≡ false) × (lookup (bytes_eq other) old ≡ Some value)
   found_before other value found = go (bytes_eq tag other) refl (sym (leaves.taken other) ∙ found)
     where
-      go : (same : Bool) → bytes_eq tag other ≡ same → cond same None (lookup (bytes_eq other) old) ≡ Some value → (bytes_eq tag other ≡ false) × (lookup (bytes_eq other) old ≡ Some value)
+      go : (same : Bool) → bytes_eq tag other ≡ same → cond same None (lookup (bytes_eq other) old) ≡ Some value
+          → (bytes_eq tag other ≡ false) × (lookup (bytes_eq other) old ≡ Some value)
       go true same is = absurd (none_is_none None value refl is)
       go false same is = (same, is)
 
@@ -121,7 +130,8 @@ module _ {T : Type 0} (tag : List ℕ) (seat : Seat) (old new : List (List ℕ �
   -- the tag has no berth, and each other tag the one that it had
   pub look-left : (other : List ℕ) → look other (berths_of new after) ≡ (if bytes_eq tag other then None else look other (berths_of old parts))
   look-left other =
-      rw (look-berths_of new after sound-left other, look-berths_of old parts leaves.sound other, leaves.taken other) (go (bytes_eq tag other) (lookup (bytes_eq other) old) refl refl)
+      rw (look-berths_of new after sound-left other, look-berths_of old parts leaves.sound other, leaves.taken other)
+      (go (bytes_eq tag other) (lookup (bytes_eq other) old) refl refl)
     where
       go : (same : Bool) (found : Option Seat) → bytes_eq tag other ≡ same → lookup (bytes_eq other) old ≡ found
           → option_and_then (berth_at after) (cond same None found) ≡ (if same then None else option_and_then (berth_at parts) found)

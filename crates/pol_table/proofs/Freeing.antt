@@ -15,7 +15,8 @@ keys-changed : {K X : Type 0} (change : X → X) (entries : List (K × X)) → k
 keys-changed change [] = refl
 keys-changed change (entry ∷ entries) = ap (λ keys. entry.0 ∷ keys) (keys-changed change entries)
 
-length-changed : {K X : Type 0} (change : X → X) (entries : List (K × X)) → length {A = K × X} (map (λ entry. (entry.0, change entry.1)) entries) ≡ length entries
+length-changed : {K X : Type 0} (change : X → X) (entries : List (K × X))
+    → length {A = K × X} (map (λ entry. (entry.0, change entry.1)) entries) ≡ length entries
 length-changed change [] = refl
 length-changed change (entry ∷ entries) = ap suc (length-changed change entries)
 
@@ -30,12 +31,16 @@ module _ {T : Type 0} (seats : List (List ℕ × Seat)) (parts : List (Option T)
       (λ tag. lookup-map_values (seat_freed_from batch) (bytes_eq tag) seats) sound
       (rw (keys-changed (seat_freed_from batch) seats) sound.unique) (rw (length-changed (seat_freed_from batch) seats) sound.few)
 
-  alike : (seat : Seat) (found : Option T) → option_map (λ part. let berth : Berth T = record { part = part; holder = (seat_freed_from batch seat).holder } in berth) found
+  alike : (seat : Seat) (found : Option T)
+      → option_map (λ part. let berth : Berth T =
+      record { part = part; holder = (seat_freed_from batch seat).holder } in berth) found
       ≡ option_map (freed_from batch) (option_map (λ part. let berth : Berth T = record { part = part; holder = seat.holder } in berth) found)
   alike seat None = refl
   alike seat (Some part) = refl
 
-  pub look-freed : (tag : List ℕ) → look tag (berths_of (map (λ entry. (entry.0, seat_freed_from batch entry.1)) seats) parts) ≡ option_map (freed_from batch) (look tag (berths_of seats parts))
+  pub look-freed : (tag : List ℕ)
+      → look tag (berths_of (map (λ entry. (entry.0, seat_freed_from batch entry.1)) seats) parts)
+      ≡ option_map (freed_from batch) (look tag (berths_of seats parts))
   look-freed =
       look-changed parts seats free_seats (λ tag. seat_freed_from batch) (λ tag seat. refl)
       (λ tag. lookup-map_values (seat_freed_from batch) (bytes_eq tag) seats) sound sound-freed (λ tag. freed_from batch)

@@ -16,7 +16,8 @@ use Rattle.pol_table.proofs.Mapped.{sound-changed, look-changed}
 use Rattle.pol_table.proofs.Views.{look-berths_of, length-berths_of, holder-berths_of, some_of}
 
 -- answers that agree at each item agree on the first
-first-alike : {A B : Type 0} (one other : A → Option B) → ((item : A) → one item ≡ other item) → (items : List A) → first_of (map one items) ≡ first_of (map other items)
+first-alike : {A B : Type 0} (one other : A → Option B) → ((item : A) → one item ≡ other item) → (items : List A)
+    → first_of (map one items) ≡ first_of (map other items)
 first-alike one other same [] = refl
 first-alike one other same (item ∷ items) = rw (same item, first-alike one other same items) refl
 
@@ -46,11 +47,14 @@ module _ {T : Type 0} (seats : List (List ℕ × Seat)) (parts : List (Option T)
 -- some seats are held now, and nothing else changes
 pub record Holds {T : Type 0} (tags : List (List ℕ)) (batch : List ℕ) (old new : List (List ℕ × Seat)) (parts : List (Option T)) : Type 0 where
   pub sound : IsSound old parts
-  pub held : (tag : List ℕ) → lookup (bytes_eq tag) new ≡ option_map (λ seat. if is_among tags tag then seat_held_by batch seat else seat) (lookup (bytes_eq tag) old)
+  pub held : (tag : List ℕ)
+      → lookup (bytes_eq tag) new
+      ≡ option_map (λ seat. if is_among tags tag then seat_held_by batch seat else seat) (lookup (bytes_eq tag) old)
   pub len : length new ≡ length old
   pub unique : IsDistinct bytes_eq (keys_of new)
 
-module _ {T : Type 0} (tags : List (List ℕ)) (batch : List ℕ) (old new : List (List ℕ × Seat)) (parts : List (Option T)) (holds : Holds tags batch old new parts) where
+module _ {T : Type 0} (tags : List (List ℕ)) (batch : List ℕ) (old new : List (List ℕ × Seat)) (parts : List (Option T))
+    (holds : Holds tags batch old new parts) where
   in_place : (tag : List ℕ) (seat : Seat) → (if is_among tags tag then seat_held_by batch seat else seat).place ≡ seat.place
   in_place tag seat = go (is_among tags tag)
     where
@@ -65,7 +69,8 @@ module _ {T : Type 0} (tags : List (List ℕ)) (batch : List ℕ) (old new : Lis
 
   alike : (among : Bool) (seat : Seat) (found : Option T)
       → option_map (λ part. let berth : Berth T = record { part = part; holder = (if among then seat_held_by batch seat else seat).holder } in berth) found
-      ≡ option_map (λ berth. if among then held_by batch berth else berth) (option_map (λ part. let berth : Berth T = record { part = part; holder = seat.holder } in berth) found)
+      ≡ option_map (λ berth. if among then held_by batch berth else berth)
+      (option_map (λ part. let berth : Berth T = record { part = part; holder = seat.holder } in berth) found)
   alike true seat None = refl
   alike true seat (Some part) = refl
   alike false seat None = refl
@@ -75,7 +80,9 @@ module _ {T : Type 0} (tags : List (List ℕ)) (batch : List ℕ) (old new : Lis
   placed true seat = refl
   placed false seat = refl
 
-  pub look-held : (tag : List ℕ) → look tag (berths_of new parts) ≡ option_map (λ berth. if is_among tags tag then held_by batch berth else berth) (look tag (berths_of old parts))
+  pub look-held : (tag : List ℕ)
+      → look tag (berths_of new parts)
+      ≡ option_map (λ berth. if is_among tags tag then held_by batch berth else berth) (look tag (berths_of old parts))
   look-held =
       look-changed parts old new (λ tag seat. if is_among tags tag then seat_held_by batch seat else seat) in_place holds.held holds.sound sound-held
       (λ tag berth. if is_among tags tag then held_by batch berth else berth)

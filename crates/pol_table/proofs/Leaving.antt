@@ -46,7 +46,8 @@ module _ {T : Type 0} (seats : List (List ℕ × Seat)) (parts : List (Option T)
           step (part, there) = rw (berth_with_part seats parts sound tag seat some part there) (held seat seat.holder part same)
 
   -- a tag whose seat may leave gives its part
-  pub leaving_free : (seat : Seat) (part : T) → seat_leaving tag seats ≡ Ok seat → part_at parts seat.place ≡ Some part → leaving tag (berths_of seats parts) ≡ Ok part
+  pub leaving_free : (seat : Seat) (part : T) → seat_leaving tag seats ≡ Ok seat → part_at parts seat.place ≡ Some part
+      → leaving tag (berths_of seats parts) ≡ Ok part
   leaving_free seat part is there =
       let found = found_free (lookup (bytes_eq tag) seats) seat is in
       rw (berth_with_part seats parts sound tag seat found.0 part there, found.1) refl

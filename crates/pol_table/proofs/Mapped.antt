@@ -11,14 +11,16 @@ use Rattle.pol_table.specs.declared.seat.Seat.{Seat}
 use Rattle.pol_table.proofs.Views.{look-berths_of}
 
 -- what is found after a change was found before it
-before : {A : Type 0} (change : A → A) (found : Option A) (value : A) → option_map change found ≡ Some value → (old : A) × (found ≡ Some old) × (change old ≡ value)
+before : {A : Type 0} (change : A → A) (found : Option A) (value : A) → option_map change found ≡ Some value
+    → (old : A) × (found ≡ Some old) × (change old ≡ value)
 before change None value is = absurd (true≢false (sym (ap is_some is)))
 before change (Some old) value is = (old, refl, same_Some _ _ is)
 
 module _ {T : Type 0} (parts : List (Option T)) (old new : List (List ℕ × Seat)) (change : List ℕ → Seat → Seat)
     (in_place : (tag : List ℕ) (seat : Seat) → (change tag seat).place ≡ seat.place)
     (changed : (tag : List ℕ) → lookup (bytes_eq tag) new ≡ option_map (change tag) (lookup (bytes_eq tag) old)) where
-  was : (tag : List ℕ) (seat : Seat) → lookup (bytes_eq tag) new ≡ Some seat → (first : Seat) × (lookup (bytes_eq tag) old ≡ Some first) × (first.place ≡ seat.place)
+  was : (tag : List ℕ) (seat : Seat) → lookup (bytes_eq tag) new ≡ Some seat
+      → (first : Seat) × (lookup (bytes_eq tag) old ≡ Some first) × (first.place ≡ seat.place)
   was tag seat found =
       let back = before (change tag) (lookup (bytes_eq tag) old) seat (sym (changed tag) ∙ found) in
       (back.0, back.1, sym (in_place tag back.0) ∙ ap (λ s. s.place) back.2)
@@ -41,6 +43,8 @@ module _ {T : Type 0} (parts : List (Option T)) (old new : List (List ℕ × Sea
   look-changed sound after give alike tag =
       rw (look-berths_of new parts after tag, look-berths_of old parts sound tag, changed tag) (go (lookup (bytes_eq tag) old))
     where
-      go : (found : Option Seat) → option_and_then (berth_at parts) (option_map (change tag) found) ≡ option_map (give tag) (option_and_then (berth_at parts) found)
+      go : (found : Option Seat)
+          → option_and_then (berth_at parts) (option_map (change tag) found)
+          ≡ option_map (give tag) (option_and_then (berth_at parts) found)
       go None = refl
       go (Some seat) = alike tag seat

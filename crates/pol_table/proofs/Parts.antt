@@ -26,8 +26,12 @@ module _ {T : Type 0} (tag : List ℕ) (part : T) where
   look-with_part (row ∷ berths) other = go (bytes_eq other row.0) refl (bytes_eq tag row.0) refl (look-with_part berths other)
     where
       go : (found : Bool) → bytes_eq other row.0 ≡ found → (same : Bool) → bytes_eq tag row.0 ≡ same
-          → look other (with_part tag berths part) ≡ option_map (λ berth. if bytes_eq tag other then record berth { part = part } else berth) (look other berths)
-          → look other (with_part tag (row ∷ berths) part) ≡ option_map (λ berth. if bytes_eq tag other then record berth { part = part } else berth) (look other (row ∷ berths))
+          → look other (with_part tag berths part)
+          ≡ option_map (λ berth. if bytes_eq tag other then record berth { part = part } else berth)
+          (look other berths)
+          → look other (with_part tag (row ∷ berths) part)
+          ≡ option_map (λ berth. if bytes_eq tag other then record berth { part = part } else berth)
+          (look other (row ∷ berths))
       go true found true same rest = let one = one_tag other row.0 found in rw (same, found, one, same) refl
       go true found false same rest = let one = one_tag other row.0 found in rw (same, found, one, same) refl
       go false found true same rest = rw (same, found) rest
@@ -41,7 +45,8 @@ within (first ∷ parts) (suc place) is = let inside : place < length parts = wi
 module _ {T : Type 0} (parts : List (Option T)) (tag : List ℕ) (place : ℕ) (part : T) (there : IsSome (part_at parts place)) where
   -- each entry of the tag is at the place, and every other one elsewhere
   berths-set : (seats : List (List ℕ × Seat))
-      → AllByRecursion (λ entry. (bytes_eq tag entry.0 ≡ true → entry.1.place ≡ place) × (bytes_eq tag entry.0 ≡ false → entry.1.place ≢ place) × IsSome (part_at parts entry.1.place)) seats
+      → AllByRecursion (λ entry. (bytes_eq tag entry.0 ≡ true → entry.1.place ≡ place)
+      × (bytes_eq tag entry.0 ≡ false → entry.1.place ≢ place) × IsSome (part_at parts entry.1.place)) seats
       → berths_of seats (slice_set parts place (Some part)) ≡ with_part tag (berths_of seats parts) part
   berths-set [] all = refl
   berths-set (entry ∷ seats) all = go (some_of (part_at parts entry.1.place) all.0.2) (bytes_eq tag entry.0) refl (berths-set seats all.1)
@@ -64,7 +69,8 @@ pub berths-set_part : {T : Type 0} (seats : List (List ℕ × Seat)) (parts : Li
     → berths_of seats (slice_set parts seat.place (Some part)) ≡ with_part tag (berths_of seats parts) part
 berths-set_part seats parts tag seat part sound found =
     berths-set parts tag seat.place part (sound.occupied tag seat found) seats
-    (each_entry (λ name other. (bytes_eq tag name ≡ true → other.place ≡ seat.place) × (bytes_eq tag name ≡ false → other.place ≢ seat.place) × IsSome (part_at parts other.place))
+    (each_entry (λ name other. (bytes_eq tag name ≡ true → other.place ≡ seat.place)
+    × (bytes_eq tag name ≡ false → other.place ≢ seat.place) × IsSome (part_at parts other.place))
     seats sound.unique
     (λ name other at. (
       (λ same.

@@ -13,7 +13,8 @@ one_tag tag other = (bytes_eq-Decides tag other).0
 
 module _ {X : Type 0} where
   -- a tag that none of these equals is not found among them
-  not_later : (tag : List ℕ) (entries : List (List ℕ × X)) → AllByRecursion (λ other. bytes_eq tag other ≡ false) (keys_of entries) → lookup (bytes_eq tag) entries ≡ None
+  not_later : (tag : List ℕ) (entries : List (List ℕ × X))
+      → AllByRecursion (λ other. bytes_eq tag other ≡ false) (keys_of entries) → lookup (bytes_eq tag) entries ≡ None
   not_later tag [] apart = refl
   not_later tag (entry ∷ entries) apart = rw apart.0 (not_later tag entries apart.1)
 

@@ -22,15 +22,21 @@ first_or_rest true f first rest value at = sym at
 first_or_rest false f first rest value at = refl
 
 module _ {T : Type 0} where
-  same_part : (found : Option T) (holder : Option (List ℕ)) → option_map (λ berth. berth.part) (option_map (λ part. let berth : Berth T = record { part = part; holder = holder } in berth) found) ≡ found
+  same_part : (found : Option T) (holder : Option (List ℕ))
+      → option_map (λ berth. berth.part)
+      (option_map (λ part. let berth : Berth T = record { part = part; holder = holder } in berth) found) ≡ found
   same_part None holder = refl
   same_part (Some part) holder = refl
 
-  same_holder : (found : Option T) (holder : Option (List ℕ)) → IsSome found → option_and_then (λ berth. berth.holder) (option_map (λ part. let berth : Berth T = record { part = part; holder = holder } in berth) found) ≡ holder
+  same_holder : (found : Option T) (holder : Option (List ℕ)) → IsSome found
+      → option_and_then (λ berth. berth.holder)
+      (option_map (λ part. let berth : Berth T = record { part = part; holder = holder } in berth) found) ≡ holder
   same_holder None holder is = absurd (true≢false (sym is))
   same_holder (Some part) holder is = refl
 
-  some_berth : (found : Option T) (holder : Option (List ℕ)) → IsSome found → is_some (option_map (λ part. let berth : Berth T = record { part = part; holder = holder } in berth) found) ≡ true
+  some_berth : (found : Option T) (holder : Option (List ℕ)) → IsSome found
+      → is_some (option_map (λ part. let berth : Berth T = record { part = part; holder = holder } in berth) found)
+      ≡ true
   some_berth None holder is = is
   some_berth (Some part) holder is = refl
 
@@ -39,7 +45,8 @@ module _ {T : Type 0} where
   found_in [] parts all tag = refl
   found_in (entry ∷ seats) parts all tag = go (some_of (part_at parts entry.1.place) all.0) (found_in seats parts all.1 tag)
     where
-      go : (part : T) × (part_at parts entry.1.place ≡ Some part) → look tag (berths_of seats parts) ≡ option_and_then (berth_at parts) (lookup (bytes_eq tag) seats)
+      go : (part : T) × (part_at parts entry.1.place ≡ Some part)
+          → look tag (berths_of seats parts) ≡ option_and_then (berth_at parts) (lookup (bytes_eq tag) seats)
           → look tag (berths_of (entry ∷ seats) parts) ≡ option_and_then (berth_at parts) (lookup (bytes_eq tag) (entry ∷ seats))
       go (part, is) rest =
           let berth : berth_at parts entry.1 ≡ Some (record { part = part; holder = entry.1.holder }) = rw is refl in
@@ -51,7 +58,8 @@ module _ {T : Type 0} where
   count_of [] parts all = refl
   count_of (entry ∷ seats) parts all = go (some_of (part_at parts entry.1.place) all.0) (count_of seats parts all.1)
     where
-      go : (part : T) × (part_at parts entry.1.place ≡ Some part) → length (berths_of seats parts) ≡ length seats → length (berths_of (entry ∷ seats) parts) ≡ length (entry ∷ seats)
+      go : (part : T) × (part_at parts entry.1.place ≡ Some part) → length (berths_of seats parts) ≡ length seats
+          → length (berths_of (entry ∷ seats) parts) ≡ length (entry ∷ seats)
       go (part, is) rest = rw is (ap suc rest)
 
   module _ (seats : List (List ℕ × Seat)) (parts : List (Option T)) (sound : IsSound seats parts) where
@@ -83,7 +91,9 @@ module _ {T : Type 0} where
     pub holder-berths_of : (tag : List ℕ) → holder_of tag (berths_of seats parts) ≡ seat_holder tag seats
     holder-berths_of tag = rw (look-berths_of tag) (go (lookup (bytes_eq tag) seats) refl)
       where
-        go : (seat : Option Seat) → lookup (bytes_eq tag) seats ≡ seat → option_and_then (λ berth. berth.holder) (option_and_then (berth_at parts) seat) ≡ option_and_then (λ held. held.holder) seat
+        go : (seat : Option Seat) → lookup (bytes_eq tag) seats ≡ seat
+            → option_and_then (λ berth. berth.holder) (option_and_then (berth_at parts) seat)
+            ≡ option_and_then (λ held. held.holder) seat
         go None none = refl
         go (Some seat) found = same_holder (part_at parts seat.place) seat.holder (sound.occupied tag seat found)
 
@@ -102,5 +112,6 @@ module _ {T : Type 0} where
         part_of_seat = rw berth_of_seat (same_part (part_at parts seat.place) seat.holder)
 
         -- its berth is of this part
-        pub berth_with_part : (part : T) → part_at parts seat.place ≡ Some part → look tag (berths_of seats parts) ≡ Some (record { part = part; holder = seat.holder })
+        pub berth_with_part : (part : T) → part_at parts seat.place ≡ Some part
+            → look tag (berths_of seats parts) ≡ Some (record { part = part; holder = seat.holder })
         berth_with_part part is = rw (berth_of_seat, is) refl

@@ -12,7 +12,8 @@ value_is : (words : List Text) (found : ArgMatches) (job : Option Text) → rows
 value_is words found job rows is = is ∙ (first_value-rows (found_of found) (codes "job") ∙ ap (first_of (codes "job")) rows)
 
 -- a task is asked for where clap refuses nothing and the value that it found asks for it
-pub means : (words : List Text) (found : ArgMatches) (job : Option Text) (task : Task) → fault_of pol words ≡ [] → rows_of (found_of found) ≡ matches_of pol words →
+pub means : (words : List Text) (found : ArgMatches) (job : Option Text) (task : Task) → fault_of pol words ≡ []
+    → rows_of (found_of found) ≡ matches_of pol words →
     job ≡ first_value (found_of found) (codes "job") → Asks job task → Means words task
 means words found job task fault rows is asks = (fault, subst (λ value. Asks value task) (value_is words found job rows is) asks)
 

@@ -14,7 +14,9 @@ job_rule = record (new_rule (codes "job")) { long = Some (codes "job"); action =
 
 -- the command `pol`, with neither help nor version
 unfoldable pub pol : App
-pol = with_rule (on_top (λ settings. record settings { disable_help_flag = true; disable_version_flag = true }) (new_app (codes "pol"))) job_rule
+pol = with_rule
+    (on_top (λ settings. record settings { disable_help_flag = true; disable_version_flag = true }) (new_app (codes "pol")))
+    job_rule
 
 -- the value of `--job` asks for a task
 abbrev pub Asks : Option Text → Task → Type 0

@@ -52,7 +52,8 @@ fn command<'a>(alloc: Global) -> Result<Command<'a>, AllocError>
 
 #[tactic(auto, unfolding(crate::specs::Words::pol))]
 fn matches<'a>(alloc: Global, words: &'a [String]) -> Result<ArgMatches<'a>, WordFault>
-    ensures ok { IfOk result (λ found. (fault_of pol (texts_of words.now) ≡ []) × (rows_of (found_of found) ≡ matches_of pol (texts_of words.now))) }
+    ensures ok { IfOk result (λ found. (fault_of pol (texts_of words.now) ≡ [])
+        × (rows_of (found_of found) ≡ matches_of pol (texts_of words.now))) }
     ensures refused { IfErr result (λ fault. fault ≡ WordFault.Refused → fault_of pol (texts_of words.now) ≡ [] → ⊥) }
 {
     let Ok(command) = command(alloc) else {

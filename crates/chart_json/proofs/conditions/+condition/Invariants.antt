@@ -29,4 +29,5 @@ decreases-read_not l = 4 * l.depth + 3
 
 abbrev pub invariant-read_each-loop-i : goal.invariant-read_each-loop-i
 invariant-read_each-loop-i l =
-    with_front (map formula l.found.items) (each (condition_within l.depth) l.i (items_view (drop l.i l.values))) ≡ each (condition_within l.depth) 0 (items_view l.values)
+    with_front (map formula l.found.items) (each (condition_within l.depth) l.i (items_view (drop l.i l.values)))
+    ≡ each (condition_within l.depth) 0 (items_view l.values)

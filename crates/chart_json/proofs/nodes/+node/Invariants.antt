@@ -45,4 +45,5 @@ invariant-read_each-loop-i l =
 
 abbrev pub invariant-read_each_arm-loop-i : goal.invariant-read_each_arm-loop-i
 invariant-read_each_arm-loop-i l =
-    with_front (map arm_plan l.found.items) (each (arm_of (tree_within l.depth)) l.i (items_view (drop l.i l.values))) ≡ each (arm_of (tree_within l.depth)) 0 (items_view l.values)
+    with_front (map arm_plan l.found.items) (each (arm_of (tree_within l.depth)) l.i (items_view (drop l.i l.values)))
+    ≡ each (arm_of (tree_within l.depth)) 0 (items_view l.values)

@@ -9,4 +9,6 @@ use Rattle.chart_json.proofs.nodes.read_node.Goals as goal
 
 pub returns-clause-formed : goal.returns-clause-formed
 unfolding tree_of
-returns-clause-formed c = told_of tree (λ node. is_tree_formed node ≡ true) c.read_within.result (tree_of (view c.args.value.now)) c.read_within.ensures (tree_formed (view c.args.value.now))
+returns-clause-formed c =
+    told_of tree (λ node. is_tree_formed node ≡ true) c.read_within.result
+    (tree_of (view c.args.value.now)) c.read_within.ensures (tree_formed (view c.args.value.now))

@@ -10,5 +10,6 @@ use Rattle.chart_json.proofs.roles.read_roles.Goals as goal
 pub returns-clause-sized : goal.returns-clause-sized
 unfolding roles_of
 returns-clause-sized c =
-    told_of (λ roles. map role_plan roles.items) (λ roles. are_roles_sized roles ≡ true) c.read_every.result (each role_of 0 (items_view c.in_ok-values.values.now)) c.read_every.ensures.gives
+    told_of (λ roles. map role_plan roles.items) (λ roles. are_roles_sized roles ≡ true) c.read_every.result
+    (each role_of 0 (items_view c.in_ok-values.values.now)) c.read_every.ensures.gives
     (rw c.in_ok-values.ensures at (roles_sized (view c.args.value.now)))

@@ -10,17 +10,27 @@ use Rattle.chart_json.proofs.writing.write_chart.Goals as goal
 pub returns-clause-reads_back : goal.returns-clause-reads_back
 returns-clause-reads_back c =
     IfOk-weaker c.write_both.result _ _
-    (λ pair is. λ valid. rw (is.roles_are, is.root_is) (chart_again (plan c.args.chart.now) c.args.chart.now.form is.sound (omega (arith, valid_shallow (plan c.args.chart.now) valid)))) c.write_both.ensures
+    (λ pair is. λ valid. rw (is.roles_are, is.root_is)
+    (chart_again (plan c.args.chart.now) c.args.chart.now.form is.sound
+    (omega (arith, valid_shallow (plan c.args.chart.now) valid)))) c.write_both.ensures
 
 pub returns-clause-reads_back_to_127 : goal.returns-clause-reads_back_to_127
 returns-clause-reads_back_to_127 c =
-    IfOk-weaker c.write_both.result _ _ (λ pair is. λ deep. rw (is.roles_are, is.root_is) (chart_again (plan c.args.chart.now) c.args.chart.now.form is.sound deep)) c.write_both.ensures
+    IfOk-weaker c.write_both.result _ _
+    (λ pair is. λ deep. rw (is.roles_are, is.root_is)
+    (chart_again (plan c.args.chart.now) c.args.chart.now.form is.sound deep)) c.write_both.ensures
 
 pub returns-clause-nests : goal.returns-clause-nests
 returns-clause-nests c =
     IfOk-weaker c.write_both.result _ _
-    (λ pair is. λ valid. rw (is.roles_are, is.root_is) (roles_depth (plan c.args.chart.now).roles, root_depth (plan c.args.chart.now) c.args.chart.now.form (valid_shallow (plan c.args.chart.now) valid))) c.write_both.ensures
+    (λ pair is. λ valid. rw (is.roles_are, is.root_is) (
+      roles_depth (plan c.args.chart.now).roles,
+      root_depth (plan c.args.chart.now) c.args.chart.now.form
+          (valid_shallow (plan c.args.chart.now) valid),
+    )) c.write_both.ensures
 
 pub returns-clause-whole : goal.returns-clause-whole
 returns-clause-whole c =
-    IfOk-weaker c.write_both.result _ _ (λ pair is. rw (is.roles_are, is.root_is) (roles_whole (plan c.args.chart.now).roles, tree_whole (plan c.args.chart.now).root)) c.write_both.ensures
+    IfOk-weaker c.write_both.result _ _
+    (λ pair is. rw (is.roles_are, is.root_is)
+    (roles_whole (plan c.args.chart.now).roles, tree_whole (plan c.args.chart.now).root)) c.write_both.ensures

@@ -4,7 +4,8 @@ use Rattle.chart_json.proofs.written_nodes.+written.Goals as goal
 
 pub write_each-returns-clause-value : goal.write_each-returns-clause-value
 write_each-returns-clause-value t c =
-    nodes_written c.loop-node.list c.args.nodes.now (rw (take_all c.loop-node.node-index c.args.nodes.now c.loop-node-test.false) at c.loop-node.invariant.value)
+    nodes_written c.loop-node.list c.args.nodes.now
+    (rw (take_all c.loop-node.node-index c.args.nodes.now c.loop-node-test.false) at c.loop-node.invariant.value)
 
 pub write_arms-returns-clause-value : goal.write_arms-returns-clause-value
 write_arms-returns-clause-value t c =

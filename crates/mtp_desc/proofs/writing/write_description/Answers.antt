@@ -6,4 +6,6 @@ use Rattle.mtp_desc.proofs.writing.write_description.Goals as goal
 
 pub returns-clause-reads_back : goal.returns-clause-reads_back
 returns-clause-reads_back c =
-    IfOk-weaker c.write_whole.result _ _ (λ value is. rw is (description_again (description_view c.args.description.now) (description_sound c.args.description.now))) c.write_whole.ensures
+    IfOk-weaker c.write_whole.result _ _
+    (λ value is. rw is (description_again (description_view c.args.description.now)
+    (description_sound c.args.description.now))) c.write_whole.ensures

@@ -4,4 +4,5 @@ use Rattle.chart_core.specs.Roles.{role_plan}
 use Rattle.pol_bind.proofs.cover.role_of.Goals as goal
 
 pub returns : goal.returns
-returns c = looks_up role_plan (λ role. bytes_eq role.role c.args.name) c.args.chart.now.roles.items c.find_role.result (rw c.deref.ensures.value at c.find_role.ensures)
+returns c = looks_up role_plan (λ role. bytes_eq role.role c.args.name) c.args.chart.now.roles.items c.find_role.result
+    (rw c.deref.ensures.value at c.find_role.ensures)

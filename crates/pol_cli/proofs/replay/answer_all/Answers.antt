@@ -37,7 +37,9 @@ returns-clause-answers g c =
     let invariant = c.loop-read.invariant in
     let moves = c.in_ok-read.ensures.moves in
     let ended = rw c.in_default.is at c.in_ok-read.ensures.ends in
-    served_all _ _ _ _ c.next_saying.new.lines.ended _ _ _ _ _ invariant.served (rw c.in_default.is at c.in_ok-read.ensures.says) (counts_trans _ _ _ 0 _ _ invariant.counted moves.counted) (moves.at_end ended invariant.at_end)
+    served_all _ _ _ _ c.next_saying.new.lines.ended _ _ _ _ _ invariant.served
+    (rw c.in_default.is at c.in_ok-read.ensures.says) (counts_trans _ _ _ 0 _ _ invariant.counted moves.counted)
+    (moves.at_end ended invariant.at_end)
 
 pub returns-clause-fits : goal.returns-clause-fits
 returns-clause-fits g c =
@@ -61,5 +63,7 @@ returns-in_err-answer-clause-leaves g c =
     let invariant = c.loop-read.invariant in
     let moves = c.in_ok-read.ensures.moves in
     let stop = err_from_is_err_and c.from_residual-in_err-answer.result c.from_residual-in_err-answer.ensures.1 in
-    rw (stop.1, stop.2) (answer_stops _ _ _ _ _ c.in_err-answer.ensures.only.0 c.in_err-answer.ensures.only.1 (stopped_answer _ _ _ _ _ _ _ _ _ _ _ c.in-Some.read invariant.served (ahead_spent _ _ _ invariant.spent) (rw c.in-Some.is at c.in_ok-read.ensures.says)
+    rw (stop.1, stop.2) (answer_stops _ _ _ _ _ c.in_err-answer.ensures.only.0 c.in_err-answer.ensures.only.1
+    (stopped_answer _ _ _ _ _ _ _ _ _ _ _ c.in-Some.read invariant.served (ahead_spent _ _ _ invariant.spent)
+    (rw c.in-Some.is at c.in_ok-read.ensures.says)
     (counts_trans _ _ _ 0 _ _ invariant.counted moves.counted) moves.spent (λ ended. moves.at_end ended invariant.at_end) c.in_err-answer.ensures.part))

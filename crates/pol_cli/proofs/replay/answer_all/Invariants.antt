@@ -8,7 +8,8 @@ use Rattle.pol_cli.proofs.replay.answer_all.Given as goal
 
 abbrev pub invariant-loop-read : goal.invariant-loop-read
 invariant-loop-read g l = record {
-  served : Between (Served (g.K.Sink.held l.fn.sink) (g.K.Sink.held l.sink) (history_view l.plant) l.lines.ended) (g.S.Source.left l.fn.source) (ahead l.lines (g.S.Source.left l.source));
+  served : Between (Served (g.K.Sink.held l.fn.sink) (g.K.Sink.held l.sink) (history_view l.plant) l.lines.ended)
+      (g.S.Source.left l.fn.source) (ahead l.lines (g.S.Source.left l.source));
   counted : Between (Counts 0 l.lines.taken) (g.S.Source.left l.fn.source) (g.S.Source.left l.source);
   limit : l.lines.taken ≤ 268435456;
   spent : IsTrue l.lines.ended → l.lines.waiting ≡ [];

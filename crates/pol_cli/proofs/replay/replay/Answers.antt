@@ -11,4 +11,6 @@ pub returns-clause-output : goal.returns-clause-output
 returns-clause-output g c = ended_well c.close.result _ _ _ _ _ _ c.in_ok-answer_all.ensures.answers (rw c.history.ensures.entries at c.close.ensures.text)
 
 pub returns-clause-leaves : goal.returns-clause-leaves
-returns-clause-leaves g c = end_stopped c.close.result _ _ _ _ _ _ c.in_ok-answer_all.ensures.answers (rw c.history.ensures.entries at c.close.ensures.part) c.close.ensures.only
+returns-clause-leaves g c =
+    end_stopped c.close.result _ _ _ _ _ _ c.in_ok-answer_all.ensures.answers
+    (rw c.history.ensures.entries at c.close.ensures.part) c.close.ensures.only

@@ -4,7 +4,8 @@ use Rattle.pol_events.proofs.binds.read_each.Goals as goal
 
 pub loop-role-preserved : goal.loop-role-preserved
 loop-role-preserved c =
-    reads_next c.loop-role.binds.items c.push.new.self.items c.loop-role.role-iterator c.next.new.self (c.in-Some.role.now, c.in-Some.tag.now) c.in_ok-bind.bind _
+    reads_next c.loop-role.binds.items c.push.new.self.items c.loop-role.role-iterator c.next.new.self
+    (c.in-Some.role.now, c.in-Some.tag.now) c.in_ok-bind.bind _
     c.in-Some.ensures.steps (rw c.as_str.ensures.value at c.in_ok-bind.ensures) c.in_ok-push.ensures.items c.loop-role.invariant
 
 pub returns-in_err-bind-clause-gives : goal.returns-in_err-bind-clause-gives

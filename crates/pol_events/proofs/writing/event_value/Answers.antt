@@ -17,4 +17,6 @@ returns-clause-whole c = IfOk-weaker c.write_event.result _ _ (λ value is. rw i
 pub returns-clause-line : goal.returns-clause-line
 returns-clause-line c =
     IfOk-weaker c.write_event.result _ _
-    (λ value is text utf8 read. line_again text (view value) (event_view c.args.event.now) utf8 read (rw is.0 (event_again c.args.event.now is.1 c.requires)) c.requires) c.write_event.ensures
+    (λ value is text utf8 read.
+    line_again text (view value) (event_view c.args.event.now) utf8 read
+    (rw is.0 (event_again c.args.event.now is.1 c.requires)) c.requires) c.write_event.ensures

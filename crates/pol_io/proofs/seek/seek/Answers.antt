@@ -25,7 +25,8 @@ returns-in_err-fill-clause-stops g c =
     let no_feed = scanned_all _ _ _ _ _ c.deref.ensures.value c.scan.invariant.no_feed c.in_default.ensures in
     let fault = err_from_is_err_and c.from_residual.result c.from_residual.ensures.1 in
     rw (fault.1, fault.2)
-    (stops_after _ _ _ _ _ _ _ (passed c.scan.window.ended _ _ _ c.in_err-fill.ensures.open_end no_feed c.scan.invariant.bytes) c.scan.invariant.counted c.in_err-fill.ensures.stops)
+    (stops_after _ _ _ _ _ _ _
+    (passed c.scan.window.ended _ _ _ c.in_err-fill.ensures.open_end no_feed c.scan.invariant.bytes) c.scan.invariant.counted c.in_err-fill.ensures.stops)
 
 pub returns-in_err-fill-clause-unasked : goal.returns-in_err-fill-clause-unasked
 returns-in_err-fill-clause-unasked g c needless =

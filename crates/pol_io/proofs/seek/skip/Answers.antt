@@ -17,15 +17,23 @@ pub returns-in-Some-clause-cut : goal.returns-in-Some-clause-cut
 returns-in-Some-clause-cut g c =
     let items = c.pass.window.buffer.items in
     let unended = c.pass.invariant.open_end.0 in
-    let kept = nothing_waited c.pass.window.ended c.fill.new.window.ended (slice_range items c.pass.window.end c.pass.window.end) (waiting c.fill.new.window) _ _ unended c.in_ok-fill.ensures.ended (range_none items _ _ refl) c.in_ok-fill.ensures.bytes in
+    let kept = nothing_waited c.pass.window.ended c.fill.new.window.ended
+    (slice_range items c.pass.window.end c.pass.window.end)
+    (waiting c.fill.new.window) _ _ unended c.in_ok-fill.ensures.ended
+    (range_none items _ _ refl) c.in_ok-fill.ensures.bytes in
     rw (range_drop c.fill.new.window.buffer.items c.fill.new.window.start c.fill.new.window.end (c.in-Some.i + 1))
-    (long_at_feed 1048576 c.fill.new.window.ended _ _ _ (waiting c.fill.new.window) c.in-Some.i (c.in_ok-fill.ensures.ended ∙ unended) (rw c.deref.ensures.value at c.in-Some.ensures) c.pass.invariant.long kept)
+    (long_at_feed 1048576 c.fill.new.window.ended _ _ _ (waiting c.fill.new.window) c.in-Some.i
+    (c.in_ok-fill.ensures.ended ∙ unended)
+    (rw c.deref.ensures.value at c.in-Some.ensures) c.pass.invariant.long kept)
 
 pub pass-preserved : goal.pass-preserved
 pass-preserved g c =
     let items = c.pass.window.buffer.items in
     let unended = c.pass.invariant.open_end.0 in
-    let kept = nothing_waited c.pass.window.ended c.fill.new.window.ended (slice_range items c.pass.window.end c.pass.window.end) (waiting c.fill.new.window) _ _ unended c.in_ok-fill.ensures.ended (range_none items _ _ refl) c.in_ok-fill.ensures.bytes in
+    let kept = nothing_waited c.pass.window.ended c.fill.new.window.ended
+    (slice_range items c.pass.window.end c.pass.window.end)
+    (waiting c.fill.new.window) _ _ unended c.in_ok-fill.ensures.ended
+    (range_none items _ _ refl) c.in_ok-fill.ensures.bytes in
     let no_feed = rw c.deref.ensures.value at c.in_default.ensures in
     record {
       long = long_goes_on 1048576 _ _ _ (waiting c.fill.new.window) no_feed c.pass.invariant.long kept;

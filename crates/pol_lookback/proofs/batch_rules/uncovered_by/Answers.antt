@@ -11,7 +11,9 @@ use Rattle.pol_lookback.proofs.batch_rules.uncovered_by.Goals as goal
 pub returns-in-Some-held_back_by : goal.returns-in-Some-held_back_by
 returns-in-Some-held_back_by c =
     ap (held_back_for c.args.batch) (sym c.in-Some-held_back_by.is ∙ c.held_back_by.ensures)
-    ∙ sym (uncovered_is (recipes (history_view c.args.history.now)) (past_of_batch c.args.batch (history_view c.args.history.now)) c.args.tag (description_view c.args.description.now) c.args.batch
+    ∙ sym (uncovered_is (recipes (history_view c.args.history.now))
+    (past_of_batch c.args.batch (history_view c.args.history.now)) c.args.tag
+    (description_view c.args.description.now) c.args.batch
     (started c.in-Some.start) (plan c.in-Some-chart_named.chart.now) c.in-Some-bound_role.role
     (sym c.start_of.ensures ∙ ap (option_map started) c.in-Some.is)
     (sym c.chart_named.ensures ∙ ap (option_map (λ chart. plan chart.now)) c.in-Some-chart_named.is)

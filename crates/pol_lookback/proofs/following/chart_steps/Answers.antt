@@ -8,4 +8,5 @@ use Rattle.pol_lookback.proofs.following.chart_steps.Goals as goal
 
 pub returns : goal.returns
 returns c =
-    IfOk-weaker c.steps_in_order.result _ _ (λ steps is log. ap (filter (is_active_plan log)) is ∙ active_is (plan c.args.chart.now) log) c.steps_in_order.ensures
+    IfOk-weaker c.steps_in_order.result _ _ (λ steps is log. ap (filter (is_active_plan log)) is
+    ∙ active_is (plan c.args.chart.now) log) c.steps_in_order.ensures

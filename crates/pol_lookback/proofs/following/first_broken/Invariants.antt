@@ -9,5 +9,6 @@ use Rattle.pol_lookback.proofs.following.first_broken.Given as goal
 
 abbrev pub invariant-loop-step : goal.invariant-loop-step
 invariant-loop-step l =
-    first_broken (sights_by l.seen.binds.now (λ tag. past tag (history_view l.seen.history.now))) (filter (is_active_plan l.log) (plans_seen (drop l.step-index l.steps)))
+    first_broken (sights_by l.seen.binds.now (λ tag. past tag (history_view l.seen.history.now)))
+    (filter (is_active_plan l.log) (plans_seen (drop l.step-index l.steps)))
     ≡ first_broken (sights_by l.seen.binds.now (λ tag. past tag (history_view l.seen.history.now))) (filter (is_active_plan l.log) (plans_seen l.steps))

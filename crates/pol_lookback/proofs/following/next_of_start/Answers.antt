@@ -14,5 +14,7 @@ returns c =
     (λ next is.
     is
     ∙ ap (λ frozen. next_by (plan c.args.chart.now) frozen c.deref.result.now seen) c.is_frozen.ensures
-    ∙ ap (λ log. next_by (plan c.args.chart.now) (is_frozen_by (past_of_batch c.args.batch (history_view c.args.history.now))) log seen) (c.deref.ensures.value ∙ c.in_ok-log.ensures))
+    ∙ ap (λ log. next_by (plan c.args.chart.now)
+    (is_frozen_by (past_of_batch c.args.batch (history_view c.args.history.now))) log seen) (c.deref.ensures.value
+    ∙ c.in_ok-log.ensures))
     c.next_by.ensures

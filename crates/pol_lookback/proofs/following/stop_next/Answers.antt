@@ -14,5 +14,6 @@ returns-then-is_active_step c =
     let test = is_active_plan c.args.log.now in
     c.stop_seen.ensures c.args.broken (filter test (plans_seen (drop (suc c.loop-step.step-index) c.args.steps.now)))
     ∙ ap (stop_next seen c.args.broken)
-    (kept_first test c.args.steps.now c.loop-step.step-index c.step-item.result c.loop-step-test.true c.step-item.is (sym c.is_active_step.ensures ∙ c.if-is_active_step.true))
+    (kept_first test c.args.steps.now c.loop-step.step-index c.step-item.result c.loop-step-test.true c.step-item.is
+    (sym c.is_active_step.ensures ∙ c.if-is_active_step.true))
     ∙ c.loop-step.invariant

@@ -13,4 +13,7 @@ pub returns : goal.returns
 returns c =
     let known : description_by (past c.args.tag (history_view c.args.history.now)) ≡ Some (description_view c.in_ok-description.description.now)
     = sym c.description_of.ensures ∙ ap (option_map (λ description. description_view description.now)) c.in_ok-description.was in
-    rw known (c.first_not_at_rest.ensures ∙ ap (λ services. not_at_rest (λ service. control_by service (past c.args.tag (history_view c.args.history.now))) (map service_view services)) c.deref.ensures.value)
+    rw known (c.first_not_at_rest.ensures
+    ∙ ap (λ services. not_at_rest
+    (λ service. control_by service (past c.args.tag (history_view c.args.history.now)))
+    (map service_view services)) c.deref.ensures.value)

@@ -7,4 +7,5 @@ use Rattle.pol_lookback.proofs.start_rules.first_unfit.Given as goal
 
 abbrev pub invariant-loop-role : goal.invariant-loop-role
 invariant-loop-role l =
-    modules_unfit (history_view l.history) (plan l.chart) l.binds (names_in (drop l.role-index l.roles)) ≡ modules_unfit (history_view l.history) (plan l.chart) l.binds (names_in l.roles)
+    modules_unfit (history_view l.history) (plan l.chart) l.binds (names_in (drop l.role-index l.roles))
+    ≡ modules_unfit (history_view l.history) (plan l.chart) l.binds (names_in l.roles)

@@ -7,5 +7,6 @@ use Rattle.pol_slots.proofs.told.of_variables.Given as goal
 
 abbrev pub invariant-loop-variable : goal.invariant-loop-variable
 invariant-loop-variable l =
-    (name : List ℕ) → (if list_any (λ variable. bytes_eq variable.name name) (drop l.variable-index l.variables) then Some None else lookup (bytes_eq name) l.lasts)
+    (name : List ℕ) → (if list_any (λ variable. bytes_eq variable.name name) (drop l.variable-index l.variables)
+    then Some None else lookup (bytes_eq name) l.lasts)
     ≡ (if list_any (λ variable. bytes_eq variable.name name) l.variables then Some None else None)

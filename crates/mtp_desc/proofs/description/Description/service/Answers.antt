@@ -4,4 +4,6 @@ use Rattle.mtp_desc.proofs.Views.{looks_up}
 use Rattle.mtp_desc.proofs.description.Description.service.Goals as goal
 
 pub returns : goal.returns
-returns c = looks_up service_view (λ item. bytes_eq item.name c.args.name) c.args.self.now.services.items c.find_service.result (rw c.deref.ensures.value at c.find_service.ensures)
+returns c = looks_up service_view
+    (λ item. bytes_eq item.name c.args.name) c.args.self.now.services.items c.find_service.result
+    (rw c.deref.ensures.value at c.find_service.ensures)

@@ -4,4 +4,5 @@ use Rattle.mtp_desc.proofs.Views.{position_map}
 use Rattle.mtp_desc.proofs.description.Description.service_place.Goals as goal
 
 pub returns : goal.returns
-returns c = (rw c.deref.ensures.value at c.place_of_service.ensures) ∙ sym (position_map service_view (λ item. bytes_eq item.name c.args.name) c.args.self.now.services.items)
+returns c = (rw c.deref.ensures.value at c.place_of_service.ensures)
+    ∙ sym (position_map service_view (λ item. bytes_eq item.name c.args.name) c.args.self.now.services.items)

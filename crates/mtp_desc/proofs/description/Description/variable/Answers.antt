@@ -4,4 +4,6 @@ use Rattle.mtp_desc.proofs.Views.{looks_up}
 use Rattle.mtp_desc.proofs.description.Description.variable.Goals as goal
 
 pub returns : goal.returns
-returns c = looks_up variable_view (λ item. bytes_eq item.name c.args.name) c.args.self.now.variables.items c.find_variable.result (rw c.deref.ensures.value at c.find_variable.ensures)
+returns c = looks_up variable_view
+    (λ item. bytes_eq item.name c.args.name) c.args.self.now.variables.items c.find_variable.result
+    (rw c.deref.ensures.value at c.find_variable.ensures)

@@ -4,4 +4,5 @@ use Rattle.mtp_desc.proofs.Views.{position_map}
 use Rattle.mtp_desc.proofs.description.Description.variable_place.Goals as goal
 
 pub returns : goal.returns
-returns c = (rw c.deref.ensures.value at c.place_of_variable.ensures) ∙ sym (position_map variable_view (λ item. bytes_eq item.name c.args.name) c.args.self.now.variables.items)
+returns c = (rw c.deref.ensures.value at c.place_of_variable.ensures)
+    ∙ sym (position_map variable_view (λ item. bytes_eq item.name c.args.name) c.args.self.now.variables.items)

@@ -4,4 +4,6 @@ use Rattle.mtp_desc.proofs.Views.{looks_up}
 use Rattle.mtp_desc.proofs.procedure.Procedure.param.Goals as goal
 
 pub returns : goal.returns
-returns c = looks_up param_view (λ param. bytes_eq param.name c.args.name) c.args.self.now.params.items c.find_param.result (rw c.deref.ensures.value at c.find_param.ensures)
+returns c = looks_up param_view
+    (λ param. bytes_eq param.name c.args.name) c.args.self.now.params.items c.find_param.result
+    (rw c.deref.ensures.value at c.find_param.ensures)

@@ -4,4 +4,6 @@ use Rattle.mtp_desc.proofs.Views.{looks_up}
 use Rattle.mtp_desc.proofs.service.Service.procedure.Goals as goal
 
 pub returns : goal.returns
-returns c = looks_up procedure_view (λ procedure. procedure.number == c.args.number) c.args.self.now.procedures.items c.find_procedure.result (rw c.deref.ensures.value at c.find_procedure.ensures)
+returns c = looks_up procedure_view
+    (λ procedure. procedure.number == c.args.number) c.args.self.now.procedures.items c.find_procedure.result
+    (rw c.deref.ensures.value at c.find_procedure.ensures)

@@ -12,9 +12,13 @@ returns-in-Ok-Text g c =
     let new = c.cut_line.new.window in
     let from = c.in-Ok-Text.from in
     let to = c.in-Ok-Text.to in
-    let cut : Between (Cuts new.ended (slice_range new.buffer.items from to)) (joined old.ended (waiting old) (g.S.Source.left c.args.source.now)) (joined new.ended (waiting new) (g.S.Source.left c.cut_line.new.source)) =
+    let cut : Between (Cuts new.ended (slice_range new.buffer.items from to))
+    (joined old.ended (waiting old) (g.S.Source.left c.args.source.now))
+    (joined new.ended (waiting new) (g.S.Source.left c.cut_line.new.source)) =
     rw c.in-Ok-Text.field-0-is at c.in-Ok-Text.ensures.cut in
-    let lent : Between (Cuts new.ended (slice_range c.deref.result.now from to)) (joined old.ended (waiting old) (g.S.Source.left c.args.source.now)) (joined new.ended (waiting new) (g.S.Source.left c.cut_line.new.source)) =
+    let lent : Between (Cuts new.ended (slice_range c.deref.result.now from to))
+    (joined old.ended (waiting old) (g.S.Source.left c.args.source.now))
+    (joined new.ended (waiting new) (g.S.Source.left c.cut_line.new.source)) =
     rw c.deref.ensures.value cut in
     let fits = rw c.in-Ok-Text.field-0-is at c.in-Ok-Text.ensures.fits in
     let more : given old < given new = rw c.in-Ok-Text.field-0-is at c.in-Ok-Text.ensures.given in (

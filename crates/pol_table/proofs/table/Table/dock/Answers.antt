@@ -23,18 +23,23 @@ returns-in-Err-clause-err g c =
     rw (← c.self.view_is, dock_fault-seats _ _ c.self.invariant _, ← c.contains_key.ensures, c.if-contains_key.false, ← c.len.ensures.len, lt-leb _ _ c.if-len-ge64.false) refl
 
 docks : (g : _) (c : goal.After-unwrap g)
-    → Docks c.args.tag (record { place = c.in-Ok.place; holder = None }) c.args.part c.self.inside.seats.entries c.insert-in-Ok.new.self.entries c.self.inside.parts.slots c.insert.new.self.slots
+    → Docks c.args.tag (record {
+      place = c.in-Ok.place;
+      holder = None;
+    }) c.args.part c.self.inside.seats.entries c.insert-in-Ok.new.self.entries c.self.inside.parts.slots c.insert.new.self.slots
 docks g c = record {
   sound = c.self.invariant;
   added = λ other.
       (rw c.unwrap.ensures at c.insert-in-Ok.ensures.updates).0 other
-      ∙ ap (λ seats. cond (bytes_eq c.args.tag other) (Some (record { place = c.in-Ok.place; holder = None })) (lookup (bytes_eq other) seats)) c.reserve.ensures.entries;
+      ∙ ap (λ seats. cond (bytes_eq c.args.tag other) (Some (record { place = c.in-Ok.place; holder = None }))
+      (lookup (bytes_eq other) seats)) c.reserve.ensures.entries;
   vacant = c.in-Ok.ensures.was_vacant;
   docked = c.in-Ok.ensures.updates.changed;
   others = c.in-Ok.ensures.updates.others;
   unique = c.insert-in-Ok.ensures.unique;
   count = one_more c.unwrap.result (lookup (bytes_eq c.args.tag) c.reserve.new.self.entries) _ _ _ (rw c.unwrap.ensures at c.insert-in-Ok.ensures.old)
-      (rw (c.reserve.ensures.entries) (sym c.contains_key.ensures ∙ c.if-contains_key.false)) (rw c.unwrap.ensures at c.insert-in-Ok.ensures.len) (ap length c.reserve.ensures.entries);
+      (rw (c.reserve.ensures.entries) (sym c.contains_key.ensures ∙ c.if-contains_key.false))
+      (rw c.unwrap.ensures at c.insert-in-Ok.ensures.len) (ap length c.reserve.ensures.entries);
   room = omega (arith, c.if-len-ge64.false, c.len.ensures.len);
 }
 

@@ -10,7 +10,17 @@ use Rattle.pol_table.proofs.table.Table.get_mut.Goals as goal
 
 pub returns-in_err-place : goal.returns-in_err-place
 returns-in_err-place g c =
-    rw (← c.self.view_is, c.from_residual.ensures, no_berth _ _ c.self.invariant _ (sym c.in_err-place.ensures.value)) (refl, record { writes_back = tt; value = refl })
+    rw (← c.self.view_is, c.from_residual.ensures, no_berth _ _ c.self.invariant _ (sym c.in_err-place.ensures.value))
+    (refl, record { writes_back = tt; value = refl })
 
 pub returns : goal.returns
-returns g c = rw (← c.self.view_is) (ap (λ change. read_of (ghost_name_of c.get_mut.result) change (berths_of c.self.inside.seats.entries c.self.inside.parts.slots)) (fun_ext (λ part. berths-set_part _ _ _ _ part c.self.invariant (sym c.in_ok-place.ensures.value))), record { writes_back = tt; value = c.get_mut.ensures.value ∙ sym (part_of_seat _ _ c.self.invariant _ _ (sym c.in_ok-place.ensures.value)) })
+returns g c = rw (← c.self.view_is) (
+  ap (λ change. read_of (ghost_name_of c.get_mut.result) change
+      (berths_of c.self.inside.seats.entries c.self.inside.parts.slots))
+      (fun_ext (λ part. berths-set_part _ _ _ _ part c.self.invariant
+      (sym c.in_ok-place.ensures.value))),
+  record {
+    writes_back = tt;
+    value = c.get_mut.ensures.value ∙ sym (part_of_seat _ _ c.self.invariant _ _ (sym c.in_ok-place.ensures.value));
+  },
+)

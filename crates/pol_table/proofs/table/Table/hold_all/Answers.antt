@@ -14,7 +14,8 @@ pub returns-clause-answer : goal.returns-clause-answer
 returns-clause-answer g c =
     rw (← c.self.view_is, ← first-missing _ _ c.self.invariant _, ← first-busy _ _ c.self.invariant _, ← c.first_missing.ensures, ← c.first_busy.ensures, c.in_default.is, c.in_default-first_busy.is) refl
 
-holds : (g : _) (c : goal.After-hold_each g) → Holds c.args.tags.now c.args.batch c.self.inside.seats.entries c.hold_each.new.seats.entries c.self.inside.parts.slots
+holds : (g : _) (c : goal.After-hold_each g)
+    → Holds c.args.tags.now c.args.batch c.self.inside.seats.entries c.hold_each.new.seats.entries c.self.inside.parts.slots
 holds g c = record { sound = c.self.invariant; held = c.hold_each.ensures.held; len = c.hold_each.ensures.len; unique = c.hold_each.ensures.unique }
 
 pub returns-clause-held : goal.returns-clause-held
