@@ -1,5 +1,6 @@
 //! Recipe charts: procedures of steps in sequence, in parallel, by choice and in loops (after the procedure function
-//! charts of ISA-88, IEC 61512-2), the entries of a batch's log, and which words of entries are runs of a chart.
+//! charts of ISA-88, IEC 61512-2), the entries of a batch's log, what a batch does next and how it is closed, and which words
+//! of entries are runs of a chart.
 //!
 //! It knows nothing of modules, plants or any text form. `Chart::valid` answers exactly the first fault of a chart.
 //! The definitions of complete and partial runs (`specs/Runs.antt`) and how far each node has come stand here for the
@@ -13,6 +14,7 @@ mod fault;
 mod following;
 mod laws;
 mod marks;
+mod next;
 mod node;
 mod order;
 mod progress;
@@ -32,6 +34,7 @@ pub use fault::ChartFault;
 pub use following::{Followed, follow};
 pub use laws::{names_are_distinct, nothing_is_partial, steps_have_roles};
 pub use marks::{chart_size, is_done, take_entry, untouched};
+pub use next::{Next, Outcome};
 pub use node::{Arm, Node, Step};
 pub use order::{is_active, steps_in_order};
 pub use progress::{Change, Progress};

@@ -1,5 +1,5 @@
 -- The running steps among the open nodes are the active steps of the word.
-use Rattle.std.specs.Prelude.{ℕ, ◌≡◌, ◌+◌, Bool, true, false, ◌&&◌, List, [], ◌∷◌, ◌++◌, Some, None, is_some, zero, suc, refl, if◌then◌else◌}
+use Rattle.std.specs.Prelude.{ℕ, ◌≡◌, ◌+◌, Bool, true, false, ◌&&◌, List, [], ◌∷◌, ◌++◌, map, Some, None, is_some, zero, suc, refl, if◌then◌else◌}
 use Rattle.std.proofs.Common.{sym, ◌∙◌, ap, inl, inr, append_assoc}
 use Rattle.std.specs.List.{filter}
 use Rattle.std.proofs.lemmas.List.{append-nil}
@@ -22,9 +22,14 @@ use Rattle.chart_core.proofs.Apart.{in_left, in_right, distinct_front, distinct_
 use Rattle.chart_core.proofs.Logs.{chart_sound}
 use Rattle.chart_core.proofs.Validity.{Each, each_append, valid_distinct}
 use Rattle.chart_cursor.specs.Spots.{Spot, phase_of, step_spots, choice_spots, loop_spots, spots, turn_spots, once_spots, arm_spots}
-use Rattle.chart_cursor.specs.Running.{running_node, or_later, first_running, first_placed}
+use Rattle.std.specs.Option.{option_or}
 use Rattle.chart_cursor.proofs.Phases.{word_phase, silent, phase_filter, unnamed, all_swap, tree_silent, turn_silent, once_silent, arm_says, phase_front, phase_back, phase_head, leaf_phase, had_phase, complete_idle, turns_says, rounds_last_phase}
 use Rattle.chart_cursor.proofs.Firsts.{log_phase}
+use Rattle.chart_cursor.specs.Broken.{broken_node, first_broken_node}
+use Rattle.chart_cursor.specs.Logs.{active}
+use Rattle.chart_cursor.specs.NextEntry.{broken_step, first_broken}
+use Rattle.chart_cursor.specs.Running.{running_step, running_node, first_running, first_placed}
+use Rattle.chart_cursor.specs.Sights.{Sights}
 
 -- the step runs after the word
 abbrev pub is_live : List Judged → Placed → Bool
@@ -246,13 +251,13 @@ runs_active chart f log valid h =
     ∙ sym (active_live chart log (steps chart.root 0) (stands_of (course_of chart) f (word log) (chart_sound chart valid) h))
 
 placed_one : (wanted : ℕ → StepPlan → Bool) (n : ℕ) (node : Tree) (phase : Phase) (rest : List Placed)
-    → or_later (running_node wanted n node phase) (first_placed wanted rest) ≡ first_placed wanted (run_of n node phase ++ rest)
+    → option_or (running_node wanted n node phase) (first_placed wanted rest) ≡ first_placed wanted (run_of n node phase ++ rest)
 placed_one wanted n (leaf s) phase rest =
-    elim (is_running phase) as (λ b. or_later (if b && wanted n s then Some (n, s.name) else None) (first_placed wanted rest)
+    elim (is_running phase) as (λ b. option_or (if b && wanted n s then Some (running_step n s) else None) (first_placed wanted rest)
     ≡ first_placed wanted ((if b then record { number = n; step = s } ∷ [] else []) ++ rest)) [
       | true ↦ (elim (wanted n s) as
-          (λ b. or_later (if b then Some (n, s.name) else None) (first_placed wanted rest)
-          ≡ (if b then Some (n, s.name) else first_placed wanted rest)) [
+          (λ b. option_or (if b then Some (running_step n s) else None) (first_placed wanted rest)
+          ≡ (if b then Some (running_step n s) else first_placed wanted rest)) [
             | true ↦ refl
             | false ↦ refl
           ])
@@ -266,7 +271,7 @@ placed_one wanted n (loop body until) phase rest = refl
 pub running_placed : (wanted : ℕ → StepPlan → Bool) (ss : List Spot) → first_running wanted ss ≡ first_placed wanted (runs ss)
 running_placed wanted [] = refl
 running_placed wanted (s ∷ ss) =
-    ap (or_later (running_node wanted s.number s.node (phase_of s.progress))) (running_placed wanted ss)
+    ap (option_or (running_node wanted s.number s.node (phase_of s.progress))) (running_placed wanted ss)
     ∙ placed_one wanted s.number s.node (phase_of s.progress) (runs ss)
 
 -- the first wanted step that runs is the first wanted active step of the log
@@ -274,3 +279,36 @@ pub first_active :
     (chart : ChartPlan) (f : Marks) (log : List LogEntry) (wanted : ℕ → StepPlan → Bool) → IsValid chart → Stands (course_of chart) f (word log)
     → first_running wanted (spots chart.root 0 f) ≡ first_placed wanted (active_steps chart log)
 first_active chart f log wanted valid h = running_placed wanted (spots chart.root 0 f) ∙ ap (first_placed wanted) (runs_active chart f log valid h)
+
+broken_one : (seen : Sights) (number : ℕ) (node : Tree) (phase : Phase) (rest : List Placed)
+    → option_or (broken_node seen node phase) (first_broken seen (map (λ placed. placed.step) rest))
+    ≡ first_broken seen (map (λ placed. placed.step) (run_of number node phase ++ rest))
+broken_one seen number (leaf step) phase rest =
+    elim (is_running phase) as (λ runs.
+        option_or (if runs then broken_step step (seen.view step.role step.service) else None)
+            (first_broken seen (map (λ placed. placed.step) rest))
+        ≡ first_broken seen
+            (map (λ placed. placed.step) ((if runs then record { number = number; step = step } ∷ [] else []) ++ rest))) [
+      | true ↦ refl
+      | false ↦ refl
+    ]
+broken_one seen number (seq each) phase rest = refl
+broken_one seen number (par each) phase rest = refl
+broken_one seen number (choice each) phase rest = refl
+broken_one seen number (loop body until) phase rest = refl
+
+broken_among : (seen : Sights) (spots : List Spot)
+    → first_broken_node seen spots ≡ first_broken seen (map (λ placed. placed.step) (runs spots))
+broken_among seen [] = refl
+broken_among seen (spot ∷ spots) =
+    ap (option_or (broken_node seen spot.node (phase_of spot.progress))) (broken_among seen spots)
+    ∙ broken_one seen spot.number spot.node (phase_of spot.progress) (runs spots)
+
+-- the first of the running steps that broke is the first of the active steps of the log that broke
+pub broken_active :
+    (chart : ChartPlan) (marks : Marks) (log : List LogEntry) (seen : Sights) → IsValid chart
+    → Stands (course_of chart) marks (word log)
+    → first_broken_node seen (spots chart.root 0 marks) ≡ first_broken seen (active chart log)
+broken_active chart marks log seen valid stands =
+    broken_among seen (spots chart.root 0 marks)
+    ∙ ap (λ each. first_broken seen (map (λ placed. placed.step) each)) (runs_active chart marks log valid stands)

@@ -15,10 +15,13 @@ use Rattle.chart_cursor.specs.declared.next.CursorNext.{CursorNext}
 use Rattle.chart_cursor.specs.declared.next.CursorNext.TheVariants.{Entry, Wait, Whole}
 use Rattle.chart_cursor.specs.Sights.{Sights}
 use Rattle.chart_cursor.specs.Spots.{Spot, phase_of, spots, turn_spots, once_spots, arm_spots, step_spots, choice_spots, loop_spots, spot_ready, first_next, first_among}
-use Rattle.chart_cursor.specs.Running.{Running, is_wanted, running_node, or_later, first_running}
-use Rattle.chart_cursor.specs.Looks.{look_ready, look_running}
+use Rattle.std.specs.Option.{option_or}
 use Rattle.chart_cursor.specs.declared.running.FirstRunning.{FirstRunning}
 use Rattle.chart_cursor.specs.declared.scanning.FirstReady.{FirstReady}
+use Rattle.chart_cursor.specs.Broken.{broken_node, first_broken_node}
+use Rattle.chart_cursor.specs.Looks.{look_ready, look_running, look_broken}
+use Rattle.chart_cursor.specs.Running.{is_wanted, running_node, first_running}
+use Rattle.chart_cursor.specs.declared.breaking.FirstBroken.{FirstBroken}
 
 -- ---- a part that is done has no open node
 
@@ -127,23 +130,33 @@ ready_found sights ready (spot ∷ others) =
     ready_found sights (look_ready sights ready spot) others
     ∙ first_next_assoc ready.next (spot_ready (sights ready.seen.now) spot) (first_among (sights ready.seen.now) others)
 
-or_later_assoc : (x y z : Option Running) → or_later (or_later x y) z ≡ or_later x (or_later y z)
-or_later_assoc None y z = refl
-or_later_assoc (Some r) y z = refl
+or_assoc : {A : Type 0} (x y z : Option A) → option_or (option_or x y) z ≡ option_or x (option_or y z)
+or_assoc None y z = refl
+or_assoc (Some first) y z = refl
 
-or_later_none : (x : Option Running) → or_later x None ≡ x
-or_later_none None = refl
-or_later_none (Some r) = refl
+or_none : {A : Type 0} (x : Option A) → option_or x None ≡ x
+or_none None = refl
+or_none (Some first) = refl
 
 -- what ran before a walk, and then the first running one of the steps that it looks at
 pub running_found :
     (running : FirstRunning) (each : List Spot)
-    → (fold look_running running each).found ≡ or_later running.found (first_running (is_wanted running.from running.role) each)
-running_found running [] = sym (or_later_none running.found)
+    → (fold look_running running each).found ≡ option_or running.found (first_running (is_wanted running.from running.role) each)
+running_found running [] = sym (or_none running.found)
 running_found running (spot ∷ others) =
     let wanted = is_wanted running.from running.role in
     running_found (look_running running spot) others
-    ∙ or_later_assoc running.found (running_node wanted spot.number spot.node (phase_of spot.progress)) (first_running wanted others)
+    ∙ or_assoc running.found (running_node wanted spot.number spot.node (phase_of spot.progress)) (first_running wanted others)
+
+-- what broke before a walk, and then the first one that broke of the steps that it looks at
+pub broken_found :
+    {S : Type 0} (sights : S → Sights) (broken : FirstBroken S) (each : List Spot)
+    → (fold (look_broken sights) broken each).found ≡ option_or broken.found (first_broken_node (sights broken.seen.now) each)
+broken_found sights broken [] = sym (or_none broken.found)
+broken_found sights broken (spot ∷ others) =
+    broken_found sights (look_broken sights broken spot) others
+    ∙ or_assoc broken.found (broken_node (sights broken.seen.now) spot.node (phase_of spot.progress))
+        (first_broken_node (sights broken.seen.now) others)
 
 -- ---- a selection has no more arms than nodes
 

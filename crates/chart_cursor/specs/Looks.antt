@@ -1,9 +1,12 @@
 -- What is looked for among open nodes, after one node more.
+use Rattle.std.specs.Option.{option_or}
 use Rattle.chart_cursor.specs.Sights.{Sights}
 use Rattle.chart_cursor.specs.Spots.{Spot, phase_of, spot_ready, first_next}
-use Rattle.chart_cursor.specs.Running.{is_wanted, running_node, or_later}
 use Rattle.chart_cursor.specs.declared.running.FirstRunning.{FirstRunning}
 use Rattle.chart_cursor.specs.declared.scanning.FirstReady.{FirstReady}
+use Rattle.chart_cursor.specs.Broken.{broken_node}
+use Rattle.chart_cursor.specs.Running.{is_wanted, running_node}
+use Rattle.chart_cursor.specs.declared.breaking.FirstBroken.{FirstBroken}
 
 -- what comes next: the first entry; else the first obstacle
 abbrev pub look_ready : {S : Type 0} → (S → Sights) → FirstReady S → Spot → FirstReady S
@@ -16,6 +19,14 @@ look_running running spot =
     record {
       from = running.from;
       role = running.role;
-      found = or_later running.found
+      found = option_or running.found
           (running_node (is_wanted running.from running.role) spot.number spot.node (phase_of spot.progress));
+    }
+
+-- the entry Broke of the first running step whose service is stopped or aborted
+abbrev pub look_broken : {S : Type 0} → (S → Sights) → FirstBroken S → Spot → FirstBroken S
+look_broken sights broken spot =
+    record {
+      seen = broken.seen;
+      found = option_or broken.found (broken_node (sights broken.seen.now) spot.node (phase_of spot.progress));
     }

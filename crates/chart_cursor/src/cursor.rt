@@ -10,11 +10,14 @@ ghost use Rattle.chart_core.specs.declared.entry.LogEntry.{LogEntry};
 ghost use Rattle.chart_cursor.specs.declared.next.CursorNext.TheVariants.{Whole};
 ghost use Rattle.chart_core.specs.Trees.{tree};
 ghost use Rattle.chart_cursor.specs.Spots.{spots};
-ghost use Rattle.chart_cursor.specs.Running.{is_wanted, first_placed, first_running, name_of};
 ghost use Rattle.chart_cursor.specs.Next.{IsNext, ready_after, next_after};
+ghost use Rattle.chart_cursor.specs.Logs.{active};
+ghost use Rattle.chart_cursor.specs.NextEntry.{first_broken};
+ghost use Rattle.chart_cursor.specs.Running.{is_wanted, first_placed, name_of, placed_of};
 
+use super::breaking::first_broken;
 use super::next::CursorNext;
-use super::running::{first_running, name_alone};
+use super::running::{RunningStep, first_running, name_alone, placed_alone};
 use super::scanning::scan;
 use super::sight::Seen;
 use chart_core::{Chart, LogEntry, Progress, take_entry, untouched};
@@ -61,6 +64,13 @@ impl Cursor {
         Ok(Cursor { chart, marks })
     }
 
+    /// The chart that the cursor goes through.
+    pub fn chart(&self) -> &Arc<Chart>
+        ensures { result.now.value ≡ self.now.chart }
+    {
+        &self.chart
+    }
+
     /// Takes the entry, which goes on a word that the cursor stands for: afterwards the cursor stands for each such word
     /// with the entry at its end. Walks the chart's nodes once, and takes no memory.
     pub fn take(&mut self, entry: LogEntry)
@@ -87,24 +97,38 @@ impl Cursor {
         scan(&self.chart.root, 0, &self.marks, seen)
     }
 
+    /// The first active step whose node is at least `from`, and of the role where one is given; None where there is no
+    /// such active step. Walks the chart's nodes once, and takes no memory.
+    pub fn next_step(&self, from: u32, role: Option<Name>) -> Option<RunningStep>
+        ensures { (word : List LogEntry) → StandsFor (plan self.now.chart) self.now.marks word
+            → result ≡ first_placed (is_wanted from role) (active_steps (plan self.now.chart) word) }
+    {
+        first_running(&self.chart.root, 0, &self.marks, from, role)
+    }
+
+    /// The entry Broke of the first active step whose service is seen stopped or aborted; None where there is none. Walks
+    /// the chart's nodes once, and takes no memory.
+    pub fn first_broken<S: Seen>(&self, seen: &S) -> Option<LogEntry>
+        ensures { (word : List LogEntry) → StandsFor (plan self.now.chart) self.now.marks word
+            → result ≡ first_broken (S.sights seen.now) (active (plan self.now.chart) word) }
+    {
+        first_broken(&self.chart.root, 0, &self.marks, seen)
+    }
+
     /// The first active step whose node is at least `from`, with the node's number; None where there is no such active
     /// step. Walks the chart's nodes once, and takes no memory.
     pub fn next_active(&self, from: u32) -> Option<(u32, Name)>
-        ensures marks { result ≡ first_running (is_wanted from None)
-            (spots (tree self.now.chart.root) 0 (marks_of self.now.marks)) }
-        ensures word { (word : List LogEntry) → StandsFor (plan self.now.chart) self.now.marks word
-            → result ≡ first_placed (is_wanted from None) (active_steps (plan self.now.chart) word) }
+        ensures { (word : List LogEntry) → StandsFor (plan self.now.chart) self.now.marks word
+            → result ≡ placed_of (first_placed (is_wanted from None) (active_steps (plan self.now.chart) word)) }
     {
-        first_running(&self.chart.root, 0, &self.marks, from, None)
+        placed_alone(self.next_step(from, None))
     }
 
     /// The first active step of the role; None where there is none. Walks the chart's nodes once, and takes no memory.
     pub fn active_on(&self, role: Name) -> Option<Name>
-        ensures marks { result ≡ name_of (first_running (is_wanted 0 (Some role))
-            (spots (tree self.now.chart.root) 0 (marks_of self.now.marks))) }
-        ensures word { (word : List LogEntry) → StandsFor (plan self.now.chart) self.now.marks word
+        ensures { (word : List LogEntry) → StandsFor (plan self.now.chart) self.now.marks word
             → result ≡ name_of (first_placed (is_wanted 0 (Some role)) (active_steps (plan self.now.chart) word)) }
     {
-        name_alone(first_running(&self.chart.root, 0, &self.marks, 0, Some(role)))
+        name_alone(self.next_step(0, Some(role)))
     }
 }

@@ -4,9 +4,13 @@
 //! for words by a relation; where a clause speaks of the word, it holds of every word that the cursor stands for. What
 //! comes next is worked out by `next_after` (`specs/Next.antt`); the laws in `laws` say that it is the defined next
 //! entry, that it keeps a run a run, and that it commands only what a recipe may give. One walk over the open nodes
-//! serves all that is looked for among them (`Look`): what comes next, and which step runs.
+//! serves all that is looked for among them (`Look`): what comes next, which step runs, and which one's service broke.
+//!
+//! What an open batch does next is defined here too (`next_by` in `specs/NextEntry.antt`), since it is said of a chart, a log
+//! and what is seen alone: the crates that look back and those that keep runs cite one text.
 #![tactic(auto)]
 
+mod breaking;
 mod cursor;
 mod following;
 mod laws;
@@ -24,6 +28,7 @@ pub use laws::{
     next_commands_are_permitted, next_follows_the_chart, next_keeps_the_run, steps_are_of_the_chart,
 };
 pub use next::CursorNext;
+pub use running::RunningStep;
 pub use sight::{ReadingSight, Seen, Sight};
 
 #[cfg(test)]

@@ -3,21 +3,38 @@ ghost use Rattle.std.specs.Prelude.{◌≡◌, ◌+◌, ◌<◌, ◌≤◌, ◌^
 ghost use Rattle.chart_core.specs.Trees.{tree, step_plan, leaf, size};
 ghost use Rattle.chart_core.specs.Progress.{marks_of};
 ghost use Rattle.chart_cursor.specs.Spots.{phase_of, spots};
-ghost use Rattle.chart_cursor.specs.Running.{first_running, has_role, is_wanted, name_of, running_node};
+ghost use Rattle.chart_cursor.specs.Running.{first_running, has_role, is_wanted, name_of, placed_of, running_node};
 
 use super::look::Look;
 use super::walking::walk;
 use chart_core::{Arm, Condition, Node, Progress, Step};
 use mtp_codes::Name;
 
+/// A step that runs.
+#[derive(Clone, Copy, Debug, PartialEq, Eq)]
+pub struct RunningStep {
+    /// The number of its node in chart order, the root's being 0.
+    pub number: u32,
+    /// Its name, which no other step of the chart has.
+    pub name: Name,
+    /// The role whose module runs it.
+    pub role: Name,
+    /// The service of that module that it commands.
+    pub service: Name,
+}
+
 /// The name of the step that was found.
-pub fn name_alone(found: Option<(u32, Name)>) -> Option<Name>
+pub fn name_alone(found: Option<RunningStep>) -> Option<Name>
     ensures { result ≡ name_of found }
 {
-    match found {
-        Some((_, name)) => Some(name),
-        None => None,
-    }
+    found.map(|step| step.name)
+}
+
+/// The number and the name of the step that was found.
+pub fn placed_alone(found: Option<RunningStep>) -> Option<(u32, Name)>
+    ensures { result ≡ placed_of found }
+{
+    found.map(|step| (step.number, step.name))
 }
 
 fn is_of_role(step: &Step, role: Option<Name>) -> bool
@@ -34,7 +51,7 @@ fn is_of_role(step: &Step, role: Option<Name>) -> bool
 struct FirstRunning {
     from: u32,
     role: Option<Name>,
-    found: Option<(u32, Name)>,
+    found: Option<RunningStep>,
 }
 
 fn running_step(
@@ -43,7 +60,7 @@ fn running_step(
     progress: Progress,
     from: u32,
     role: Option<Name>,
-) -> Option<(u32, Name)>
+) -> Option<RunningStep>
     ensures { result ≡ running_node (is_wanted from role) number (leaf (step_plan step.now)) (phase_of progress) }
 {
     let runs = matches!(
@@ -51,7 +68,12 @@ fn running_step(
         Progress::Begun | Progress::Finished | Progress::WasReset
     );
     if runs && from <= number && is_of_role(step, role) {
-        Some((number, step.name))
+        Some(RunningStep {
+            number,
+            name: step.name,
+            role: step.role,
+            service: step.service,
+        })
     } else {
         None
     }
@@ -81,7 +103,7 @@ pub fn first_running(
     marks: &[Progress],
     from: u32,
     role: Option<Name>,
-) -> Option<(u32, Name)>
+) -> Option<RunningStep>
     requires fits { number + size (tree node.now) ≤ length marks.now }
     requires short { length marks.now < 2 ^ 32 }
     ensures { result ≡ first_running (is_wanted from role) (spots (tree node.now) number (marks_of marks.now)) }

@@ -1,5 +1,5 @@
 //! Answers, and the rules by which an event is refused.
-use chart_core::{LogEntry, Why};
+use chart_core::{LogEntry, Outcome, Why};
 use mtp_assembly::ValueFault;
 use mtp_codes::{Forbid, Name, State};
 
@@ -118,24 +118,6 @@ impl From<Forbid> for Rule {
             Forbid::NotEnabled => Rule::NotEnabled,
         }
     }
-}
-
-/// How a batch was closed: its chart was run to its end; a service of an active step was stopped or aborted; the operator
-/// had it stopped step by step; the operator gave it up.
-#[derive(Clone, Copy, Debug, PartialEq, Eq)]
-pub enum Outcome {
-    Completed,
-    Broken,
-    Stopped,
-    Abandoned,
-}
-
-/// What an open batch does when it is advanced: it takes an entry into its log, waits for an obstacle, or is closed.
-#[derive(Clone, Copy, Debug, PartialEq, Eq)]
-pub enum Next {
-    Did(LogEntry),
-    Waiting(Why),
-    Closed(Outcome),
 }
 
 /// What the plant answers to an event.

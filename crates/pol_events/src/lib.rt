@@ -26,8 +26,9 @@ mod written_binds;
 mod written_modules;
 mod written_recipes;
 
-pub use answer::{Answer, Next, Outcome, Rule};
+pub use answer::{Answer, Rule};
 pub use binds::BindsJson;
+pub use chart_core::{Next, Outcome};
 pub use event::{Bind, Entry, Event};
 pub use fault::{LineFault, LineRefusal};
 pub use kind::EventKind;

@@ -2,8 +2,8 @@
 use Rattle.std.proofs.Common.{◌≡◌, ℕ, Bool, true, false, cond, List, ◌∷◌, refl, ap, sym, ◌∙◌, Option, Some, None, is_none}
 use Rattle.std.specs.Prelude.{if◌then◌else◌}
 use Rattle.std.specs.Option.{option_or}
+use Rattle.chart_core.specs.declared.next.Outcome.{Outcome}
 use Rattle.pol_events.specs.Events.{EntryForm}
-use Rattle.pol_events.specs.declared.answer.Outcome.{Outcome}
 use Rattle.pol_history.specs.Looking.{History, is_accepted_of_batch, past_of_batch}
 use Rattle.pol_history.specs.Batches.{closing, outcome_by, outcome_of, if_open}
 

@@ -3,19 +3,20 @@ use Rattle.std.specs.Prelude.{ℕ, Bool, ◌||◌, nat_le, List, [], ◌∷◌, 
 use Rattle.mtp_codes.specs.Faults.{when}
 use Rattle.chart_core.specs.Roles.{ChartPlan, role_names}
 use Rattle.chart_core.specs.declared.entry.LogEntry.TheVariants.{StopAsked, Asked}
+use Rattle.chart_core.specs.declared.next.Next.TheVariants as next
+use Rattle.chart_core.specs.declared.next.Next.{Next}
+use Rattle.chart_core.specs.declared.next.Outcome.TheVariants.{Abandoned}
+use Rattle.chart_cursor.specs.Logs.{has_broken, was_stopped}
 use Rattle.pol_events.specs.Events.{EventForm, plug, unplug, report, variable, recipe, start, advance, freeze, thaw, stop_batch, abandon, desk, exchange_begin, exchange_end, exchange_cancel}
 use Rattle.pol_events.specs.declared.answer.Rule.{Rule}
 use Rattle.pol_events.specs.declared.answer.Rule.TheVariants.{Held, HistoryFull}
-use Rattle.pol_events.specs.declared.answer.Next.{Next}
-use Rattle.pol_events.specs.declared.answer.Next.TheVariants as next
-use Rattle.pol_events.specs.declared.answer.Outcome.TheVariants.{Abandoned}
 use Rattle.pol_events.specs.declared.answer.Answer.{Answer}
 use Rattle.pol_events.specs.declared.answer.Answer.TheVariants.{Done, Ticket, Did, Waiting, Closed, Refused}
 use Rattle.pol_events.specs.Refusals.{no_service, not_an_edge, no_variable, misfit, forbidden, in_exchange, wrong_ticket}
 use Rattle.pol_events.specs.declared.event.Bind.{Bind}
 use Rattle.pol_history.specs.Looking.{History, past, past_of_batch, recipes}
 use Rattle.pol_history.specs.Modules.{docking_by, ticket_of, description_by, control_by, view_by, next_ticket}
-use Rattle.pol_history.specs.Batches.{start_by, chart_named, log_by, has_broken, was_stopped, holder_of}
+use Rattle.pol_history.specs.Batches.{start_by, chart_named, log_by, holder_of}
 use Rattle.pol_history.specs.Following.{next_of}
 use Rattle.pol_history.specs.Rules.{tag_taken, no_module, not_in_exchange, plant_full, module_not_at_rest, by_description, by_view, not_reported, recipe_known, recipes_full, no_recipe, batch_known, no_batch, batch_closed, already_frozen, not_frozen, batches_full, role_unbound, role_unknown, one_module_twice, modules_unfit, busy, by_holder, active_step, held_back}
 

@@ -1,19 +1,14 @@
 -- Looking back at a batch: each value is found in the batch's past, its chart among the recipes.
 use Rattle.std.specs.Prelude.{ℕ, Bool, true, false, ◌&&◌, List, [], map, filter, filter_map, find, Option, Some, None, is_some, is_none, unwrap_or, reverse, option_and_then, option_map, if◌then◌else◌}
-use Rattle.std.specs.List.{list_any}
 use Rattle.std.specs.Str.{bytes_eq}
 use Rattle.mtp_codes.specs.Names.{is_among}
-use Rattle.chart_core.specs.Active.{active_steps}
 use Rattle.chart_core.specs.Roles.{ChartPlan}
-use Rattle.chart_core.specs.Trees.{StepPlan}
-use Rattle.chart_core.specs.Entries.{chart_entry}
 use Rattle.chart_core.specs.declared.entry.LogEntry.{LogEntry}
-use Rattle.chart_core.specs.declared.entry.LogEntry.TheVariants.{Broke, StopAsked}
+use Rattle.chart_core.specs.declared.next.Outcome.{Outcome}
 use Rattle.pol_events.specs.Events.{EventForm, recipe, start, freeze, thaw, stop_batch, EntryForm}
 use Rattle.pol_events.specs.declared.event.Bind.{Bind}
 use Rattle.pol_events.specs.declared.answer.Answer.{Answer}
 use Rattle.pol_events.specs.declared.answer.Answer.TheVariants.{Did, Closed}
-use Rattle.pol_events.specs.declared.answer.Outcome.{Outcome}
 use Rattle.pol_history.specs.Looking.{History, past_of_batch, recipes, last_of, is_accepted}
 
 -- what a batch was started with: its recipe, and which module plays each role
@@ -108,32 +103,6 @@ log_by past = reverse (filter_map (λ entry. taken entry.answer) past)
 -- the batch's log, the oldest entry first
 abbrev pub log_of : History → List ℕ → List LogEntry
 log_of history batch = log_by (past_of_batch batch history)
-
--- the entries of a log that belong to the run of the chart
-abbrev pub chart_entries : List LogEntry → List LogEntry
-chart_entries log = filter (λ entry. is_some (chart_entry entry)) log
-
--- the entry says that the batch broke
-abbrev pub is_broke : LogEntry → Bool
-is_broke (Broke step state) = true
-is_broke _ = false
-
--- the entry says that the operator had the batch stopped
-abbrev pub is_stop_asked : LogEntry → Bool
-is_stop_asked StopAsked = true
-is_stop_asked _ = false
-
--- the batch broke
-abbrev pub has_broken : List LogEntry → Bool
-has_broken log = list_any is_broke log
-
--- the operator had the batch stopped
-abbrev pub was_stopped : List LogEntry → Bool
-was_stopped log = list_any is_stop_asked log
-
--- the active steps of a batch with this chart after its log, in chart order
-abbrev pub active : ChartPlan → List LogEntry → List StepPlan
-active chart log = map (λ placed. placed.step) (active_steps chart log)
 
 -- the accepted start of a batch on these modules
 abbrev pub taking : List ℕ → EventForm → Option (List ℕ)

@@ -9,13 +9,14 @@ use Rattle.mtp_desc.specs.Plain.{DescriptionForm}
 use Rattle.chart_core.specs.Roles.{ChartPlan}
 use Rattle.chart_core.specs.Trees.{StepPlan, steps}
 use Rattle.mtp_procs.specs.Covers.{cover_fault, missing_by}
+use Rattle.chart_cursor.specs.Logs.{active}
 use Rattle.pol_events.specs.Refusals.{cover_rule, in_exchange, not_at_rest}
 use Rattle.pol_events.specs.declared.answer.Rule.{Rule}
 use Rattle.pol_events.specs.declared.answer.Rule.TheVariants.{TagTaken, NoModule, PlantFull, NotInExchange, RecipeKnown, NoRecipe, BatchKnown, NoBatch, BatchClosed, RoleUnbound, RoleUnknown, OneModuleTwice, NotReported, NotIdle, Busy, BatchesFull, ActiveStep, HeldBack, NotFrozen, AlreadyFrozen, RecipesFull}
 use Rattle.pol_events.specs.declared.event.Bind.{Bind}
 use Rattle.pol_history.specs.Looking.{History, past, past_of_batch, recipes}
 use Rattle.pol_history.specs.Modules.{Docking, absent, docked, away, docking_by, description_by, control_by, view_by, present_tags, ticket_of}
-use Rattle.pol_history.specs.Batches.{Started, start_by, chart_named, chart_by, bound_tag, bound_role, outcome_by, is_frozen_by, log_by, active, holder_of, is_start}
+use Rattle.pol_history.specs.Batches.{Started, start_by, chart_named, chart_by, bound_tag, bound_role, outcome_by, is_frozen_by, log_by, holder_of, is_start}
 
 -- ---- whether a tag is docked
 

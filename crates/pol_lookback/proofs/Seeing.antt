@@ -6,8 +6,9 @@ use Rattle.chart_cursor.specs.declared.sight.Sight.{Sight}
 use Rattle.chart_cursor.specs.declared.sight.Sight.TheVariants as sight
 use Rattle.chart_cursor.specs.declared.sight.ReadingSight.{ReadingSight}
 use Rattle.chart_cursor.specs.declared.sight.ReadingSight.TheVariants as reading_sight
+use Rattle.chart_cursor.specs.Sights.{sight_of_view, reading_of_value}
 use Rattle.pol_history.specs.Modules as modules
-use Rattle.pol_history.specs.Following.{sight_of_view, sight_in, reading_of_value, reading_in}
+use Rattle.pol_history.specs.Following.{sight_in, reading_in}
 use Rattle.pol_lookback.specs.Dockings.{docking_seen}
 use Rattle.pol_lookback.specs.declared.modules.Docking.{Docking}
 use Rattle.pol_lookback.specs.declared.modules.Docking.TheVariants.{Absent, Docked, Away}

@@ -15,10 +15,11 @@ use Rattle.chart_core.specs.Valid.{IsValid, chart_fault}
 use Rattle.chart_core.specs.declared.entry.LogEntry.{LogEntry}
 use Rattle.chart_core.specs.declared.fault.ChartFault.{ChartFault}
 use Rattle.chart_cursor.specs.Sights.{or_role}
+use Rattle.chart_cursor.specs.Logs.{active}
 use Rattle.pol_events.specs.Events.{EventForm, recipe}
 use Rattle.pol_events.specs.Orderly.{is_orderly, is_valid}
 use Rattle.pol_history.specs.Looking.{History, recipes, is_accepted_recipe}
-use Rattle.pol_history.specs.Batches.{charted, chart_named, active}
+use Rattle.pol_history.specs.Batches.{charted, chart_named}
 use Rattle.pol_history.specs.Runs.{IsOrderly}
 use Rattle.pol_lookback.specs.Starts.{is_active_plan}
 

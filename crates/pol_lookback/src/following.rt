@@ -5,10 +5,12 @@ ghost use Rattle.chart_core.specs.Trees.{StepPlan, step_plan};
 ghost use Rattle.chart_core.specs.Order.{plans_seen};
 ghost use Rattle.chart_core.specs.declared.entry.LogEntry.{LogEntry};
 ghost use Rattle.chart_core.specs.Valid.{IsValid};
+ghost use Rattle.chart_cursor.specs.Logs.{has_broken, was_stopped, chart_entries, active};
+ghost use Rattle.chart_cursor.specs.NextEntry.{is_broken_state, broken_step, first_broken, stop_step, stop_next, run_next, next_by};
 ghost use Rattle.pol_events.specs.Events.{history_view};
 ghost use Rattle.pol_history.specs.Looking.{past, past_of_batch};
-ghost use Rattle.pol_history.specs.Batches.{is_frozen_by, log_by, has_broken, was_stopped, chart_entries, active};
-ghost use Rattle.pol_history.specs.Following.{sights_by, is_broken_state, broken_step, first_broken, stop_step, stop_next, run_next, next_by, next_of};
+ghost use Rattle.pol_history.specs.Batches.{is_frozen_by, log_by};
+ghost use Rattle.pol_history.specs.Following.{sights_by, next_of};
 ghost use Rattle.pol_history.specs.Runs.{IsOrderly};
 ghost use Rattle.pol_lookback.specs.Starts.{is_active_plan};
 
@@ -67,7 +69,7 @@ fn chart_entries(alloc: Global, log: &[LogEntry]) -> Result<Vec<LogEntry>, Alloc
 
 // What an active step of a batch that is stopped comes to.
 fn stop_step(step: &Step, tag: Name, sight: Sight) -> Next
-    ensures { result ≡ stop_step (step_plan step.now) tag sight }
+    ensures { result ≡ stop_step step.now.name step.now.service tag sight }
 {
     match sight {
         Sight::Away => Next::Waiting(Why::Away { tag }),

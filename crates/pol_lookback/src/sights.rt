@@ -1,7 +1,7 @@
 //! What a batch sees of the modules that play its roles.
 ghost use Rattle.std.specs.Prelude.{◌≡◌};
+ghost use Rattle.chart_cursor.specs.Sights.{reading_of_value, sight_of_view};
 ghost use Rattle.pol_history.specs.Batches.{bound_tag, bound_role};
-ghost use Rattle.pol_history.specs.Following.{reading_of_value, sight_of_view};
 
 use crate::modules::{Docking, docking_of, value_of, view_of};
 use chart_cursor::{ReadingSight, Seen, Sight};

@@ -1,12 +1,12 @@
 -- What is written of a batch has no floating numbers.
 use Rattle.std.proofs.Common.{◌≡◌, ℕ, pos, negsuc, List, [], ◌∷◌, map, Option, false, refl}
+use Rattle.chart_core.specs.declared.next.Outcome.{Outcome}
 use Rattle.serde_json.specs.View.{items_of}
 use Rattle.serde_json.specs.Written.{has_float, items_have_float, members_have_float}
 use Rattle.mtp_codes.specs.declared.value.Reading.{Reading}
 use Rattle.mtp_codes.specs.declared.value.Reading.TheVariants.{Whole, Bit}
 use Rattle.chart_core.specs.declared.entry.LogEntry.{LogEntry}
 use Rattle.chart_core.specs.declared.entry.LogEntry.TheVariants.{Start, Finish, Reset, End, Chose, Turn, Leave, Stop, Broke, Left, StopAsked, Asked}
-use Rattle.pol_events.specs.declared.answer.Outcome.{Outcome}
 use Rattle.pol_events.specs.declared.event.Bind.{Bind}
 use Rattle.pol_events.specs.Written.{bind_members, written_binds}
 use Rattle.pol_history.specs.Batches.{Started}

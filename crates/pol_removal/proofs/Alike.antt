@@ -4,8 +4,8 @@ use Rattle.std.specs.Prelude.{filter}
 use Rattle.std.specs.List.{AllByRecursion}
 use Rattle.std.proofs.lemmas.Bool.{and_parts}
 use Rattle.mtp_codes.specs.Names.{is_among}
+use Rattle.chart_core.specs.declared.next.Outcome.{Outcome}
 use Rattle.pol_events.specs.Events.{EventForm, start, EntryForm}
-use Rattle.pol_events.specs.declared.answer.Outcome.{Outcome}
 use Rattle.pol_history.specs.Looking.{History, of_batch, subject, last_of, is_accepted, is_batch, is_accepted_of_batch, past, past_of_batch, recipes}
 use Rattle.pol_history.specs.Modules.{present_tags}
 use Rattle.pol_history.specs.Batches.{Started, starting, start_of, binds_in, tags_of, outcome_by, outcome_of, taking, takes, if_open, holder_of, is_start}

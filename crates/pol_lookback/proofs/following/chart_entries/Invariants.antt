@@ -1,5 +1,5 @@
 use Rattle.std.proofs.Common.{◌≡◌, ◌++◌, drop}
-use Rattle.pol_history.specs.Batches.{chart_entries}
+use Rattle.chart_cursor.specs.Logs.{chart_entries}
 use Rattle.pol_lookback.proofs.following.chart_entries.Given as goal
 
 abbrev pub invariant-loop-entry : goal.invariant-loop-entry

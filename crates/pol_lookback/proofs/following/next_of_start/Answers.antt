@@ -1,10 +1,11 @@
 use Rattle.std.proofs.Common.{◌∙◌, ap}
 use Rattle.std.proofs.lemmas.Result.{IfOk-weaker}
 use Rattle.chart_core.specs.Charts.{plan}
+use Rattle.chart_cursor.specs.NextEntry.{next_by}
 use Rattle.pol_events.specs.Events.{history_view}
 use Rattle.pol_history.specs.Looking.{past, past_of_batch}
 use Rattle.pol_history.specs.Batches.{is_frozen_by}
-use Rattle.pol_history.specs.Following.{sights_by, next_by}
+use Rattle.pol_history.specs.Following.{sights_by}
 use Rattle.pol_lookback.proofs.following.next_of_start.Goals as goal
 
 pub returns : goal.returns

@@ -1,9 +1,10 @@
 use Rattle.std.proofs.Common.{◌≡◌, drop}
 use Rattle.std.specs.Prelude.{filter}
 use Rattle.chart_core.specs.Order.{plans_seen}
+use Rattle.chart_cursor.specs.NextEntry.{stop_next}
 use Rattle.pol_events.specs.Events.{history_view}
 use Rattle.pol_history.specs.Looking.{past}
-use Rattle.pol_history.specs.Following.{sights_by, stop_next}
+use Rattle.pol_history.specs.Following.{sights_by}
 use Rattle.pol_lookback.specs.Starts.{is_active_plan}
 use Rattle.pol_lookback.proofs.following.stop_next.Given as goal
 

@@ -1,25 +1,24 @@
-use Rattle.std.proofs.Common.{◌≡◌, ◌∙◌, subst, ap, Some}
+use Rattle.std.proofs.Common.{◌≡◌, ◌∙◌, subst, ap}
 use Rattle.chart_core.specs.declared.chart.Chart.{Chart}
 use Rattle.chart_core.specs.Charts.{plan}
 use Rattle.chart_core.specs.Valid.{IsValid}
 use Rattle.chart_core.specs.Progress.{marks_of}
 use Rattle.chart_cursor.specs.Kept.{Kept}
-use Rattle.chart_cursor.specs.Running.{is_wanted, name_of}
-use Rattle.chart_cursor.proofs.Actives.{first_active}
+use Rattle.chart_cursor.proofs.Actives.{broken_active}
 use Rattle.chart_core.proofs.Few.{few_marks}
-use Rattle.chart_cursor.proofs.cursor.Cursor.active_on.Goals as goal
+use Rattle.chart_cursor.proofs.cursor.Cursor.first_broken.Goals as goal
 
-pub first_running-requires-clause-short : goal.first_running-requires-clause-short
-first_running-requires-clause-short c =
+pub first_broken-requires-clause-short : goal.first_broken-requires-clause-short
+first_broken-requires-clause-short g c =
     let few = few_marks c.self.inside.chart.value c.self.inside.marks.items c.self.invariant.valid c.self.invariant.room in
     rw c.deref-2.ensures.value few
 
-pub returns-clause-word : goal.returns-clause-word
-returns-clause-word c =
+pub returns : goal.returns
+returns g c =
     λ word stands.
     let chart = c.args.self.now.chart in
     let same : c.deref.result.now ≡ chart = c.deref.ensures ∙ ap (λ (k : Kept). k.chart) c.self.view_is in
     let marks : c.deref-2.result.now ≡ c.args.self.now.marks = c.deref-2.ensures.value ∙ ap (λ (k : Kept). k.marks) c.self.view_is in
     let valid : IsValid (plan chart) = subst (λ (a : Chart). IsValid (plan a)) (ap (λ (k : Kept). k.chart) c.self.view_is) c.self.invariant.valid in
-    let found = rw (same, marks) at c.first_running.ensures in
-    c.name_alone.ensures ∙ ap name_of (found ∙ first_active (plan chart) (marks_of c.args.self.now.marks) word (is_wanted 0 (Some c.args.role)) valid stands)
+    let found = rw (same, marks) at c.first_broken.ensures in
+    found ∙ broken_active (plan chart) (marks_of c.args.self.now.marks) word (g.S.Seen.sights c.args.seen.now) valid stands
