@@ -1,0 +1,5 @@
+use Rattle.mtp_sim.proofs.Edges.{firsts-next}
+use Rattle.mtp_sim.proofs.sim.Sim.new.Goals as goal
+
+pub invariant_of-result : goal.invariant_of-result
+invariant_of-result c = rw c.in_ok-services.ensures (firsts-next _)

@@ -1,0 +1,67 @@
+-- What a simulated module reports follows the state machine.
+use Rattle.std.specs.Prelude.{ℕ, ◌≡◌, ◌⊎◌, ⊤, true, false, List, Option, Some, None, IfSome, option_map, slice_get}
+use Rattle.std.specs.List.{AllByRecursion}
+use Rattle.mtp_codes.specs.declared.command.Command.{Command}
+use Rattle.mtp_codes.specs.declared.state.State.{State}
+use Rattle.mtp_codes.specs.declared.state.State.TheVariants.{Idle}
+use Rattle.mtp_machine.specs.Machine.{IsEdge}
+use Rattle.mtp_desc.specs.Plain.{DescriptionForm}
+use Rattle.mtp_sim.specs.declared.report.SimReport.{SimReport}
+use Rattle.mtp_sim.specs.declared.report.SimReport.TheVariants.{Service, Variable}
+use Rattle.mtp_sim.specs.declared.service.SimService.{SimService}
+use Rattle.mtp_sim.specs.Sims.{PlanForm, SimForm, first_sim}
+use Rattle.mtp_sim.specs.Ticks.{is_pending, is_untold, tick_report, ticked}
+use Rattle.mtp_sim.specs.Commands.{took, after_command}
+
+-- the first state that a service reports is Idle, and to each later one an edge leads from the one before
+abbrev pub MayTell : Option State → State → Type 0
+MayTell None state = state ≡ Idle
+MayTell (Some last) state = IsEdge last state
+
+-- a service is in the state that it reported last, or in one that it may report next
+abbrev pub IsNext : SimService → Type 0
+IsNext service = (service.last ≡ Some service.state) ⊎ MayTell service.last service.state
+
+-- each of the services is
+abbrev pub AreNext : List SimService → Type 0
+AreNext services = AllByRecursion IsNext services
+
+-- a state that is reported under a name: it is reported of a service of this name, which may report it
+pub record TellsNext (sim : SimForm) (name : List ℕ) (state : State) : Type 0 where
+  pub service : SimService
+  pub here : slice_get sim.services sim.place ≡ Some service
+  pub named : name ≡ service.name
+  pub may : MayTell service.last state
+
+-- what is reported follows the edges: a service reports a state that it may; a variable is free
+abbrev pub FollowsEdges : SimForm → SimReport → Type 0
+FollowsEdges sim (Service name control) = TellsNext sim name control.state
+FollowsEdges sim (Variable name value) = ⊤
+
+-- no service leaves a state that it hasn't reported yet
+abbrev pub StayUntold : SimForm → SimForm → Type 0
+StayUntold old new =
+    (place : ℕ) (service : SimService) → slice_get old.services place ≡ Some service → is_untold service ≡ true →
+    option_map (λ after. after.state) (slice_get new.services place) ≡ Some service.state
+
+-- a tick of this module keeps each service where it may be, reports what it may, and leaves no state before it was
+-- reported
+pub record TicksRightly (sim : SimForm) : Type 0 where
+  pub kept : AreNext (ticked sim).services
+  pub edges : IfSome (tick_report sim) (FollowsEdges sim)
+  pub stays : StayUntold sim (ticked sim)
+
+-- the services of a module at first are where they may be
+abbrev pub FirstModulesFollowEdges : Type 0
+FirstModulesFollowEdges =
+    (description : DescriptionForm) (plan : PlanForm) → AreNext (first_sim description plan).services
+
+-- every tick of a module whose services are where they may be does so rightly
+abbrev pub TicksFollowEdges : Type 0
+TicksFollowEdges = (sim : SimForm) → AreNext sim.services → TicksRightly sim
+
+-- a command keeps each service where it may be, where nothing is pending
+abbrev pub CommandsFollowEdges : Type 0
+CommandsFollowEdges =
+    (sim : SimForm) (service : List ℕ) (command : Command) (procedure : ℕ) → is_pending sim ≡ false →
+    AreNext sim.services → AreNext (after_command sim (took sim service command procedure)).services
