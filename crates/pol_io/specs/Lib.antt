@@ -1,4 +1,5 @@
 pub mod Causes
+pub mod Clocks
 pub mod Cuts
 pub mod Edge
 pub mod Faults

@@ -1,10 +1,13 @@
-//! Lines of small and of long inputs, calls that fail, and what readers and writers of std are as sources and sinks.
+//! Lines of small and of long inputs, calls that fail, what readers and writers of std are as sources and sinks, and
+//! clocks.
 use crate::{
-    IoFault, LONGEST_LINE, Line, Lines, MemorySink, MemorySource, ReaderSource, Sink, SinkFault,
-    Source, SureSink, SureSource, WriterSink, write_all,
+    Clock, IoFault, LONGEST_LINE, Line, Lines, MemoryClock, MemorySink, MemorySource, ReaderSource,
+    Sink, SinkFault, Source, SureSink, SureSource, SystemClock, WriterSink, write_all,
 };
 use std::alloc::Global;
+use std::io;
 use std::test::Fail;
+use std::time::Duration;
 
 // The lines of a source, each with a bar behind it: `#` for one that is too long, `!` for a failed read.
 fn shown<S: Source>(alloc: Global, source: &mut S) -> Result<Vec<u8>, Fail> {
@@ -109,4 +112,47 @@ fn a_writer_that_is_full_fails(rt: HostRuntime) {
     let wrote = write_all(&mut sink, b"abcd");
     assert_eq!(rt; wrote, Err(SinkFault::Failed));
     assert_eq!(rt; room.as_slice(), b"abc".as_slice());
+}
+
+#[test]
+fn a_clock_in_memory_ends_at_its_last_moment(rt: HostRuntime) -> Result<(), Fail> {
+    let mut clock = MemoryClock::new(Vec::from_slice(rt.alloc(), &[7, 5])?);
+    for want in [7, 5, 5, 5] {
+        assert_eq!(rt; clock.now(), want);
+    }
+    let mut clock = MemoryClock::new(Vec::new(rt.alloc()));
+    assert_eq!(rt; clock.now(), 0);
+    Ok(())
+}
+
+// A clock of a runtime that tells this time; it fails where there is none.
+#[derive(Drop)]
+struct Told {
+    time: Option<Duration>,
+}
+
+impl std::rt::Clock for Told {
+    fn monotonic(&self) -> io::Result<Duration> {
+        self.since_1970()
+    }
+
+    fn since_1970(&self) -> io::Result<Duration> {
+        self.time.ok_or(io::Error::from(io::ErrorKind::Unsupported))
+    }
+}
+
+#[test]
+fn the_clock_of_the_runtime_is_told_in_milliseconds(rt: HostRuntime) {
+    for (time, want) in [
+        (
+            Some(Duration::new(1_700_000_000, 123_999_999)),
+            1_700_000_000_123,
+        ),
+        (Some(Duration::MAX), 0),
+        (None, 0),
+    ] {
+        let mut clock = SystemClock::new(Told { time });
+        assert_eq!(rt; clock.now(), want);
+        assert_eq!(rt; clock.now(), want);
+    }
 }
