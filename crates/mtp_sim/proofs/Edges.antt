@@ -1,5 +1,5 @@
 -- What a simulated module reports follows the edges of the state machine.
-use Rattle.std.proofs.Common.{◌≡◌, ℕ, suc, zero, ℤ, ◌+◌, Bool, true, false, cond, not, List, [], ◌∷◌, map, Option, Some, None, IfSome, refl, ap, sym, ◌∙◌, subst, inl, inr, ◌⊎◌}
+use Rattle.std.proofs.Common.{◌≡◌, ℕ, suc, zero, ℤ, ◌+◌, Bool, true, false, cond, not, List, [], ◌∷◌, map, Option, Some, None, IfSome, refl, ap, sym, ◌∙◌, subst, inl, inr}
 use Rattle.std.specs.Prelude.{◌&&◌, ◌||◌, nat_le, slice_get, slice_set, option_map, option_and_then, if◌then◌else◌}
 use Rattle.std.specs.List.{list_any, AllByRecursion}
 use Rattle.std.proofs.lemmas.Option.{same_Some}
@@ -13,7 +13,7 @@ use Rattle.mtp_machine.proofs.EveryState.{of_each_state, of_each_command}
 use Rattle.mtp_desc.specs.Plain.{DescriptionForm, ServiceForm}
 use Rattle.mtp_sim.specs.declared.service.SimService.{SimService}
 use Rattle.mtp_sim.specs.declared.drift.SimDrift.{SimDrift}
-use Rattle.mtp_sim.specs.Sims.{SimForm, first_service}
+use Rattle.mtp_sim.specs.Sims.{first_service}
 use Rattle.mtp_sim.specs.Ticks.{is_state, is_untold, is_silent, is_executing, changes, told, moved_on, counted, service_ticked, is_reported, limit_of, ticked_service, ticked_at, ticked_at_drift, drift_here, drift_report, report_by, report_of, runs_through, value_told, variable_report}
 use Rattle.mtp_sim.specs.Commands.{sent_to, service_took, procedure_after, with_service, place_of, took_at, after_command}
 use Rattle.mtp_sim.specs.Told.{MayTell, IsNext, AreNext, FollowsEdges, StayUntold, FirstModulesFollowEdges, TicksFollowEdges, CommandsFollowEdges}
@@ -280,6 +280,22 @@ took-next d s command procedure told after took =
     go false (Some target) (Some runs) leads is =
         subst IsNext (same_Some (sent_to s target runs) after is)
         (inr (edge-may s.last s.state target (told-last s told) (command-edge s.state target command leads)))
+
+-- a service that takes a command keeps its name
+pub name-taken : (d : DescriptionForm) (s : SimService) (command : Command) (procedure : ℕ) (after : SimService)
+    → service_took d s command procedure ≡ Some after → after.name ≡ s.name
+name-taken d s command procedure after took =
+    go (same_command command Complete && runs_through d s) (command_target s.state command)
+    (procedure_after d s command procedure) took
+  where
+    go : (through : Bool) (target : Option State) (runs : Option ℕ)
+        → (if through then None else option_and_then (λ state. option_map (sent_to s state) runs) target) ≡ Some after
+        → after.name ≡ s.name
+    go true target runs is = cc
+    go false None runs is = cc
+    go false (Some target) None is = cc
+    go false (Some target) (Some runs) is = sym
+        (ap (λ service. service.name) (same_Some (sent_to s target runs) after is))
 
 -- a service at a place that takes a command leaves each where it may be, where each state was reported
 pub next-taken-at : (d : DescriptionForm) (services : List SimService) (place : ℕ) (s : SimService) (command : Command)

@@ -1,5 +1,5 @@
 -- One tick of a simulated module.
-use Rattle.std.specs.Prelude.{ℕ, ◌+◌, ℤ, ◌+ℤ◌, int_lt, Bool, true, false, not, ◌&&◌, ◌||◌, ◌-◌, nat_le, nat_lt, List, length, filter, sum_by, Option, Some, None, is_some, is_none, option_map, slice_get, slice_set, if◌then◌else◌}
+use Rattle.std.specs.Prelude.{ℕ, ◌+◌, ℤ, ◌+ℤ◌, int_lt, Bool, false, not, ◌&&◌, ◌||◌, ◌-◌, nat_le, List, length, filter, sum_by, Option, Some, None, is_some, is_none, option_map, slice_get, slice_set, if◌then◌else◌}
 use Rattle.std.specs.List.{list_any}
 use Rattle.mtp_codes.specs.Codes.{command_number}
 use Rattle.mtp_codes.specs.declared.command.Command.TheVariants.{Complete}

@@ -1,8 +1,9 @@
 //! A simulated module.
-ghost use Rattle.std.specs.Prelude.{◌≡◌, ◌+◌, IfOk, IfSome, Some, ◌≤◌, false, is_some, length, map, position};
-ghost use Rattle.std.specs.Str.{bytes_eq};
+ghost use Rattle.std.specs.Prelude.{◌≡◌, ◌+◌, IfOk, IfSome, Some, ◌≤◌, false, is_some, length, map};
 ghost use Rattle.mtp_desc.specs.DescriptionView.{description_view};
+ghost use Rattle.mtp_desc.specs.Plain.{same_service};
 ghost use Rattle.mtp_desc.specs.ServiceView.{service_view};
+ghost use Rattle.mtp_json.specs.Form.{repeats_by};
 ghost use Rattle.mtp_sim.specs.Commands.{after_command, place_of, took, took_at};
 ghost use Rattle.mtp_sim.specs.Sims.{first_drift, first_service, first_sim, plan_view};
 ghost use Rattle.mtp_sim.specs.Ticks.{drift_here, drift_report, is_at_rest, is_executing, is_pending, place_after, service_here, service_report, tick_report, ticked, ticked_at, ticked_at_drift, value_told};
@@ -16,6 +17,7 @@ use super::looks::{
 use super::plan::{Drift, SimPlan};
 use super::report::SimReport;
 use super::service::SimService;
+use indexmap::IndexSet;
 use mtp_codes::{Command, Name, Value};
 use mtp_desc::{Description, Service};
 use std::alloc::{AllocError, Global};
@@ -29,6 +31,8 @@ pub struct Sim {
     description: Arc<Description>,
     ticks: u16,
     run: u16,
+    // The names of the services in their order.
+    names: IndexSet<Name>,
     services: Vec<SimService>,
     drifts: Vec<SimDrift>,
     place: usize,
@@ -37,7 +41,7 @@ pub struct Sim {
 impl Model for Sim {
     ghost use Rattle.mtp_desc.specs.DescriptionView.{description_view};
     ghost use Rattle.mtp_sim.specs.Sims.{SimForm};
-    ghost use Rattle.mtp_sim.specs.Told.{AreNext};
+    ghost use Rattle.mtp_sim.specs.Kept.{IsKept};
 
     ghost Value = { SimForm };
 
@@ -50,7 +54,7 @@ impl Model for Sim {
       place = sim.place;
     } };
 
-    ghost invariant = { λ sim. AreNext sim.services.items };
+    ghost invariant = { λ sim. IsKept sim.names.keys sim.services.items };
 }
 
 // The services of a description at first.
@@ -76,11 +80,16 @@ fn first_drifts(alloc: Global, drifts: &[Drift]) -> Result<Vec<SimDrift>, AllocE
     Ok(first)
 }
 
-// The place of the service of this name.
-fn position_of(services: &[SimService], name: Name) -> Option<usize>
-    ensures { result ≡ position (λ service. bytes_eq service.name name) services.now }
+// The names of the services of a description in their order.
+fn names_of(alloc: Global, services: &[Service]) -> Result<IndexSet<Name>, AllocError>
+    requires { repeats_by same_service (map service_view services.now) ≡ false }
+    ensures { IfOk result (λ names. names.keys ≡ map (λ service. service.name) (map service_view services.now)) }
 {
-    services.iter().position(|service| service.name == name)
+    let mut names = IndexSet::new(alloc);
+    for service in services {
+        names.insert(service.name)?;
+    }
+    Ok(names)
 }
 
 impl Sim {
@@ -97,12 +106,15 @@ impl Sim {
     ) -> Result<Sim, AllocError>
         ensures { IfOk result (λ sim. sim ≡ first_sim (description_view description.value) (plan_view plan.now)) }
     {
-        let services = first_services(alloc, &description.services)?;
+        let described: &[Service] = &description.services;
+        let names = names_of(alloc, described)?;
+        let services = first_services(alloc, described)?;
         let drifts = first_drifts(alloc, &plan.drifts)?;
         Ok(Sim {
             description,
             ticks: plan.ticks,
             run: plan.run,
+            names,
             services,
             drifts,
             place: 0,
@@ -188,7 +200,7 @@ impl Sim {
     fn place_of(&self, name: Name) -> Option<usize>
         ensures { result ≡ place_of name self.now }
     {
-        position_of(&self.services, name)
+        self.names.get_index_of(&name)
     }
 
     // The service at a place takes a command.
