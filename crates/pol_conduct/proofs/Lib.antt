@@ -2,10 +2,7 @@ pub mod Forbidding
 pub mod Seen
 pub mod Nexts
 pub mod Sending
-pub mod Options
-pub mod Lists
 pub mod Sides
-pub mod Binds
 pub mod Starts
 pub mod Courses
 pub mod Holding

@@ -1,3 +1,6 @@
+pub mod Options
+pub mod Lists
+pub mod Played
 pub mod Rising
 pub mod Members
 pub mod Orderly

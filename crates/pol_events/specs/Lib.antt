@@ -4,6 +4,7 @@ pub mod Orderly
 pub mod Words
 pub mod Kinds
 pub mod Binds
+pub mod Bound
 pub mod Forms
 pub mod Lines
 pub mod Held

@@ -11,6 +11,7 @@
 mod answer;
 mod batches;
 mod binds;
+mod bound;
 mod control;
 mod event;
 mod fault;
@@ -28,6 +29,7 @@ mod written_recipes;
 
 pub use answer::{Answer, Rule};
 pub use binds::BindsJson;
+pub use bound::{bound_role, bound_tag};
 pub use chart_core::{Next, Outcome};
 pub use event::{Bind, Entry, Event};
 pub use fault::{LineFault, LineRefusal};

@@ -1,5 +1,5 @@
 -- An accepted event meets none of its rules.
-use Rattle.std.proofs.Common.{◌≡◌, true, List, [], ◌∷◌, Option, Some, None, refl}
+use Rattle.std.proofs.Common.{◌≡◌, true, false, List, [], ◌∷◌, Option, Some, None, refl, ap}
 use Rattle.mtp_codes.specs.Faults.{when}
 use Rattle.pol_events.specs.Events.{EventForm, EntryForm}
 use Rattle.pol_events.specs.declared.answer.Rule.{Rule}
@@ -35,6 +35,12 @@ pub accepted-otherwise : (history : History) (event : EventForm) → is_accepted
 accepted-otherwise history event accepted =
     otherwise-it-is (when (is_full history) HistoryFull ∷ rules history event) (otherwise history event)
     (none-holds (when (is_full history) HistoryFull ∷ rules history event) (otherwise history event) accepted)
+
+-- where the history has room, its fullness refuses nothing
+pub with-room : (history : History) (event : EventForm) → is_full history ≡ false →
+    answer_of history event ≡ first_rule (rules history event) (otherwise history event)
+with-room history event room =
+    ap (λ full. first_rule (when full HistoryFull ∷ rules history event) (otherwise history event)) room
 
 -- an event with an answer
 abbrev pub paired : EventForm → Answer → EntryForm

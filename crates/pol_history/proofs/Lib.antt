@@ -1,7 +1,12 @@
 pub mod Filters
 pub mod Names
 pub mod Accepted
+pub mod Refused
+pub mod Recording
 pub mod Legal
 pub mod Paths
 pub mod Appending
 pub mod Open
+pub mod Binds
+pub mod Pasts
+pub mod Holders

@@ -1,5 +1,5 @@
 -- Looking back at a batch: each value is found in the batch's past, its chart among the recipes.
-use Rattle.std.specs.Prelude.{ℕ, Bool, true, false, ◌&&◌, List, [], map, filter, filter_map, find, Option, Some, None, is_some, is_none, unwrap_or, reverse, option_and_then, option_map, if◌then◌else◌}
+use Rattle.std.specs.Prelude.{ℕ, Bool, true, false, ◌&&◌, List, [], filter_map, Option, Some, None, is_some, is_none, unwrap_or, reverse, option_and_then, if◌then◌else◌}
 use Rattle.std.specs.Str.{bytes_eq}
 use Rattle.mtp_codes.specs.Names.{is_among}
 use Rattle.chart_core.specs.Roles.{ChartPlan}
@@ -9,6 +9,7 @@ use Rattle.pol_events.specs.Events.{EventForm, recipe, start, freeze, thaw, stop
 use Rattle.pol_events.specs.declared.event.Bind.{Bind}
 use Rattle.pol_events.specs.declared.answer.Answer.{Answer}
 use Rattle.pol_events.specs.declared.answer.Answer.TheVariants.{Did, Closed}
+use Rattle.pol_events.specs.Bound.{tags_of}
 use Rattle.pol_history.specs.Looking.{History, past_of_batch, recipes, last_of, is_accepted}
 
 -- what a batch was started with: its recipe, and which module plays each role
@@ -45,18 +46,6 @@ chart_by recipes started = option_and_then (λ started. chart_named started.reci
 -- the chart of the batch
 abbrev pub chart_of : History → List ℕ → Option ChartPlan
 chart_of history batch = chart_by (recipes history) (start_of history batch)
-
--- the tag that is bound to the role
-abbrev pub bound_tag : List Bind → List ℕ → Option (List ℕ)
-bound_tag binds role = option_map (λ bind. bind.tag) (find (λ bind. bytes_eq bind.role role) binds)
-
--- the role that the tag is bound to
-abbrev pub bound_role : List Bind → List ℕ → Option (List ℕ)
-bound_role binds tag = option_map (λ bind. bind.role) (find (λ bind. bytes_eq bind.tag tag) binds)
-
--- the tags that are bound
-abbrev pub tags_of : List Bind → List (List ℕ)
-tags_of binds = map (λ bind. bind.tag) binds
 
 -- the binds of a start; none of another event
 abbrev pub binds_in : EventForm → List Bind

@@ -10,9 +10,10 @@ use Rattle.chart_cursor.specs.declared.sight.ReadingSight.TheVariants as reading
 use Rattle.chart_cursor.specs.NextEntry.{next_by}
 use Rattle.chart_cursor.specs.Sights.{Sights, sight_of_view, reading_of_value}
 use Rattle.pol_events.specs.declared.event.Bind.{Bind}
+use Rattle.pol_events.specs.Bound.{bound_tag}
 use Rattle.pol_history.specs.Looking.{History, past, past_of_batch, recipes}
 use Rattle.pol_history.specs.Modules.{Docking, absent, docked, away, docking_by, view_by, value_by}
-use Rattle.pol_history.specs.Batches.{Started, start_of, chart_by, bound_tag, is_frozen_by, log_by}
+use Rattle.pol_history.specs.Batches.{Started, start_of, chart_by, is_frozen_by, log_by}
 
 -- ---- what a batch sees of its modules
 

@@ -1,5 +1,5 @@
 -- The rules that can refuse an event.
-use Rattle.std.specs.Prelude.{ℕ, Bool, false, not, nat_le, List, [], ◌∷◌, length, map, filter, filter_map, find, Option, Some, None, is_some, is_none, option_and_then, option_map}
+use Rattle.std.specs.Prelude.{ℕ, Bool, not, nat_le, List, [], ◌∷◌, length, map, filter, filter_map, find, Option, Some, None, is_some, is_none, option_and_then, option_map}
 use Rattle.std.specs.Option.{option_or}
 use Rattle.mtp_codes.specs.Names.{same_name, is_among}
 use Rattle.mtp_codes.specs.Faults.{when, first_of}
@@ -7,16 +7,17 @@ use Rattle.mtp_machine.specs.States.{is_idle}
 use Rattle.mtp_modes.specs.declared.view.ServiceView.{ServiceView}
 use Rattle.mtp_desc.specs.Plain.{DescriptionForm}
 use Rattle.chart_core.specs.Roles.{ChartPlan}
-use Rattle.chart_core.specs.Trees.{StepPlan, steps}
+use Rattle.chart_core.specs.Trees.{steps}
 use Rattle.mtp_procs.specs.Covers.{cover_fault, missing_by}
 use Rattle.chart_cursor.specs.Logs.{active}
 use Rattle.pol_events.specs.Refusals.{cover_rule, in_exchange, not_at_rest}
 use Rattle.pol_events.specs.declared.answer.Rule.{Rule}
 use Rattle.pol_events.specs.declared.answer.Rule.TheVariants.{TagTaken, NoModule, PlantFull, NotInExchange, RecipeKnown, NoRecipe, BatchKnown, NoBatch, BatchClosed, RoleUnbound, RoleUnknown, OneModuleTwice, NotReported, NotIdle, Busy, BatchesFull, ActiveStep, HeldBack, NotFrozen, AlreadyFrozen, RecipesFull}
 use Rattle.pol_events.specs.declared.event.Bind.{Bind}
+use Rattle.pol_events.specs.Bound.{bound_tag, bound_role, step_on}
 use Rattle.pol_history.specs.Looking.{History, past, past_of_batch, recipes}
 use Rattle.pol_history.specs.Modules.{Docking, absent, docked, away, docking_by, description_by, control_by, view_by, present_tags, ticket_of}
-use Rattle.pol_history.specs.Batches.{Started, start_by, chart_named, chart_by, bound_tag, bound_role, outcome_by, is_frozen_by, log_by, holder_of, is_start}
+use Rattle.pol_history.specs.Batches.{Started, start_by, chart_named, chart_by, outcome_by, is_frozen_by, log_by, holder_of, is_start}
 
 -- ---- whether a tag is docked
 
@@ -189,15 +190,6 @@ busy history binds roles = first_of (map (λ role. busy_role history (bound_tag 
 abbrev pub by_holder : (List ℕ → Option Rule) → Option (List ℕ) → Option Rule
 by_holder rule None = None
 by_holder rule (Some batch) = rule batch
-
--- it is this tag
-abbrev pub is_tag : List ℕ → Option (List ℕ) → Bool
-is_tag tag None = false
-is_tag tag (Some other) = same_name other tag
-
--- the first of these steps whose role has the tag
-abbrev pub step_on : List Bind → List ℕ → List StepPlan → Option StepPlan
-step_on binds tag steps = find (λ step. is_tag tag (bound_tag binds step.role)) steps
 
 -- the first active step of a batch, by its past, on the module
 abbrev pub active_step_on : History → List ℕ → List ℕ → History → Option Rule

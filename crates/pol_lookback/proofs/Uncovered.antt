@@ -7,8 +7,9 @@ use Rattle.mtp_procs.specs.Covers.{cover_fault, missing_by}
 use Rattle.chart_core.specs.Roles.{ChartPlan}
 use Rattle.pol_events.specs.declared.answer.Rule.{Rule}
 use Rattle.pol_events.specs.declared.answer.Rule.TheVariants.{HeldBack}
+use Rattle.pol_events.specs.Bound.{bound_role}
 use Rattle.pol_history.specs.Looking.{History}
-use Rattle.pol_history.specs.Batches.{Started, start_by, chart_named, bound_role}
+use Rattle.pol_history.specs.Batches.{Started, start_by, chart_named}
 use Rattle.pol_history.specs.Rules.{uncovered_by}
 
 -- the rule with what is missing

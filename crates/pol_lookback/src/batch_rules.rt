@@ -4,21 +4,21 @@ ghost use Rattle.std.specs.Option.{option_map};
 ghost use Rattle.chart_core.specs.Order.{plans_seen};
 ghost use Rattle.mtp_desc.specs.DescriptionView.{description_view};
 ghost use Rattle.pol_events.specs.Events.{history_view};
+ghost use Rattle.pol_events.specs.Bound.{bound_tag, is_tag, step_on};
 ghost use Rattle.pol_history.specs.Looking.{past_of_batch, recipes};
-ghost use Rattle.pol_history.specs.Batches.{bound_tag, start_by};
-ghost use Rattle.pol_history.specs.Rules.{is_tag, active_step, active_step_on, already_frozen, batch_closed, batch_known, batches_full, held_back, no_batch, not_frozen, recipe_known, recipes_full, step_on, uncovered_by};
+ghost use Rattle.pol_history.specs.Batches.{start_by};
+ghost use Rattle.pol_history.specs.Rules.{active_step, active_step_on, already_frozen, batch_closed, batch_known, batches_full, held_back, no_batch, not_frozen, recipe_known, recipes_full, uncovered_by};
 ghost use Rattle.pol_lookback.specs.Starts.{is_active_plan};
 
 use crate::batches::{
     chart_named, holder_of, is_frozen, log_of, outcome_of, recipe_count, start_count, start_of,
 };
 use crate::following::{chart_steps, is_active_step};
-use crate::sights::{bound_role, bound_tag};
 use chart_core::{LogEntry, Step};
 use mtp_codes::Name;
 use mtp_desc::Description;
 use pol_bind::held_back_by;
-use pol_events::{Bind, Entry, Rule};
+use pol_events::{Bind, Entry, Rule, bound_role, bound_tag};
 use std::alloc::{AllocError, Global};
 
 /// How many recipes a plant may know.

@@ -4,8 +4,9 @@ ghost use Rattle.std.specs.Option.{option_map};
 ghost use Rattle.mtp_codes.specs.Names.{is_among};
 ghost use Rattle.chart_core.specs.Charts.{plan};
 ghost use Rattle.pol_events.specs.Events.{entry_view, event_view, history_view};
+ghost use Rattle.pol_events.specs.Bound.{tags_of};
 ghost use Rattle.pol_history.specs.Looking.{past_of_batch, recipes, last_of};
-ghost use Rattle.pol_history.specs.Batches.{starting, start_by, charted, chart_named, closing, outcome_by, freezing, is_frozen_by, taken, log_by, takes, tags_of, holder_of, is_start};
+ghost use Rattle.pol_history.specs.Batches.{starting, start_by, charted, chart_named, closing, outcome_by, freezing, is_frozen_by, taken, log_by, takes, holder_of, is_start};
 ghost use Rattle.pol_lookback.specs.Starts.{started};
 
 use crate::entries::{is_accepted, is_of_batch, is_of_recipe, newest};

@@ -1,37 +1,12 @@
 //! What a batch sees of the modules that play its roles.
 ghost use Rattle.std.specs.Prelude.{◌≡◌};
 ghost use Rattle.chart_cursor.specs.Sights.{reading_of_value, sight_of_view};
-ghost use Rattle.pol_history.specs.Batches.{bound_tag, bound_role};
 
 use crate::modules::{Docking, docking_of, value_of, view_of};
 use chart_cursor::{ReadingSight, Seen, Sight};
 use mtp_codes::{Name, Reading, Value};
 use mtp_modes::ServiceView;
-use pol_events::{Bind, Entry};
-
-/// The tag that is bound to the role.
-pub fn bound_tag(binds: &[Bind], role: Name) -> Option<Name>
-    ensures { result ≡ bound_tag binds.now role }
-{
-    for bind in binds {
-        if bind.role == role {
-            return Some(bind.tag);
-        }
-    }
-    None
-}
-
-/// The role that the tag is bound to.
-pub fn bound_role(binds: &[Bind], tag: Name) -> Option<Name>
-    ensures { result ≡ bound_role binds.now tag }
-{
-    for bind in binds {
-        if bind.tag == tag {
-            return Some(bind.role);
-        }
-    }
-    None
-}
+use pol_events::{Bind, Entry, bound_tag};
 
 fn sight_of_view(view: Option<ServiceView>) -> Sight
     ensures { result ≡ sight_of_view view }

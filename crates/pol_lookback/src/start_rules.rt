@@ -6,20 +6,19 @@ ghost use Rattle.chart_core.specs.Charts.{plan};
 ghost use Rattle.chart_core.specs.Roles.{role_names};
 ghost use Rattle.chart_core.specs.Order.{plans_seen};
 ghost use Rattle.pol_events.specs.Events.{history_view};
+ghost use Rattle.pol_events.specs.Bound.{bound_tag};
 ghost use Rattle.pol_history.specs.Looking.{past};
 ghost use Rattle.pol_history.specs.Modules.{description_by};
-ghost use Rattle.pol_history.specs.Batches.{bound_tag};
 ghost use Rattle.pol_history.specs.Rules.{busy, busy_role, is_bound_before, module_rule, modules_unfit, not_covered, not_ready, one_module_twice, role_unbound, role_unknown, twice, unready};
 ghost use Rattle.pol_lookback.specs.Holding.{names_in, services_in, steps_of};
 
 use crate::batches::holder_of;
 use crate::module_rules::{in_exchange, no_module, not_idle, not_reported};
 use crate::modules::description_of;
-use crate::sights::bound_tag;
 use chart_core::{Chart, Role, Step, steps_in_order};
 use mtp_codes::Name;
 use pol_bind::covers;
-use pol_events::{Bind, Entry, Rule};
+use pol_events::{Bind, Entry, Rule, bound_tag};
 use std::alloc::{AllocError, Global};
 
 /// The first role that no bind gives a tag.

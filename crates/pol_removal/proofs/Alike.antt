@@ -6,9 +6,10 @@ use Rattle.std.proofs.lemmas.Bool.{and_parts}
 use Rattle.mtp_codes.specs.Names.{is_among}
 use Rattle.chart_core.specs.declared.next.Outcome.{Outcome}
 use Rattle.pol_events.specs.Events.{EventForm, start, EntryForm}
+use Rattle.pol_events.specs.Bound.{tags_of}
 use Rattle.pol_history.specs.Looking.{History, of_batch, subject, last_of, is_accepted, is_batch, is_accepted_of_batch, past, past_of_batch, recipes}
 use Rattle.pol_history.specs.Modules.{present_tags}
-use Rattle.pol_history.specs.Batches.{Started, starting, start_of, binds_in, tags_of, outcome_by, outcome_of, taking, takes, if_open, holder_of, is_start}
+use Rattle.pol_history.specs.Batches.{Started, starting, start_of, binds_in, outcome_by, outcome_of, taking, takes, if_open, holder_of, is_start}
 use Rattle.pol_history.proofs.Filters.{filter-filter, length-filter}
 use Rattle.pol_removal.specs.Removal.{is_some_among, is_of, stays}
 use Rattle.pol_removal.proofs.Each.{all-kept, last_of-all}

@@ -16,11 +16,12 @@ use Rattle.pol_events.specs.Events.{EventForm, plug, unplug, report, variable, r
 use Rattle.pol_events.specs.declared.event.Bind.{Bind}
 use Rattle.pol_events.specs.declared.answer.Rule.TheVariants.{PlantFull, Held, BatchesFull, HistoryFull}
 use Rattle.pol_events.specs.declared.answer.Answer.TheVariants.{Ticket}
+use Rattle.pol_events.specs.Bound.{bound_tag, bound_role, tags_of, step_on}
 use Rattle.pol_history.specs.Looking.{History, subject, past, past_of_batch, recipes}
 use Rattle.pol_history.specs.Modules.{next_ticket, present_tags}
-use Rattle.pol_history.specs.Batches.{Started, start_by, start_of, chart_named, chart_by, bound_tag, bound_role, tags_of, is_frozen_by, log_by, holder_of, is_start}
+use Rattle.pol_history.specs.Batches.{Started, start_by, start_of, chart_named, chart_by, is_frozen_by, log_by, holder_of, is_start}
 use Rattle.pol_history.specs.Following.{service_sight, variable_sight, sights_by, next_of_started, next_of}
-use Rattle.pol_history.specs.Rules.{plant_full, batches_full, module_rules, module_rule, modules_unfit, busy_role, busy, by_holder, step_on, active_step_on, active_step, uncovered_by, held_back}
+use Rattle.pol_history.specs.Rules.{plant_full, batches_full, module_rules, module_rule, modules_unfit, busy_role, busy, by_holder, active_step_on, active_step, uncovered_by, held_back}
 use Rattle.pol_history.specs.Answers.{start_rules, rules, advanced, stopped, otherwise, is_full, answer_of}
 use Rattle.pol_removal.specs.Removal.{is_refused_for_another, is_some_among, binds_one, is_of}
 use Rattle.pol_removal.proofs.Alike.{Alike}

@@ -10,9 +10,10 @@ use Rattle.pol_events.specs.Events.{EventForm, start, EntryForm}
 use Rattle.pol_events.specs.declared.event.Bind.{Bind}
 use Rattle.pol_events.specs.Orderly.{is_orderly, rise, roles_once}
 use Rattle.pol_events.proofs.Rising.{rising_distinct}
+use Rattle.pol_events.specs.Bound.{tags_of, bound_tag}
 use Rattle.pol_history.proofs.Open.{open-before, open-some}
 use Rattle.pol_history.specs.Looking.{History, last_of, is_accepted, recipes}
-use Rattle.pol_history.specs.Batches.{tags_of, bound_tag, outcome_of, chart_named, taking, takes, if_open, holder_of}
+use Rattle.pol_history.specs.Batches.{outcome_of, chart_named, taking, takes, if_open, holder_of}
 use Rattle.pol_history.specs.Rules.{busy_module, busy_role, busy, role_unknown}
 use Rattle.pol_history.specs.Answers.{start_rules, answer_of}
 use Rattle.pol_history.specs.Runs.{entry_of, is_recorded, recorded}

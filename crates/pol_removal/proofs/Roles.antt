@@ -11,7 +11,7 @@ use Rattle.pol_events.specs.declared.event.Bind.{Bind}
 use Rattle.pol_events.specs.declared.answer.Rule.{Rule}
 use Rattle.pol_events.specs.declared.answer.Rule.TheVariants.{RoleUnknown}
 use Rattle.pol_events.specs.Orderly.{roles_once}
-use Rattle.pol_history.specs.Batches.{bound_tag, tags_of}
+use Rattle.pol_events.specs.Bound.{bound_tag, tags_of}
 use Rattle.pol_history.specs.Rules.{role_unknown}
 use Rattle.pol_history.proofs.Names.{same-true, same-refl}
 use Rattle.pol_removal.specs.Removal.{is_some_among}

@@ -7,8 +7,9 @@ use Rattle.pol_events.specs.declared.answer.Rule.{Rule}
 use Rattle.pol_events.specs.declared.answer.Rule.TheVariants.{PlantFull, Held, Busy, BatchesFull, ActiveStep, HeldBack, HistoryFull}
 use Rattle.pol_events.specs.declared.answer.Answer.{Answer}
 use Rattle.pol_events.specs.declared.answer.Answer.TheVariants.{Refused}
+use Rattle.pol_events.specs.Bound.{tags_of}
 use Rattle.pol_history.specs.Looking.{Subject, of_module, of_batch, of_recipe, subject, is_accepted}
-use Rattle.pol_history.specs.Batches.{binds_in, tags_of, started_batch, batches}
+use Rattle.pol_history.specs.Batches.{binds_in, started_batch, batches}
 use Rattle.pol_history.specs.Runs.{run_of, AreOrderly}
 use Rattle.pol_history.specs.Texts.{batch_lines, end_text}
 use Rattle.pol_history.specs.Lines.{Row, skipped, bad, answered, events_in, items_of, rows_after, rows_text, history_of, output_of}

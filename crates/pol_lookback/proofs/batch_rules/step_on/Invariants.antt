@@ -2,7 +2,7 @@ use Rattle.std.proofs.Common.{◌≡◌, drop}
 use Rattle.std.specs.Prelude.{filter}
 use Rattle.std.specs.Option.{option_map}
 use Rattle.chart_core.specs.Order.{plans_seen}
-use Rattle.pol_history.specs.Rules.{step_on}
+use Rattle.pol_events.specs.Bound.{step_on}
 use Rattle.pol_lookback.specs.Starts.{is_active_plan}
 use Rattle.pol_lookback.proofs.batch_rules.step_on.Given as goal
 

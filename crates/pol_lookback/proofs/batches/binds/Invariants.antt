@@ -1,6 +1,6 @@
 use Rattle.std.proofs.Common.{◌≡◌, drop}
 use Rattle.mtp_codes.specs.Names.{is_among}
-use Rattle.pol_history.specs.Batches.{tags_of}
+use Rattle.pol_events.specs.Bound.{tags_of}
 use Rattle.pol_lookback.proofs.batches.binds.Given as goal
 
 abbrev pub invariant-loop-bind : goal.invariant-loop-bind
