@@ -5,6 +5,7 @@
 
 use pol_cli::{Status, top};
 use pol_io::{ReaderSource, WriterSink};
+use std::io::ErrorKind;
 use std::process::ExitCode;
 use std::{env, io};
 
@@ -16,9 +17,18 @@ fn words(rt: &HostRuntime) -> io::Result<Vec<String>> {
     Ok(words)
 }
 
+// How the program ends where it can't read its words: one that isn't UTF-8 asks for no task.
+fn unread(error: &io::Error) -> Status {
+    match error.kind() {
+        ErrorKind::InvalidData => Status::BadWords,
+        _ => Status::OutOfMemory,
+    }
+}
+
 fn run(rt: &HostRuntime) -> Status {
-    let Ok(words) = words(rt) else {
-        return Status::OutOfMemory;
+    let words = match words(rt) {
+        Ok(words) => words,
+        Err(error) => return unread(&error),
     };
     let mut source = ReaderSource::new(rt.reader());
     let mut sink = WriterSink::new(io::writer(rt));

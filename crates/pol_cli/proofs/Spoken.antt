@@ -1,38 +1,38 @@
--- What a line says, by how it was read; and the reply to an event.
-use Rattle.std.proofs.Common.{ℕ, ◌≡◌, ◌≤◌, List, length, Bool, true, false}
-use Rattle.std.specs.Prelude.{Option, Ok, Err}
+-- What a line says, by how it was read.
+use Rattle.std.proofs.Common.{ℕ, ◌≡◌, List, length, true, false, arith}
+use Rattle.std.proofs.lemmas.Bool.{false_from_ne_true, ltb-true, lt-ltb}
+use Rattle.std.specs.Prelude.{Ok, Err, nat_lt}
 use Rattle.std.specs.List.{list_all}
-use Rattle.pol_io.specs.Known.{Between}
-use Rattle.pol_io.specs.Reading.{Answers}
-use Rattle.pol_io.specs.declared.lines.Line.TheVariants.{TooLong as TooLongLine}
-use Rattle.pol_io.proofs.Known.{between_weaker}
 use Rattle.pol_events.specs.Events.{EventForm}
 use Rattle.pol_events.specs.Lines.{event_of}
 use Rattle.pol_events.specs.declared.fault.LineFault.{LineFault}
 use Rattle.pol_events.specs.declared.fault.LineFault.TheVariants.{TooLong}
 use Rattle.pol_history.specs.Lines as lines
-use Rattle.pol_cli.specs.declared.saying.Saying.TheVariants.{Fault}
-use Rattle.pol_cli.specs.Served.{Says}
-use Rattle.pol_cli.proofs.Written.{in_limit, over_limit}
+use Rattle.pol_cli.specs.LineWork.{IsShort, IsTooLong}
 
-pub says_nothing : (line : List ℕ) → length line ≤ 1048576 → list_all lines.is_blank_byte line ≡ true → lines.nothing ≡ lines.saying_of line
+-- a short line is not too long
+in-limit : (line : List ℕ) → IsShort line → nat_lt 1048576 (length line) ≡ false
+in-limit line short =
+    false_from_ne_true (nat_lt 1048576 (length line)) (λ long. let over = ltb-true 1048576 (length line) long in absurd (omega arith))
+
+-- a short line of blanks says nothing
+pub says_nothing : (line : List ℕ) → IsShort line → list_all lines.is_blank_byte line ≡ true → lines.nothing ≡ lines.saying_of line
 unfolding lines.saying_of
-says_nothing line short blank = rw (in_limit line short, blank)
+says_nothing line short blank = rw (in-limit line short, blank)
 
-pub says_event : (line : List ℕ) (event : EventForm) → length line ≤ 1048576 → list_all lines.is_blank_byte line ≡ false → event_of line ≡ Ok event →
+-- another one says its event
+pub says_event : (line : List ℕ) (event : EventForm) → IsShort line → list_all lines.is_blank_byte line ≡ false → event_of line ≡ Ok event →
     lines.an_event event ≡ lines.saying_of line
 unfolding lines.saying_of
-says_event line event short some is = rw (in_limit line short, some, is)
+says_event line event short some is = rw (in-limit line short, some, is)
 
-pub says_fault : (line : List ℕ) (fault : LineFault) → length line ≤ 1048576 → list_all lines.is_blank_byte line ≡ false → event_of line ≡ Err fault →
+-- or is at fault
+pub says_fault : (line : List ℕ) (fault : LineFault) → IsShort line → list_all lines.is_blank_byte line ≡ false → event_of line ≡ Err fault →
     lines.a_fault fault ≡ lines.saying_of line
 unfolding lines.saying_of
-says_fault line fault short some is = rw (in_limit line short, some, is)
+says_fault line fault short some is = rw (in-limit line short, some, is)
 
 -- a line that is too long says so
-pub says_too_long : (ended : Bool) (text rest : Option (List ℕ)) → Between (Answers TooLongLine ended) text rest →
-    Between (Says (Option.Some (Ok (Fault TooLong))) ended) text rest
+pub says_too_long : (line : List ℕ) → IsTooLong line → lines.a_fault TooLong ≡ lines.saying_of line
 unfolding lines.saying_of
-says_too_long ended text rest read =
-    between_weaker (Answers TooLongLine ended) (Says (Option.Some (Ok (Fault TooLong))) ended) text rest
-    (λ before after long. (long.0, long.1, rw (over_limit long.0 long.2))) read
+says_too_long line long = rw (lt-ltb 1048576 (length line) long)

@@ -1,5 +1,9 @@
-pub mod Sayings
-pub mod Served
-pub mod Jobs
-pub mod Legal
+pub mod LineWork
+pub mod Written
+pub mod Ends
+pub mod Journal
 pub mod Statuses
+pub mod Sayings
+pub mod Replay
+pub mod BatchLines
+pub mod Moments

@@ -1,18 +1,17 @@
 //! The jobs of `pol`: from words, a source and a sink to a status. The program is a thin `main` over `top`.
 //!
-//! It knows nothing of how an answer is found. Its main contract is the journal theorem on `serve` and `top`: on status
-//! 0 the output is the defined output of the input (`pol_history`).
+//! It knows nothing of how an answer is found. `serve` and `top` say two things: how the job ends (`specs/Ends.antt`: on
+//! status 0 the output is the defined output of the input), and what holds of every input (`specs/Journal.antt`).
 #![tactic(auto)]
 
-mod closing;
-mod legal;
-mod replay;
-mod saying;
-mod serial;
+mod job_fault;
+mod jobs;
+mod journal;
+mod line_job;
+mod lines;
+mod program;
 mod status;
-mod stop;
-mod words;
 
-pub use serial::serve;
+pub use jobs::serve;
+pub use program::top;
 pub use status::Status;
-pub use words::top;

@@ -1,0 +1,25 @@
+-- The replay of a journal: its plant, its work and its output.
+use Rattle.std.specs.Prelude.{List}
+use Rattle.pol_events.specs.Events.{history_view}
+use Rattle.pol_events.specs.declared.event.Entry.{Entry}
+use Rattle.pol_history.specs.Looking.{History}
+use Rattle.pol_history.specs.Lines.{saying_of, answers_of, output_of, closing_text}
+use Rattle.pol_cli.specs.LineWork.{LineWork, Output}
+use Rattle.pol_cli.specs.Sayings.{reply_text, after_saying}
+
+-- the history of a plant, by what contracts see of it
+abbrev pub plant_history : List Entry → History
+plant_history plant = history_view plant
+
+-- what a replay does with each line, and at the end
+abbrev pub replay_work : LineWork History
+replay_work =
+    record {
+      reply = λ history line. reply_text history (saying_of line);
+      after = λ history line. after_saying history (saying_of line);
+      closing = closing_text;
+    }
+
+-- its output: the answers to the lines, and the defined output of the input
+abbrev pub replayed : Output
+replayed = record { of_lines = answers_of; of_input = output_of }

@@ -1,0 +1,90 @@
+//! The replay of a journal.
+ghost use Rattle.std.specs.Prelude.{◌≡◌, [], IsTrue, IfOk, OnOk};
+ghost use Rattle.pol_events.specs.Events.{event_view};
+ghost use Rattle.pol_events.specs.Orderly.{is_orderly};
+ghost use Rattle.pol_history.specs.Answers.{answer_of};
+ghost use Rattle.pol_history.specs.Runs.{entry_of, recorded};
+ghost use Rattle.pol_history.specs.Texts.{answer_text};
+ghost use Rattle.pol_cli.specs.Replay.{plant_history};
+ghost use Rattle.pol_cli.specs.Sayings.{IsOrderly, saying_view, reply_text, after_saying};
+
+use crate::job_fault::JobFault;
+use crate::jobs::closing::close;
+use crate::jobs::saying::{Saying, read_saying};
+use crate::line_job::LineJob;
+use pol_core::Plant;
+use pol_events::{Event, LineFault};
+use pol_io::Sink;
+use pol_record::{answer_line, fault_line};
+use std::alloc::{AllocError, Global};
+
+/// The line of the plant's answer to an event.
+fn answer_event(alloc: Global, plant: &mut Plant, event: Event) -> Result<Vec<u8>, AllocError>
+    requires { IsTrue (is_orderly (event_view event)) }
+    ensures line { IfOk result (λ line. line.items ≡ answer_text (answer_of (plant_history plant.old) (event_view event))) }
+    ensures history { OnOk result (plant_history plant.new
+        ≡ recorded (entry_of (plant_history plant.old) (event_view event)) (plant_history plant.old)) }
+{
+    match plant.apply(event) {
+        Ok(answer) => answer_line(alloc, &answer),
+        Err((_event, error)) => Err(error),
+    }
+}
+
+/// The line that answers what a line says; nothing, where it says nothing.
+fn answer(alloc: Global, plant: &mut Plant, saying: Saying) -> Result<Vec<u8>, AllocError>
+    requires { IsOrderly saying }
+    ensures line { IfOk result (λ line. line.items ≡ reply_text (plant_history plant.old) (saying_view saying)) }
+    ensures history { OnOk result (plant_history plant.new ≡ after_saying (plant_history plant.old) (saying_view saying)) }
+{
+    match saying {
+        Saying::Nothing => Ok(Vec::new(alloc)),
+        Saying::Fault(fault) => fault_line(alloc, &fault),
+        Saying::Event(event) => answer_event(alloc, plant, event),
+    }
+}
+
+/// A replay: it answers each line of a journal, and closes with the line of each batch and the end line.
+#[derive(Drop)]
+pub struct Replay {
+    alloc: Global,
+    plant: Plant,
+}
+
+impl Replay {
+    /// A replay that has read nothing yet.
+    pub fn new(alloc: Global) -> Replay
+        ensures { plant_history result.plant ≡ [] }
+    {
+        Replay {
+            alloc,
+            plant: Plant::new(alloc),
+        }
+    }
+}
+
+impl LineJob for Replay {
+    ghost use Rattle.pol_history.specs.Looking.{History};
+    ghost use Rattle.pol_cli.specs.Replay.{plant_history, replay_work};
+
+    ghost State = { History };
+
+    ghost state = { λ replay. plant_history replay.plant };
+
+    ghost work = { replay_work };
+
+    fn reply(&mut self, line: &[u8]) -> Result<Vec<u8>, AllocError> {
+        let saying = read_saying(self.alloc, line)?;
+        answer(self.alloc, &mut self.plant, saying)
+    }
+
+    #[tactic(auto, using(crate::proofs::Spoken::says_too_long))]
+    fn reply_too_long(&mut self) -> Result<Vec<u8>, AllocError> {
+        let saying = Saying::Fault(LineFault::TooLong);
+        answer(self.alloc, &mut self.plant, saying)
+    }
+
+    fn close<K: Sink>(&mut self, sink: &mut K) -> Result<(), JobFault> {
+        close(self.alloc, self.plant.history(), sink)
+    }
+}

@@ -1,0 +1,44 @@
+//! What a line of the journal says.
+ghost use Rattle.std.specs.Prelude.{◌≡◌, IfOk};
+ghost use Rattle.std.specs.List.{list_all};
+ghost use Rattle.pol_history.specs.Lines.{is_blank_byte, saying_of};
+ghost use Rattle.pol_cli.specs.LineWork.{IsShort};
+ghost use Rattle.pol_cli.specs.Sayings.{IsOrderly, saying_view};
+
+use pol_events::{Event, LineFault, LineRefusal, read_event};
+use std::alloc::{AllocError, Global};
+
+/// What a line of the journal says.
+#[derive(Drop)]
+pub enum Saying {
+    /// Nothing: the line holds only spaces, tabs and carriage returns.
+    Nothing,
+    /// It isn't in the form of an event.
+    Fault(LineFault),
+    /// An event.
+    Event(Event),
+}
+
+fn is_blank(line: &[u8]) -> bool
+    ensures { result ≡ list_all is_blank_byte line.now }
+{
+    line.iter()
+        .all(|byte| *byte == b' ' || *byte == b'\t' || *byte == b'\r')
+}
+
+/// What a line says that isn't too long.
+#[tactic(auto, using(crate::proofs::Spoken::says_nothing, crate::proofs::Spoken::says_event, crate::proofs::Spoken::says_fault))]
+pub fn read_saying(alloc: Global, line: &[u8]) -> Result<Saying, AllocError>
+    requires { IsShort line.now }
+    ensures said { IfOk result (λ saying. saying_view saying ≡ saying_of line.now) }
+    ensures orderly { IfOk result IsOrderly }
+{
+    if is_blank(line) {
+        return Ok(Saying::Nothing);
+    }
+    match read_event(alloc, line) {
+        Ok(event) => Ok(Saying::Event(event)),
+        Err(LineRefusal::Fault(fault)) => Ok(Saying::Fault(fault)),
+        Err(LineRefusal::Memory) => Err(AllocError),
+    }
+}

@@ -1,0 +1,18 @@
+//! The journal theorem.
+ghost use Rattle.std.specs.Prelude.{ℕ, List};
+ghost use Rattle.pol_cli.specs.Journal.{JournalTheorem, Laws};
+
+use pol_conduct::{commands_are_permitted, logs_follow_charts};
+use pol_history::reports_are_paths;
+use pol_removal::removal_of_lines;
+
+/// Whatever the input, the journal theorem holds of it; and so do the laws of all legal histories.
+pub fn journals_are_sound()
+    ensures theorem { (bytes : List ℕ) → JournalTheorem bytes }
+    ensures laws { Laws }
+{
+    removal_of_lines();
+    commands_are_permitted();
+    reports_are_paths();
+    logs_follow_charts();
+}
