@@ -10,3 +10,6 @@ pub mod Covering
 pub mod Activity
 pub mod Reporting
 pub mod Keeping
+pub mod Advances
+pub mod Present
+pub mod Sound
