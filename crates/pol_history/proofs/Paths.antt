@@ -1,6 +1,6 @@
 -- The reported states of a service are a path.
 use Rattle.std.proofs.Common.{◌≡◌, ℕ, Bool, true, false, cond, not, List, [], ◌∷◌, refl, ap, Option, Some, None, sym, ◌∙◌, subst, reverse, ◌++◌}
-use Rattle.std.specs.Prelude.{◌&&◌}
+use Rattle.std.specs.Prelude.{◌&&◌, unwrap_or}
 use Rattle.std.specs.Option.{option_or}
 use Rattle.std.specs.Str.{bytes_eq}
 use Rattle.std.proofs.lemmas.Bool.{and_parts, and_from}
@@ -11,14 +11,15 @@ use Rattle.mtp_machine.specs.Machine.{is_path}
 use Rattle.mtp_assembly.specs.declared.control.ServiceControl.{ServiceControl}
 use Rattle.pol_events.specs.Events.{EventForm, plug, unplug, report, variable, recipe, start, advance, freeze, thaw, stop_batch, abandon, desk, exchange_begin, exchange_end, exchange_cancel, EntryForm}
 use Rattle.pol_events.specs.declared.answer.Rule.TheVariants.{NotAnEdge}
-use Rattle.pol_events.specs.Refusals.{may_follow, not_an_edge}
-use Rattle.pol_history.specs.Looking.{History, subject, is_module, is_accepted, is_accepted_of, past, last_of}
-use Rattle.pol_history.specs.Modules.{reported, since_docking, states_in, control_by}
-use Rattle.pol_history.specs.Answers.{answer_of}
+use Rattle.pol_events.specs.Refusals.{may_follow, not_an_edge, in_exchange}
+use Rattle.pol_history.specs.Looking.{History, subject, is_module, is_accepted, is_accepted_of, past, last_of, after_last}
+use Rattle.pol_history.specs.Modules.{Docking, absent, docked, away, docking_after, docking_by, is_docking, is_moving, ticket_of, reported, after_docking, since_docking, states_in, control_by}
+use Rattle.pol_history.specs.Rules.{no_module}
+use Rattle.pol_history.specs.Answers.{answer_of, rules}
 use Rattle.pol_history.specs.Runs.{entry_of, IsLegal}
 use Rattle.pol_history.specs.Paths.{ReportsArePaths}
 use Rattle.pol_history.proofs.Names.{same-true}
-use Rattle.pol_history.proofs.Accepted.{accepted-none, paired}
+use Rattle.pol_history.proofs.Accepted.{NoneHolds, accepted-none, paired}
 
 -- the same from the newest state on: each may follow the one after it
 abbrev is_path_back : List State → Bool
@@ -56,13 +57,47 @@ allowed state (Some control) none = go (may_follow control.state state) none
     go true none = refl
     go false none = cc
 
+-- a module that is neither absent nor away is docked
+is-docked : (tag : List ℕ) (docking : Docking) → no_module tag docking ≡ None → in_exchange tag (ticket_of docking) ≡ None →
+    (count : ℕ) × (docking ≡ docked count)
+is-docked tag absent there still = cc
+is-docked tag (docked count) there still = (count, refl)
+is-docked tag (away ticket) there still = cc
+
+-- where the last move is a docking, nothing moved after the last docking
+docked-last : (all older : History) (count : ℕ) → last_of (λ entry. docking_after all entry.event entry.answer) older ≡ Some (docked count) →
+    after_last (λ entry. is_moving entry.event) older ≡ after_last (λ entry. is_docking entry.event) older
+docked-last all [] count last = refl
+docked-last all (entry ∷ older) count last = by_kind (docked-last all older count) entry.event last
+  where
+    by_kind : (last_of (λ entry. docking_after all entry.event entry.answer) older ≡ Some (docked count) →
+        after_last (λ entry. is_moving entry.event) older ≡ after_last (λ entry. is_docking entry.event) older) → (event : EventForm) →
+        option_or (docking_after all event entry.answer) (last_of (λ entry. docking_after all entry.event entry.answer) older) ≡ Some (docked count) →
+        cond (is_moving event) [] (entry ∷ after_last (λ entry. is_moving entry.event) older)
+        ≡ cond (is_docking event) [] (entry ∷ after_last (λ entry. is_docking entry.event) older)
+    by_kind rest (plug at tag description) last = refl
+    by_kind rest (exchange_end at tag ticket description) last = refl
+    by_kind rest (exchange_cancel at tag ticket) last = refl
+    by_kind rest (unplug at tag) last = cc
+    by_kind rest (exchange_begin at tag) last = cc
+    by_kind rest _ last = ap (λ rest. entry ∷ rest) (rest last)
+
+-- so a docked module's reports are those after its last docking
+since-docked : (past : History) (count : ℕ) → docking_by past ≡ docked count → since_docking past ≡ after_docking past
+since-docked past count is = last (last_of (λ entry. docking_after past entry.event entry.answer) past) refl is
+  where
+    last : (found : Option Docking) → last_of (λ entry. docking_after past entry.event entry.answer) past ≡ found →
+        unwrap_or found absent ≡ docked count → since_docking past ≡ after_docking past
+    last None found is = cc
+    last (Some docking) found is = docked-last past past count (found ∙ ap Some is)
+
 -- an accepted event of the module keeps the path
 step : (history : History) (tag service : List ℕ) (event : EventForm) → is_module tag (subject event) ≡ true →
-    is_accepted (answer_of history event) ≡ true → is_path_back (states_in service (since_docking (past tag history))) ≡ true →
-    is_path_back (states_in service (since_docking (entry_of history event ∷ past tag history))) ≡ true
+    is_accepted (answer_of history event) ≡ true → is_path_back (states_in service (after_docking (past tag history))) ≡ true →
+    is_path_back (states_in service (after_docking (entry_of history event ∷ past tag history))) ≡ true
 step history tag service (plug at other description) of_tag accepted path = refl
-step history tag service (unplug at other) of_tag accepted path = refl
-step history tag service (exchange_begin at other) of_tag accepted path = refl
+step history tag service (unplug at other) of_tag accepted path = path
+step history tag service (exchange_begin at other) of_tag accepted path = path
 step history tag service (exchange_end at other ticket description) of_tag accepted path = refl
 step history tag service (exchange_cancel at other ticket) of_tag accepted path = refl
 step history tag service (variable at other named value) of_tag accepted path = path
@@ -76,35 +111,45 @@ step history tag service (stop_batch at batch) of_tag accepted path = cc
 step history tag service (abandon at batch) of_tag accepted path = cc
 step history tag service (report at other named control) of_tag accepted path = go (bytes_eq named service) refl
   where
+    free : NoneHolds (rules history (report at other named control))
+    free = accepted-none history (report at other named control) accepted
+
     passed : comes_after (control_by named (past other history)) control.state ≡ true
-    passed = allowed control.state (control_by named (past other history))
-        (accepted-none history (report at other named control) accepted).1.1.1.0
+    passed = allowed control.state (control_by named (past other history)) free.1.1.1.0
+
+    docked-here : since_docking (past tag history) ≡ after_docking (past tag history)
+    docked-here =
+        let docked = is-docked other (docking_by (past other history)) free.0 free.1.0 in
+        ap (λ name. since_docking (past name history)) (sym (same-true other tag of_tag)) ∙ since-docked (past other history) docked.0 docked.1
+        ∙ ap (λ name. after_docking (past name history)) (same-true other tag of_tag)
 
     go : (same : Bool) → bytes_eq named service ≡ same
         → is_path_back (states_in service
-        (since_docking (entry_of history (report at other named control) ∷ past tag history))) ≡ true
+        (after_docking (entry_of history (report at other named control) ∷ past tag history))) ≡ true
     go false is = rw is path
     go true is =
         let here : comes_after (control_by service (past tag history)) control.state ≡ true =
         ap (λ name. comes_after (control_by service (past name history)) control.state) (sym (same-true other tag of_tag))
         ∙ ap (λ name. comes_after (control_by name (past other history)) control.state) (sym (same-true named service is)) ∙ passed in
-        rw is (longer service control.state (since_docking (past tag history)) here path)
+        let last : comes_after (last_of (λ entry. reported service entry.event) (after_docking (past tag history))) control.state ≡ true =
+        ap (λ entries. comes_after (last_of (λ entry. reported service entry.event) entries) control.state) (sym docked-here) ∙ here in
+        rw is (longer service control.state (after_docking (past tag history)) last path)
 
-more : (history : History) (tag service : List ℕ) (event : EventForm) → is_path_back (states_in service (since_docking (past tag history))) ≡ true →
-    is_path_back (states_in service (since_docking (past tag (entry_of history event ∷ history)))) ≡ true
+more : (history : History) (tag service : List ℕ) (event : EventForm) → is_path_back (states_in service (after_docking (past tag history))) ≡ true →
+    is_path_back (states_in service (after_docking (past tag (entry_of history event ∷ history)))) ≡ true
 more history tag service event path = go (is_accepted_of tag (entry_of history event)) refl
   where
     go : (kept : Bool) → is_accepted_of tag (entry_of history event) ≡ kept →
-        is_path_back (states_in service (since_docking (cond kept (entry_of history event ∷ past tag history) (past tag history)))) ≡ true
+        is_path_back (states_in service (after_docking (cond kept (entry_of history event ∷ past tag history) (past tag history)))) ≡ true
     go true is =
         let parts = and_parts (is_module tag (subject event)) (is_accepted (answer_of history event)) is in
         step history tag service event parts.0 parts.1 path
     go false is = path
 
-paths-back : (history : History) → IsLegal history → (tag service : List ℕ) → is_path_back (states_in service (since_docking (past tag history))) ≡ true
+paths-back : (history : History) → IsLegal history → (tag service : List ℕ) → is_path_back (states_in service (after_docking (past tag history))) ≡ true
 paths-back [] legal tag service = refl
 paths-back (entry ∷ history) legal tag service =
-    let P : EntryForm → Type 0 = λ newest. is_path_back (states_in service (since_docking (past tag (newest ∷ history)))) ≡ true in
+    let P : EntryForm → Type 0 = λ newest. is_path_back (states_in service (after_docking (past tag (newest ∷ history)))) ≡ true in
     subst P (ap (paired entry.event) (sym legal.0)) (more history tag service entry.event (paths-back history legal.2 tag service))
 
 -- the last of the states may be followed by this one
@@ -139,4 +184,4 @@ path-reversed (new ∷ old ∷ older) path =
     rw (reversed new (old ∷ older)) (path-pushed (reverse (old ∷ older)) new (path-reversed (old ∷ older) parts.1) ends)
 
 pub reports_follow_paths : ReportsArePaths
-reports_follow_paths history legal tag service = path-reversed (states_in service (since_docking (past tag history))) (paths-back history legal tag service)
+reports_follow_paths history legal tag service = path-reversed (states_in service (after_docking (past tag history))) (paths-back history legal tag service)

@@ -99,7 +99,11 @@ description_by past = last_of (λ entry. described entry.event) past
 abbrev pub description_of : History → List ℕ → Option DescriptionForm
 description_of history tag = description_by (past tag history)
 
--- what happened to the module since it was docked last; nothing, where it is not docked
+-- what happened to the module after its last docking, whether it is docked still or not
+abbrev pub after_docking : History → History
+after_docking past = after_last (λ entry. is_docking entry.event) past
+
+-- what happened to a docked module since it was docked
 abbrev pub since_docking : History → History
 since_docking past = after_last (λ entry. is_moving entry.event) past
 
@@ -143,9 +147,9 @@ value_by name past = last_of (λ entry. reported_value name entry.event) (since_
 abbrev pub states_in : List ℕ → History → List State
 states_in service entries = filter_map (λ entry. option_map (λ control. control.state) (reported service entry.event)) entries
 
--- the states that the service reported since docking, the oldest first
+-- the states that the service reported after the module's last docking, the oldest first
 abbrev pub reported_states : History → List ℕ → List ℕ → List State
-reported_states history tag service = reverse (states_in service (since_docking (past tag history)))
+reported_states history tag service = reverse (states_in service (after_docking (past tag history)))
 
 -- the tags without this one
 abbrev pub tags_without : List ℕ → List (List ℕ) → List (List ℕ)

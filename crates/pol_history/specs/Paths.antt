@@ -5,6 +5,6 @@ use Rattle.pol_history.specs.Looking.{History}
 use Rattle.pol_history.specs.Modules.{reported_states}
 use Rattle.pol_history.specs.Runs.{IsLegal}
 
--- in every legal history the reports of a service since docking are a path
+-- in every legal history the reports of a service after its module's last docking are a path
 abbrev pub ReportsArePaths : Type 0
 ReportsArePaths = (history : History) → IsLegal history → (tag service : List ℕ) → IsPath (reported_states history tag service)
