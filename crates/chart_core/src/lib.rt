@@ -1,6 +1,6 @@
 //! Recipe charts: procedures of steps in sequence, in parallel, by choice and in loops (after the procedure function
-//! charts of ISA-88, IEC 61512-2), the entries of a batch's log, what a batch does next and how it is closed, and which words
-//! of entries are runs of a chart.
+//! charts of ISA-88, IEC 61512-2), the entries of a batch's log, what a batch does next and how it is closed, and
+//! which words of entries are runs of a chart.
 //!
 //! It knows nothing of modules, plants or any text form. `Chart::valid` answers exactly the first fault of a chart.
 //! The definitions of complete and partial runs (`specs/Runs.antt`) and how far each node has come stand here for the

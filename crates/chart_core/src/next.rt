@@ -2,8 +2,8 @@
 use super::entry::LogEntry;
 use super::why::Why;
 
-/// How a batch was closed: its chart was run to its end; a service of an active step was stopped or aborted; the operator
-/// had it stopped step by step; the operator gave it up.
+/// How a batch was closed: its chart was run to its end; a service of an active step was stopped or aborted; the
+/// operator had it stopped step by step; the operator gave it up.
 #[derive(Clone, Copy, Debug, PartialEq, Eq)]
 pub enum Outcome {
     Completed,

@@ -285,10 +285,10 @@ broken_one : (seen : Sights) (number : ℕ) (node : Tree) (phase : Phase) (rest 
     ≡ first_broken seen (map (λ placed. placed.step) (run_of number node phase ++ rest))
 broken_one seen number (leaf step) phase rest =
     elim (is_running phase) as (λ runs.
-        option_or (if runs then broken_step step (seen.view step.role step.service) else None)
-            (first_broken seen (map (λ placed. placed.step) rest))
-        ≡ first_broken seen
-            (map (λ placed. placed.step) ((if runs then record { number = number; step = step } ∷ [] else []) ++ rest))) [
+    option_or (if runs then broken_step step (seen.view step.role step.service) else None)
+    (first_broken seen (map (λ placed. placed.step) rest))
+    ≡ first_broken seen
+    (map (λ placed. placed.step) ((if runs then record { number = number; step = step } ∷ [] else []) ++ rest))) [
       | true ↦ refl
       | false ↦ refl
     ]

@@ -156,7 +156,7 @@ broken_found sights broken [] = sym (or_none broken.found)
 broken_found sights broken (spot ∷ others) =
     broken_found sights (look_broken sights broken spot) others
     ∙ or_assoc broken.found (broken_node (sights broken.seen.now) spot.node (phase_of spot.progress))
-        (first_broken_node (sights broken.seen.now) others)
+    (first_broken_node (sights broken.seen.now) others)
 
 -- ---- a selection has no more arms than nodes
 

@@ -22,8 +22,9 @@ use Rattle.chart_cursor.specs.declared.next.CursorNext.TheVariants.{Entry, Wait,
 use Rattle.chart_cursor.specs.declared.sight.Sight.{Sight}
 use Rattle.chart_cursor.specs.declared.sight.Sight.TheVariants as sight
 
--- an active step of a batch that is stopped, by its name, its service and its module's tag: Stop where a recipe may send
--- it, else the step is left in its state; a step of whose service nothing is known waits, which no history comes to
+-- an active step of a batch that is stopped, by its name, its service and its module's tag: Stop where a recipe may
+-- send it, else the step is left in its state; a step of whose service nothing is known waits, which no history comes
+-- to
 abbrev pub stop_step : List ℕ → List ℕ → List ℕ → Sight → Next
 stop_step step service tag sight.Away = Waiting (why.Away tag)
 stop_step step service tag sight.Unreported = Waiting (why.NotReported tag service)

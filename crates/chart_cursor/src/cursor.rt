@@ -26,8 +26,8 @@ use std::alloc::{AllocError, Global};
 use std::marker::Model;
 use std::sync::Arc;
 
-/// How far a run of a valid chart has come: for each node, by its number. A cursor doesn't keep the entries that it took;
-/// it stands for a word of entries by the relation `StandsFor`.
+/// How far a run of a valid chart has come: for each node, by its number. A cursor doesn't keep the entries that it
+/// took; it stands for a word of entries by the relation `StandsFor`.
 #[derive(Drop)]
 pub struct Cursor {
     chart: Arc<Chart>,
@@ -71,8 +71,8 @@ impl Cursor {
         &self.chart
     }
 
-    /// Takes the entry, which goes on a word that the cursor stands for: afterwards the cursor stands for each such word
-    /// with the entry at its end. Walks the chart's nodes once, and takes no memory.
+    /// Takes the entry, which goes on a word that the cursor stands for: afterwards the cursor stands for each such
+    /// word with the entry at its end. Walks the chart's nodes once, and takes no memory.
     pub fn take(&mut self, entry: LogEntry)
         requires { (word : List LogEntry) × StandsFor (plan self.old.chart) self.old.marks word
             × IsPartial (plan self.old.chart) (word ++ (entry ∷ [])) }
@@ -83,9 +83,9 @@ impl Cursor {
         let _ = take_entry(&self.chart, &mut self.marks, &entry);
     }
 
-    /// What comes next, by what is seen of the modules: the entry of the first awaited node in chart order that is ready;
-    /// where none is, the first obstacle of the first awaited node; Whole exactly where the word is a complete run.
-    /// Walks the chart's nodes once, and takes no memory.
+    /// What comes next, by what is seen of the modules: the entry of the first awaited node in chart order that is
+    /// ready; where none is, the first obstacle of the first awaited node; Whole exactly where the word is a complete
+    /// run. Walks the chart's nodes once, and takes no memory.
     pub fn first_ready<S: Seen>(&self, seen: &S) -> CursorNext
         ensures next { (word : List LogEntry) → StandsFor (plan self.now.chart) self.now.marks word
             → IsNext (plan self.now.chart) word (ready_after (plan self.now.chart) word (S.sights seen.now)) result }
@@ -106,8 +106,8 @@ impl Cursor {
         first_running(&self.chart.root, 0, &self.marks, from, role)
     }
 
-    /// The entry Broke of the first active step whose service is seen stopped or aborted; None where there is none. Walks
-    /// the chart's nodes once, and takes no memory.
+    /// The entry Broke of the first active step whose service is seen stopped or aborted; None where there is none.
+    /// Walks the chart's nodes once, and takes no memory.
     pub fn first_broken<S: Seen>(&self, seen: &S) -> Option<LogEntry>
         ensures { (word : List LogEntry) → StandsFor (plan self.now.chart) self.now.marks word
             → result ≡ first_broken (S.sights seen.now) (active (plan self.now.chart) word) }

@@ -95,8 +95,8 @@ impl Look for FirstRunning {
     fn turn(&mut self, _body: &Node, _until: &Condition, _number: u32) {}
 }
 
-/// The first step that runs in this tree, from the number `from` on, and of the role where one is given. The tree's first
-/// node has the number `number`. Walks its nodes once.
+/// The first step that runs in this tree, from the number `from` on, and of the role where one is given. The tree's
+/// first node has the number `number`. Walks its nodes once.
 pub fn first_running(
     node: &Node,
     number: u32,

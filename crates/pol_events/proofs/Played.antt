@@ -17,10 +17,12 @@ same-refl : (name : List ℕ) → bytes_eq name name ≡ true
 same-refl name = (bytes_eq-Decides name name).1 refl
 
 -- the tag of a role is that of a bind
-pub bound-member : (binds : List Bind) (role tag : List ℕ) → bound_tag binds role ≡ Some tag → (bind : Bind) × Contains binds bind × (bind.tag ≡ tag)
+pub bound-member : (binds : List Bind) (role tag : List ℕ) → bound_tag binds role ≡ Some tag →
+    (bind : Bind) × Contains binds bind × (bind.tag ≡ tag)
 bound-member binds role tag bound = go (find (λ bind. bytes_eq bind.role role) binds) refl bound
   where
-    go : (found : Option Bind) → find (λ bind. bytes_eq bind.role role) binds ≡ found → option_map (λ bind. bind.tag) found ≡ Some tag →
+    go : (found : Option Bind) → find (λ bind. bytes_eq bind.role role) binds ≡ found →
+        option_map (λ bind. bind.tag) found ≡ Some tag →
         (bind : Bind) × Contains binds bind × (bind.tag ≡ tag)
     go None is bound = cc
     go (Some bind) is bound = (bind, (found-member (λ bind. bytes_eq bind.role role) binds bind is).0, cc)
@@ -30,7 +32,8 @@ bind-of : (binds : List Bind) (tag role : List ℕ) → bound_role binds tag ≡
     (bind : Bind) × Contains binds bind × (bind.tag ≡ tag) × (bind.role ≡ role)
 bind-of binds tag role bound = go (find (λ bind. bytes_eq bind.tag tag) binds) refl bound
   where
-    go : (found : Option Bind) → find (λ bind. bytes_eq bind.tag tag) binds ≡ found → option_map (λ bind. bind.role) found ≡ Some role →
+    go : (found : Option Bind) → find (λ bind. bytes_eq bind.tag tag) binds ≡ found →
+        option_map (λ bind. bind.role) found ≡ Some role →
         (bind : Bind) × Contains binds bind × (bind.tag ≡ tag) × (bind.role ≡ role)
     go None is bound = cc
     go (Some bind) is bound =
@@ -42,7 +45,8 @@ bind-for : (binds : List Bind) (role tag : List ℕ) → bound_tag binds role �
     (bind : Bind) × Contains binds bind × (bind.tag ≡ tag) × (bind.role ≡ role)
 bind-for binds role tag bound = go (find (λ bind. bytes_eq bind.role role) binds) refl bound
   where
-    go : (found : Option Bind) → find (λ bind. bytes_eq bind.role role) binds ≡ found → option_map (λ bind. bind.tag) found ≡ Some tag →
+    go : (found : Option Bind) → find (λ bind. bytes_eq bind.role role) binds ≡ found →
+        option_map (λ bind. bind.tag) found ≡ Some tag →
         (bind : Bind) × Contains binds bind × (bind.tag ≡ tag) × (bind.role ≡ role)
     go None is bound = cc
     go (Some bind) is bound =
@@ -50,7 +54,8 @@ bind-for binds role tag bound = go (find (λ bind. bytes_eq bind.role role) bind
         (bind, member.0, cc, same-true bind.role role member.1)
 
 -- a role that has the tag is the one that the tag is bound to
-role-is : (binds : List Bind) (tag role other : List ℕ) → ArePaired binds → bound_role binds tag ≡ Some role → bound_tag binds other ≡ Some tag →
+role-is : (binds : List Bind) (tag role other : List ℕ) → ArePaired binds → bound_role binds tag ≡ Some role →
+    bound_tag binds other ≡ Some tag →
     other ≡ role
 role-is binds tag role other paired bound has =
     let (bind, inside, tag_is, role_is) = bind-for binds other tag has in
@@ -59,17 +64,20 @@ role-is binds tag role other paired bound has =
     sym role_is ∙ same
 
 -- and the other way round
-tag-is : (binds : List Bind) (tag role : List ℕ) → ArePaired binds → bound_role binds tag ≡ Some role → bound_tag binds role ≡ Some tag
+tag-is : (binds : List Bind) (tag role : List ℕ) → ArePaired binds → bound_role binds tag ≡ Some role →
+    bound_tag binds role ≡ Some tag
 tag-is binds tag role paired bound =
     let (bind, inside, tag_is, role_is) = bind-of binds tag role bound in
     ap (bound_tag binds) (sym role_is) ∙ paired.by_role bind inside ∙ ap Some tag_is
 
 -- where the tag is bound to a role, a step is on the module just where it is of the role
-pub plays : (binds : List Bind) (tag role : List ℕ) → ArePaired binds → bound_role binds tag ≡ Some role → (other : List ℕ) →
+pub plays : (binds : List Bind) (tag role : List ℕ) → ArePaired binds → bound_role binds tag ≡ Some role →
+    (other : List ℕ) →
     is_tag tag (bound_tag binds other) ≡ same_name other role
 plays binds tag role paired bound other = ends (same_name other role) refl (bound_tag binds other) refl
   where
-    ends : (same : Bool) → same_name other role ≡ same → (has : Option (List ℕ)) → bound_tag binds other ≡ has → is_tag tag has ≡ same
+    ends : (same : Bool) → same_name other role ≡ same → (has : Option (List ℕ)) → bound_tag binds other ≡ has →
+        is_tag tag has ≡ same
     ends true same has here =
         let one : other ≡ role = same-true other role same in
         let found : has ≡ Some tag = sym here ∙ ap (bound_tag binds) one ∙ tag-is binds tag role paired bound in
@@ -84,7 +92,8 @@ plays binds tag role paired bound other = ends (same_name other role) refl (boun
             sym (same-refl role) ∙ ap (λ name. same_name name role) (sym one) ∙ apart
 
 -- where the tag is bound to no role, no step is on the module
-pub plays-none : (binds : List Bind) (tag : List ℕ) → bound_role binds tag ≡ None → (other : List ℕ) → is_tag tag (bound_tag binds other) ≡ false
+pub plays-none : (binds : List Bind) (tag : List ℕ) → bound_role binds tag ≡ None → (other : List ℕ) →
+    is_tag tag (bound_tag binds other) ≡ false
 plays-none binds tag none other = go (bound_tag binds other) refl
   where
     go : (has : Option (List ℕ)) → bound_tag binds other ≡ has → is_tag tag has ≡ false
@@ -97,4 +106,4 @@ plays-none binds tag none other = go (bound_tag binds other) refl
             let (bind, inside, bind_tag) = bound-member binds other has is in
             sym (same-refl tag) ∙ ap (λ name. same_name name tag) (sym (bind_tag ∙ same-true has tag same))
             ∙ none-found (λ bind. bytes_eq bind.tag tag) binds bind
-                (no-image (λ bind. bind.role) (find (λ bind. bytes_eq bind.tag tag) binds) none) inside
+            (no-image (λ bind. bind.role) (find (λ bind. bytes_eq bind.tag tag) binds) none) inside

@@ -50,7 +50,8 @@ module-no-start (start at batch name binds) tag is = cc
 module-no-start _ tag is = refl
 
 -- an event of a module changes no holder
-pub holders-same : (history : History) (entry : EntryForm) (tag : List ℕ) → subject entry.event ≡ of_module tag → (other : List ℕ) →
+pub holders-same : (history : History) (entry : EntryForm) (tag : List ℕ) → subject entry.event ≡ of_module tag →
+    (other : List ℕ) →
     holder_of (entry ∷ history) other ≡ holder_of history other
 holders-same history entry tag is other =
     holders-stay history entry other (module-no-start entry.event tag is) (λ batch. batch-past-same history entry tag batch is)
@@ -60,7 +61,8 @@ recipe-no-start (start at batch name binds) other is = cc
 recipe-no-start _ other is = refl
 
 -- a recipe changes no holder
-pub recipe-holders-same : (history : History) (entry : EntryForm) (name : List ℕ) → subject entry.event ≡ of_recipe name →
+pub recipe-holders-same : (history : History) (entry : EntryForm) (name : List ℕ) →
+    subject entry.event ≡ of_recipe name →
     (tag : List ℕ) → holder_of (entry ∷ history) tag ≡ holder_of history tag
 recipe-holders-same history entry name is tag =
     holders-stay history entry tag (recipe-no-start entry.event name is)
@@ -87,12 +89,14 @@ apart-back one other apart = back (bytes_eq other one) refl
         let clash : true ≡ false = sym (same-refl one) ∙ ap (bytes_eq one) (sym (same-true other one is)) ∙ apart in cc
 
 -- the batch itself, where it was open: it is freed where it is closed now
-own-freed : (closes : Option Outcome) (batch : List ℕ) → cond (is_none closes) (Some batch) None ≡ holder_if closes batch (Some batch)
+own-freed : (closes : Option Outcome) (batch : List ℕ) →
+    cond (is_none closes) (Some batch) None ≡ holder_if closes batch (Some batch)
 own-freed None batch = refl
 own-freed (Some outcome) batch = ap (λ same. cond same None (Some batch)) (sym (same-refl batch))
 
 -- another batch, where that is a holder: it stays one
-other-stays : (closes : Option Outcome) (batch other : List ℕ) (outcome : Option Outcome) → bytes_eq batch other ≡ false →
+other-stays : (closes : Option Outcome) (batch other : List ℕ) (outcome : Option Outcome) →
+    bytes_eq batch other ≡ false →
     cond (is_none outcome) (Some other) None ≡ holder_if closes batch (cond (is_none outcome) (Some other) None)
 other-stays None batch other outcome apart = refl
 other-stays (Some closed) batch other None apart =
@@ -142,7 +146,8 @@ abbrev pub started : ℕ → List ℕ → List ℕ → List Bind → EntryForm
 started at batch name binds = paired (start at batch name binds) Done
 
 -- the new batch holds the modules that it binds
-pub holders-started : (history : History) (at : ℕ) (batch name : List ℕ) (binds : List Bind) → past_of_batch batch history ≡ [] →
+pub holders-started : (history : History) (at : ℕ) (batch name : List ℕ) (binds : List Bind) →
+    past_of_batch batch history ≡ [] →
     (tag : List ℕ) →
     holder_of (started at batch name binds ∷ history) tag ≡ (if is_among (tags_of binds) tag then Some batch else holder_of history tag)
 holders-started history at batch name binds new tag = go (is_among (tags_of binds) tag)
@@ -160,7 +165,8 @@ holders-started history at batch name binds new tag = go (is_among (tags_of bind
     other None = refl
     other (Some name) = which (bytes_eq batch name) refl
       where
-        which : (same : Bool) → bytes_eq batch name ≡ same → if_open (entry ∷ history) (Some name) ≡ if_open history (Some name)
+        which : (same : Bool) → bytes_eq batch name ≡ same →
+            if_open (entry ∷ history) (Some name) ≡ if_open history (Some name)
         which true same =
             subst (λ name. if_open (entry ∷ history) (Some name) ≡ if_open history (Some name)) (same-true batch name same)
             (ap (λ outcome. cond (is_none outcome) (Some batch) None) (own ∙ sym before))

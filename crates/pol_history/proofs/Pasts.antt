@@ -29,11 +29,12 @@ past-apart history entry tag other is apart =
     ∙ ap (λ same. cond (same && is_accepted entry.answer) (entry ∷ past other history) (past other history)) apart
 
 -- it changes the past of no batch
-pub batch-past-same : (history : History) (entry : EntryForm) (tag batch : List ℕ) → subject entry.event ≡ of_module tag →
+pub batch-past-same : (history : History) (entry : EntryForm) (tag batch : List ℕ) →
+    subject entry.event ≡ of_module tag →
     past_of_batch batch (entry ∷ history) ≡ past_of_batch batch history
 batch-past-same history entry tag batch is =
     ap (λ of. cond (is_batch batch of && is_accepted entry.answer)
-        (entry ∷ past_of_batch batch history) (past_of_batch batch history)) is
+    (entry ∷ past_of_batch batch history) (past_of_batch batch history)) is
 
 -- nor the recipes
 pub module-recipes-same : (history : History) (entry : EntryForm) (tag : List ℕ) → subject entry.event ≡ of_module tag →
@@ -48,28 +49,31 @@ pub batch-past-own : (history : History) (entry : EntryForm) (batch : List ℕ) 
     is_accepted entry.answer ≡ true → past_of_batch batch (entry ∷ history) ≡ entry ∷ past_of_batch batch history
 batch-past-own history entry batch is accepted =
     ap (λ of. cond (is_batch batch of && is_accepted entry.answer)
-        (entry ∷ past_of_batch batch history) (past_of_batch batch history)) is
+    (entry ∷ past_of_batch batch history) (past_of_batch batch history)) is
     ∙ ap (λ same. cond (same && is_accepted entry.answer)
-        (entry ∷ past_of_batch batch history) (past_of_batch batch history)) (same-refl batch)
+    (entry ∷ past_of_batch batch history) (past_of_batch batch history)) (same-refl batch)
     ∙ ap (λ kept. cond kept (entry ∷ past_of_batch batch history) (past_of_batch batch history)) accepted
 
 -- and in that of no other
-pub batch-past-apart : (history : History) (entry : EntryForm) (batch other : List ℕ) → subject entry.event ≡ of_batch batch →
+pub batch-past-apart : (history : History) (entry : EntryForm) (batch other : List ℕ) →
+    subject entry.event ≡ of_batch batch →
     bytes_eq batch other ≡ false → past_of_batch other (entry ∷ history) ≡ past_of_batch other history
 batch-past-apart history entry batch other is apart =
     ap (λ of. cond (is_batch other of && is_accepted entry.answer)
-        (entry ∷ past_of_batch other history) (past_of_batch other history)) is
+    (entry ∷ past_of_batch other history) (past_of_batch other history)) is
     ∙ ap (λ same. cond (same && is_accepted entry.answer)
-        (entry ∷ past_of_batch other history) (past_of_batch other history)) apart
+    (entry ∷ past_of_batch other history) (past_of_batch other history)) apart
 
 -- it changes the past of no module
-pub module-past-same : (history : History) (entry : EntryForm) (batch tag : List ℕ) → subject entry.event ≡ of_batch batch →
+pub module-past-same : (history : History) (entry : EntryForm) (batch tag : List ℕ) →
+    subject entry.event ≡ of_batch batch →
     past tag (entry ∷ history) ≡ past tag history
 module-past-same history entry batch tag is =
     ap (λ of. cond (is_module tag of && is_accepted entry.answer) (entry ∷ past tag history) (past tag history)) is
 
 -- nor the recipes
-pub batch-recipes-same : (history : History) (entry : EntryForm) (batch : List ℕ) → subject entry.event ≡ of_batch batch →
+pub batch-recipes-same : (history : History) (entry : EntryForm) (batch : List ℕ) →
+    subject entry.event ≡ of_batch batch →
     recipes (entry ∷ history) ≡ recipes history
 batch-recipes-same history entry batch is =
     ap (λ of. cond (is_recipe of && is_accepted entry.answer) (entry ∷ recipes history) (recipes history)) is
@@ -77,17 +81,19 @@ batch-recipes-same history entry batch is =
 -- ---- a recipe
 
 -- a recipe changes the past of no module
-pub recipe-past-same : (history : History) (entry : EntryForm) (name tag : List ℕ) → subject entry.event ≡ of_recipe name →
+pub recipe-past-same : (history : History) (entry : EntryForm) (name tag : List ℕ) →
+    subject entry.event ≡ of_recipe name →
     past tag (entry ∷ history) ≡ past tag history
 recipe-past-same history entry name tag is =
     ap (λ of. cond (is_module tag of && is_accepted entry.answer) (entry ∷ past tag history) (past tag history)) is
 
 -- nor that of a batch
-pub recipe-batch-past-same : (history : History) (entry : EntryForm) (name batch : List ℕ) → subject entry.event ≡ of_recipe name →
+pub recipe-batch-past-same : (history : History) (entry : EntryForm) (name batch : List ℕ) →
+    subject entry.event ≡ of_recipe name →
     past_of_batch batch (entry ∷ history) ≡ past_of_batch batch history
 recipe-batch-past-same history entry name batch is =
     ap (λ of. cond (is_batch batch of && is_accepted entry.answer)
-        (entry ∷ past_of_batch batch history) (past_of_batch batch history)) is
+    (entry ∷ past_of_batch batch history) (past_of_batch batch history)) is
 
 -- ---- a log
 

@@ -72,7 +72,8 @@ or-records None other first second = second
 or-records (Some rule) other first second = first
 
 -- a rule of what was found
-mapped-records : {X : Type 0} (says : X → Rule) → ((x : X) → is_recorded (Refused (says x)) ≡ true) → (found : Option X) →
+mapped-records : {X : Type 0} (says : X → Rule) → ((x : X) → is_recorded (Refused (says x)) ≡ true) →
+    (found : Option X) →
     Records (option_map says found)
 mapped-records says recorded None = tt
 mapped-records says recorded (Some x) = recorded x
@@ -84,7 +85,8 @@ then-records says keep None = tt
 then-records says keep (Some x) = keep x
 
 -- the first rule that holds over a list
-each-records : {X : Type 0} (says : X → Option Rule) → ((x : X) → Records (says x)) → (xs : List X) → Records (first_of (map says xs))
+each-records : {X : Type 0} (says : X → Option Rule) → ((x : X) → Records (says x)) → (xs : List X) →
+    Records (first_of (map says xs))
 each-records says keep [] = tt
 each-records says keep (x ∷ xs) = or-records (says x) (first_of (map says xs)) (keep x) (each-records says keep xs)
 
@@ -112,12 +114,14 @@ ticket-records : (given : ℕ) (ticket : Option ℕ) → Records (wrong_ticket g
 ticket-records given None = tt
 ticket-records given (Some kept) = when-records _ (WrongTicket kept given) refl
 
-description-records : (rule : DescriptionForm → Option Rule) → ((description : DescriptionForm) → Records (rule description)) →
+description-records : (rule : DescriptionForm → Option Rule) →
+    ((description : DescriptionForm) → Records (rule description)) →
     (description : Option DescriptionForm) → Records (by_description rule description)
 description-records rule keep None = tt
 description-records rule keep (Some description) = keep description
 
-view-records : (rule : ServiceView → Option Rule) → ((view : ServiceView) → Records (rule view)) → (view : Option ServiceView) →
+view-records : (rule : ServiceView → Option Rule) → ((view : ServiceView) → Records (rule view)) →
+    (view : Option ServiceView) →
     Records (by_view rule view)
 view-records rule keep None = tt
 view-records rule keep (Some view) = keep view
@@ -156,7 +160,8 @@ cover-recorded role cover.WrongType = refl
 cover-recorded role cover.WrongVersion = refl
 cover-recorded role (cover.NotCovered missing) = refl
 
-covered-records : (chart : ChartPlan) (role : List ℕ) (description : Option DescriptionForm) → Records (not_covered chart role description)
+covered-records : (chart : ChartPlan) (role : List ℕ) (description : Option DescriptionForm) →
+    Records (not_covered chart role description)
 covered-records chart role None = tt
 covered-records chart role (Some description) =
     mapped-records (cover_rule role) (cover-recorded role) (cover_fault chart role description)
@@ -176,7 +181,8 @@ twice-records binds earlier (role ∷ roles) =
     one None = tt
     one (Some tag) = when-records (is_bound_before binds earlier tag) (OneModuleTwice tag) refl
 
-unfit-records : (history : History) (chart : ChartPlan) (role : List ℕ) (tag : Option (List ℕ)) → Records (module_rule history chart role tag)
+unfit-records : (history : History) (chart : ChartPlan) (role : List ℕ) (tag : Option (List ℕ)) →
+    Records (module_rule history chart role tag)
 unfit-records history chart role None = tt
 unfit-records history chart role (Some tag) =
     or-records (no_module tag (docking_by (past tag history))) _ (module-records tag _)
@@ -196,21 +202,33 @@ busy-records history (Some tag) = held (holder_of history tag)
 start-records : (history : History) (batch : List ℕ) (binds : List Bind) (chart : Option ChartPlan)
     → AllRecord (start_rules history batch binds chart)
 start-records history batch binds None = (refl, tt)
-start-records history batch binds (Some chart) =
-    (when-records _ BatchKnown refl,
-    (mapped-records RoleUnbound (λ role. refl) (find (λ role. is_none (bound_tag binds role)) (role_names chart)),
-    (mapped-records (λ bind. RoleUnknown bind.role) (λ bind. refl)
-    (find (λ bind. not (is_among (role_names chart) bind.role)) binds),
-    (twice-records binds [] (role_names chart),
-    (each-records (λ role. module_rule history chart role (bound_tag binds role))
-    (λ role. unfit-records history chart role (bound_tag binds role)) (role_names chart),
-    (each-records (λ role. busy_role history (bound_tag binds role))
-    (λ role. busy-records history (bound_tag binds role)) (role_names chart),
-    (when-records _ BatchesFull refl, tt)))))))
+start-records history batch binds (Some chart) = (
+  when-records _ BatchKnown refl,
+  (
+    mapped-records RoleUnbound (λ role. refl) (find (λ role. is_none (bound_tag binds role)) (role_names chart)),
+    (
+      mapped-records (λ bind. RoleUnknown bind.role) (λ bind. refl)
+          (find (λ bind. not (is_among (role_names chart) bind.role)) binds),
+      (
+        twice-records binds [] (role_names chart),
+        (
+          each-records (λ role. module_rule history chart role (bound_tag binds role))
+              (λ role. unfit-records history chart role (bound_tag binds role)) (role_names chart),
+          (
+            each-records (λ role. busy_role history (bound_tag binds role))
+                (λ role. busy-records history (bound_tag binds role)) (role_names chart),
+            (when-records _ BatchesFull refl, tt),
+          ),
+        ),
+      ),
+    ),
+  ),
+)
 
 -- ---- rules of a holder
 
-holder-records : (rule : List ℕ → Option Rule) → ((batch : List ℕ) → Records (rule batch)) → (holder : Option (List ℕ)) →
+holder-records : (rule : List ℕ → Option Rule) → ((batch : List ℕ) → Records (rule batch)) →
+    (holder : Option (List ℕ)) →
     Records (by_holder rule holder)
 holder-records rule keep None = tt
 holder-records rule keep (Some batch) = keep batch
@@ -222,7 +240,8 @@ active-records history tag =
     (step_on started.binds tag (active chart (log_by (past_of_batch batch history)))))
     (chart_by (recipes history) (Some started))) (start_by (past_of_batch batch history))) (holder_of history tag)
 
-back-records : (history : History) (tag : List ℕ) (description : DescriptionForm) → Records (held_back history tag description)
+back-records : (history : History) (tag : List ℕ) (description : DescriptionForm) →
+    Records (held_back history tag description)
 back-records history tag description =
     holder-records _ (λ batch. then-records _ (λ started. then-records _
     (λ chart. then-records _
@@ -236,16 +255,30 @@ rules-record : (history : History) (event : EventForm) → AllRecord (rules hist
 rules-record history (plug at tag description) = (taken-records _, (when-records _ PlantFull refl, tt))
 rules-record history (unplug at tag) =
     (module-records tag _, (exchange-records tag _, (holder-records _ (λ batch. refl) (holder_of history tag), tt)))
-rules-record history (report at tag service control) =
-    (module-records tag _, (exchange-records tag _,
-    (description-records (no_service service) (λ description. when-records _ NoService refl) _,
-    (edge-records control.state _, tt))))
-rules-record history (variable at tag name value) =
-    (module-records tag _, (exchange-records tag _,
-    (description-records (no_variable name) (λ description. when-records _ NoVariable refl) _,
-    (description-records (misfit name value) (λ description. then-records _
-    (λ variable. mapped-records value_rule value-recorded (view_fault variable.kind value)) (variable_named name description)) _,
-    tt))))
+rules-record history (report at tag service control) = (
+  module-records tag _,
+  (
+    exchange-records tag _,
+    (
+      description-records (no_service service) (λ description. when-records _ NoService refl) _,
+      (edge-records control.state _, tt),
+    ),
+  ),
+)
+rules-record history (variable at tag name value) = (
+  module-records tag _,
+  (
+    exchange-records tag _,
+    (
+      description-records (no_variable name) (λ description. when-records _ NoVariable refl) _,
+      (
+        description-records (misfit name value) (λ description. then-records _
+            (λ variable. mapped-records value_rule value-recorded (view_fault variable.kind value)) (variable_named name description)) _,
+        tt,
+      ),
+    ),
+  ),
+)
 rules-record history (recipe at name chart) = (when-records _ RecipeKnown refl, (when-records _ RecipesFull refl, tt))
 rules-record history (start at batch name binds) = start-records history batch binds (chart_named name (recipes history))
 rules-record history (advance at batch) = (when-records _ NoBatch refl, (when-records _ BatchClosed refl, tt))
@@ -255,19 +288,38 @@ rules-record history (thaw at batch) =
     (when-records _ NoBatch refl, (when-records _ BatchClosed refl, (when-records _ NotFrozen refl, tt)))
 rules-record history (stop_batch at batch) = (when-records _ NoBatch refl, (when-records _ BatchClosed refl, tt))
 rules-record history (abandon at batch) = (when-records _ NoBatch refl, (when-records _ BatchClosed refl, tt))
-rules-record history (desk at tag service command) =
-    (module-records tag _, (exchange-records tag _,
-    (description-records (no_service service) (λ description. when-records _ NoService refl) _,
-    (reported-records tag service (view_by service (past tag history)),
-    (view-records (forbidden command)
-    (λ view. mapped-records forbid_rule forbid-recorded (forbidden_by view Operator command)) (view_by service (past tag history)),
-    tt)))))
-rules-record history (exchange_begin at tag) =
-    (module-records tag _, (exchange-records tag _, (active-records history tag,
-    (description-records (module_not_at_rest (past tag history)) (λ description. each-records
-    (λ service. service_not_at_rest service.name (control_by service.name (past tag history)))
-    (λ service. rest-records service.name (control_by service.name (past tag history))) description.services) _,
-    tt))))
+rules-record history (desk at tag service command) = (
+  module-records tag _,
+  (
+    exchange-records tag _,
+    (
+      description-records (no_service service) (λ description. when-records _ NoService refl) _,
+      (
+        reported-records tag service (view_by service (past tag history)),
+        (
+          view-records (forbidden command)
+              (λ view. mapped-records forbid_rule forbid-recorded (forbidden_by view Operator command)) (view_by service (past tag history)),
+          tt,
+        ),
+      ),
+    ),
+  ),
+)
+rules-record history (exchange_begin at tag) = (
+  module-records tag _,
+  (
+    exchange-records tag _,
+    (
+      active-records history tag,
+      (
+        description-records (module_not_at_rest (past tag history)) (λ description. each-records
+            (λ service. service_not_at_rest service.name (control_by service.name (past tag history)))
+            (λ service. rest-records service.name (control_by service.name (past tag history))) description.services) _,
+        tt,
+      ),
+    ),
+  ),
+)
 rules-record history (exchange_end at tag ticket description) =
     (module-records tag _, (docked-records _, (ticket-records ticket _, (back-records history tag description, tt))))
 rules-record history (exchange_cancel at tag ticket) =
@@ -290,7 +342,8 @@ otherwise-recorded history (stop_batch at batch) =
 otherwise-recorded history _ = refl
 
 -- an event that comes where the history has room is recorded with its answer
-pub recorded-with-room : (history : History) (event : EventForm) → is_full history ≡ false → is_recorded (answer_of history event) ≡ true
+pub recorded-with-room : (history : History) (event : EventForm) → is_full history ≡ false →
+    is_recorded (answer_of history event) ≡ true
 recorded-with-room history event room =
     ap is_recorded (with-room history event room)
     ∙ first-records (rules history event) (otherwise history event) (rules-record history event) (otherwise-recorded history event)

@@ -1,0 +1,246 @@
+-- A run stands for its log with one more entry: one of the chart's run, one that has the batch stopped, or one that
+-- stops or leaves the first active step.
+use Rattle.std.proofs.Common.{◌≡◌, ℕ, ◌+◌, ◌≤◌, ◌<◌, Bool, true, false, cond, List, [], ◌∷◌, ◌++◌, Some, None, is_some, refl, ap, sym, ◌∙◌, subst, inl, inr, arith, ◌⊎◌}
+use Rattle.std.specs.Prelude.{◌&&◌, ◌||◌, nat_le, filter}
+use Rattle.std.specs.List.{Contains}
+use Rattle.std.proofs.lemmas.Bool.{and_right, and_parts, le-leb, leb-true, leb-false, lt-leb}
+use Rattle.std.proofs.lemmas.Slice.Eq.{bytes_eq-Decides}
+use Rattle.mtp_codes.specs.Faults.{when}
+use Rattle.mtp_codes.specs.Names.{same_name}
+use Rattle.chart_core.specs.Active.{idle, phase_by, is_active, active_steps}
+use Rattle.chart_core.specs.Charts.{plan}
+use Rattle.chart_core.specs.Entries.{chart_entry}
+use Rattle.chart_core.specs.Standing.{StandsFor}
+use Rattle.chart_core.specs.Trees.{Placed, steps, size}
+use Rattle.chart_core.specs.Valid.{IsValid}
+use Rattle.chart_core.specs.declared.entry.LogEntry.{LogEntry}
+use Rattle.chart_core.specs.declared.progress.Progress.{Progress}
+use Rattle.chart_core.proofs.Lawful.{member_cases, names_tell_steps}
+use Rattle.chart_core.proofs.Validity.{Rise, steps_rise}
+use Rattle.chart_cursor.specs.Logs.{chart_entries, is_broke, is_stop_asked}
+use Rattle.chart_cursor.specs.Running.{running_step}
+use Rattle.chart_cursor.specs.declared.running.RunningStep.{RunningStep}
+use Rattle.pol_events.proofs.Lists.{member-first, member-later}
+use Rattle.pol_runs.specs.Logs.{Follows}
+use Rattle.pol_runs.specs.Runs.{PlainRun, from_of, is_breaking, is_stopping}
+use Rattle.pol_runs.specs.declared.course.Course.{Course}
+use Rattle.pol_runs.specs.declared.course.Course.TheVariants.{Running}
+use Rattle.pol_runs.proofs.Grown.{any-pushed, any-silent, run-grows, run-stays, run-quiet, active-by, active-pushed}
+use Rattle.pol_runs.proofs.Wanted.{first_step, from-zero}
+
+-- ---- an entry of the chart's run
+
+-- the run whose marks stand for the entries with this one stands for the log with it
+pub by-run : (run : PlainRun) (log : List LogEntry) (entry : LogEntry) (marks : List Progress) → run.course ≡ Running →
+    is_some (chart_entry entry) ≡ true → Follows run log →
+    StandsFor (plan run.chart) marks (chart_entries log ++ entry ∷ []) →
+    Follows (record run { marks = marks }) (log ++ entry ∷ [])
+by-run run log entry marks is of_run follows stands =
+    record {
+      marks = subst (StandsFor (plan run.chart) marks) (sym (run-grows log entry of_run)) stands;
+      broke = any-silent is_broke log entry (run-quiet entry of_run).0 ∙ follows.broke;
+      stopped = any-silent is_stop_asked log entry (run-quiet entry of_run).1 ∙ follows.stopped;
+      active = active;
+    }
+  where
+    late : (placed : Placed) → nat_le (from_of run.course) placed.number ≡ true
+    late placed = ap (λ course. nat_le (from_of course) placed.number) is ∙ from-zero placed.number
+
+    same : (placed : Placed) → Contains (steps (plan run.chart).root 0) placed →
+        is_active log placed ≡ is_active (chart_entries log) placed
+    same placed inside =
+        follows.active placed inside ∙ ap (λ late. late && is_active (chart_entries log) placed) (late placed)
+
+    active : (placed : Placed) → Contains (steps (plan run.chart).root 0) placed →
+        is_active (log ++ entry ∷ []) placed
+        ≡ nat_le (from_of run.course) placed.number && is_active (chart_entries (log ++ entry ∷ [])) placed
+    active placed inside =
+        active-pushed log entry placed
+        ∙ ap (active-by (phase_by placed.step.name entry)) (same placed inside)
+        ∙ sym (active-pushed (chart_entries log) entry placed)
+        ∙ ap (λ word. is_active word placed) (sym (run-grows log entry of_run))
+        ∙ ap (λ late. late && is_active (chart_entries (log ++ entry ∷ [])) placed) (sym (late placed))
+
+-- ---- the batch breaks, or is to be stopped
+
+-- an entry of no step turns the course of a batch that runs on, and leaves the active steps
+pub by-turn : (run : PlainRun) (log : List LogEntry) (entry : LogEntry) (course : Course) → run.course ≡ Running →
+    is_some (chart_entry entry) ≡ false → ((name : List ℕ) → phase_by name entry ≡ None) → from_of course ≡ 0 →
+    is_broke entry ≡ is_breaking course → is_stop_asked entry ≡ is_stopping course → Follows run log →
+    Follows (record run { course = course }) (log ++ entry ∷ [])
+by-turn run log entry course is other quiet from broke stopped follows =
+    record {
+      marks = subst (StandsFor (plan run.chart) run.marks) (sym (run-stays log entry other)) follows.marks;
+      broke = any-pushed is_broke log entry
+          ∙ ap (λ before. before || is_broke entry) (follows.broke ∙ ap is_breaking is) ∙ broke;
+      stopped = any-pushed is_stop_asked log entry
+          ∙ ap (λ before. before || is_stop_asked entry) (follows.stopped ∙ ap is_stopping is) ∙ stopped;
+      active = λ placed inside.
+          active-pushed log entry placed
+          ∙ ap (λ said. active-by said (is_active log placed)) (quiet placed.step.name)
+          ∙ follows.active placed inside
+          ∙ ap (λ from. nat_le from placed.number && is_active (chart_entries log) placed) (ap from_of is ∙ sym from)
+          ∙ ap (λ word. nat_le (from_of course) placed.number && is_active word placed)
+          (sym (run-stays log entry other));
+    }
+
+-- ---- a step is stopped or left
+
+-- a member of steps whose numbers rise has a number among theirs
+pub rise-member : (low high : ℕ) (each : List Placed) (placed : Placed) → Rise low high each → Contains each placed →
+    (low ≤ placed.number) × (placed.number < high)
+rise-member low high [] placed rise (k, l, e) = absurd (omega arith)
+rise-member low high (first ∷ each) placed (at_least, below, rise) inside =
+    elim (member_cases first placed each inside) [
+      | inl same ↦ (
+        subst (λ placed. low ≤ placed.number) same at_least,
+        subst (λ placed. placed.number < high) same below,
+      )
+      | inr later ↦ let r = rise-member (first.number + 1) high each placed rise later in (omega arith, r.1)
+    ]
+
+-- the first of these steps that passes the test: the others that pass stand behind it
+pub record IsFirst (test : Placed → Bool) (each : List Placed) (found : RunningStep) : Type 0 where
+  pub placed : Placed
+  pub inside : Contains each placed
+  pub passes : test placed ≡ true
+  pub is : running_step placed.number placed.step ≡ found
+  pub before : (other : Placed) → Contains each other → test other ≡ true →
+      (other ≡ placed) ⊎ (placed.number < other.number)
+
+-- what is found first is the first
+pub first-found : (test : Placed → Bool) (low high : ℕ) (each : List Placed) (found : RunningStep) →
+    Rise low high each →
+    first_step (filter test each) ≡ Some found → IsFirst test each found
+first-found test low high [] found rise is = cc
+first-found test low high (first ∷ each) found (at_least, below, rise) is =
+    go (test first) refl is (first-found test (first.number + 1) high each found rise)
+  where
+    go : (passes : Bool) → test first ≡ passes →
+        first_step (cond passes (first ∷ filter test each) (filter test each)) ≡ Some found →
+        (first_step (filter test each) ≡ Some found → IsFirst test each found) → IsFirst test (first ∷ each) found
+    go true passes is rest =
+        let same : running_step first.number first.step ≡ found = cc in
+        record {
+          placed = first;
+          inside = member-first first each;
+          passes = passes;
+          is = same;
+          before = λ other inside yes. elim (member_cases first other each inside) [
+            | inl here ↦ inl (sym here)
+            | inr later ↦
+                let r = rise-member (first.number + 1) high each other rise later in
+                let behind : first.number < other.number = omega arith in inr behind
+          ];
+        }
+    go false passes is rest =
+        let r = rest is in
+        record {
+          placed = r.placed;
+          inside = member-later first r.placed each r.inside;
+          passes = r.passes;
+          is = r.is;
+          before = λ other inside yes. elim (member_cases first other each inside) [
+            | inl here ↦ (let clash : false ≡ true = sym passes ∙ ap test here ∙ yes in cc)
+            | inr later ↦ r.before other later yes
+          ];
+        }
+
+-- the first active step of a batch
+pub the-first : (run : PlainRun) (log : List LogEntry) (found : RunningStep) →
+    first_step (active_steps (plan run.chart) log) ≡ Some found →
+    IsFirst (is_active log) (steps (plan run.chart).root 0) found
+the-first run log found is =
+    first-found (is_active log) 0 (0 + size (plan run.chart).root) (steps (plan run.chart).root 0) found
+    (steps_rise (plan run.chart).root 0) is
+
+-- an entry that stops or leaves the step with this name
+pub record Leaves (entry : LogEntry) (name : List ℕ) : Type 0 where
+  pub other : is_some (chart_entry entry) ≡ false
+  pub broke : is_broke entry ≡ false
+  pub stopped : is_stop_asked entry ≡ false
+  pub says : (other : List ℕ) → phase_by other entry ≡ when (same_name name other) idle
+
+and-true : (passes : Bool) → passes && true ≡ passes
+and-true true = refl
+and-true false = refl
+
+-- a batch that is stopped, once its first active step is stopped or left: from the next number on
+pub by-leaving : (run : PlainRun) (log : List LogEntry) (entry : LogEntry) (found : RunningStep) (course : Course) →
+    IsValid (plan run.chart) → first_step (active_steps (plan run.chart) log) ≡ Some found → Leaves entry found.name →
+    is_breaking course ≡ is_breaking run.course → is_stopping course ≡ is_stopping run.course →
+    from_of course ≡ found.number + 1 → Follows run log → Follows (record run { course = course }) (log ++ entry ∷ [])
+by-leaving run log entry found course valid first leaves broke stopped from follows =
+    record {
+      marks = subst (StandsFor (plan run.chart) run.marks) (sym (run-stays log entry leaves.other)) follows.marks;
+      broke = any-silent is_broke log entry leaves.broke ∙ follows.broke ∙ sym broke;
+      stopped = any-silent is_stop_asked log entry leaves.stopped ∙ follows.stopped ∙ sym stopped;
+      active = λ placed inside.
+          active-pushed log entry placed
+          ∙ ap (λ said. active-by said (is_active log placed)) (leaves.says placed.step.name)
+          ∙ go placed inside (same_name found.name placed.step.name) refl
+          ∙ ap (λ from. nat_le from placed.number && runs placed) (sym from)
+          ∙ ap (λ word. nat_le (from_of course) placed.number && is_active word placed)
+          (sym (run-stays log entry leaves.other));
+    }
+  where
+    runs : Placed → Bool
+    runs placed = is_active (chart_entries log) placed
+
+    high : Placed → Bool
+    high placed = nat_le (from_of run.course) placed.number
+
+    is : IsFirst (is_active log) (steps (plan run.chart).root 0) found
+    is = the-first run log found first
+
+    number : found.number ≡ is.placed.number
+    number = ap (λ step. step.number) (sym is.is)
+
+    named : found.name ≡ is.placed.step.name
+    named = ap (λ step. step.name) (sym is.is)
+
+    low : from_of run.course ≤ found.number
+    low =
+        let both = sym (follows.active is.placed is.inside) ∙ is.passes in
+        let parts = and_parts (high is.placed) (runs is.placed) both in
+        let here = leb-true (from_of run.course) is.placed.number parts.0 in
+        rw number here
+
+    go : (placed : Placed) → Contains (steps (plan run.chart).root 0) placed → (same : Bool) →
+        same_name found.name placed.step.name ≡ same →
+        active-by (when same idle) (is_active log placed) ≡ nat_le (found.number + 1) placed.number && runs placed
+    go placed inside true same =
+        let one : is.placed ≡ placed =
+        names_tell_steps (plan run.chart) is.placed placed valid is.inside inside
+        (sym named ∙ (bytes_eq-Decides found.name placed.step.name).0 same) in
+        let at : found.number ≡ placed.number = number ∙ ap (λ placed. placed.number) one in
+        let here : placed.number < found.number + 1 = omega arith in
+        sym (ap (λ late. late && runs placed) (lt-leb (found.number + 1) placed.number here))
+    go placed inside false same = either (is_active log placed) refl
+      where
+        either : (lives : Bool) → is_active log placed ≡ lives →
+            is_active log placed ≡ nat_le (found.number + 1) placed.number && runs placed
+        either true lives =
+            elim (is.before placed inside lives) [
+              | inl one ↦ (
+                  let equal : found.name ≡ placed.step.name = named ∙ ap (λ placed. placed.step.name) (sym one) in
+                  let clash : true ≡ false = sym ((bytes_eq-Decides found.name placed.step.name).1 equal) ∙ same in cc)
+              | inr behind ↦ (
+                  let late : found.number + 1 ≤ placed.number = let at = number in omega arith in
+                  let active = (and_parts (high placed) (runs placed) (sym (follows.active placed inside) ∙ lives)).1 in
+                  let high = le-leb (found.number + 1) placed.number late in
+                  lives ∙ sym (ap (λ high. high && runs placed) high ∙ active))
+            ]
+        either false lives = lives ∙ sym (quiet (runs placed) refl)
+          where
+            quiet : (active : Bool) → runs placed ≡ active →
+                nat_le (found.number + 1) placed.number && runs placed ≡ false
+            quiet false active = and_right (nat_le (found.number + 1) placed.number) (runs placed) active
+            quiet true active =
+                let early =
+                leb-false (from_of run.course) placed.number
+                (sym (and-true (high placed)) ∙ ap (λ active. high placed && active) (sym active)
+                ∙ sym (follows.active placed inside) ∙ lives) in
+                let least = low in
+                let before : placed.number < found.number + 1 = omega arith in
+                ap (λ late. late && runs placed) (lt-leb (found.number + 1) placed.number before)

@@ -1,0 +1,5 @@
+pub mod Wanted
+pub mod Nexts
+pub mod Grown
+pub mod Growing
+pub mod Doing

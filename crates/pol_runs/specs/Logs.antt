@@ -1,0 +1,44 @@
+-- Which logs a run stands for, and what becomes of a log and of the batch by what comes next.
+use Rattle.std.specs.Prelude.{◌≡◌, ◌&&◌, nat_le, List, [], ◌∷◌, ◌++◌, Option, Some, None}
+use Rattle.std.specs.List.{Contains}
+use Rattle.chart_core.specs.Active.{is_active}
+use Rattle.chart_core.specs.Charts.{plan}
+use Rattle.chart_core.specs.Standing.{StandsFor}
+use Rattle.chart_core.specs.Trees.{Placed, steps}
+use Rattle.chart_core.specs.Valid.{IsValid}
+use Rattle.chart_core.specs.declared.entry.LogEntry.{LogEntry}
+use Rattle.chart_core.specs.declared.next.Next.{Next}
+use Rattle.chart_core.specs.declared.next.Next.TheVariants.{Did, Waiting, Closed}
+use Rattle.chart_core.specs.declared.next.Outcome.{Outcome}
+use Rattle.chart_cursor.specs.Logs.{chart_entries, has_broken, was_stopped}
+use Rattle.pol_events.specs.Bound.{ArePaired}
+use Rattle.pol_runs.specs.Runs.{PlainRun, from_of, is_breaking, is_stopping}
+
+-- The run stands for the log: its marks stand for the entries of the chart's run, its course tells whether the batch
+-- broke or was to be stopped, and the active steps are those that the entries of the chart's run leave active, from a
+-- number on.
+pub record Follows (run : PlainRun) (log : List LogEntry) : Type 0 where
+  pub marks : StandsFor (plan run.chart) run.marks (chart_entries log)
+  pub broke : has_broken log ≡ is_breaking run.course
+  pub stopped : was_stopped log ≡ is_stopping run.course
+  pub active : (placed : Placed) → Contains (steps (plan run.chart).root 0) placed
+      → is_active log placed ≡ nat_le (from_of run.course) placed.number && is_active (chart_entries log) placed
+
+-- the chart is valid, each bind is found by its role and by its tag, and there is a log that the run stands for
+pub record IsSoundRun (run : PlainRun) : Type 0 where
+  pub valid : IsValid (plan run.chart)
+  pub paired : ArePaired run.binds
+  pub log : List LogEntry
+  pub follows : Follows run log
+
+-- the log after what comes next is done: an entry stands at its end
+abbrev pub log_after : Next → List LogEntry → List LogEntry
+log_after (Did entry) log = log ++ entry ∷ []
+log_after (Waiting obstacle) log = log
+log_after (Closed outcome) log = log
+
+-- the outcome with which what comes next closes the batch
+abbrev pub closing_in : Next → Option Outcome
+closing_in (Did entry) = None
+closing_in (Waiting obstacle) = None
+closing_in (Closed outcome) = Some outcome

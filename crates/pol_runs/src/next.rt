@@ -1,0 +1,106 @@
+//! What a batch does next, by its cursor.
+ghost use Rattle.std.specs.Prelude.{◌≡◌, ℕ, List, None};
+ghost use Rattle.chart_core.specs.Active.{active_steps};
+ghost use Rattle.chart_core.specs.Charts.{plan};
+ghost use Rattle.chart_core.specs.Valid.{IsValid};
+ghost use Rattle.chart_core.specs.Standing.{StandsFor};
+ghost use Rattle.chart_core.specs.declared.entry.LogEntry.{LogEntry};
+ghost use Rattle.chart_cursor.specs.Logs.{active};
+ghost use Rattle.chart_cursor.specs.Next.{next_after};
+ghost use Rattle.chart_cursor.specs.NextEntry.{broke_or, first_broken, run_next, stop_step};
+ghost use Rattle.chart_cursor.specs.Running.{first_placed, is_wanted};
+ghost use Rattle.chart_cursor.specs.Sights.{tag_of};
+ghost use Rattle.pol_runs.specs.Stopping.{behind, stop_found};
+
+use chart_core::{LogEntry, Next, Outcome, Why};
+use chart_cursor::{Cursor, CursorNext, RunningStep, Seen, Sight};
+use mtp_codes::{Command, Name, Speaker};
+use mtp_modes::permitted;
+
+// The tag of the module that plays the role; a role without one stands for itself.
+fn tag_of<S: Seen>(seen: &S, role: Name) -> Name
+    ensures { result ≡ tag_of (S.sights seen.now) role }
+{
+    match seen.tag(role) {
+        Some(tag) => tag,
+        None => role,
+    }
+}
+
+// What an active step of a batch that is stopped comes to.
+fn stop_step(step: &RunningStep, tag: Name, sight: Sight) -> Next
+    ensures { result ≡ stop_step step.now.name step.now.service tag sight }
+{
+    match sight {
+        Sight::Away => Next::Waiting(Why::Away { tag }),
+        Sight::Unreported => Next::Waiting(Why::NotReported {
+            tag,
+            name: step.service,
+        }),
+        Sight::Is(view) => {
+            if permitted(&view, Speaker::Recipe, Command::Stop).is_ok() {
+                Next::Did(LogEntry::Stop {
+                    step: step.name,
+                    tag,
+                    service: step.service,
+                })
+            } else {
+                Next::Did(LogEntry::Left {
+                    step: step.name,
+                    state: view.control.state,
+                })
+            }
+        }
+    }
+}
+
+/// What a batch that is stopped does next, whose first active step this is; where there is none it is closed.
+pub fn stop_found<S: Seen>(step: Option<RunningStep>, seen: &S, broken: bool) -> Next
+    ensures { result ≡ stop_found (S.sights seen.now) broken step }
+{
+    match step {
+        None if broken => Next::Closed(Outcome::Broken),
+        None => Next::Closed(Outcome::Stopped),
+        Some(step) => stop_step(
+            &step,
+            tag_of(seen, step.role),
+            seen.view(step.role, step.service),
+        ),
+    }
+}
+
+// What comes next in the run of the chart, as the batch does it.
+fn run_next(next: CursorNext) -> Next
+    ensures { result ≡ run_next next }
+{
+    match next {
+        CursorNext::Entry(entry) => Next::Did(entry),
+        CursorNext::Wait(why) => Next::Waiting(why),
+        CursorNext::Whole => Next::Closed(Outcome::Completed),
+    }
+}
+
+/// What a batch that isn't stopped does next.
+pub fn go_on<S: Seen>(cursor: &Cursor, seen: &S) -> Next
+    ensures { (word : List LogEntry) → StandsFor (plan cursor.now.chart) cursor.now.marks word
+        → result ≡ broke_or (first_broken (S.sights seen.now) (active (plan cursor.now.chart) word))
+        (run_next (next_after (plan cursor.now.chart) word (S.sights seen.now))) }
+{
+    match cursor.first_broken(seen) {
+        Some(entry) => Next::Did(entry),
+        None => run_next(cursor.first_ready(seen)),
+    }
+}
+
+/// The number behind the node of the first active step from a number on; that number, where there is none.
+pub fn behind(cursor: &Cursor, from: u32) -> u32
+    requires valid { IsValid (plan cursor.now.chart) }
+    requires stands { (word : List LogEntry) × StandsFor (plan cursor.now.chart) cursor.now.marks word }
+    ensures { (word : List LogEntry) → StandsFor (plan cursor.now.chart) cursor.now.marks word
+        → result ≡ behind from (first_placed (is_wanted from None) (active_steps (plan cursor.now.chart) word)) }
+{
+    match cursor.next_step(from, None) {
+        Some(step) => step.number + 1,
+        None => from,
+    }
+}

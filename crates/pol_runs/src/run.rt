@@ -1,0 +1,299 @@
+//! One batch.
+ghost use Rattle.std.specs.Prelude.{◌≡◌, ◌||◌, ◌++◌, ◌∷◌, [], not, List, Some, None, false, true, IfOk, option_map, if◌then◌else◌};
+ghost use Rattle.std.specs.Option.{option_or};
+ghost use Rattle.mtp_codes.specs.Faults.{when, done_unless};
+ghost use Rattle.chart_core.specs.Active.{active_steps};
+ghost use Rattle.chart_core.specs.Charts.{plan};
+ghost use Rattle.chart_core.specs.Valid.{IsValid};
+ghost use Rattle.chart_core.specs.declared.entry.LogEntry.{LogEntry};
+ghost use Rattle.chart_core.specs.declared.entry.LogEntry.TheVariants.{StopAsked};
+ghost use Rattle.chart_core.specs.declared.next.Next.TheVariants.{Did};
+ghost use Rattle.chart_core.specs.declared.next.Outcome.TheVariants.{Abandoned};
+ghost use Rattle.chart_cursor.specs.Logs.{active, has_broken, was_stopped};
+ghost use Rattle.chart_cursor.specs.NextEntry.{next_by};
+ghost use Rattle.chart_cursor.specs.Running.{first_placed, is_wanted, name_of};
+ghost use Rattle.chart_cursor.specs.Sights.{Sights};
+ghost use Rattle.pol_events.specs.Bound.{ArePaired, step_on};
+ghost use Rattle.pol_runs.specs.Logs.{Follows, closing_in, log_after};
+ghost use Rattle.pol_runs.specs.Runs.{SameBatch};
+
+use super::course::Course;
+use super::next::{behind, go_on, stop_found};
+use chart_core::{Chart, LogEntry, Next, Outcome, Why};
+use chart_cursor::{Cursor, Seen};
+use mtp_codes::Name;
+use pol_events::{Bind, Rule, bound_role};
+use std::alloc::{AllocError, Global};
+use std::marker::Model;
+use std::sync::Arc;
+
+/// A batch that was started.
+#[derive(Drop)]
+pub struct Run {
+    batch: Name,
+    binds: Vec<Bind>,
+    cursor: Cursor,
+    frozen: bool,
+    course: Course,
+    outcome: Option<Outcome>,
+}
+
+impl Model for Run {
+    ghost use Rattle.std.specs.Coded.{codes};
+    ghost use Rattle.chart_core.specs.contracts.chart.Chart as chart_type;
+    ghost use Rattle.chart_core.specs.contracts.next.Outcome as outcome_type;
+    ghost use Rattle.chart_core.specs.contracts.progress.Progress as progress_type;
+    ghost use Rattle.pol_events.specs.contracts.event.Bind as bind_type;
+    ghost use Rattle.pol_runs.specs.contracts.course.Course as course_type;
+    ghost use Rattle.pol_runs.specs.Logs.{IsSoundRun};
+    ghost use Rattle.pol_runs.specs.Runs.{PlainRun};
+
+    ghost Value = { PlainRun };
+
+    ghost coded = { Prim.hlevel (
+      codes,
+      chart_type.the_row.coded,
+      progress_type.the_row.coded,
+      bind_type.the_row.coded,
+      outcome_type.the_row.coded,
+      course_type.the_row.coded,
+    ) };
+
+    ghost view = { λ run. record {
+      batch = run.batch;
+      chart = run.cursor.chart;
+      binds = run.binds.items;
+      marks = run.cursor.marks;
+      frozen = run.frozen;
+      course = run.course;
+      outcome = run.outcome;
+    } };
+
+    ghost invariant = { λ run. IsSoundRun (record {
+      batch = run.batch;
+      chart = run.cursor.chart;
+      binds = run.binds.items;
+      marks = run.cursor.marks;
+      frozen = run.frozen;
+      course = run.course;
+      outcome = run.outcome;
+    }) };
+}
+
+impl Run {
+    /// A batch of a valid chart that was just started on these modules: it stands for the empty log. No role is bound
+    /// twice, and no tag.
+    ///
+    /// # Errors
+    ///
+    /// AllocError where memory is wanting for one mark for each node.
+    pub fn new(
+        alloc: Global,
+        batch: Name,
+        chart: Arc<Chart>,
+        binds: Vec<Bind>,
+    ) -> Result<Run, AllocError>
+        requires valid { IsValid (plan chart.value) }
+        requires paired { ArePaired binds.items }
+        ensures batch { IfOk result (λ run. run.batch ≡ batch) }
+        ensures chart { IfOk result (λ run. run.chart ≡ chart.value) }
+        ensures binds { IfOk result (λ run. run.binds ≡ binds.items) }
+        ensures frozen { IfOk result (λ run. run.frozen ≡ false) }
+        ensures open { IfOk result (λ run. run.outcome ≡ None) }
+        ensures empty { IfOk result (λ run. Follows run []) }
+    {
+        let cursor = Cursor::new(alloc, chart)?;
+        Ok(Run {
+            batch,
+            binds,
+            cursor,
+            frozen: false,
+            course: Course::Running,
+            outcome: None,
+        })
+    }
+
+    /// What the batch does next, while it is open. Walks the chart's nodes at most twice, and takes no memory.
+    pub fn would<S: Seen>(&self, seen: &S) -> Next
+        ensures { (log : List LogEntry) → Follows self.now log
+            → result ≡ next_by (plan self.now.chart) self.now.frozen log (S.sights seen.now) }
+    {
+        if self.frozen {
+            return Next::Waiting(Why::Frozen);
+        }
+        match self.course {
+            Course::Running => go_on(&self.cursor, seen),
+            Course::Breaking { from } => stop_found(self.cursor.next_step(from, None), seen, true),
+            Course::Stopping { from } => stop_found(self.cursor.next_step(from, None), seen, false),
+        }
+    }
+
+    // Takes an entry into the log that was said to come next.
+    fn did(&mut self, entry: LogEntry)
+        requires { (seen : Sights) × ((log : List LogEntry) → Follows self.old log
+            → Did entry ≡ next_by (plan self.old.chart) self.old.frozen log seen) }
+        ensures log { (log : List LogEntry) → Follows self.old log → Follows self.new (log ++ entry ∷ []) }
+        ensures same_batch { SameBatch self.old self.new }
+        ensures frozen { self.new.frozen ≡ self.old.frozen }
+        ensures outcome { self.new.outcome ≡ self.old.outcome }
+    {
+        match self.course {
+            Course::Running => match entry {
+                LogEntry::Broke { .. } => self.course = Course::Breaking { from: 0 },
+                _ => self.cursor.take(entry),
+            },
+            Course::Breaking { from } => {
+                self.course = Course::Breaking {
+                    from: behind(&self.cursor, from),
+                }
+            }
+            Course::Stopping { from } => {
+                self.course = Course::Stopping {
+                    from: behind(&self.cursor, from),
+                }
+            }
+        }
+    }
+
+    /// Does what `would` said comes next: takes an entry into the log, waits, or closes the batch. For a caller whose
+    /// `Seen` borrows the run, so that it can't `advance` it. Walks the chart's nodes at most once, and takes no
+    /// memory.
+    pub fn settle(&mut self, next: &Next)
+        requires { (seen : Sights) × ((log : List LogEntry) → Follows self.old log
+            → next.now ≡ next_by (plan self.old.chart) self.old.frozen log seen) }
+        ensures log { (log : List LogEntry) → Follows self.old log → Follows self.new (log_after next.now log) }
+        ensures same_batch { SameBatch self.old self.new }
+        ensures frozen { self.new.frozen ≡ self.old.frozen }
+        ensures outcome { self.new.outcome ≡ option_or (closing_in next.now) self.old.outcome }
+    {
+        match next {
+            Next::Did(entry) => self.did(*entry),
+            Next::Waiting(_) => {}
+            Next::Closed(outcome) => self.outcome = Some(*outcome),
+        }
+    }
+
+    /// Does what the open batch does next: takes an entry into the log, waits, or closes the batch. Walks the chart's
+    /// nodes at most three times, and takes no memory.
+    pub fn advance<S: Seen>(&mut self, seen: &S) -> Next
+        requires open { self.old.outcome ≡ None }
+        ensures next { (log : List LogEntry) → Follows self.old log
+            → result ≡ next_by (plan self.old.chart) self.old.frozen log (S.sights seen.now) }
+        ensures log { (log : List LogEntry) → Follows self.old log → Follows self.new (log_after result log) }
+        ensures same_batch { SameBatch self.old self.new }
+        ensures frozen { self.new.frozen ≡ self.old.frozen }
+        ensures outcome { self.new.outcome ≡ closing_in result }
+    {
+        let next = self.would(seen);
+        self.settle(&next);
+        next
+    }
+
+    /// Lets the open batch wait until it is thawed. `AlreadyFrozen` exactly where it is frozen; then nothing changes.
+    pub fn freeze(&mut self) -> Result<(), Rule>
+        ensures answer { result ≡ done_unless (when self.old.frozen Rule.AlreadyFrozen) }
+        ensures frozen { self.new ≡ record self.old { frozen = true } }
+    {
+        if self.frozen {
+            return Err(Rule::AlreadyFrozen);
+        }
+        self.frozen = true;
+        Ok(())
+    }
+
+    /// Lets the frozen batch go on. `NotFrozen` exactly where it isn't frozen; then nothing changes.
+    pub fn thaw(&mut self) -> Result<(), Rule>
+        ensures answer { result ≡ done_unless (when (not self.old.frozen) Rule.NotFrozen) }
+        ensures frozen { self.new ≡ record self.old { frozen = false } }
+    {
+        if !self.frozen {
+            return Err(Rule::NotFrozen);
+        }
+        self.frozen = false;
+        Ok(())
+    }
+
+    /// Lets the open batch be stopped step by step, and ends its freeze whatever it answers. True where stopping is
+    /// new: the batch neither broke nor was to be stopped before.
+    pub fn stop(&mut self) -> bool
+        ensures new { (log : List LogEntry) → Follows self.old log → result ≡ not (has_broken log || was_stopped log) }
+        ensures log { (log : List LogEntry) → Follows self.old log
+            → Follows self.new (if result then log ++ StopAsked ∷ [] else log) }
+        ensures same_batch { SameBatch self.old self.new }
+        ensures frozen { self.new.frozen ≡ false }
+        ensures outcome { self.new.outcome ≡ self.old.outcome }
+    {
+        self.frozen = false;
+        match self.course {
+            Course::Running => {
+                self.course = Course::Stopping { from: 0 };
+                true
+            }
+            Course::Breaking { .. } | Course::Stopping { .. } => false,
+        }
+    }
+
+    /// Gives the batch up where it stands.
+    pub fn abandon(&mut self)
+        ensures { self.new ≡ record self.old { outcome = Some Abandoned } }
+    {
+        self.outcome = Some(Outcome::Abandoned);
+    }
+
+    /// How the batch was closed; None exactly while it is open.
+    pub fn closed(&self) -> Option<Outcome>
+        ensures { result ≡ self.now.outcome }
+    {
+        self.outcome
+    }
+
+    /// Whether the batch is frozen.
+    pub fn is_frozen(&self) -> bool
+        ensures { result ≡ self.now.frozen }
+    {
+        self.frozen
+    }
+
+    /// The chart of its recipe.
+    pub fn chart(&self) -> &Arc<Chart>
+        ensures chart { result.now.value ≡ self.now.chart }
+        ensures valid { IsValid (plan self.now.chart) }
+    {
+        self.cursor.chart()
+    }
+
+    /// Which modules play its roles.
+    pub fn binds(&self) -> &[Bind]
+        ensures binds { result.now ≡ self.now.binds }
+        ensures paired { ArePaired self.now.binds }
+    {
+        &self.binds
+    }
+
+    /// The first active step of the role in chart order; None where there is none. Walks the chart's nodes once, and
+    /// takes no memory.
+    pub fn active_of(&self, role: Name) -> Option<Name>
+        ensures { (log : List LogEntry) → Follows self.now log
+            → result ≡ name_of (first_placed (is_wanted 0 (Some role)) (active_steps (plan self.now.chart) log)) }
+    {
+        match self
+            .cursor
+            .next_step(self.course.first_number(), Some(role))
+        {
+            Some(step) => Some(step.name),
+            None => None,
+        }
+    }
+
+    /// The first active step in chart order of a role with this tag; None where there is none. Walks the chart's nodes
+    /// once, and takes no memory.
+    pub fn active_on(&self, tag: Name) -> Option<Name>
+        ensures { (log : List LogEntry) → Follows self.now log
+            → result ≡ option_map (λ step. step.name) (step_on self.now.binds tag (active (plan self.now.chart) log)) }
+    {
+        match bound_role(&self.binds, tag) {
+            Some(role) => self.active_of(role),
+            None => None,
+        }
+    }
+}
