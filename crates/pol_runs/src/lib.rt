@@ -13,3 +13,6 @@ mod run;
 
 pub use course::Course;
 pub use run::Run;
+
+#[cfg(test)]
+mod tests;
