@@ -4,3 +4,4 @@ pub mod Serving
 pub mod Ending
 pub mod BatchLines
 pub mod Replaying
+pub mod Journals

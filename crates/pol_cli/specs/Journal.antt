@@ -1,21 +1,29 @@
 -- What holds of the history that an input leaves: the journal theorem.
-use Rattle.std.specs.Prelude.{ℕ, ◌≡◌, List}
+use Rattle.std.specs.Prelude.{ℕ, ◌≡◌, List, ◌∷◌, ◌++◌}
+use Rattle.pol_events.specs.Events.{EntryForm}
+use Rattle.pol_history.specs.Looking.{History}
 use Rattle.pol_history.specs.Lines.{history_of, output_of}
 use Rattle.pol_history.specs.Paths.{ReportsArePaths}
-use Rattle.pol_history.specs.Runs.{IsLegal, IsOrderly}
 use Rattle.pol_conduct.specs.Charts.{LogsFollowCharts}
 use Rattle.pol_conduct.specs.Permitted.{CommandsArePermitted}
+use Rattle.pol_conduct.specs.Sound.{EntriesAreRight, HistoriesAreSound, IsRight, IsSound}
 use Rattle.pol_removal.specs.Removal.{without, output_without}
 
--- The journal theorem of an input: the history that its lines leave is legal, each of its events is as a line says it,
+-- while the input was answered, the history was this at some time
+abbrev pub Was : List ℕ → History → Type 0
+Was bytes history = (later : History) × (later ++ history ≡ history_of bytes)
+
+-- The journal theorem of an input: at each time while it was answered the history was sound, each entry of it is right,
 -- and taking out the lines of some modules takes out just their output lines.
 pub record JournalTheorem (bytes : List ℕ) : Type 0 where
-  pub legal : IsLegal (history_of bytes)
-  pub orderly : IsOrderly (history_of bytes)
+  pub sound : (history : History) → Was bytes history → IsSound history
+  pub right : (history : History) (entry : EntryForm) → Was bytes (entry ∷ history) → IsRight history entry
   pub removal : (tags : List (List ℕ)) → output_of (without tags bytes) ≡ output_without tags bytes
 
--- what holds of every legal history of orderly events, whether an input leaves it or not
+-- what holds of every legal history, whether an input leaves it or not; the theorem rests on it
 pub record Laws : Type 0 where
+  pub histories : HistoriesAreSound
+  pub entries : EntriesAreRight
   pub permitted : CommandsArePermitted
   pub paths : ReportsArePaths
   pub charts : LogsFollowCharts

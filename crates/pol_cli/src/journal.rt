@@ -2,7 +2,7 @@
 ghost use Rattle.std.specs.Prelude.{ℕ, List};
 ghost use Rattle.pol_cli.specs.Journal.{JournalTheorem, Laws};
 
-use pol_conduct::{commands_are_permitted, logs_follow_charts};
+use pol_conduct::{commands_are_permitted, histories_are_sound, logs_follow_charts};
 use pol_history::reports_are_paths;
 use pol_removal::removal_of_lines;
 
@@ -11,6 +11,7 @@ pub fn journals_are_sound()
     ensures theorem { (bytes : List ℕ) → JournalTheorem bytes }
     ensures laws { Laws }
 {
+    histories_are_sound();
     removal_of_lines();
     commands_are_permitted();
     reports_are_paths();

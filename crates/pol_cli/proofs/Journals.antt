@@ -1,0 +1,41 @@
+-- The journal theorem, from the laws of all legal histories.
+use Rattle.std.proofs.Common.{◌≡◌, ℕ, List, [], ◌∷◌, ◌++◌, sym, subst}
+use Rattle.pol_io.specs.Pieces.{pieces}
+use Rattle.pol_history.specs.Looking.{History}
+use Rattle.pol_history.specs.Lines.{items_of, events_in}
+use Rattle.pol_history.specs.Runs.{IsLegal, IsOrderly}
+use Rattle.pol_history.proofs.Legal.{legal-after, orderly-after}
+use Rattle.pol_conduct.specs.Sound.{HistoriesAreSound, EntriesAreRight}
+use Rattle.pol_removal.proofs.Reading.{events-orderly}
+use Rattle.pol_removal.specs.Removal.{RemovalOfLines}
+use Rattle.pol_cli.specs.Journal.{Was, JournalTheorem}
+
+-- a history that was earlier is legal too
+legal-before : (later history : History) → IsLegal (later ++ history) → IsLegal history
+legal-before [] history legal = legal
+legal-before (entry ∷ later) history legal = legal-before later history legal.2
+
+-- and its events are orderly too
+orderly-before : (later history : History) → IsOrderly (later ++ history) → IsOrderly history
+orderly-before [] history orderly = orderly
+orderly-before (entry ∷ later) history orderly = orderly-before later history orderly.1
+
+-- so what the history was at some time is legal
+was-legal : (bytes : List ℕ) (history : History) → Was bytes history → IsLegal history
+was-legal bytes history was =
+    legal-before was.0 history (subst IsLegal (sym was.1) (legal-after [] (events_in (items_of bytes)) tt))
+
+-- and orderly
+was-orderly : (bytes : List ℕ) (history : History) → Was bytes history → IsOrderly history
+was-orderly bytes history was =
+    orderly-before was.0 history (subst IsOrderly (sym was.1)
+    (orderly-after [] (events_in (items_of bytes)) tt (events-orderly (pieces bytes))))
+
+-- what holds of all legal histories of orderly events holds of it
+pub journal : HistoriesAreSound → EntriesAreRight → RemovalOfLines → (bytes : List ℕ) → JournalTheorem bytes
+journal sound right removal bytes = record {
+  sound = λ history was. sound history (was-legal bytes history was) (was-orderly bytes history was);
+  right = λ history entry was.
+      right history entry (was-legal bytes (entry ∷ history) was) (was-orderly bytes (entry ∷ history) was).1;
+  removal = λ tags. removal tags bytes;
+}
