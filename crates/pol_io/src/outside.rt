@@ -1,16 +1,52 @@
 //! Readers and writers of std as sources and sinks: the edge to the outside.
 ghost use Rattle.std.specs.Prelude.{◌≡◌, ◌<◌, length, IfOk, IfErr};
-ghost use Rattle.std.specs.Io.{WritesAtMost};
-ghost use Rattle.std.specs.Io.KnownBytes.{WriteAppends};
+ghost use Rattle.std.specs.Io.{ReadsAtMost, WritesAtMost};
+ghost use Rattle.std.specs.Io.KnownBytes.{ReadConsumes, WriteAppends};
 ghost use Rattle.pol_io.specs.Causes.{HasCauseOf};
 ghost use Rattle.pol_io.specs.Edge.{Edge};
 
 use crate::{Failed, Sink, SinkFault, Source};
-use std::io::{Read, Write};
+use std::io::{self, ErrorKind, Read, Write};
 use std::marker::Model;
 
-/// A reader as a source. Each error of the reader is a fault. It tells of its bytes what the reader tells, which is
-/// nothing for a file or a terminal.
+// One read, done again where it is interrupted.
+fn read_again<R: Read>(reader: &mut R, into: &mut [u8]) -> io::Result<usize>
+    ensures bound { ReadsAtMost result into.new }
+    ensures bytes { ReadConsumes (R.remaining reader.old) (R.remaining reader.new) result into.new }
+{
+    for _ in 0..u64::MAX {
+        match reader.read(into) {
+            Ok(count) => return Ok(count),
+            Err(error) => {
+                if error.kind() != ErrorKind::Interrupted {
+                    return Err(error);
+                }
+            }
+        }
+    }
+    Err(io::Error::from(ErrorKind::Interrupted))
+}
+
+// One write, done again where it is interrupted.
+fn write_again<W: Write>(writer: &mut W, piece: &[u8]) -> io::Result<usize>
+    ensures bound { WritesAtMost result piece.now }
+    ensures bytes { WriteAppends (W.contents writer.old) (W.contents writer.new) result piece.now }
+{
+    for _ in 0..u64::MAX {
+        match writer.write(piece) {
+            Ok(count) => return Ok(count),
+            Err(error) => {
+                if error.kind() != ErrorKind::Interrupted {
+                    return Err(error);
+                }
+            }
+        }
+    }
+    Err(io::Error::from(ErrorKind::Interrupted))
+}
+
+/// A reader as a source. Each error of the reader is a fault, but an interruption: then it is read again. It tells of its
+/// bytes what the reader tells, which is nothing for a file or a terminal.
 #[derive(Drop)]
 pub struct ReaderSource<R: Read> {
     inner: R,
@@ -38,7 +74,7 @@ impl<R: Read> Source for ReaderSource<R> {
     ghost faults = { λ source. source.faults };
 
     fn read(&mut self, into: &mut [u8]) -> Result<usize, Failed> {
-        match self.inner.read(into) {
+        match read_again(&mut self.inner, into) {
             Ok(count) => Ok(count),
             Err(_) => {
                 self.faults = self.faults.saturating_add(1);
@@ -48,8 +84,9 @@ impl<R: Read> Source for ReaderSource<R> {
     }
 }
 
-/// A writer as a sink. Each error of the writer is a fault, and so is a piece of which it takes nothing. It tells of
-/// its bytes what the writer tells, which is nothing for a file or a terminal.
+/// A writer as a sink. Each error of the writer is a fault, but an interruption: then it is written again. A piece of
+/// which it takes nothing is a fault too. It tells of its bytes what the writer tells, which is nothing for a file or a
+/// terminal.
 #[derive(Drop)]
 pub struct WriterSink<W: Write> {
     inner: W,
@@ -84,7 +121,7 @@ impl<W: Write> Sink for WriterSink<W> {
         ensures cause { HasCauseOf SinkFault.Failed self.old.faults self.new.faults result }
         ensures failed { IfErr result (λ fault. fault ≡ SinkFault.Failed) }
     {
-        match self.inner.write(piece) {
+        match write_again(&mut self.inner, piece) {
             Ok(count) if count > 0 || piece.is_empty() => Ok(count),
             _ => {
                 self.faults = self.faults.saturating_add(1);
