@@ -1,0 +1,22 @@
+//! A site: its modules with their simulations, its recipes, batches, exchanges and the commands of its desk; and what
+//! it means that a history follows a site, that every change has its command, that a site is settled, and what its
+//! status board shows.
+//!
+//! `read_site` gives the site that a line says, or the first fault in reading order (`specs/Form.antt`), and every
+//! `Site` keeps the rules of that form. What a running plant promises is told here as definitions over plain data; the
+//! crate knows nothing of threads, of locks or of how an actor finds what to do.
+#![tactic(auto)]
+
+mod members;
+mod parts;
+mod plans;
+mod reading;
+mod rules;
+mod site;
+
+pub use parts::{SiteBatch, SiteDesk, SiteExchange, SiteModule, SiteRecipe};
+pub use reading::read_site;
+pub use site::Site;
+
+#[cfg(test)]
+mod tests;

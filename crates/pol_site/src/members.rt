@@ -1,0 +1,213 @@
+//! The members of a site's lists in JSON.
+ghost use Rattle.std.specs.Prelude.{◌≡◌};
+ghost use Rattle.serde_json.specs.View.{view};
+ghost use Rattle.mtp_json.specs.Gives.{Gives};
+ghost use Rattle.pol_site.specs.Form.{batch_of, desk_of, exchange_of, module_of, recipe_of};
+ghost use Rattle.pol_site.specs.Rules.{same_batch, same_tag};
+ghost use Rattle.pol_site.specs.Sites.{SiteBatchForm, SiteDeskForm, SiteExchangeForm, SiteModuleForm, SiteRecipeForm};
+ghost use Rattle.pol_site.specs.Views.{batch_view, desk_view, exchange_view, module_view, recipe_view};
+
+use crate::parts::{SiteBatch, SiteDesk, SiteExchange, SiteModule, SiteRecipe};
+use crate::plans::PlanJson;
+use chart_json::{make_chart, node_at, roles_at};
+use mtp_desc::DescriptionJson;
+use mtp_json::{
+    Alike, FromJson, JsonRefusal, command_at, form_at, name_at, nothing_but, object_here, u32_at,
+};
+use pol_events::BindsJson;
+use serde_json::Value;
+use std::alloc::Global;
+use std::sync::Arc;
+
+#[tactic(auto, unfolding(crate::specs::Form::module_of))]
+fn read_module(alloc: Global, value: &Value) -> Result<SiteModule, JsonRefusal>
+    ensures { Gives module_view result (module_of (view value.now)) }
+{
+    object_here(alloc, value)?;
+    let tag = name_at(alloc, value, "tag")?;
+    let desc = form_at::<DescriptionJson>(alloc, value, "desc")?;
+    let sim = form_at::<PlanJson>(alloc, value, "sim")?;
+    nothing_but(alloc, value, "tag desc sim")?;
+    let desc = Arc::new(alloc, desc)?;
+    Ok(SiteModule { tag, desc, sim })
+}
+
+/// The form of a module.
+pub struct ModuleJson;
+
+impl FromJson for ModuleJson {
+    type Item = SiteModule;
+
+    ghost Form = { SiteModuleForm };
+
+    ghost plain = { module_view };
+
+    ghost form = { module_of };
+
+    fn read(alloc: Global, value: &Value) -> Result<SiteModule, JsonRefusal> {
+        read_module(alloc, value)
+    }
+}
+
+impl Alike for ModuleJson {
+    type Item = SiteModule;
+
+    ghost Form = { SiteModuleForm };
+
+    ghost plain = { module_view };
+
+    ghost same = { same_tag };
+
+    fn is_like(item: &SiteModule, other: &SiteModule) -> bool {
+        item.tag == other.tag
+    }
+}
+
+#[tactic(auto, unfolding(crate::specs::Form::recipe_of))]
+fn read_recipe(alloc: Global, value: &Value) -> Result<SiteRecipe, JsonRefusal>
+    ensures { Gives recipe_view result (recipe_of (view value.now)) }
+{
+    object_here(alloc, value)?;
+    let recipe = name_at(alloc, value, "recipe")?;
+    let roles = roles_at(alloc, value)?;
+    let root = node_at(alloc, value)?;
+    nothing_but(alloc, value, "recipe roles chart")?;
+    let chart = make_chart(alloc, roles, root)?;
+    let chart = Arc::new(alloc, chart)?;
+    Ok(SiteRecipe { recipe, chart })
+}
+
+/// The form of a recipe.
+pub struct RecipeJson;
+
+impl FromJson for RecipeJson {
+    type Item = SiteRecipe;
+
+    ghost Form = { SiteRecipeForm };
+
+    ghost plain = { recipe_view };
+
+    ghost form = { recipe_of };
+
+    fn read(alloc: Global, value: &Value) -> Result<SiteRecipe, JsonRefusal> {
+        read_recipe(alloc, value)
+    }
+}
+
+#[tactic(auto, unfolding(crate::specs::Form::batch_of))]
+fn read_batch(alloc: Global, value: &Value) -> Result<SiteBatch, JsonRefusal>
+    ensures { Gives batch_view result (batch_of (view value.now)) }
+{
+    object_here(alloc, value)?;
+    let batch = name_at(alloc, value, "batch")?;
+    let recipe = name_at(alloc, value, "recipe")?;
+    let bind = form_at::<BindsJson>(alloc, value, "bind")?;
+    nothing_but(alloc, value, "batch recipe bind")?;
+    Ok(SiteBatch {
+        batch,
+        recipe,
+        bind,
+    })
+}
+
+/// The form of a batch.
+pub struct BatchJson;
+
+impl FromJson for BatchJson {
+    type Item = SiteBatch;
+
+    ghost Form = { SiteBatchForm };
+
+    ghost plain = { batch_view };
+
+    ghost form = { batch_of };
+
+    fn read(alloc: Global, value: &Value) -> Result<SiteBatch, JsonRefusal> {
+        read_batch(alloc, value)
+    }
+}
+
+impl Alike for BatchJson {
+    type Item = SiteBatch;
+
+    ghost Form = { SiteBatchForm };
+
+    ghost plain = { batch_view };
+
+    ghost same = { same_batch };
+
+    fn is_like(item: &SiteBatch, other: &SiteBatch) -> bool {
+        item.batch == other.batch
+    }
+}
+
+#[tactic(auto, unfolding(crate::specs::Form::exchange_of))]
+fn read_exchange(alloc: Global, value: &Value) -> Result<SiteExchange, JsonRefusal>
+    ensures { Gives exchange_view result (exchange_of (view value.now)) }
+{
+    object_here(alloc, value)?;
+    let tag = name_at(alloc, value, "tag")?;
+    let after = u32_at(alloc, value, "after", 0, 200_000)?;
+    let desc = form_at::<DescriptionJson>(alloc, value, "desc")?;
+    let sim = form_at::<PlanJson>(alloc, value, "sim")?;
+    nothing_but(alloc, value, "tag after desc sim")?;
+    let desc = Arc::new(alloc, desc)?;
+    Ok(SiteExchange {
+        tag,
+        after,
+        desc,
+        sim,
+    })
+}
+
+/// The form of an exchange.
+pub struct ExchangeJson;
+
+impl FromJson for ExchangeJson {
+    type Item = SiteExchange;
+
+    ghost Form = { SiteExchangeForm };
+
+    ghost plain = { exchange_view };
+
+    ghost form = { exchange_of };
+
+    fn read(alloc: Global, value: &Value) -> Result<SiteExchange, JsonRefusal> {
+        read_exchange(alloc, value)
+    }
+}
+
+#[tactic(auto, unfolding(crate::specs::Form::desk_of))]
+fn read_desk(alloc: Global, value: &Value) -> Result<SiteDesk, JsonRefusal>
+    ensures { Gives desk_view result (desk_of (view value.now)) }
+{
+    object_here(alloc, value)?;
+    let tag = name_at(alloc, value, "tag")?;
+    let service = name_at(alloc, value, "service")?;
+    let command = command_at(alloc, value, "CommandOp")?;
+    let after = u32_at(alloc, value, "after", 0, 200_000)?;
+    nothing_but(alloc, value, "tag service CommandOp after")?;
+    Ok(SiteDesk {
+        tag,
+        service,
+        command,
+        after,
+    })
+}
+
+/// The form of a command of the desk.
+pub struct DeskJson;
+
+impl FromJson for DeskJson {
+    type Item = SiteDesk;
+
+    ghost Form = { SiteDeskForm };
+
+    ghost plain = { desk_view };
+
+    ghost form = { desk_of };
+
+    fn read(alloc: Global, value: &Value) -> Result<SiteDesk, JsonRefusal> {
+        read_desk(alloc, value)
+    }
+}

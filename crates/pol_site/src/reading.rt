@@ -1,0 +1,90 @@
+//! Reading sites.
+ghost use Rattle.std.specs.Prelude.{◌≡◌, IsTrue, codes, map};
+ghost use Rattle.serde_json.specs.View.{view};
+ghost use Rattle.mtp_codes.specs.Names.{is_name};
+ghost use Rattle.mtp_json.specs.Gives.{Gives};
+ghost use Rattle.mtp_json.specs.Reading.{under};
+ghost use Rattle.pol_site.specs.Form.{site_in};
+ghost use Rattle.pol_site.specs.Rules.{each_ruled, known_tag, ruled_site, sound_drifts, unlike_drifts, valid_chart};
+ghost use Rattle.pol_site.specs.SiteView.{site_view};
+ghost use Rattle.pol_site.specs.Texts.{site_on};
+ghost use Rattle.pol_site.specs.Views.{exchange_view, module_view, recipe_view, site_form};
+
+use crate::members::{BatchJson, DeskJson, ExchangeJson, ModuleJson, RecipeJson};
+use crate::parts::{SiteBatch, SiteDesk, SiteExchange, SiteModule, SiteRecipe};
+use crate::rules::{
+    KnownTag, OwnRule, SoundOfExchange, SoundOfModule, UnlikeOfExchange, UnlikeOfModule,
+    ValidChart, ask_each,
+};
+use crate::site::Site;
+use mtp_json::{JsonRefusal, list_of, nothing_but, object_here, parse, under, unlike_under};
+use serde_json::Value;
+use std::alloc::Global;
+
+// Asks a rule of each item of the list at a key.
+#[tactic(auto, using(mtp_json::proofs::Each::gives_below))]
+fn ask_under<T: OwnRule>(
+    alloc: Global,
+    key: &str,
+    rule: &T,
+    items: &[T::Item],
+) -> Result<(), JsonRefusal>
+    requires { IsTrue (is_name key.now) }
+    ensures { Gives (λ unit. unit) result (under key.now (each_ruled (T.rule rule.now) 0 (map T.plain items.now))) }
+{
+    under(key, ask_each(alloc, rule, items))
+}
+
+// Asks the own rules of the site that has these members.
+#[tactic(auto, unfolding(crate::specs::Rules::ruled_site))]
+fn ask_all(
+    alloc: Global,
+    modules: &[SiteModule],
+    recipes: &[SiteRecipe],
+    batches: &[SiteBatch],
+    exchanges: &[SiteExchange],
+    desk: &[SiteDesk],
+) -> Result<(), JsonRefusal>
+    ensures { Gives (λ _. site_form modules.now recipes.now batches.now exchanges.now desk.now) result
+        (ruled_site (site_form modules.now recipes.now batches.now exchanges.now desk.now)) }
+{
+    unlike_under::<ModuleJson>(alloc, "modules", modules)?;
+    unlike_under::<BatchJson>(alloc, "batches", batches)?;
+    ask_under(alloc, "modules", &UnlikeOfModule, modules)?;
+    ask_under(alloc, "exchanges", &UnlikeOfExchange, exchanges)?;
+    ask_under(alloc, "modules", &SoundOfModule, modules)?;
+    ask_under(alloc, "exchanges", &SoundOfExchange, exchanges)?;
+    ask_under(alloc, "exchanges", &KnownTag { modules }, exchanges)?;
+    ask_under(alloc, "recipes", &ValidChart, recipes)
+}
+
+#[tactic(auto, unfolding(crate::specs::Form::site_in))]
+fn read_value(alloc: Global, value: &Value) -> Result<Site, JsonRefusal>
+    ensures { Gives site_view result (site_in (view value.now)) }
+{
+    object_here(alloc, value)?;
+    let modules = list_of::<ModuleJson>(alloc, value, "modules", 1, 64)?;
+    let recipes = list_of::<RecipeJson>(alloc, value, "recipes", 0, 64)?;
+    let batches = list_of::<BatchJson>(alloc, value, "batches", 0, 128)?;
+    let exchanges = list_of::<ExchangeJson>(alloc, value, "exchanges", 0, 256)?;
+    let desk = list_of::<DeskJson>(alloc, value, "desk", 0, 256)?;
+    nothing_but(alloc, value, "modules recipes batches exchanges desk")?;
+    ask_all(alloc, &modules, &recipes, &batches, &exchanges, &desk)?;
+    Ok(Site {
+        modules,
+        recipes,
+        batches,
+        exchanges,
+        desk,
+    })
+}
+
+/// The site that a line says, one JSON object (RFC 8259) without its line feed; else the line's first fault in reading
+/// order, with its path: of the form, of the site's own rules, or that a chart isn't valid.
+#[tactic(auto, unfolding(crate::specs::Texts::site_on))]
+pub fn read_site(alloc: Global, line: &[u8]) -> Result<Site, JsonRefusal>
+    ensures { Gives site_view result (site_on line.now) }
+{
+    let value = parse(alloc, line)?;
+    read_value(alloc, &value)
+}
