@@ -6,6 +6,8 @@ mod batches;
 #[cfg(test)]
 mod commands;
 #[cfg(test)]
+mod edges;
+#[cfg(test)]
 mod exchanges;
 #[cfg(test)]
 mod faults;
