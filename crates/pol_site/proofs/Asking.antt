@@ -8,7 +8,7 @@ use Rattle.mtp_json.specs.declared.fault.JsonRefusal.{JsonRefusal}
 use Rattle.mtp_json.specs.declared.fault.JsonRefusal.TheVariants.{Fault, Memory}
 use Rattle.mtp_json.specs.declared.path.PathPart.TheVariants.{Place}
 use Rattle.mtp_json.specs.Gives.{Fails, Gives, Below}
-use Rattle.mtp_json.specs.Reading.{Reading, ◌>>=◌, at}
+use Rattle.mtp_json.specs.Reading.{Reading, at}
 use Rattle.mtp_json.proofs.Each.{gives_below}
 use Rattle.pol_site.specs.Rules.{each_ruled}
 

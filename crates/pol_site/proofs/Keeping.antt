@@ -1,6 +1,6 @@
 -- What is read as a site keeps the ranges of its form and its own rules.
-use Rattle.std.proofs.Common.{◌≡◌, ℕ, suc, ℤ, Bool, true, false, cond, not, List, [], ◌∷◌, length, Ok, Err, Option, Some, None, refl, sym, ap, ◌∙◌}
-use Rattle.std.specs.Prelude.{IfOk, codes, ⊤, ◌&&◌, nat_le, is_none, is_some, if◌then◌else◌}
+use Rattle.std.proofs.Common.{◌≡◌, ℕ, suc, ℤ, Bool, true, false, not, List, [], ◌∷◌, Ok, Err, Option, Some, None, refl}
+use Rattle.std.specs.Prelude.{IfOk, codes, ⊤, ◌&&◌, is_none, is_some, if◌then◌else◌}
 use Rattle.std.specs.List.{list_all}
 use Rattle.std.proofs.lemmas.Bool.{and_parts}
 use Rattle.std.proofs.lemmas.Result.{IfOk-weaker}
@@ -12,13 +12,12 @@ use Rattle.mtp_json.specs.declared.fault.FaultKind.TheVariants.{OutOfRange, Repe
 use Rattle.mtp_json.specs.declared.path.PathPart.TheVariants.{Key, Place}
 use Rattle.mtp_json.specs.Form.{need, inside, list, object_here, nothing_but, refused_if, repeats_by}
 use Rattle.mtp_json.specs.Leaf.{code, count, items_in, name, whole, whole_in, whole_number}
-use Rattle.mtp_json.specs.Reading.{Reading, ◌>>=◌, at, in_place, under}
+use Rattle.mtp_json.specs.Reading.{Reading, ◌>>=◌, in_place, under}
 use Rattle.mtp_desc.specs.Form.{description_of}
 use Rattle.mtp_desc.specs.Plain.{DescriptionForm}
-use Rattle.mtp_sim.specs.declared.plan.Drift.{Drift}
 use Rattle.mtp_sim.specs.Sims.{PlanForm}
 use Rattle.chart_core.specs.Form.{is_tree_formed}
-use Rattle.chart_core.specs.Roles.{ChartPlan, RolePlan, is_chart_form}
+use Rattle.chart_core.specs.Roles.{RolePlan, is_chart_form}
 use Rattle.chart_core.specs.Trees.{Tree}
 use Rattle.chart_core.specs.Valid.{chart_fault}
 use Rattle.chart_core.specs.declared.fault.ChartFault.{ChartFault}
@@ -31,7 +30,7 @@ use Rattle.pol_events.specs.Orderly.{is_orderly, is_valid}
 use Rattle.pol_events.proofs.Members.{AreOrderly, binds_orderly}
 use Rattle.pol_site.specs.Form.{drift_of, plan_of, module_of, recipe_of, batch_of, exchange_of, desk_of, site_in}
 use Rattle.pol_site.specs.Rules.{each_ruled, has_module, is_drift_sound, known_tag, ruled_site, same_batch, same_drift, same_tag, sound_drift, sound_drifts, unlike_drifts, valid_chart}
-use Rattle.pol_site.specs.Sites.{SiteForm, SiteModuleForm, SiteRecipeForm, SiteBatchForm, SiteExchangeForm, SiteDeskForm}
+use Rattle.pol_site.specs.Sites.{SiteForm, SiteRecipeForm}
 use Rattle.pol_site.specs.Sound.{IsSite, is_drift_ranged, is_plan_ranged, is_plan_sound, is_plan_unlike}
 
 -- ---- what is read

@@ -1,2 +1,8 @@
 pub mod Asking
 pub mod Keeping
+pub mod SampleSite
+pub mod SampleFollowing
+pub mod SampleOwners
+pub mod SampleCommanded
+pub mod SampleSettled
+pub mod SampleShown

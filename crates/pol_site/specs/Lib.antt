@@ -5,3 +5,10 @@ pub mod Form
 pub mod Rules
 pub mod Sound
 pub mod Texts
+pub mod Actors
+pub mod Stories
+pub mod Plans
+pub mod Following
+pub mod Commanded
+pub mod Settled
+pub mod Shown

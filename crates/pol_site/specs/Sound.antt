@@ -1,5 +1,5 @@
 -- What every site keeps: the ranges of its form and its own rules.
-use Rattle.std.specs.Prelude.{ℕ, ◌≡◌, ◌&&◌, Bool, true, false, not, List, length, map}
+use Rattle.std.specs.Prelude.{◌≡◌, ◌&&◌, Bool, true, false, not, length}
 use Rattle.std.specs.List.{list_all}
 use Rattle.mtp_codes.specs.Numbers.{is_between, is_within, least_i32, greatest_i32}
 use Rattle.mtp_json.specs.Form.{repeats_by}
@@ -9,7 +9,7 @@ use Rattle.mtp_sim.specs.Sims.{PlanForm}
 use Rattle.pol_events.specs.Events.{recipe, start}
 use Rattle.pol_events.specs.Orderly.{is_orderly}
 use Rattle.pol_site.specs.Rules.{same_tag, same_batch, same_drift, is_drift_sound, has_module}
-use Rattle.pol_site.specs.Sites.{SiteForm, SiteModuleForm, SiteRecipeForm, SiteBatchForm, SiteExchangeForm, SiteDeskForm}
+use Rattle.pol_site.specs.Sites.{SiteForm}
 
 -- the numbers of a drift have 32 bits
 abbrev pub is_drift_ranged : Drift → Bool
