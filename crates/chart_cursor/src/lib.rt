@@ -1,11 +1,11 @@
 //! The next entry of a run of a chart: a cursor keeps how far each node has come, and tells which awaited node is
 //! ready.
 //!
-//! It knows nothing of plants, batches or logs: what is seen of modules comes through the trait `Seen`. A cursor stands
-//! for words by a relation; where a clause speaks of the word, it holds of every word that the cursor stands for. What
-//! comes next is worked out by `next_after` (`specs/Next.antt`); the laws in `laws` say that it is the defined next
-//! entry, that it keeps a run a run, and that it commands only what a recipe may give. One walk over the open nodes
-//! serves all that is looked for among them (`Look`): what comes next, which step runs, and which one's service broke.
+//! It knows nothing of plants or histories and keeps no log: what is seen of modules comes through the trait `Seen`. A
+//! cursor stands for words by a relation; where a clause speaks of the word, it holds of every word that the cursor
+//! stands for. What comes next is worked out by `next_after` (`specs/Next.antt`); the laws in `laws` say that it is the
+//! defined next entry, that it keeps a run a run, and that it commands only what a recipe may give. One walk over the
+//! open nodes serves all that is looked for among them (`Look`): what comes next, which step runs, and which one broke.
 //!
 //! What an open batch does next is defined here too (`next_by` in `specs/NextEntry.antt`), since it is said of a
 //! chart, a log and what is seen alone: the crates that look back and those that keep runs cite one text.
