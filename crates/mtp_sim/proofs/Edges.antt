@@ -54,7 +54,7 @@ every-coded : AllByRecursion (λ state. state_of (state_number state) state_code
 every-coded = search
 
 -- states of one code are one state
-same-state-is : (one other : State) → same_state one other ≡ true → one ≡ other
+pub same-state-is : (one other : State) → same_state one other ≡ true → one ≡ other
 same-state-is one other is =
     let coded = of_each_state (λ state. state_of (state_number state) state_codes ≡ Some state) every-coded in
     same_Some one other (sym (coded one) ∙ ap (λ n. state_of n state_codes)
@@ -64,10 +64,14 @@ same-state-is one other is =
 every-same : AllByRecursion (λ (state : State). same_state state state ≡ true) every_state
 every-same = search
 
+-- so each state is the same as itself
+pub state-refl : (state : State) → same_state state state ≡ true
+state-refl state = of_each_state (λ state. same_state state state ≡ true) every-same state
+
 -- ---- one service
 
 -- a service that is told told its state last
-told-last : (s : SimService) → is_untold s ≡ false → s.last ≡ Some s.state
+pub told-last : (s : SimService) → is_untold s ≡ false → s.last ≡ Some s.state
 told-last s told = go s.last refl told
   where
     go : (last : Option State) → s.last ≡ last → not (is_state s.state last) ≡ false → last ≡ Some s.state
@@ -83,7 +87,7 @@ untold-may : (s : SimService) → is_untold s ≡ true → IsNext s → MayTell 
 untold-may s untold (inr may) = may
 untold-may s untold (inl last) =
     let same : is_state s.state s.last ≡ true =
-    ap (is_state s.state) last ∙ of_each_state (λ state. same_state state state ≡ true) every-same s.state in
+    ap (is_state s.state) last ∙ state-refl s.state in
     absurd (clash (ap not (sym same) ∙ untold))
   where
     clash : false ≡ true → ⊥

@@ -42,7 +42,7 @@ turned one other = go (bytes_eq one other) refl (bytes_eq other one) refl
         absurd (true≢false (sym again ∙ was))
 
 -- of two tests that don't hold together, neither does
-neither : (one other : Bool) → (one || other) ≡ false → (one ≡ false) × (other ≡ false)
+pub neither : (one other : Bool) → (one || other) ≡ false → (one ≡ false) × (other ≡ false)
 neither true other is = absurd (true≢false is)
 neither false other is = (refl, is)
 

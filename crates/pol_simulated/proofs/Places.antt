@@ -1,0 +1,191 @@
+-- What stands before a place of a history, and the next command from it on.
+use Rattle.std.proofs.Common.{◌≡◌, ◌≤◌, ◌<◌, ◌+◌, ℕ, suc, Bool, true, false, cond, List, [], ◌∷◌, length, Option, Some, None, refl, ap, ◌∙◌, arith}
+use Rattle.std.specs.Prelude.{◌||◌, nat_lt, nat_le, is_some, filter, option_map, if◌then◌else◌}
+use Rattle.std.specs.Option.{option_or}
+use Rattle.std.proofs.lemmas.Option.{same_Some}
+use Rattle.std.proofs.lemmas.Bool.Decides.{nat_tests}
+use Rattle.mtp_codes.specs.declared.command.Command.{Command}
+use Rattle.chart_cursor.specs.Commands.{Sent}
+use Rattle.pol_events.specs.Events.{EntryForm}
+use Rattle.pol_history.specs.Looking.{History, is_accepted_of}
+use Rattle.pol_history.specs.Modules.{is_moving, since_docking}
+use Rattle.pol_site.specs.Stories.{sent_to, touches, story, times_sent, is_given}
+use Rattle.pol_simulated.specs.Places.{before, Found, found_at, next_command, StaysFrom, NextCounts}
+
+-- tests of numbers, both ways
+pub lt-true : (n m : ℕ) → n < m → nat_lt n m ≡ true
+lt-true n m less = grind (arith, nat_tests)
+
+pub lt-false : (n m : ℕ) → m ≤ n → nat_lt n m ≡ false
+lt-false n m less = grind (arith, nat_tests)
+
+pub le-true : (n m : ℕ) → n ≤ m → nat_le n m ≡ true
+le-true n m less = grind (arith, nat_tests)
+
+pub le-holds : (n m : ℕ) → nat_le n m ≡ true → n ≤ m
+le-holds n m is = grind (arith, nat_tests)
+
+pub le-fails : (n m : ℕ) → nat_le n m ≡ false → m < n
+le-fails n m is = grind (arith, nat_tests)
+
+-- all entries stand before a place that isn't before the end
+pub before-all : (place : ℕ) (history : History) → length history ≤ place → before place history ≡ history
+before-all place [] long = refl
+before-all place (entry ∷ older) long =
+    let l : length older < place = omega (arith, long) in
+    let m : length older ≤ place = omega (arith, long) in
+    rw (lt-true (length older) place l, before-all place older m) refl
+
+-- one more entry stands not before a place that was there
+pub before-later : (place : ℕ) (entry : EntryForm) (older : History) → place ≤ length older
+    → before place (entry ∷ older) ≡ before place older
+before-later place entry older within = rw (lt-false (length older) place within) refl
+
+-- an entry that neither moves the module nor sends it a command counts nothing
+count-more : (tag service : List ℕ) (command : Command) (entry : EntryForm) (rest : History) → sent_to tag entry ≡ None
+    → (touches tag entry ≡ true → is_moving entry.event ≡ false) →
+    times_sent tag service command (cond (touches tag entry) (entry ∷ rest) rest) ≡ times_sent tag service command rest
+count-more tag service command entry rest silent stays = go (touches tag entry) refl
+  where
+    go : (own : Bool) → touches tag entry ≡ own
+        → times_sent tag service command (cond own (entry ∷ rest) rest) ≡ times_sent tag service command rest
+    go false is = refl
+    go true is = rw (stays is, ap (is_given service command) silent) refl
+
+-- where no command stands from a place on, what was sent was sent before it
+none-counted : (tag : List ℕ) (from : ℕ) (history : History) (service : List ℕ) (command : Command)
+    → StaysFrom tag from history
+    → next_command tag from history ≡ None →
+    times_sent tag service command (story tag history) ≡ times_sent tag service command
+    (story tag (before from history))
+none-counted tag from [] service command stays none = refl
+none-counted tag from (entry ∷ older) service command stays none =
+    let parts = none-of (next_command tag from older) (found_at tag from (length older) entry) none in
+    go (nat_le (suc (length older)) from) refl parts.1 (none-counted tag from older service command stays.1 parts.0)
+  where
+    none-of : {A : Type 0} (one other : Option A) → option_or one other ≡ None → (one ≡ None) × (other ≡ None)
+    none-of None other e = (refl, e)
+    none-of (Some x) other e = cc
+
+    silent : from ≤ length older → found_at tag from (length older) entry ≡ None → sent_to tag entry ≡ None
+    silent within e = quiet (sent_to tag entry) (rw (le-true from (length older) within) at e)
+      where
+        quiet : (sent : Option Sent) → option_map {U = Found} (λ sent. record { sent = sent; place = length older })
+            sent ≡ None → sent ≡ None
+        quiet None e = refl
+        quiet (Some x) e = cc
+
+    go : (all : Bool) → nat_le (suc (length older)) from ≡ all → found_at tag from (length older) entry ≡ None →
+        times_sent tag service command (story tag older) ≡ times_sent tag service command
+        (story tag (before from older)) →
+        times_sent tag service command (story tag (entry ∷ older)) ≡ times_sent tag service command
+        (story tag (before from (entry ∷ older)))
+    go true is e again =
+        let l : length (entry ∷ older) ≤ from = le-holds (suc (length older)) from is in rw
+        (before-all from (entry ∷ older) l) refl
+    go false is e again =
+        let f : from < suc (length older) = le-fails (suc (length older)) from is in
+        let l : from ≤ length older = omega (arith, f) in
+        rw (before-later from entry older l) (count-more tag service command entry (story tag older) (silent l e)
+        (stays.0 l) ∙ again)
+
+-- an entry that sends a command counts it
+count-sent : (tag service : List ℕ) (command : Command) (entry : EntryForm) (rest : History) (sent : Sent)
+    → sent_to tag entry ≡ Some sent
+    → (touches tag entry ≡ true → is_moving entry.event ≡ false) →
+    times_sent tag service command (cond (touches tag entry) (entry ∷ rest) rest)
+    ≡ (if is_given service command (Some sent) then 1 else 0) + times_sent tag service command rest
+count-sent tag service command entry rest sent sends stays =
+    rw touched (rw (stays touched, ap (is_given service command) sends)
+    (lengths (is_given service command (Some sent)) now ∙ counted (is_given service command (Some sent))
+    (length now)))
+  where
+    now : History
+    now = filter (λ entry. is_given service command (sent_to tag entry)) (since_docking rest)
+
+    touched : touches tag entry ≡ true
+    touched = go (is_accepted_of tag entry) (sent_to tag entry) sends
+      where
+        go : (own : Bool) (found : Option Sent) → found ≡ Some sent → (own || is_some found) ≡ true
+        go true found e = refl
+        go false None e = cc
+        go false (Some x) e = refl
+
+    counted : (b : Bool) (n : ℕ) → (cond b (suc n) n) ≡ cond b 1 0 + n
+    counted true n = omega arith
+    counted false n = omega arith
+
+    lengths : (b : Bool) (xs : History) → length (cond b (entry ∷ xs) xs) ≡ cond b (suc (length xs)) (length xs)
+    lengths true xs = refl
+    lengths false xs = refl
+
+-- the command found in a history stands in it
+found-within : (tag : List ℕ) (from : ℕ) (history : History) (found : Found)
+    → next_command tag from history ≡ Some found → found.place < length history × from ≤ found.place
+found-within tag from [] found is = cc
+found-within tag from (entry ∷ older) found is =
+    go (next_command tag from older) refl is (found-within tag from older found)
+  where
+    here : (late : Bool) (sent : Option Sent) → nat_le from (length older) ≡ late →
+        (if late then option_map {U = Found} (λ sent. record { sent = sent; place = length older }) sent else None)
+        ≡ Some found →
+        found.place < length (entry ∷ older) × from ≤ found.place
+    here false sent is e = cc
+    here true None is e = cc
+    here true (Some sent) is e =
+        let at : length older ≡ found.place = ap (λ (f : Found). f.place) (same_Some _ found e) in
+        let within : from ≤ length older = le-holds from (length older)
+        is in (omega (arith, at), omega (arith, at, within))
+
+    go : (earlier : Option Found) → next_command tag from older ≡ earlier
+        → option_or earlier (found_at tag from (length older) entry) ≡ Some found →
+        (next_command tag from older ≡ Some found → found.place < length older × from ≤ found.place) →
+        found.place < length (entry ∷ older) × from ≤ found.place
+    go (Some first) earlier e again =
+        let same : first ≡ found = same_Some first found e in
+        let inside = again (earlier ∙ ap Some same) in (omega (arith, inside.0), inside.1)
+    go None earlier e again = here (nat_le from (length older)) (sent_to tag entry) refl e
+
+-- looking at the next command
+pub next_counted : NextCounts
+next_counted tag from [] found service command stays is = cc
+next_counted tag from (entry ∷ older) found service command stays is =
+    go (next_command tag from older) refl is (next_counted tag from older found service command stays.1)
+  where
+    here : (late : Bool) (sent : Option Sent) → nat_le from (length older) ≡ late → sent_to tag entry ≡ sent
+        → next_command tag from older ≡ None →
+        (if late then option_map {U = Found} (λ sent. record { sent = sent; place = length older }) sent else None)
+        ≡ Some found →
+        times_sent tag service command (story tag (before (suc found.place) (entry ∷ older)))
+        ≡ (if is_given service command (Some found.sent) then 1 else 0) + times_sent tag service command
+        (story tag (before from (entry ∷ older)))
+    here false sent late sends none e = cc
+    here true None late sends none e = cc
+    here true (Some sent) late sends none e =
+        let same = same_Some _ found e in
+        let at : length older ≡ found.place = ap (λ (f : Found). f.place) same in
+        let its : sent ≡ found.sent = ap (λ (f : Found). f.sent) same in
+        let within : from ≤ length older = le-holds from (length older) late in
+        let all : length (entry ∷ older) ≤ suc found.place = omega (arith, at) in
+        rw (before-all (suc found.place) (entry ∷ older) all, before-later from entry older within)
+        (count-sent tag service command entry (story tag older) found.sent (sends ∙ ap Some its) (stays.0 within)
+        ∙ ap (λ n. (if is_given service command (Some found.sent) then 1 else 0) + n)
+        (none-counted tag from older service command stays.1 none))
+
+    go : (earlier : Option Found) → next_command tag from older ≡ earlier
+        → option_or earlier (found_at tag from (length older) entry) ≡ Some found →
+        (next_command tag from older ≡ Some found
+        → times_sent tag service command (story tag (before (suc found.place) older))
+        ≡ (if is_given service command (Some found.sent) then 1 else 0) + times_sent tag service command
+        (story tag (before from older))) →
+        times_sent tag service command (story tag (before (suc found.place) (entry ∷ older)))
+        ≡ (if is_given service command (Some found.sent) then 1 else 0) + times_sent tag service command
+        (story tag (before from (entry ∷ older)))
+    go (Some first) earlier e again =
+        let same : first ≡ found = same_Some first found e in
+        let inside = found-within tag from older found (earlier ∙ ap Some same) in
+        let one : suc found.place ≤ length older = omega (arith, inside.0) in
+        let other : from ≤ length older = omega (arith, inside.0, inside.1) in
+        rw (before-later (suc found.place) entry older one, before-later from entry older other)
+        (again (earlier ∙ ap Some same))
+    go None earlier e again = here (nat_le from (length older)) (sent_to tag entry) refl refl earlier e

@@ -1,0 +1,118 @@
+-- How a simulated module stands to what was told of it.
+use Rattle.std.specs.Prelude.{ℕ, ℤ, ◌≡◌, ◌≤◌, Bool, false, List, [], ◌∷◌, map, find, Option, Some, None, option_map, if◌then◌else◌}
+use Rattle.std.specs.Str.{bytes_eq}
+use Rattle.mtp_codes.specs.declared.command.Command.{Command}
+use Rattle.mtp_assembly.specs.declared.control.ServiceControl.{ServiceControl}
+use Rattle.mtp_json.specs.Form.{repeats_by}
+use Rattle.mtp_desc.specs.Plain.{DescriptionForm}
+use Rattle.mtp_desc.specs.Lookup.{self_completes}
+use Rattle.mtp_sim.specs.declared.service.SimService.{SimService}
+use Rattle.mtp_sim.specs.declared.drift.SimDrift.{SimDrift}
+use Rattle.mtp_sim.specs.declared.report.SimReport.{SimReport}
+use Rattle.mtp_sim.specs.declared.report.SimReport.TheVariants.{Service, Variable}
+use Rattle.mtp_sim.specs.Sims.{SimForm, PlanForm, drift_in}
+use Rattle.mtp_sim.specs.Ticks.{control_now, is_untold}
+use Rattle.pol_events.specs.Events.{EventForm, report, variable}
+use Rattle.pol_events.specs.declared.answer.Answer.TheVariants.{Done}
+use Rattle.pol_history.specs.Looking.{History}
+use Rattle.pol_history.specs.Modules.{since_docking, description_by, value_by}
+use Rattle.pol_site.specs.Sites.{SiteForm}
+use Rattle.pol_site.specs.Stories.{times_sent, controls_in}
+use Rattle.pol_site.specs.Plans.{plan_by, whole_in}
+use Rattle.pol_site.specs.Commanded.{changes_by}
+
+-- ---- what was told
+
+-- the event of a report, without its stamp
+abbrev pub report_event : List ℕ → SimReport → EventForm
+report_event tag (Service name control) = report 0 tag name control
+report_event tag (Variable name value) = variable 0 tag name value
+
+-- what a module told: its past, and in front of it the report that still waits to be applied
+abbrev pub told : List ℕ → Option SimReport → History → History
+told tag None past = past
+told tag (Some waiting) past = record { event = report_event tag waiting; answer = Done } ∷ past
+
+-- the newest of a list whose newest comes first
+abbrev pub newest : {A : Type 0} → List A → Option A
+newest [] = None
+newest (first ∷ others) = Some first
+
+-- ---- one service, one drift
+
+-- what the service told last is what it keeps; and where its state is told, that is what it reports now
+pub record IsTold (description : DescriptionForm) (service : SimService) (controls : List ServiceControl) : Type 0 where
+  pub last : option_map (λ control. control.state) (newest controls) ≡ service.last
+  pub now : is_untold service ≡ false → newest controls ≡ Some (control_now description service)
+
+-- a service that the module hasn't got told nothing
+abbrev pub IsServiceTold : DescriptionForm → Option SimService → List ServiceControl → Type 0
+IsServiceTold description None controls = controls ≡ []
+IsServiceTold description (Some service) controls = IsTold description service controls
+
+-- what the service went through: what it told, and its state where that isn't told
+abbrev pub gone_through : DescriptionForm → SimService → List ServiceControl → List ServiceControl
+gone_through description service controls =
+    if is_untold service then control_now description service ∷ controls else controls
+
+-- the drift's last value is the one that it keeps; a variable that doesn't drift has none
+abbrev pub IsDriftTold : Option SimDrift → Option ℤ → Type 0
+IsDriftTold None value = value ≡ None
+IsDriftTold (Some drift) value = value ≡ drift.last
+
+-- ---- a module
+
+-- the service of this name
+abbrev pub service_called : List ℕ → List SimService → Option SimService
+service_called name services = find (λ service. bytes_eq service.name name) services
+
+-- the drift of this name
+abbrev pub drift_called : List ℕ → List SimDrift → Option SimDrift
+drift_called name drifts = find (λ drift. bytes_eq drift.name name) drifts
+
+-- two services of one name
+abbrev pub is_same_service : SimService → SimService → Bool
+is_same_service service other = bytes_eq service.name other.name
+
+-- two drifts of one name
+abbrev pub is_same_drift : SimDrift → SimDrift → Bool
+is_same_drift drift other = bytes_eq drift.name other.name
+
+-- the plan by which the module is simulated
+abbrev pub plan_in : SimForm → PlanForm
+plan_in sim = record { ticks = sim.ticks; run = sim.run; drifts = map drift_in sim.drifts }
+
+-- the module is the one that is docked, as its site plans it, and what it keeps is what was told
+pub record IsInStep (site : SiteForm) (tag : List ℕ) (past : History) (sim : SimForm) : Type 0 where
+  pub described : description_by past ≡ Some sim.description
+  pub planned : plan_by site tag past ≡ Some (plan_in sim)
+  pub unlike_services : repeats_by is_same_service sim.services ≡ false
+  pub unlike_drifts : repeats_by is_same_drift sim.drifts ≡ false
+  pub services :
+      (name : List ℕ) →
+      IsServiceTold sim.description (service_called name sim.services) (controls_in name (since_docking past))
+  pub drifts : (name : List ℕ) → IsDriftTold (drift_called name sim.drifts) (whole_in (value_by name past))
+
+-- how often the service changed by the command, by what it went through
+abbrev pub changes_of : DescriptionForm → List ℕ → Command → SimService → List ServiceControl → ℕ
+changes_of description name command service controls =
+    changes_by (λ procedure. self_completes name procedure description) command
+    (gone_through description service controls)
+
+-- a service went through at most as many changes by a command as were sent among what the module looked at
+abbrev pub IsServiceCounted :
+    DescriptionForm → List ℕ → Option SimService → List ServiceControl → (Command → ℕ) → Type 0
+IsServiceCounted description name None controls sent = Unit {0}
+IsServiceCounted description name (Some service) controls sent =
+    (command : Command) → changes_of description name command service controls ≤ sent command
+
+-- each service did, where so many commands were sent to a service of a name
+abbrev pub IsCountedBy : (List ℕ → Command → ℕ) → History → SimForm → Type 0
+IsCountedBy sent past sim =
+    (name : List ℕ) →
+    IsServiceCounted sim.description name (service_called name sim.services) (controls_in name (since_docking past))
+    (sent name)
+
+-- the commands are those of the part of the story that the module looked at
+abbrev pub IsCounted : List ℕ → History → History → SimForm → Type 0
+IsCounted tag past looked sim = IsCountedBy (λ name command. times_sent tag name command looked) past sim

@@ -1,0 +1,47 @@
+//! What a simulated module keeps beside a history: it is in step with what it told there, and its changes are counted
+//! against the commands that it looked at; so each change has its command, and its reports are accepted. Each is a law
+//! over plain data, the contract of a function with an empty body.
+//!
+//! It knows nothing of batches, of threads or of who takes turns. What a module in step is stands in `specs/Units.antt`.
+#![tactic(auto)]
+
+ghost use Rattle.pol_simulated.specs.Laws.{CommandsKeep, CountsGiveCommanded, FirstSimsAreInStep, ReportsAreAccepted, TicksKeep, UntouchedKeeps};
+ghost use Rattle.pol_simulated.specs.Places.{NextCounts};
+
+/// A new simulator, of whose module nothing was told since docking, is in step, and its changes are counted.
+pub fn first_sims_are_in_step()
+    ensures { FirstSimsAreInStep }
+{}
+
+/// A tick keeps a module in step, and its changes counted.
+pub fn ticks_keep()
+    ensures { TicksKeep }
+{}
+
+/// So does a command that it takes.
+pub fn commands_keep()
+    ensures { CommandsKeep }
+{}
+
+/// Looking at the next command counts that command and no other.
+#[tactic(auto, using(crate::proofs::Places::next_counted))]
+pub fn next_counts()
+    ensures { NextCounts }
+{}
+
+/// An entry that doesn't touch a module changes neither its past nor its story.
+#[tactic(auto, using(crate::proofs::Counted::untouched_kept))]
+pub fn untouched_keeps()
+    ensures { UntouchedKeeps }
+{}
+
+/// Where a module's changes are counted, each has its command.
+#[tactic(auto, using(crate::proofs::Counted::counted_commanded))]
+pub fn counts_give_commanded()
+    ensures { CountsGiveCommanded }
+{}
+
+/// A report of a service that a docked module in step gives is accepted, and tells a new state.
+pub fn reports_are_accepted()
+    ensures { ReportsAreAccepted }
+{}
