@@ -4,9 +4,8 @@ use Rattle.std.specs.Prelude.{nat_le, is_ok}
 use Rattle.std.specs.List.{list_all}
 use Rattle.std.proofs.lemmas.Bool.{and_parts, not-true}
 use Rattle.std.proofs.lemmas.Bool.Decides.{nat_tests}
-use Rattle.serde_json.specs.Data.{string, object}
+use Rattle.serde_json.specs.Data.{string, object, depth, items_depth}
 use Rattle.serde_json.specs.Events.{items_len}
-use Rattle.serde_json.specs.Read.{max_depth}
 use Rattle.mtp_codes.specs.Names.{is_name}
 use Rattle.mtp_codes.specs.declared.value.Reading.{Reading as Compared}
 use Rattle.mtp_codes.specs.declared.value.Reading.TheVariants.{Whole, Bit}
@@ -22,8 +21,7 @@ use Rattle.chart_core.specs.Roles.{ChartPlan, RolePlan, are_roles_formed, is_cha
 use Rattle.chart_core.specs.Trees.{StepPlan, Tree, Trees, Arms, ArmPlan, leaf, seq, par, choice, loop, no_trees, more_trees, no_arms, more_arms, trees_of, arms_of, arm_count}
 use Rattle.chart_core.specs.declared.condition.Op.{Op}
 use Rattle.chart_core.specs.declared.condition.Op.TheVariants.{Lt, Le, Eq, Ne, Ge, Gt}
-use Rattle.chart_json.proofs.Depths.{nesting_told}
-use Rattle.chart_json.specs.Form.{role_of, roles_of, are_roles_sized, same_role, compared, const_form, all_form, any_form, not_form, test_form, condition_by_key, condition_within, condition_of, same_setting, setting_of, step_of, step_form, seq_form, par_form, arm_of, sel_form, loop_form, has, node_by_key, tree_within, tree_of, chart_from, chart_of}
+use Rattle.chart_json.specs.Form.{role_of, roles_of, are_roles_sized, same_role, compared, const_form, all_form, any_form, not_form, test_form, condition_by_key, condition_within, formula_of, condition_of, same_setting, setting_of, step_of, step_form, seq_form, par_form, arm_of, sel_form, loop_form, has, node_by_key, tree_within, tree_of, chart_from, chart_of}
 use Rattle.chart_json.specs.Levels.{levels, all_levels, arm_levels}
 use Rattle.chart_json.specs.Requirement.{requirement_of}
 use Rattle.chart_json.specs.Sound.{is_role_sound, is_compared_sound, is_formula_sound, are_formulas_sound, is_setting_sound, is_finish_sound, is_step_sound, is_tree_sound, are_trees_sound, are_arms_sound, is_sound}
@@ -99,6 +97,28 @@ mutual
       let sounds = and_parts (is_formula_sound one) (are_formulas_sound others) sound in
       rw (within_again one depth parts.0 sounds.0 (omega arith), all_again others depth (suc place) parts.1 sounds.1 (omega arith)) refl
 
+mutual
+  unfolding written_formula written_formulas
+
+  -- a written condition nests as deep as the condition, at least
+  formula_levels : (condition : Formula) → nesting condition ≤ suc (depth (written_formula condition))
+  formula_levels (constant holds) = omega arith
+  formula_levels (all_of each) = omega (arith, formulas_levels each)
+  formula_levels (any_of each) = omega (arith, formulas_levels each)
+  formula_levels (not_of inner) = omega (arith, formula_levels inner)
+  formula_levels (test role variable op value) = omega arith
+
+  formulas_levels : (conditions : Formulas) → nestings conditions ≤ suc (items_depth (written_formulas conditions))
+  formulas_levels no_formulas = omega arith
+  formulas_levels (more_formulas one others) = omega (arith, formula_levels one, formulas_levels others)
+
+-- a condition of any size that is written is read back
+formula_again : (condition : Formula) → has_parts_formed condition ≡ true → is_formula_sound condition ≡ true
+    → formula_of (written_formula condition) ≡ Ok condition
+unfolding formula_of
+formula_again condition formed sound =
+    within_again condition (suc (depth (written_formula condition))) formed sound (formula_levels condition)
+
 -- a condition that is written is read back
 pub condition_again : (condition : Formula) → is_formula_formed condition ≡ true → is_formula_sound condition ≡ true
     → condition_of (written_formula condition) ≡ Ok condition
@@ -106,7 +126,7 @@ unfolding condition_of
 condition_again condition formed sound =
     let parts = and_parts (has_parts_formed condition) (nat_le (test_count condition) 16 && nat_le (nesting condition) 8) formed in
     let small = and_parts (nat_le (test_count condition) 16) (nat_le (nesting condition) 8) parts.1 in
-    rw (within_again condition max_depth parts.0 sound (omega (arith, nesting_told (nesting condition) small.1)), small.0, small.1) refl
+    rw (formula_again condition parts.0 sound, small.0, small.1) refl
 
 -- ---- steps
 
@@ -273,10 +293,29 @@ mutual
         arms_again others depth (suc place) rest.1 more.1 (omega arith),
       ) refl
 
--- a node that is written is read back, where no node lies deeper than 127
-pub tree_again : (node : Tree) → is_tree_formed node ≡ true → is_tree_sound node ≡ true → levels node ≤ 127 → tree_of (written_tree node) ≡ Ok node
+mutual
+  unfolding written_tree written_trees written_arms
+
+  -- a written node nests as deep as its nodes lie, at least
+  tree_levels : (node : Tree) → levels node ≤ suc (depth (written_tree node))
+  tree_levels (leaf step) = omega arith
+  tree_levels (seq each) = omega (arith, trees_levels each)
+  tree_levels (par each) = omega (arith, trees_levels each)
+  tree_levels (choice each) = omega (arith, arms_levels each)
+  tree_levels (loop body until) = omega (arith, tree_levels body)
+
+  trees_levels : (nodes : Trees) → all_levels nodes ≤ suc (items_depth (written_trees nodes))
+  trees_levels no_trees = omega arith
+  trees_levels (more_trees one others) = omega (arith, tree_levels one, trees_levels others)
+
+  arms_levels : (arms : Arms) → arm_levels arms ≤ suc (items_depth (written_arms arms))
+  arms_levels no_arms = omega arith
+  arms_levels (more_arms when one others) = omega (arith, tree_levels one, arms_levels others)
+
+-- a node that is written is read back
+pub tree_again : (node : Tree) → is_tree_formed node ≡ true → is_tree_sound node ≡ true → tree_of (written_tree node) ≡ Ok node
 unfolding tree_of
-tree_again node formed sound deep = tree_within_again node max_depth formed sound deep
+tree_again node formed sound = tree_within_again node (suc (depth (written_tree node))) formed sound (tree_levels node)
 
 -- ---- roles
 
@@ -341,14 +380,14 @@ roles_of_chart_again chart formed sound =
     roles_again chart.roles (sized_told chart formed) (and_parts (list_all is_role_sound chart.roles) (is_tree_sound chart.root) sound).0
 
 -- the written root of a chart is read back
-pub root_again : (chart : ChartPlan) → is_chart_form chart ≡ true → is_sound chart ≡ true → levels chart.root ≤ 127
+pub root_again : (chart : ChartPlan) → is_chart_form chart ≡ true → is_sound chart ≡ true
     → tree_of (written_tree chart.root) ≡ Ok chart.root
-root_again chart formed sound deep =
+root_again chart formed sound =
     tree_again chart.root (and_parts (are_roles_formed chart) (is_tree_formed chart.root) formed).1
-    (and_parts (list_all is_role_sound chart.roles) (is_tree_sound chart.root) sound).1 deep
+    (and_parts (list_all is_role_sound chart.roles) (is_tree_sound chart.root) sound).1
 
 -- a chart that is written is read back
-pub chart_again : (chart : ChartPlan) → is_chart_form chart ≡ true → is_sound chart ≡ true → levels chart.root ≤ 127
+pub chart_again : (chart : ChartPlan) → is_chart_form chart ≡ true → is_sound chart ≡ true
     → chart_of (written_roles chart.roles) (written_tree chart.root) ≡ Ok chart
 unfolding chart_of
-chart_again chart formed sound deep = rw (roles_of_chart_again chart formed sound, root_again chart formed sound deep, chart_from_again chart formed) refl
+chart_again chart formed sound = rw (roles_of_chart_again chart formed sound, root_again chart formed sound, chart_from_again chart formed) refl

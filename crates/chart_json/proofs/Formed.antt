@@ -8,8 +8,7 @@ use Rattle.std.specs.Str.{bytes_eq}
 use Rattle.std.proofs.lemmas.Bool.{and_parts}
 use Rattle.std.proofs.lemmas.Result.{IfOk-weaker}
 use Rattle.std.proofs.lemmas.Slice.Eq.{bytes_eq-Decides}
-use Rattle.serde_json.specs.Data.{Data}
-use Rattle.serde_json.specs.Read.{max_depth}
+use Rattle.serde_json.specs.Data.{Data, depth}
 use Rattle.mtp_codes.specs.declared.value.Reading.{Reading as Compared}
 use Rattle.mtp_codes.specs.declared.value.Setting.{Setting}
 use Rattle.mtp_codes.specs.Numbers.{is_between}
@@ -24,7 +23,7 @@ use Rattle.chart_core.specs.declared.condition.Op.{Op}
 use Rattle.chart_core.specs.Formulas.{Formula, all_of, any_of, not_of, formulas_of, test}
 use Rattle.chart_core.specs.Roles.{RolePlan, is_chart_form}
 use Rattle.chart_core.specs.Trees.{StepPlan, Tree, ArmPlan, leaf, seq, par, choice, loop, trees_of, arms_of, arm_count}
-use Rattle.chart_json.specs.Form.{role_of, roles_of, are_roles_sized, same_role, const_form, all_form, any_form, not_form, test_form, condition_by_key, condition_within, is_small, condition_of, same_setting, setting_of, step_of, items_from, list_from, step_form, seq_form, par_form, arm_of, sel_form, loop_form, node_by_key, tree_within, tree_of}
+use Rattle.chart_json.specs.Form.{role_of, roles_of, are_roles_sized, same_role, const_form, all_form, any_form, not_form, test_form, condition_by_key, condition_within, formula_of, is_small, condition_of, same_setting, setting_of, step_of, items_from, list_from, step_form, seq_form, par_form, arm_of, sel_form, loop_form, node_by_key, tree_within, tree_of}
 use Rattle.chart_json.specs.Requirement.{requirement_of}
 use Rattle.chart_json.proofs.Told.{HasSize, any_before, any_value, told_before, told_at, told_here, either, kept, told_need, told_inside, told_inside_if_there, told_count, told_text, told_items, told_items_from, IsListOf, told_all, told_list, told_list_or_none}
 
@@ -93,10 +92,14 @@ unfolding condition_by_key
 by_key_parts inner told value =
     search (either, const_parts value, all_parts inner told value, any_parts inner told value, not_parts inner told value, test_parts value) depth 12
 
-within_parts : (depth : ℕ) (value : Data) → IfOk (condition_within depth value) HasParts
+within_parts : (levels : ℕ) (value : Data) → IfOk (condition_within levels value) HasParts
 unfolding condition_within
 within_parts zero value = tt
-within_parts (suc depth) value = search (any_before, by_key_parts (condition_within depth) (within_parts depth) value)
+within_parts (suc levels) value = search (any_before, by_key_parts (condition_within levels) (within_parts levels) value)
+
+formula_parts : (value : Data) → IfOk (formula_of value) HasParts
+unfolding formula_of
+formula_parts value = within_parts (suc (depth value)) value
 
 -- the condition is formed
 abbrev pub IsFormed : Formula → Type 0
@@ -106,9 +109,9 @@ IsFormed condition = is_formula_formed condition ≡ true
 pub condition_formed : (value : Data) → IfOk (condition_of value) IsFormed
 unfolding condition_of
 condition_formed value =
-    told_before HasParts IsFormed (condition_within max_depth value)
+    told_before HasParts IsFormed (formula_of value)
     (λ condition. refused_if (not (is_small condition)) OutOfRange >>= λ _. Ok condition)
-    (within_parts max_depth value)
+    (formula_parts value)
     (λ condition formed.
     told_before (λ _. not (is_small condition) ≡ false) IsFormed (refused_if (not (is_small condition)) OutOfRange)
     (λ _. Ok condition) (kept (not (is_small condition)) OutOfRange)
@@ -301,15 +304,15 @@ unfolding node_by_key
 node_by_key_formed inner told value =
     search (either, leaf_formed value, seq_formed inner told value, par_formed inner told value, sel_formed inner told value, loop_formed inner told value) depth 12
 
-within_formed : (depth : ℕ) (value : Data) → IfOk (tree_within depth value) IsNode
+within_formed : (levels : ℕ) (value : Data) → IfOk (tree_within levels value) IsNode
 unfolding tree_within
 within_formed zero value = tt
-within_formed (suc depth) value = search (any_before, node_by_key_formed (tree_within depth) (within_formed depth) value)
+within_formed (suc levels) value = search (any_before, node_by_key_formed (tree_within levels) (within_formed levels) value)
 
 -- a node that is read is formed, with all that is in it
 pub tree_formed : (value : Data) → IfOk (tree_of value) (λ node. is_tree_formed node ≡ true)
 unfolding tree_of
-tree_formed value = within_formed max_depth value
+tree_formed value = within_formed (suc (depth value)) value
 
 -- ---- roles
 

@@ -6,3 +6,4 @@ pub mod Depths
 pub mod Again
 pub mod Told
 pub mod Formed
+pub mod Within

@@ -2,10 +2,9 @@
 use Rattle.std.specs.Prelude.{ℕ, zero, suc, ◌&&◌, nat_le, ℤ, List, length, Bool, not, codes, Option, Some, None, is_some, Ok, Err, if◌then◌else◌}
 use Rattle.std.specs.List.{list_all}
 use Rattle.std.specs.Str.{bytes_eq}
-use Rattle.serde_json.specs.Data.{Data, null, boolean, number, string, array, object, Items}
+use Rattle.serde_json.specs.Data.{Data, null, boolean, number, string, array, object, depth, Items}
 use Rattle.serde_json.specs.Events.{items_len}
 use Rattle.serde_json.specs.Find.{get, as_array, as_integer}
-use Rattle.serde_json.specs.Read.{max_depth}
 use Rattle.mtp_codes.specs.declared.value.Reading.{Reading as Compared}
 use Rattle.mtp_codes.specs.declared.value.Reading.TheVariants.{Whole, Bit}
 use Rattle.mtp_codes.specs.declared.value.Setting.{Setting}
@@ -113,22 +112,25 @@ condition_by_key inner value =
     else if has (codes "test") value then test_form value
     else under (codes "const") (here (Err Missing))
 
--- a condition that is nested at most this deep
+-- a condition that nests at most this deep
 unfoldable pub condition_within : ℕ → Data → Reading Formula
 condition_within zero value = here (Err OutOfRange)
-condition_within (suc depth) value =
+condition_within (suc levels) value =
     object_here value >>= λ _.
-    condition_by_key (condition_within depth) value
+    condition_by_key (condition_within levels) value
+
+-- a condition of any size: it nests no deeper than the value that says it
+unfoldable pub formula_of : Data → Reading Formula
+formula_of value = condition_within (suc (depth value)) value
 
 -- the condition has at most 16 tests and is nested at most 8 deep
 abbrev pub is_small : Formula → Bool
 is_small condition = nat_le (test_count condition) 16 && nat_le (nesting condition) 8
 
--- A whole condition. Its size is asked when all of it has been read. Since serde_json reads no text that nests deeper
--- than `max_depth` (127), a condition that stands in a text is never nested deeper than the reading goes.
+-- a whole condition; its size is asked when all of it has been read
 unfoldable pub condition_of : Data → Reading Formula
 condition_of value =
-    condition_within max_depth value >>= λ condition.
+    formula_of value >>= λ condition.
     refused_if (not (is_small condition)) OutOfRange >>= λ _.
     Ok condition
 
@@ -229,16 +231,16 @@ node_by_key inner value =
     else if has (codes "loop") value then loop_form inner value
     else under (codes "step") (here (Err Missing))
 
--- a node that lies at most this deep with all that is in it
+-- a node in which nodes lie at most this deep
 unfoldable pub tree_within : ℕ → Data → Reading Tree
 tree_within zero value = here (Err OutOfRange)
-tree_within (suc depth) value =
+tree_within (suc levels) value =
     object_here value >>= λ _.
-    node_by_key (tree_within depth) value
+    node_by_key (tree_within levels) value
 
--- A node and all that is in it. As with conditions, no node that stands in a text lies deeper than `max_depth`.
+-- a node and all that is in it: no node lies deeper than the value that says it
 unfoldable pub tree_of : Data → Reading Tree
-tree_of value = tree_within max_depth value
+tree_of value = tree_within (suc (depth value)) value
 
 -- ---- charts
 

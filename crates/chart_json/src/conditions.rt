@@ -8,21 +8,18 @@ ghost use Rattle.mtp_json.specs.Gives.{Gives};
 ghost use Rattle.mtp_json.specs.Reading.{here as found_here, under};
 ghost use Rattle.chart_core.specs.Formulas.{Formula, formula};
 ghost use Rattle.chart_core.specs.Form.{may_compare};
-ghost use Rattle.chart_json.specs.Form.{all_form, any_form, compared, condition_by_key, condition_of, condition_within, const_form, not_form, test_form};
+ghost use Rattle.chart_json.specs.Form.{all_form, any_form, compared, condition_by_key, condition_of, const_form, formula_of, not_form, test_form};
 
 use crate::sizes::is_small;
 use crate::words::OpWords;
 use chart_core::{Condition, Op};
 use mtp_codes::Reading;
 use mtp_json::{
-    FaultKind, FromJson, JsonRefusal, here, in_place, keyed, list_at, name_at, nothing_but,
-    object_here, refused_if, truth_at, under, value_at, whole_of, word_at,
+    FaultKind, FromJson, JsonRefusal, in_place, keyed, list_at, name_at, nothing_but, object_here,
+    refused_if, truth_at, under, value_at, whole_of, word_at,
 };
 use serde_json::Value;
 use std::alloc::Global;
-
-/// How deep a text nests at most that `serde_json` reads: no condition and no node that stands in one lies deeper.
-pub const MAX_DEPTH: u32 = 127;
 
 fn compared_of(value: &Value) -> Result<Reading, FaultKind>
     ensures { result ≡ compared (view value.now) }
@@ -91,23 +88,20 @@ fn refused_kind(alloc: Global) -> Result<Condition, JsonRefusal>
     keyed(alloc, "const", Err(FaultKind::Missing))
 }
 
+// The condition that an object is by the first of these keys that is there.
 #[cycle(condition)]
-#[tactic(auto, unfolding(crate::specs::Form::condition_within, crate::specs::Form::condition_by_key))]
-fn read_within(alloc: Global, value: &Value, depth: u32) -> Result<Condition, JsonRefusal>
-    ensures { Gives formula result (condition_within depth (view value.now)) }
+#[tactic(auto, unfolding(crate::specs::Form::condition_by_key))]
+fn read_by_key(alloc: Global, value: &Value) -> Result<Condition, JsonRefusal>
+    ensures { Gives formula result (condition_by_key formula_of (view value.now)) }
 {
-    if depth == 0 {
-        return here(alloc, Err(FaultKind::OutOfRange));
-    }
-    object_here(alloc, value)?;
     if value.get("const").is_some() {
         read_const(alloc, value)
     } else if value.get("all").is_some() {
-        read_all(alloc, value, depth - 1)
+        read_all(alloc, value)
     } else if value.get("any").is_some() {
-        read_any(alloc, value, depth - 1)
+        read_any(alloc, value)
     } else if value.get("not").is_some() {
-        read_not(alloc, value, depth - 1)
+        read_not(alloc, value)
     } else if value.get("test").is_some() {
         read_test(alloc, value)
     } else {
@@ -116,45 +110,53 @@ fn read_within(alloc: Global, value: &Value, depth: u32) -> Result<Condition, Js
 }
 
 #[cycle(condition)]
+fn read_inner(alloc: Global, value: &Value) -> Result<Condition, JsonRefusal>
+    ensures { Gives formula result (formula_of (view value.now)) }
+{
+    object_here(alloc, value)?;
+    read_by_key(alloc, value)
+}
+
+#[cycle(condition)]
 #[tactic(auto, unfolding(crate::specs::Form::all_form))]
-fn read_all(alloc: Global, value: &Value, depth: u32) -> Result<Condition, JsonRefusal>
-    ensures { Gives formula result (all_form (condition_within depth) (view value.now)) }
+fn read_all(alloc: Global, value: &Value) -> Result<Condition, JsonRefusal>
+    ensures { Gives formula result (all_form formula_of (view value.now)) }
 {
     let values = list_at(alloc, value, "all", 1, 16)?;
-    let all = read_each_under(alloc, "all", values, depth)?;
+    let all = read_each_under(alloc, "all", values)?;
     nothing_but(alloc, value, "all")?;
     Ok(Condition::All(all))
 }
 
 #[cycle(condition)]
 #[tactic(auto, unfolding(crate::specs::Form::any_form))]
-fn read_any(alloc: Global, value: &Value, depth: u32) -> Result<Condition, JsonRefusal>
-    ensures { Gives formula result (any_form (condition_within depth) (view value.now)) }
+fn read_any(alloc: Global, value: &Value) -> Result<Condition, JsonRefusal>
+    ensures { Gives formula result (any_form formula_of (view value.now)) }
 {
     let values = list_at(alloc, value, "any", 1, 16)?;
-    let any = read_each_under(alloc, "any", values, depth)?;
+    let any = read_each_under(alloc, "any", values)?;
     nothing_but(alloc, value, "any")?;
     Ok(Condition::Any(any))
 }
 
 #[cycle(condition)]
 #[tactic(auto, unfolding(crate::specs::Form::not_form))]
-fn read_not(alloc: Global, value: &Value, depth: u32) -> Result<Condition, JsonRefusal>
-    ensures { Gives formula result (not_form (condition_within depth) (view value.now)) }
+fn read_not(alloc: Global, value: &Value) -> Result<Condition, JsonRefusal>
+    ensures { Gives formula result (not_form formula_of (view value.now)) }
 {
     let inner = value_at(alloc, value, "not")?;
-    let condition = read_under(alloc, "not", inner, depth)?;
+    let condition = read_under(alloc, "not", inner)?;
     nothing_but(alloc, value, "not")?;
     Ok(Condition::Not(Box::new(alloc, condition)?))
 }
 
 #[cycle(condition)]
 #[tactic(auto, using(mtp_json::proofs::Each::gives_below))]
-fn read_under(alloc: Global, key: &str, value: &Value, depth: u32) -> Result<Condition, JsonRefusal>
+fn read_under(alloc: Global, key: &str, value: &Value) -> Result<Condition, JsonRefusal>
     requires { IsTrue (is_name key.now) }
-    ensures { Gives formula result (under key.now (condition_within depth (view value.now))) }
+    ensures { Gives formula result (under key.now (formula_of (view value.now))) }
 {
-    under(key, read_within(alloc, value, depth))
+    under(key, read_inner(alloc, value))
 }
 
 #[cycle(condition)]
@@ -163,23 +165,22 @@ fn read_each_under(
     alloc: Global,
     key: &str,
     values: &[Value],
-    depth: u32,
 ) -> Result<Vec<Condition>, JsonRefusal>
     requires { IsTrue (is_name key.now) }
     ensures { Gives (λ found. map formula found.items) result
-        (under key.now (each (condition_within depth) 0 (items_view values.now))) }
+        (under key.now (each formula_of 0 (items_view values.now))) }
 {
-    under(key, read_each(alloc, values, depth))
+    under(key, read_each(alloc, values))
 }
 
 // The list is gone over here, since a form that contains itself is no instance of `FromJson`.
 #[cycle(condition)]
-fn read_each(alloc: Global, values: &[Value], depth: u32) -> Result<Vec<Condition>, JsonRefusal>
-    ensures { Gives (λ found. map formula found.items) result (each (condition_within depth) 0 (items_view values.now)) }
+fn read_each(alloc: Global, values: &[Value]) -> Result<Vec<Condition>, JsonRefusal>
+    ensures { Gives (λ found. map formula found.items) result (each formula_of 0 (items_view values.now)) }
 {
     let mut found = Vec::new(alloc);
     for (i, value) in values.iter().enumerate() {
-        let condition = in_place(i, read_within(alloc, value, depth))?;
+        let condition = in_place(i, read_inner(alloc, value))?;
         found.push(condition)?;
     }
     Ok(found)
@@ -190,7 +191,7 @@ fn read_each(alloc: Global, values: &[Value], depth: u32) -> Result<Vec<Conditio
 pub fn read_condition(alloc: Global, value: &Value) -> Result<Condition, JsonRefusal>
     ensures { Gives formula result (condition_of (view value.now)) }
 {
-    let condition = read_within(alloc, value, MAX_DEPTH)?;
+    let condition = read_inner(alloc, value)?;
     refused_if(alloc, !is_small(&condition), FaultKind::OutOfRange)?;
     Ok(condition)
 }

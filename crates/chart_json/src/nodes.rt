@@ -8,15 +8,15 @@ ghost use Rattle.mtp_json.specs.Gives.{Gives};
 ghost use Rattle.mtp_json.specs.Reading.{here as found_here, under};
 ghost use Rattle.chart_core.specs.Form.{is_tree_formed};
 ghost use Rattle.chart_core.specs.Trees.{arm_plan, tree};
-ghost use Rattle.chart_json.specs.Form.{arm_of, loop_form, node_by_key, par_form, sel_form, seq_form, step_form, tree_of, tree_within};
+ghost use Rattle.chart_json.specs.Form.{arm_of, loop_form, node_by_key, par_form, sel_form, seq_form, step_form, tree_of};
 
-use crate::conditions::{ConditionJson, MAX_DEPTH};
+use crate::conditions::ConditionJson;
 use crate::lists::list_from_at;
 use crate::steps::read_step;
 use chart_core::{Arm, Node};
 use mtp_json::{
-    FaultKind, JsonRefusal, form_at, here, in_place, keyed, list_at, nothing_but, object_here,
-    under, value_at,
+    FaultKind, JsonRefusal, form_at, in_place, keyed, list_at, nothing_but, object_here, under,
+    value_at,
 };
 use serde_json::Value;
 use std::alloc::Global;
@@ -36,70 +36,75 @@ fn refused_kind(alloc: Global) -> Result<Node, JsonRefusal>
     keyed(alloc, "step", Err(FaultKind::Missing))
 }
 
+// The node that an object is by the first of these keys that is there.
 #[cycle(node)]
-#[tactic(auto, unfolding(crate::specs::Form::tree_within, crate::specs::Form::node_by_key))]
-fn read_within(alloc: Global, value: &Value, depth: u32) -> Result<Node, JsonRefusal>
-    ensures { Gives tree result (tree_within depth (view value.now)) }
+#[tactic(auto, unfolding(crate::specs::Form::node_by_key))]
+fn read_by_key(alloc: Global, value: &Value) -> Result<Node, JsonRefusal>
+    ensures { Gives tree result (node_by_key tree_of (view value.now)) }
 {
-    if depth == 0 {
-        return here(alloc, Err(FaultKind::OutOfRange));
-    }
-    object_here(alloc, value)?;
     if value.get("step").is_some() {
         read_step_node(alloc, value)
     } else if value.get("seq").is_some() {
-        read_seq(alloc, value, depth - 1)
+        read_seq(alloc, value)
     } else if value.get("par").is_some() {
-        read_par(alloc, value, depth - 1)
+        read_par(alloc, value)
     } else if value.get("sel").is_some() {
-        read_sel(alloc, value, depth - 1)
+        read_sel(alloc, value)
     } else if value.get("loop").is_some() {
-        read_loop(alloc, value, depth - 1)
+        read_loop(alloc, value)
     } else {
         refused_kind(alloc)
     }
 }
 
 #[cycle(node)]
+fn read_inner(alloc: Global, value: &Value) -> Result<Node, JsonRefusal>
+    ensures { Gives tree result (tree_of (view value.now)) }
+{
+    object_here(alloc, value)?;
+    read_by_key(alloc, value)
+}
+
+#[cycle(node)]
 #[tactic(auto, unfolding(crate::specs::Form::seq_form))]
-fn read_seq(alloc: Global, value: &Value, depth: u32) -> Result<Node, JsonRefusal>
-    ensures { Gives tree result (seq_form (tree_within depth) (view value.now)) }
+fn read_seq(alloc: Global, value: &Value) -> Result<Node, JsonRefusal>
+    ensures { Gives tree result (seq_form tree_of (view value.now)) }
 {
     let values = list_from_at(alloc, value, "seq", 1)?;
-    let nodes = read_each_under(alloc, "seq", values, depth)?;
+    let nodes = read_each_under(alloc, "seq", values)?;
     nothing_but(alloc, value, "seq")?;
     Ok(Node::Seq(nodes))
 }
 
 #[cycle(node)]
 #[tactic(auto, unfolding(crate::specs::Form::par_form))]
-fn read_par(alloc: Global, value: &Value, depth: u32) -> Result<Node, JsonRefusal>
-    ensures { Gives tree result (par_form (tree_within depth) (view value.now)) }
+fn read_par(alloc: Global, value: &Value) -> Result<Node, JsonRefusal>
+    ensures { Gives tree result (par_form tree_of (view value.now)) }
 {
     let values = list_from_at(alloc, value, "par", 2)?;
-    let nodes = read_each_under(alloc, "par", values, depth)?;
+    let nodes = read_each_under(alloc, "par", values)?;
     nothing_but(alloc, value, "par")?;
     Ok(Node::Par(nodes))
 }
 
 #[cycle(node)]
 #[tactic(auto, unfolding(crate::specs::Form::sel_form))]
-fn read_sel(alloc: Global, value: &Value, depth: u32) -> Result<Node, JsonRefusal>
-    ensures { Gives tree result (sel_form (tree_within depth) (view value.now)) }
+fn read_sel(alloc: Global, value: &Value) -> Result<Node, JsonRefusal>
+    ensures { Gives tree result (sel_form tree_of (view value.now)) }
 {
     let values = list_at(alloc, value, "sel", 1, 16)?;
-    let arms = read_arms_under(alloc, "sel", values, depth)?;
+    let arms = read_arms_under(alloc, "sel", values)?;
     nothing_but(alloc, value, "sel")?;
     Ok(Node::Sel(arms))
 }
 
 #[cycle(node)]
 #[tactic(auto, unfolding(crate::specs::Form::loop_form))]
-fn read_loop(alloc: Global, value: &Value, depth: u32) -> Result<Node, JsonRefusal>
-    ensures { Gives tree result (loop_form (tree_within depth) (view value.now)) }
+fn read_loop(alloc: Global, value: &Value) -> Result<Node, JsonRefusal>
+    ensures { Gives tree result (loop_form tree_of (view value.now)) }
 {
     let inner = value_at(alloc, value, "loop")?;
-    let body = read_under(alloc, "loop", inner, depth)?;
+    let body = read_under(alloc, "loop", inner)?;
     let until = form_at::<ConditionJson>(alloc, value, "until")?;
     nothing_but(alloc, value, "loop until")?;
     Ok(Node::Loop(Box::new(alloc, body)?, until))
@@ -107,75 +112,65 @@ fn read_loop(alloc: Global, value: &Value, depth: u32) -> Result<Node, JsonRefus
 
 #[cycle(node)]
 #[tactic(auto, unfolding(crate::specs::Form::arm_of))]
-fn read_arm(alloc: Global, value: &Value, depth: u32) -> Result<Arm, JsonRefusal>
-    ensures { Gives arm_plan result (arm_of (tree_within depth) (view value.now)) }
+fn read_arm(alloc: Global, value: &Value) -> Result<Arm, JsonRefusal>
+    ensures { Gives arm_plan result (arm_of tree_of (view value.now)) }
 {
     object_here(alloc, value)?;
     let when = form_at::<ConditionJson>(alloc, value, "when")?;
     let inner = value_at(alloc, value, "then")?;
-    let body = read_under(alloc, "then", inner, depth)?;
+    let body = read_under(alloc, "then", inner)?;
     nothing_but(alloc, value, "when then")?;
     Ok(Arm { when, body })
 }
 
 #[cycle(node)]
 #[tactic(auto, using(mtp_json::proofs::Each::gives_below))]
-fn read_under(alloc: Global, key: &str, value: &Value, depth: u32) -> Result<Node, JsonRefusal>
+fn read_under(alloc: Global, key: &str, value: &Value) -> Result<Node, JsonRefusal>
     requires { IsTrue (is_name key.now) }
-    ensures { Gives tree result (under key.now (tree_within depth (view value.now))) }
+    ensures { Gives tree result (under key.now (tree_of (view value.now))) }
 {
-    under(key, read_within(alloc, value, depth))
+    under(key, read_inner(alloc, value))
 }
 
 #[cycle(node)]
 #[tactic(auto, using(mtp_json::proofs::Each::gives_below))]
-fn read_each_under(
-    alloc: Global,
-    key: &str,
-    values: &[Value],
-    depth: u32,
-) -> Result<Vec<Node>, JsonRefusal>
+fn read_each_under(alloc: Global, key: &str, values: &[Value]) -> Result<Vec<Node>, JsonRefusal>
     requires { IsTrue (is_name key.now) }
-    ensures { Gives (λ found. map tree found.items) result (under key.now (each (tree_within depth) 0 (items_view values.now))) }
+    ensures { Gives (λ found. map tree found.items) result (under key.now (each tree_of 0 (items_view values.now))) }
 {
-    under(key, read_each(alloc, values, depth))
+    under(key, read_each(alloc, values))
 }
 
 #[cycle(node)]
 #[tactic(auto, using(mtp_json::proofs::Each::gives_below))]
-fn read_arms_under(
-    alloc: Global,
-    key: &str,
-    values: &[Value],
-    depth: u32,
-) -> Result<Vec<Arm>, JsonRefusal>
+fn read_arms_under(alloc: Global, key: &str, values: &[Value]) -> Result<Vec<Arm>, JsonRefusal>
     requires { IsTrue (is_name key.now) }
     ensures { Gives (λ found. map arm_plan found.items) result
-        (under key.now (each (arm_of (tree_within depth)) 0 (items_view values.now))) }
+        (under key.now (each (arm_of tree_of) 0 (items_view values.now))) }
 {
-    under(key, read_each_arm(alloc, values, depth))
+    under(key, read_each_arm(alloc, values))
 }
 
 // The two lists are gone over here, since a form that contains itself is no instance of `FromJson`.
 #[cycle(node)]
-fn read_each(alloc: Global, values: &[Value], depth: u32) -> Result<Vec<Node>, JsonRefusal>
-    ensures { Gives (λ found. map tree found.items) result (each (tree_within depth) 0 (items_view values.now)) }
+fn read_each(alloc: Global, values: &[Value]) -> Result<Vec<Node>, JsonRefusal>
+    ensures { Gives (λ found. map tree found.items) result (each tree_of 0 (items_view values.now)) }
 {
     let mut found = Vec::new(alloc);
     for (i, value) in values.iter().enumerate() {
-        let node = in_place(i, read_within(alloc, value, depth))?;
+        let node = in_place(i, read_inner(alloc, value))?;
         found.push(node)?;
     }
     Ok(found)
 }
 
 #[cycle(node)]
-fn read_each_arm(alloc: Global, values: &[Value], depth: u32) -> Result<Vec<Arm>, JsonRefusal>
-    ensures { Gives (λ found. map arm_plan found.items) result (each (arm_of (tree_within depth)) 0 (items_view values.now)) }
+fn read_each_arm(alloc: Global, values: &[Value]) -> Result<Vec<Arm>, JsonRefusal>
+    ensures { Gives (λ found. map arm_plan found.items) result (each (arm_of tree_of) 0 (items_view values.now)) }
 {
     let mut found = Vec::new(alloc);
     for (i, value) in values.iter().enumerate() {
-        let arm = in_place(i, read_arm(alloc, value, depth))?;
+        let arm = in_place(i, read_arm(alloc, value))?;
         found.push(arm)?;
     }
     Ok(found)
@@ -183,10 +178,9 @@ fn read_each_arm(alloc: Global, values: &[Value], depth: u32) -> Result<Vec<Arm>
 
 /// The node that this value is in the form of, with all that is in it; else the first fault in reading order, with its
 /// path.
-#[tactic(auto, unfolding(crate::specs::Form::tree_of))]
 pub fn read_node(alloc: Global, value: &Value) -> Result<Node, JsonRefusal>
     ensures gives { Gives tree result (tree_of (view value.now)) }
     ensures formed { IfOk result (λ node. IsTrue (is_tree_formed (tree node))) }
 {
-    read_within(alloc, value, MAX_DEPTH)
+    read_inner(alloc, value)
 }

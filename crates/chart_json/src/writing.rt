@@ -9,7 +9,6 @@ ghost use Rattle.chart_core.specs.Charts.{plan};
 ghost use Rattle.chart_core.specs.Roles.{role_plan};
 ghost use Rattle.chart_core.specs.Valid.{IsValid};
 ghost use Rattle.chart_json.specs.Form.{chart_of};
-ghost use Rattle.chart_json.specs.Levels.{levels};
 ghost use Rattle.chart_json.specs.Sound.{is_role_sound};
 ghost use Rattle.chart_json.specs.Written.{IsWritten, written_role, written_roles};
 
@@ -49,14 +48,10 @@ fn write_both(alloc: Global, chart: &Chart) -> Result<(Value, Value), AllocError
 }
 
 /// The values that stand for a chart at the keys `roles` and `chart`, with every key of their forms but `finish` where
-/// there is none. What is written of a valid chart is read back as the chart, and so is every chart that lies at most
-/// 127 deep.
+/// there is none. What is written is read back as the chart.
 pub fn write_chart(alloc: Global, chart: &Chart) -> Result<(Value, Value), AllocError>
     ensures values { IfOk result (λ pair. IsWritten (plan chart.now) (view pair.0) (view pair.1)) }
-    ensures reads_back { IfOk result (λ pair.
-        IsValid (plan chart.now) → chart_of (view pair.0) (view pair.1) ≡ Ok (plan chart.now)) }
-    ensures reads_back_to_127 { IfOk result (λ pair.
-        levels (plan chart.now).root ≤ 127 → chart_of (view pair.0) (view pair.1) ≡ Ok (plan chart.now)) }
+    ensures reads_back { IfOk result (λ pair. chart_of (view pair.0) (view pair.1) ≡ Ok (plan chart.now)) }
     ensures nests { IfOk result (λ pair. IsValid (plan chart.now) → (depth (view pair.0) ≤ 2) × (depth (view pair.1) ≤ 65)) }
     ensures whole { IfOk result (λ pair. (has_float (view pair.0) ≡ false) × (has_float (view pair.1) ≡ false)) }
 {

@@ -32,12 +32,10 @@ use Rattle.mtp_desc.proofs.Again.{description_again}
 use Rattle.mtp_desc.proofs.Sound.{IsDescription, description_sound}
 use Rattle.chart_core.specs.Charts.{plan}
 use Rattle.chart_core.specs.Roles.{ChartPlan, is_chart_form}
-use Rattle.chart_core.specs.Valid.{IsValid, chart_fault}
-use Rattle.chart_json.specs.Levels.{levels}
+use Rattle.chart_core.specs.Valid.{chart_fault}
 use Rattle.chart_json.specs.Sound.{is_sound}
 use Rattle.chart_json.specs.Written.{written_roles, written_tree}
 use Rattle.chart_json.proofs.Again.{chart_from_again, roles_of_chart_again, root_again}
-use Rattle.chart_json.proofs.Shallow.{valid_shallow}
 use Rattle.pol_events.specs.declared.event.Bind.{Bind}
 use Rattle.pol_events.specs.declared.event.Event.{Event}
 use Rattle.pol_events.specs.declared.event.Event.TheVariants.{Plug, Unplug, Report, Variable, Recipe, Start, Advance, Freeze, Thaw, StopBatch, Abandon, Desk, ExchangeBegin, ExchangeEnd, ExchangeCancel}
@@ -163,15 +161,14 @@ exchange_cancel_again at tag ticket held =
 
 -- ---- recipes
 
--- a written recipe with a valid chart is read back
-recipe_again : (at : ℕ) (named : List ℕ) (chart : ChartPlan) → is_chart_form chart ≡ true → is_held (recipe at named chart) ≡ true → IsValid chart
+-- a written recipe is read back
+recipe_again : (at : ℕ) (named : List ℕ) (chart : ChartPlan) → is_chart_form chart ≡ true → is_held (recipe at named chart) ≡ true
     → event_in (written_recipe at named (written_roles chart.roles) (written_tree chart.root)) ≡ Ok (recipe at named chart)
 unfolding event_in recipe_in written_recipe
-recipe_again at named chart formed held valid =
+recipe_again at named chart formed held =
     let parts = and_parts (is_stamped at named) (is_sound chart) held in
     let stamped = and_parts (is_between 0 greatest_u64 at) (is_name named) parts.0 in
-    let deep : levels chart.root ≤ 127 = omega (arith, valid_shallow chart valid) in
-    rw (stamped.0, stamped.1, roles_of_chart_again chart formed parts.1, root_again chart formed parts.1 deep, chart_from_again chart formed) refl
+    rw (stamped.0, stamped.1, roles_of_chart_again chart formed parts.1, root_again chart formed parts.1, chart_from_again chart formed) refl
 
 -- ---- batches
 
@@ -234,9 +231,7 @@ event_again (Plug at tag desc) held orderly = plug_again at tag (description_vie
 event_again (Unplug at tag) held orderly = tag_again (codes "unplug") unplug at tag held
 event_again (Report at tag service control) held orderly = report_again at tag service control held
 event_again (Variable at tag name value) held orderly = variable_again at tag name value held
-event_again (Recipe at name chart) held orderly =
-    recipe_again at name (plan chart.value) chart.value.form held
-    (faultless (recipe at name (plan chart.value)) orderly)
+event_again (Recipe at name chart) held orderly = recipe_again at name (plan chart.value) chart.value.form held
 event_again (Start at batch name bind) held orderly = start_again at batch name bind.items held orderly
 event_again (Advance at batch) held orderly = batch_again (codes "advance") advance at batch held
 event_again (Freeze at batch) held orderly = batch_again (codes "freeze") freeze at batch held

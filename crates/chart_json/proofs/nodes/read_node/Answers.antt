@@ -10,5 +10,5 @@ use Rattle.chart_json.proofs.nodes.read_node.Goals as goal
 pub returns-clause-formed : goal.returns-clause-formed
 unfolding tree_of
 returns-clause-formed c =
-    told_of tree (λ node. is_tree_formed node ≡ true) c.read_within.result
-    (tree_of (view c.args.value.now)) c.read_within.ensures (tree_formed (view c.args.value.now))
+    told_of tree (λ node. is_tree_formed node ≡ true) c.read_inner.result
+    (tree_of (view c.args.value.now)) c.read_inner.ensures (tree_formed (view c.args.value.now))

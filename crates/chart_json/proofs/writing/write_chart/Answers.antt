@@ -1,4 +1,3 @@
-use Rattle.std.proofs.Common.{arith}
 use Rattle.std.proofs.lemmas.Result.{IfOk-weaker}
 use Rattle.chart_core.specs.Charts.{plan}
 use Rattle.chart_json.proofs.Again.{chart_again}
@@ -10,15 +9,8 @@ use Rattle.chart_json.proofs.writing.write_chart.Goals as goal
 pub returns-clause-reads_back : goal.returns-clause-reads_back
 returns-clause-reads_back c =
     IfOk-weaker c.write_both.result _ _
-    (λ pair is. λ valid. rw (is.roles_are, is.root_is)
-    (chart_again (plan c.args.chart.now) c.args.chart.now.form is.sound
-    (omega (arith, valid_shallow (plan c.args.chart.now) valid)))) c.write_both.ensures
-
-pub returns-clause-reads_back_to_127 : goal.returns-clause-reads_back_to_127
-returns-clause-reads_back_to_127 c =
-    IfOk-weaker c.write_both.result _ _
-    (λ pair is. λ deep. rw (is.roles_are, is.root_is)
-    (chart_again (plan c.args.chart.now) c.args.chart.now.form is.sound deep)) c.write_both.ensures
+    (λ pair is. rw (is.roles_are, is.root_is)
+    (chart_again (plan c.args.chart.now) c.args.chart.now.form is.sound)) c.write_both.ensures
 
 pub returns-clause-nests : goal.returns-clause-nests
 returns-clause-nests c =
