@@ -1,5 +1,5 @@
 -- What a slot keeps once its module is docked.
-use Rattle.std.proofs.Common.{◌≡◌, Option, Some, None, Ok, Err, refl, ◌∙◌, ap}
+use Rattle.std.proofs.Common.{◌≡◌, Option, Some, None, Ok, refl, ◌∙◌, ap}
 use Rattle.std.specs.Prelude.{option_and_then, option_map}
 use Rattle.mtp_codes.specs.Faults.{done_unless}
 use Rattle.mtp_desc.specs.Plain.{DescriptionForm}
@@ -15,11 +15,6 @@ use Rattle.pol_slots.specs.declared.told.Told.{Told}
 pub no_fault : {E : Type 0} (fault : Option E) → done_unless fault ≡ Ok tt → fault ≡ None
 no_fault None is = refl
 no_fault (Some fault) is = cc
-
--- where it is an error, that is the fault
-pub the_fault : {E : Type 0} (fault : Option E) (error : E) → done_unless fault ≡ Err error → fault ≡ Some error
-the_fault None error is = cc
-the_fault (Some fault) error is = cc
 
 nothing_left :
     {A : Type 0} (nothing : Option A) → nothing ≡ None → (found : Option (Option A))

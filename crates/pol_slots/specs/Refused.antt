@@ -1,10 +1,10 @@
--- How a call on a slot may be refused.
-use Rattle.std.specs.Prelude.{◌≡◌, ⊤, Option, Some}
+-- How the end of an exchange is refused.
+use Rattle.std.specs.Prelude.{Option, Some, None}
 use Rattle.pol_events.specs.declared.answer.Rule.{Rule}
 use Rattle.pol_slots.specs.declared.refusal.SlotRefusal.{SlotRefusal}
 use Rattle.pol_slots.specs.declared.refusal.SlotRefusal.TheVariants as refusal
 
--- a rule refuses only where it is the one that holds; want of memory may refuse at any time
-abbrev pub IsRefusedBy : Option Rule → SlotRefusal → Type 0
-IsRefusedBy rule (refusal.Rule told) = rule ≡ Some told
-IsRefusedBy rule refusal.Memory = ⊤
+-- by the rule that holds; where none holds, for want of memory
+abbrev pub refusal_by : Option Rule → SlotRefusal
+refusal_by (Some rule) = refusal.Rule rule
+refusal_by None = refusal.Memory

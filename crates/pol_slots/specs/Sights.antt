@@ -1,5 +1,9 @@
 -- What is seen of a slot's services and variables.
-use Rattle.std.specs.Prelude.{ℕ, List, Option, Some, None, option_map}
+use Rattle.std.specs.Prelude.{ℕ, List, Option, Some, None, Result, Ok, Err, option_map}
+use Rattle.std.specs.Option.{option_or}
+use Rattle.pol_events.specs.Refusals.{in_exchange, no_service}
+use Rattle.pol_events.specs.declared.answer.Rule.{Rule}
+use Rattle.pol_events.specs.declared.answer.Rule.TheVariants.{NotReported}
 use Rattle.mtp_codes.specs.declared.value.Value.{Value}
 use Rattle.mtp_codes.specs.declared.value.Value.TheVariants as value
 use Rattle.mtp_codes.specs.declared.value.Reading.TheVariants as reading
@@ -11,7 +15,7 @@ use Rattle.chart_cursor.specs.declared.sight.Sight.{Sight}
 use Rattle.chart_cursor.specs.declared.sight.Sight.TheVariants as sight
 use Rattle.chart_cursor.specs.declared.sight.ReadingSight.{ReadingSight}
 use Rattle.chart_cursor.specs.declared.sight.ReadingSight.TheVariants as reading_sight
-use Rattle.pol_slots.specs.Slots.{slot_description, slot_ticket, last_control, last_value}
+use Rattle.pol_slots.specs.Slots.{slot_tag, slot_description, slot_ticket, last_control, last_value}
 use Rattle.pol_slots.specs.declared.slot.Slot.{Slot}
 
 -- a report, with what the description says of its procedure
@@ -29,6 +33,21 @@ sight_of None (Some view) = sight.Is view
 abbrev pub slot_sight : Slot → List ℕ → Sight
 slot_sight slot service =
     sight_of (slot_ticket slot) (option_map (view_by service (slot_description slot)) (last_control slot service))
+
+-- a view, unless a rule is against it; none at all is told by another rule
+abbrev pub view_unless : Option Rule → Rule → Option ServiceView → Result ServiceView Rule
+view_unless (Some rule) unseen view = Err rule
+view_unless None unseen None = Err unseen
+view_unless None unseen (Some view) = Ok view
+
+-- what the slot's service reported last, or the first rule against it: the module is away, its description lacks the
+-- service, or the service wasn't reported
+abbrev pub reported_view : Slot → List ℕ → Result ServiceView Rule
+reported_view slot service =
+    view_unless
+    (option_or (in_exchange (slot_tag slot) (slot_ticket slot)) (no_service service (slot_description slot)))
+    (NotReported (slot_tag slot) service)
+    (option_map (view_by service (slot_description slot)) (last_control slot service))
 
 -- what is seen of a variable whose module is away under a ticket, or has this value of it; a text is no reading
 abbrev pub reading_of : Option ℕ → Option Value → ReadingSight

@@ -3,7 +3,7 @@ ghost use Rattle.std.specs.Prelude.{◌≡◌, ℕ, ◌+◌, ◌<◌, Some, None
 ghost use Rattle.mtp_codes.specs.Faults.{done_unless};
 ghost use Rattle.mtp_desc.specs.DescriptionView.{description_view};
 ghost use Rattle.pol_events.specs.Refusals.{wrong_ticket};
-ghost use Rattle.pol_slots.specs.Refused.{IsRefusedBy};
+ghost use Rattle.pol_slots.specs.Refused.{refusal_by};
 ghost use Rattle.pol_slots.specs.Slots.{slot_tag, slot_description, slot_begins, slot_ticket, IsDocked, IsUnchanged, IsUnreported};
 
 use super::berth::Berth;
@@ -52,6 +52,26 @@ impl Slot {
         self.berth.ticket()
     }
 
+    /// How often the module began an exchange.
+    pub fn begins(&self) -> u32
+        ensures { result ≡ slot_begins self.now }
+    {
+        self.begins
+    }
+
+    // The ticket is the one under which the module is away.
+    fn check_ticket(&self, ticket: u32) -> Result<(), Rule>
+        ensures { result ≡ done_unless (wrong_ticket ticket (slot_ticket self.now)) }
+    {
+        match self.ticket() {
+            Some(kept) if kept != ticket => Err(Rule::WrongTicket {
+                kept,
+                given: ticket,
+            }),
+            _ => Ok(()),
+        }
+    }
+
     /// Sends the module away for exchange. The answer is the ticket, by which the exchange is ended or cancelled: one more
     /// than the exchanges that were begun before. What was reported is forgotten.
     #[tactic(auto, unfolding(crate::specs::Slots::last_control, crate::specs::Slots::last_value))]
@@ -74,16 +94,19 @@ impl Slot {
     /// Ends the exchange: another module, with this description, is docked in place of the one that is away. Nothing was
     /// reported of it yet.
     ///
-    /// `WrongTicket` with both tickets where the given one isn't that of the exchange, `Memory` for want of memory; after
-    /// either the slot is unchanged.
+    /// `WrongTicket` with both tickets where the given one isn't that of the exchange; else `Memory` for want of memory.
+    /// After either the slot is unchanged.
     #[tactic(auto, unfolding(crate::specs::Slots::last_control, crate::specs::Slots::last_value))]
     pub fn finish(&mut self, ticket: u32, description: Arc<Description>) -> Result<(), SlotRefusal>
         requires { IsSome (slot_ticket self.old) }
         ensures accepted { OnOk result (wrong_ticket ticket (slot_ticket self.old) ≡ None) }
         ensures docked { OnOk result (IsDocked self.old self.new (description_view description.value)) }
-        ensures refused { IfErr result (IsRefusedBy (wrong_ticket ticket (slot_ticket self.old))) }
+        ensures refused { IfErr result (λ refusal. refusal ≡ refusal_by (wrong_ticket ticket (slot_ticket self.old))) }
         ensures unchanged { OnErr result (IsUnchanged self.old self.new) }
     {
+        if let Err(rule) = self.check_ticket(ticket) {
+            return Err(SlotRefusal::Rule(rule));
+        }
         let told = Told::new(self.alloc, &description)?;
         let berth = mem::replace(&mut self.berth, Berth::empty(self.alloc));
         let (berth, answer) = berth.finish(ticket, told);
@@ -93,7 +116,7 @@ impl Slot {
                 self.description = description;
                 Ok(())
             }
-            Err(rule) => Err(SlotRefusal::Rule(rule)),
+            Err(_) => unreachable!(),
         }
     }
 

@@ -2,7 +2,7 @@
 ghost use Rattle.std.specs.Prelude.{◌≡◌};
 ghost use Rattle.mtp_codes.specs.Faults.{done_unless};
 ghost use Rattle.pol_events.specs.Refusals.{not_at_rest};
-ghost use Rattle.pol_slots.specs.Sights.{slot_sight, slot_reading};
+ghost use Rattle.pol_slots.specs.Sights.{slot_sight, slot_reading, reported_view, view_by};
 ghost use Rattle.pol_slots.specs.Slots.{slot_description, last_control, last_value};
 
 use super::slot::Slot;
@@ -30,6 +30,41 @@ impl Slot {
         self.berth.value(name)?
     }
 
+    // A report, with what the description says of its procedure.
+    fn seen_with(&self, service: Name, control: ServiceControl) -> ServiceView
+        ensures { result ≡ view_by service (slot_description self.now) control }
+    {
+        ServiceView {
+            control,
+            self_completes: self.description.self_completes(service, control.procedure),
+        }
+    }
+
+    /// What the service reported last since docking, with whether its current procedure completes by itself. It serves the
+    /// operator's desk, which tells a service that isn't there from one that wasn't reported.
+    ///
+    /// `InExchange` with the tag and the ticket while the module is away; `NoService` where its description lacks the
+    /// service; `NotReported` with the tag and the service.
+    #[tactic(auto, unfolding(crate::specs::Slots::last_control))]
+    pub fn reported(&self, service: Name) -> Result<ServiceView, Rule>
+        ensures { result ≡ reported_view self.now service }
+    {
+        if let Some(ticket) = self.ticket() {
+            return Err(Rule::InExchange {
+                tag: self.tag,
+                ticket,
+            });
+        }
+        match self.berth.control(service) {
+            None => Err(Rule::NoService),
+            Some(None) => Err(Rule::NotReported {
+                tag: self.tag,
+                name: service,
+            }),
+            Some(Some(control)) => Ok(self.seen_with(service, control)),
+        }
+    }
+
     /// What is seen of a service: the module is away; or the service wasn't reported since docking, or isn't there; or
     /// what it reported last, and whether its current procedure (`ProcedureCur`) completes by itself.
     pub fn view(&self, service: Name) -> Sight
@@ -40,10 +75,7 @@ impl Slot {
         }
         match self.control(service) {
             None => Sight::Unreported,
-            Some(control) => Sight::Is(ServiceView {
-                control,
-                self_completes: self.description.self_completes(service, control.procedure),
-            }),
+            Some(control) => Sight::Is(self.seen_with(service, control)),
         }
     }
 
