@@ -1,15 +1,14 @@
 -- The replay of a journal: its plant, its work and its output.
-use Rattle.std.specs.Prelude.{List}
 use Rattle.pol_events.specs.Events.{history_view}
-use Rattle.pol_events.specs.declared.event.Entry.{Entry}
 use Rattle.pol_history.specs.Looking.{History}
 use Rattle.pol_history.specs.Lines.{saying_of, answers_of, output_of, closing_text}
+use Rattle.pol_core.specs.Plants.{PlainPlant}
 use Rattle.pol_cli.specs.LineWork.{LineWork, Output}
 use Rattle.pol_cli.specs.Sayings.{reply_text, after_saying}
 
 -- the history of a plant, by what contracts see of it
-abbrev pub plant_history : List Entry → History
-plant_history plant = history_view plant
+abbrev pub plant_history : PlainPlant → History
+plant_history plant = history_view plant.entries
 
 -- what a replay does with each line, and at the end
 abbrev pub replay_work : LineWork History

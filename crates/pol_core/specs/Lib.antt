@@ -1,1 +1,13 @@
-pub mod Kept
+pub mod Histories
+pub mod Seats
+pub mod Batches
+pub mod Seen
+pub mod Mirrors
+pub mod Starting
+pub mod Judging
+pub mod Recipes
+pub mod Exchanges
+pub mod Walks
+pub mod Calls
+pub mod Commands
+pub mod Plants

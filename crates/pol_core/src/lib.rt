@@ -1,12 +1,23 @@
-//! The plant: everything that happened, and what each event is answered.
+//! The plant: everything that happened, what each event is answered, and tables of what that comes to.
 //!
-//! Contracts see a `Plant` as its history (`history_view`, the newest entry first). `Plant::apply` answers what
-//! `pol_history` defines, and appends the event with its answer. It knows nothing of lines, texts, threads or clocks.
+//! Contracts see a `Plant` as its entries and the number of further entries that it takes without memory
+//! (`specs/Mirrors.antt`). `Plant::apply` answers what `pol_history` defines, and appends the event with its answer; it
+//! never searches the history. It knows nothing of lines, texts, threads or clocks.
 #![tactic(auto)]
 
+mod answering;
+mod batches;
+mod binding;
+mod commands;
+mod docking;
+mod exchanges;
+mod modules;
 mod plant;
+mod recipes;
+mod seen;
+mod settings;
+mod starting;
 
+pub use commands::Sent;
+pub use docking::Docking;
 pub use plant::Plant;
-
-#[cfg(test)]
-mod tests;

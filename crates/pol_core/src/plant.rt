@@ -1,46 +1,72 @@
-//! The plant, seen as its history.
-ghost use Rattle.std.specs.Prelude.{◌≡◌, ◌<◌, ◌++◌, ◌∷◌, [], IfOk, IfErr, IsTrue, OnOk, vec_len, vec_capacity};
-ghost use Rattle.pol_events.specs.Events.{event_view, history_view};
+//! The plant, seen as its entries and the room for more.
+ghost use Rattle.std.specs.Prelude.{◌≡◌, ℕ, ◌<◌, ◌≤◌, ◌+◌, ◌++◌, ◌∷◌, [], drop, length, map, option_copied, IfOk, IfErr, IsOk, IsTrue, OnOk, OnErr, vec_len, vec_capacity};
+ghost use Rattle.pol_events.specs.Events.{entry_view, event_view, history_view, exchange_begin, start};
 ghost use Rattle.pol_events.specs.Orderly.{is_orderly};
 ghost use Rattle.pol_history.specs.Answers.{answer_of};
-ghost use Rattle.pol_history.specs.Runs.{entry_of, is_recorded, recorded, IsLegal, IsOrderly};
+ghost use Rattle.pol_history.specs.Batches.{holder_of};
+ghost use Rattle.pol_history.specs.Modules.{docking_of};
+ghost use Rattle.pol_history.specs.Runs.{entry_of, recorded, IsLegal, IsOrderly};
+ghost use Rattle.pol_core.specs.Calls.{open_next, plain_docking, refusal, settings_of, refused_first};
+ghost use Rattle.pol_core.specs.Commands.{next_sent};
+ghost use Rattle.pol_core.specs.Plants.{is_spared, plant_history};
 
-use pol_events::{Answer, Entry, Event, Rule};
-use pol_lookback::answer_of;
+use crate::answering::answer_event;
+use crate::commands::{self, Sent};
+use crate::docking::Docking;
+use crate::exchanges::begin_rule;
+use crate::starting::start_rule;
+use crate::{batches, modules};
+use chart_core::{Chart, Next};
+use indexmap::IndexMap;
+use mtp_codes::{Name, Setting};
+use pol_events::{Answer, Bind, Entry, Event, Rule};
+use pol_runs::Run;
+use pol_slots::Slot;
+use pol_table::Table;
 use std::alloc::{AllocError, Global};
 use std::marker::Model;
+use std::sync::Arc;
 
 /// How many entries a history may have.
 const LONGEST_HISTORY: usize = 200_000;
 
-/// A plant: everything that happened, each event with its answer.
+/// A plant: everything that happened, each event with its answer, and tables of what that comes to.
 #[derive(Drop)]
 pub struct Plant {
     alloc: Global,
     history: Vec<Entry>,
+    modules: Table<Slot>,
+    runs: IndexMap<Name, Run>,
+    recipes: IndexMap<Name, Arc<Chart>>,
 }
 
 impl Model for Plant {
-    ghost use Rattle.std.specs.Prelude.{List};
-    ghost use Rattle.pol_events.specs.declared.event.Entry.{Entry};
-    ghost use Rattle.pol_events.specs.Events.{history_view};
-    ghost use Rattle.pol_core.specs.Kept.{IsKept};
-    ghost use Rattle.pol_events.specs.contracts.event.Entry as entry_type;
+    ghost use Rattle.std.specs.Prelude.{◌-◌, vec_len, vec_capacity};
     ghost use Rattle.std.specs.Coded.{codes};
+    ghost use Rattle.pol_events.specs.Events.{history_view};
+    ghost use Rattle.pol_events.specs.contracts.event.Entry as entry_type;
+    ghost use Rattle.pol_core.specs.Histories.{IsPlantHistory};
+    ghost use Rattle.pol_core.specs.Mirrors.{Mirrors};
+    ghost use Rattle.pol_core.specs.Plants.{PlainPlant};
 
-    ghost Value = { List Entry };
+    ghost Value = { PlainPlant };
 
     ghost coded = { Prim.hlevel (codes, entry_type.the_row.coded) };
 
-    ghost view = { λ plant. plant.history.items };
+    ghost view = { λ plant. record {
+      entries = plant.history.items;
+      spare = vec_capacity plant.history - vec_len plant.history;
+    } };
 
-    ghost invariant = { λ plant. IsKept (history_view plant.history.items) };
+    ghost invariant = { λ plant. IsPlantHistory (history_view plant.history.items)
+        × Mirrors plant.modules plant.runs.entries plant.recipes.entries (history_view plant.history.items) };
 }
 
 // Puts an entry at the end of a history that has room for it.
 fn append(history: &mut Vec<Entry>, event: Event, answer: &Answer)
     requires { vec_len history.old < vec_capacity history.old }
-    ensures { history.new.items ≡ history.old.items ++ record { event = event; answer = answer.now } ∷ [] }
+    ensures items { history.new.items ≡ history.old.items ++ record { event = event; answer = answer.now } ∷ [] }
+    ensures room { vec_capacity history.old ≤ vec_capacity history.new }
 {
     let entry = Entry {
         event,
@@ -51,38 +77,65 @@ fn append(history: &mut Vec<Entry>, event: Event, answer: &Answer)
     }
 }
 
-// Whether an answer stands in the history: all do but HistoryFull.
-fn is_recorded(answer: &Answer) -> bool
-    ensures { result ≡ is_recorded answer.now }
+// Ok, unless a rule refuses, or the history is full.
+fn unless_refused(history: &[Entry], rule: Option<Rule>) -> Result<(), Rule>
+    ensures { result ≡ refused_first (length history.now) rule }
 {
-    !matches!(answer, Answer::Refused(Rule::HistoryFull))
+    if history.len() >= LONGEST_HISTORY {
+        return Err(Rule::HistoryFull);
+    }
+    match rule {
+        Some(rule) => Err(rule),
+        None => Ok(()),
+    }
 }
 
 impl Plant {
-    /// A plant in which nothing happened yet.
+    /// A plant in which nothing happened yet. Takes no memory.
     pub fn new(alloc: Global) -> Plant
-        ensures { result ≡ [] }
+        ensures { result.entries ≡ [] }
     {
         Plant {
             alloc,
             history: Vec::new(alloc),
+            modules: Table::new(alloc),
+            runs: IndexMap::new(alloc),
+            recipes: IndexMap::new(alloc),
         }
+    }
+
+    /// Makes room for that many more entries: `spare` is at least that number afterwards.
+    ///
+    /// # Errors
+    ///
+    /// AllocError where memory is wanting; then `spare` isn't lower than before.
+    pub fn reserve(&mut self, more: u32) -> Result<(), AllocError>
+        ensures entries { self.new.entries ≡ self.old.entries }
+        ensures ok { OnOk result (more ≤ self.new.spare) }
+        ensures err { OnErr result (self.old.spare ≤ self.new.spare) }
+    {
+        self.history.reserve(more as usize)
     }
 
     /// Answers an event as `pol_history` defines it, and appends the event with its answer to the history. HistoryFull,
     /// where the history has 200,000 entries, is the one answer that isn't appended.
     ///
     /// The chart of a recipe is valid, and the binds of a start are at most 64 and rise by role, as those of every line do.
+    /// Where `spare` is above 0, all kinds of events but Plug, Recipe, Start and ExchangeEnd take no memory, and lower
+    /// `spare` by at most 1.
     ///
     /// # Errors
     ///
-    /// Where memory is wanting the event is handed back with AllocError, and the plant is as it was.
+    /// Where memory is wanting the event is handed back with AllocError, the plant is as it was, and `spare` isn't lower.
     pub fn apply(&mut self, event: Event) -> Result<Answer, (Event, AllocError)>
         requires orderly { IsTrue (is_orderly (event_view event)) }
-        ensures answer { IfOk result (λ answer. answer ≡ answer_of (history_view self.old) (event_view event)) }
-        ensures history { OnOk result (history_view self.new
-            ≡ recorded (entry_of (history_view self.old) (event_view event)) (history_view self.old)) }
-        ensures unchanged { IfErr result (λ back. (self.new ≡ self.old) × (back.0 ≡ event)) }
+        ensures answer { IfOk result (λ answer. answer ≡ answer_of (plant_history self.old) (event_view event)) }
+        ensures history { OnOk result (plant_history self.new
+            ≡ recorded (entry_of (plant_history self.old) (event_view event)) (plant_history self.old)) }
+        ensures unchanged { IfErr result (λ back. (self.new.entries ≡ self.old.entries) × (back.0 ≡ event)) }
+        ensures room { OnErr result (self.old.spare ≤ self.new.spare) }
+        ensures spared { IsTrue (is_spared (event_view event)) → 0 < self.old.spare → IsOk result }
+        ensures spends { IsTrue (is_spared (event_view event)) → self.old.spare ≤ self.new.spare + 1 }
     {
         if self.history.len() >= LONGEST_HISTORY {
             return Ok(Answer::Refused(Rule::HistoryFull));
@@ -90,31 +143,94 @@ impl Plant {
         if let Err(error) = self.history.reserve(1) {
             return Err((event, error));
         }
-        let answer = match answer_of(self.alloc, &self.history, &event) {
+        let answer = match answer_event(
+            self.alloc,
+            &mut self.modules,
+            &mut self.runs,
+            &mut self.recipes,
+            &event,
+        ) {
             Ok(answer) => answer,
             Err(error) => return Err((event, error)),
         };
-        if !is_recorded(&answer) {
-            return Ok(answer);
-        }
         append(&mut self.history, event, &answer);
         Ok(answer)
     }
 
+    /// What an advance of the batch would answer while the history isn't full; None exactly where the batch isn't started
+    /// or is closed. Takes no memory.
+    pub fn would(&self, batch: Name) -> Option<Next>
+        ensures { result ≡ open_next (plant_history self.now) batch }
+    {
+        batches::would(&self.modules, &self.runs, batch)
+    }
+
+    /// The rule that a start would be refused by. Takes no memory.
+    pub fn would_start(&self, batch: Name, recipe: Name, binds: &[Bind]) -> Result<(), Rule>
+        ensures { (at : ℕ) → result ≡ refusal (answer_of (plant_history self.now) (start at batch recipe binds.now)) }
+    {
+        let rule = start_rule(
+            &self.modules,
+            &self.runs,
+            &self.recipes,
+            batch,
+            recipe,
+            binds,
+        );
+        unless_refused(&self.history, rule)
+    }
+
+    /// The rule that the begin of an exchange would be refused by. Takes no memory.
+    pub fn would_begin(&self, tag: Name) -> Result<(), Rule>
+        ensures { (at : ℕ) → result ≡ refusal (answer_of (plant_history self.now) (exchange_begin at tag)) }
+    {
+        unless_refused(&self.history, begin_rule(&self.modules, &self.runs, tag))
+    }
+
+    /// The first command to the module in the history from a place on, with the place after it; or None with the history's
+    /// length. The places of entries are counted from 0. Looks at no entry before the place, and takes no memory.
+    pub fn next_command(&self, tag: Name, place: u32) -> (Option<Sent>, u32)
+        requires { place ≤ length self.now.entries }
+        ensures { result ≡ next_sent tag place (map entry_view (drop place self.now.entries)) }
+    {
+        commands::next_command(&self.history, tag, place)
+    }
+
+    /// The settings of a step of the batch; None exactly where the batch isn't started or its chart lacks the step.
+    pub fn settings(&self, batch: Name, step: Name) -> Option<&[Setting]>
+        ensures { option_copied result ≡ settings_of (plant_history self.now) batch step }
+    {
+        batches::settings(&self.runs, batch, step)
+    }
+
+    /// Whether the tag is docked: if so, how often it was since the last plug, that plug included; or away, with its ticket.
+    pub fn docking(&self, tag: Name) -> Docking
+        ensures { plain_docking result ≡ docking_of (plant_history self.now) tag }
+    {
+        modules::docking(&self.modules, tag)
+    }
+
+    /// The batch that holds the module: that of the last accepted start that binds it, where that batch isn't closed.
+    pub fn holder(&self, tag: Name) -> Option<Name>
+        ensures { result ≡ holder_of (plant_history self.now) tag }
+    {
+        modules::holder(&self.modules, tag)
+    }
+
     /// The entries of the history, the oldest first.
     pub fn history(&self) -> &[Entry]
-        ensures entries { result.now ≡ self.now }
-        ensures legal { IsLegal (history_view self.now) }
-        ensures orderly { IsOrderly (history_view self.now) }
+        ensures entries { result.now ≡ self.now.entries }
+        ensures legal { IsLegal (plant_history self.now) }
+        ensures orderly { IsOrderly (plant_history self.now) }
     {
         &self.history
     }
 
     /// The entries of the history, the oldest first, once the plant is done with.
     pub fn into_history(self) -> Vec<Entry>
-        ensures entries { result.items ≡ self }
-        ensures legal { IsLegal (history_view self) }
-        ensures orderly { IsOrderly (history_view self) }
+        ensures entries { result.items ≡ self.entries }
+        ensures legal { IsLegal (plant_history self) }
+        ensures orderly { IsOrderly (plant_history self) }
     {
         self.history
     }

@@ -1,0 +1,27 @@
+-- The run of the batch is to be stopped.
+use Rattle.std.proofs.Common.{◌≡◌, ◌∙◌, sym, ap, subst}
+use Rattle.std.specs.Option.{option_copied_mut}
+use Rattle.std.specs.Map.{lookup}
+use Rattle.std.specs.Str.{bytes_eq}
+use Rattle.pol_runs.specs.Runs.{PlainRun}
+use Rattle.pol_core.specs.Batches.{Stops}
+use Rattle.pol_core.proofs.Runs.{written, inner-same}
+use Rattle.pol_core.proofs.batches.stop_run.Goals as goal
+
+pub returns-in-Some-clause-stopped : goal.returns-in-Some-clause-stopped
+returns-in-Some-clause-stopped c =
+    λ run found.
+    let is : c.in-Some.run'.now ≡ run = inner-same c.in-Some.run'.now run (sym (ap option_copied_mut c.in-Some.is) ∙ c.get_mut.ensures.value ∙ found) in
+    record {
+      after = c.stop.new.self;
+      stops = subst (λ (run : PlainRun). Stops c.stop.result run c.stop.new.self) is
+          (record {
+            asked = c.stop.ensures.new;
+            log = c.stop.ensures.log;
+            same_batch = c.stop.ensures.same_batch;
+            frozen_is = c.stop.ensures.frozen;
+            outcome_is = c.stop.ensures.outcome;
+          });
+      runs = λ other. ap (lookup (bytes_eq other)) (c.get_mut.follows.holds c.stop.new.self).0
+          ∙ written c.args.batch other c.args.runs.now.entries run c.stop.new.self found;
+    }

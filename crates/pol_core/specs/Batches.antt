@@ -1,0 +1,104 @@
+-- What the runs keep of a history: for each batch what looking back gives.
+use Rattle.std.specs.Prelude.{ℕ, ◌≡◌, Bool, false, not, ◌||◌, List, [], ◌∷◌, ◌++◌, Option, Some, None, is_some, if◌then◌else◌}
+use Rattle.mtp_codes.specs.Faults.{when}
+use Rattle.chart_core.specs.declared.entry.LogEntry.TheVariants.{StopAsked}
+use Rattle.pol_events.specs.declared.answer.Rule.{Rule}
+use Rattle.pol_events.specs.declared.answer.Rule.TheVariants.{NoBatch, BatchClosed}
+use Rattle.std.specs.Map.{lookup}
+use Rattle.std.specs.Str.{bytes_eq}
+use Rattle.chart_core.specs.Charts.{plan}
+use Rattle.pol_history.specs.Looking.{History, past_of_batch, recipes}
+use Rattle.pol_history.specs.Batches.{start_by, chart_named, outcome_by, is_frozen_by, log_by}
+use Rattle.pol_runs.specs.Runs.{PlainRun, SameBatch}
+use Rattle.pol_runs.specs.Logs.{Follows, closing_in, log_after}
+use Rattle.pol_events.specs.Events.{EventForm}
+use Rattle.pol_events.specs.declared.answer.Answer.{Answer}
+use Rattle.pol_history.specs.Answers.{answer_of}
+use Rattle.pol_history.specs.Runs.{entry_of}
+use Rattle.pol_slots.specs.declared.slot.Slot.{Slot}
+use Rattle.pol_table.specs.Berths.{Berth, Berths, freed_from}
+use Rattle.pol_core.specs.Seats.{SeatsMirror, IsCounted}
+use Rattle.chart_cursor.specs.NextEntry.{next_by}
+use Rattle.chart_cursor.specs.Logs.{has_broken, was_stopped}
+use Rattle.std.specs.Option.{option_or, option_map}
+use Rattle.chart_core.specs.declared.next.Outcome.{Outcome}
+use Rattle.chart_core.specs.declared.entry.LogEntry.{LogEntry}
+use Rattle.chart_cursor.specs.Sights.{Sights}
+use Rattle.chart_core.specs.declared.next.Next.{Next}
+
+-- the run keeps what its batch's past gives
+pub record RunKeeps (batch : List ℕ) (run : PlainRun) (past recipes : History) : Type 0 where
+  pub batch_is : run.batch ≡ batch
+  pub recipe : List ℕ
+  pub started : start_by past ≡ Some (record { recipe = recipe; binds = run.binds })
+  pub charted : chart_named recipe recipes ≡ Some (plan run.chart)
+  pub follows : Follows run (log_by past)
+  pub frozen_is : run.frozen ≡ is_frozen_by past
+  pub outcome_is : run.outcome ≡ outcome_by past
+
+-- a batch without a run has no past
+abbrev pub IsRun : List ℕ → Option PlainRun → History → History → Type 0
+IsRun batch None past recipes = past ≡ []
+IsRun batch (Some run) past recipes = RunKeeps batch run past recipes
+
+-- each batch has so
+abbrev pub RunsMirror : List (List ℕ × PlainRun) → History → Type 0
+RunsMirror runs history = (batch : List ℕ) → IsRun batch (lookup (bytes_eq batch) runs) (past_of_batch batch history) (recipes history)
+
+-- a berth, freed from the batch where that is closed
+abbrev pub freed_if : {T : Type 0} → Option Outcome → List ℕ → Option (Berth T) → Option (Berth T)
+freed_if None batch berth = berth
+freed_if (Some outcome) batch berth = option_map (freed_from batch) berth
+
+-- one run is this one afterwards, and no other has changed
+abbrev pub ChangesRun : List ℕ → PlainRun → List (List ℕ × PlainRun) → List (List ℕ × PlainRun) → Type 0
+ChangesRun batch after old new =
+    (other : List ℕ) → lookup (bytes_eq other) new ≡ (if bytes_eq batch other then Some after else lookup (bytes_eq other) old)
+
+-- the run has done what comes next
+pub record Settles (next : Next) (old new : PlainRun) : Type 0 where
+  pub log : (log : List LogEntry) → Follows old log → Follows new (log_after next log)
+  pub same_batch : SameBatch old new
+  pub frozen_is : new.frozen ≡ old.frozen
+  pub outcome_is : new.outcome ≡ option_or (closing_in next) old.outcome
+
+-- the run of this batch has done so, and no other run has changed
+pub record SettlesOne (batch : List ℕ) (next : Next) (run : PlainRun) (old new : List (List ℕ × PlainRun)) : Type 0 where
+  pub after : PlainRun
+  pub settles : Settles next run after
+  pub runs : ChangesRun batch after old new
+
+-- the run was to be stopped, which was new or not, and isn't frozen any more
+pub record Stops (is_new : Bool) (old new : PlainRun) : Type 0 where
+  pub asked : (log : List LogEntry) → Follows old log → is_new ≡ not (has_broken log || was_stopped log)
+  pub log : (log : List LogEntry) → Follows old log → Follows new (if is_new then log ++ StopAsked ∷ [] else log)
+  pub same_batch : SameBatch old new
+  pub frozen_is : new.frozen ≡ false
+  pub outcome_is : new.outcome ≡ old.outcome
+
+-- so is the run of this batch, and no other run has changed
+pub record StopsOne (batch : List ℕ) (is_new : Bool) (run : PlainRun) (old new : List (List ℕ × PlainRun)) : Type 0 where
+  pub after : PlainRun
+  pub stops : Stops is_new run after
+  pub runs : ChangesRun batch after old new
+
+-- it is what comes next, whatever log the run stands for
+abbrev pub ComesNext : Sights → Next → PlainRun → Type 0
+ComesNext seen next run = (log : List LogEntry) → Follows run log → next ≡ next_by (plan run.chart) run.frozen log seen
+
+-- the rule that an event of a batch meets first: it has no run, or its run is closed
+abbrev pub not_open : Option PlainRun → Option Rule
+not_open None = Some NoBatch
+not_open (Some run) = when (is_some run.outcome) BatchClosed
+
+-- this is the run of the batch, and it is open
+pub record IsOpenRun (batch : List ℕ) (run : PlainRun) (runs : List (List ℕ × PlainRun)) : Type 0 where
+  pub found : lookup (bytes_eq batch) runs ≡ Some run
+  pub is_open : run.outcome ≡ None
+
+-- the answer to an event of a batch is the defined one, and the tables keep the history with it
+pub record AnswersBatch (history : History) (event : EventForm) (answer : Answer) (modules : Berths Slot) (runs : List (List ℕ × PlainRun)) : Type 0 where
+  pub answer_is : answer ≡ answer_of history event
+  pub seats : SeatsMirror modules (entry_of history event ∷ history)
+  pub counted : IsCounted modules (entry_of history event ∷ history)
+  pub batches : RunsMirror runs (entry_of history event ∷ history)

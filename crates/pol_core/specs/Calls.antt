@@ -1,0 +1,46 @@
+-- What the plant's calls answer that only look: each is found by looking back over the history.
+use Rattle.std.specs.Prelude.{ℕ, ⊤, List, Option, None, Result, Ok, Err, is_none, nat_le, find, option_and_then, option_map, if◌then◌else◌}
+use Rattle.std.specs.Str.{bytes_eq}
+use Rattle.mtp_codes.specs.declared.value.Setting.{Setting}
+use Rattle.chart_core.specs.Roles.{ChartPlan}
+use Rattle.chart_core.specs.Trees.{steps}
+use Rattle.chart_core.specs.declared.next.Next.{Next}
+use Rattle.pol_events.specs.declared.answer.Answer.{Answer}
+use Rattle.pol_events.specs.declared.answer.Answer.TheVariants.{Refused}
+use Rattle.pol_events.specs.declared.answer.Rule.{Rule}
+use Rattle.pol_events.specs.declared.answer.Rule.TheVariants.{HistoryFull}
+use Rattle.mtp_codes.specs.Faults.{when, done_unless}
+use Rattle.std.specs.Option.{option_or}
+use Rattle.pol_history.specs.Looking.{History}
+use Rattle.pol_history.specs.Modules as modules
+use Rattle.pol_history.specs.Batches.{outcome_of, chart_of}
+use Rattle.pol_history.specs.Following.{next_of}
+use Rattle.pol_core.specs.declared.docking.Docking.{Docking}
+use Rattle.pol_core.specs.declared.docking.Docking.TheVariants as docking
+
+-- what comes next for the batch; nothing, where it isn't started or is closed
+abbrev pub open_next : History → List ℕ → Option Next
+open_next history batch = if is_none (outcome_of history batch) then next_of history batch else None
+
+-- the rule by which an answer refuses
+abbrev pub refusal : Answer → Result ⊤ Rule
+refusal (Refused rule) = Err rule
+refusal _ = Ok tt
+
+-- a full history refuses, or else the rule, if there is one
+abbrev pub refused_first : ℕ → Option Rule → Result ⊤ Rule
+refused_first count rule = done_unless (option_or (when (nat_le 200000 count) HistoryFull) rule)
+
+-- the settings of the chart's step of this name
+abbrev pub settings_named : List ℕ → ChartPlan → Option (List Setting)
+settings_named name chart = option_map (λ placed. placed.step.settings) (find (λ placed. bytes_eq placed.step.name name) (steps chart.root 0))
+
+-- the settings of a step of the batch; none where the batch isn't started or its chart lacks the step
+abbrev pub settings_of : History → List ℕ → List ℕ → Option (List Setting)
+settings_of history batch name = option_and_then (settings_named name) (chart_of history batch)
+
+-- whether a tag is docked, as looking back tells it
+abbrev pub plain_docking : Docking → modules.Docking
+plain_docking docking.Absent = modules.absent
+plain_docking (docking.Docked count) = modules.docked count
+plain_docking (docking.Away ticket) = modules.away ticket

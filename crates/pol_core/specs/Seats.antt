@@ -1,0 +1,86 @@
+-- What the table of modules keeps of a history: for each tag what looking back gives.
+use Rattle.std.specs.Prelude.{ℕ, ◌≡◌, ◌+◌, false, List, [], ◌∷◌, length, Option, Some, None, is_some, Result, Ok, Err, ⊤, if◌then◌else◌}
+use Rattle.mtp_codes.specs.declared.command.Command.{Command}
+use Rattle.mtp_modes.specs.declared.view.ServiceView.{ServiceView}
+use Rattle.chart_core.specs.declared.entry.LogEntry.{LogEntry}
+use Rattle.pol_desk.specs.Desk.{desk_answer}
+use Rattle.pol_events.specs.declared.answer.Answer.{Answer}
+use Rattle.pol_events.specs.declared.answer.Answer.TheVariants.{Done, Did, Refused}
+use Rattle.pol_events.specs.declared.answer.Rule.{Rule}
+use Rattle.pol_history.specs.Looking.{History, past}
+use Rattle.mtp_codes.specs.Names.{is_among}
+use Rattle.pol_events.specs.Events.{EventForm}
+use Rattle.pol_history.specs.Answers.{answer_of}
+use Rattle.pol_history.specs.Runs.{entry_of}
+use Rattle.pol_history.specs.Modules.{present_tags, absent, docking_by, ticket_of, description_by, begins_by, dockings_by, control_by, value_by}
+use Rattle.pol_history.specs.Batches.{holder_of}
+use Rattle.pol_slots.specs.Slots.{slot_tag, slot_ticket, slot_description, slot_begins, last_control, last_value}
+use Rattle.pol_slots.specs.Sights.{reported_view}
+use Rattle.pol_slots.specs.declared.slot.Slot.{Slot}
+use Rattle.pol_table.specs.Berths.{Berth, Berths, look}
+
+-- the slot keeps what its module's past gives
+pub record SlotKeeps (tag : List ℕ) (slot : Slot) (past : History) : Type 0 where
+  pub tag_is : slot_tag slot ≡ tag
+  pub is_there : docking_by past ≡ absent → ⊥
+  pub ticket : slot_ticket slot ≡ ticket_of (docking_by past)
+  pub description : description_by past ≡ Some (slot_description slot)
+  pub begins : slot_begins slot ≡ begins_by past
+  pub dockings : slot_begins slot + 1 ≡ dockings_by past + (if is_some (slot_ticket slot) then 1 else 0)
+  pub controls : (service : List ℕ) → last_control slot service ≡ control_by service past
+  pub values : (name : List ℕ) → last_value slot name ≡ value_by name past
+
+-- a tag without a berth is absent and not held
+pub record IsEmpty (past : History) (holder : Option (List ℕ)) : Type 0 where
+  pub is_absent : docking_by past ≡ absent
+  pub free : holder ≡ None
+
+-- a berth keeps the module's past, and who holds it
+pub record IsTaken (tag : List ℕ) (berth : Berth Slot) (past : History) (holder : Option (List ℕ)) : Type 0 where
+  pub slot_keeps : SlotKeeps tag berth.part past
+  pub held_by : berth.holder ≡ holder
+
+-- what a tag has in the table is what looking back gives
+abbrev pub IsSeated : List ℕ → Option (Berth Slot) → History → Option (List ℕ) → Type 0
+IsSeated tag None past holder = IsEmpty past holder
+IsSeated tag (Some berth) past holder = IsTaken tag berth past holder
+
+-- each tag has so
+abbrev pub SeatsMirror : Berths Slot → History → Type 0
+SeatsMirror berths history = (tag : List ℕ) → IsSeated tag (look tag berths) (past tag history) (holder_of history tag)
+
+-- done, unless a rule refuses it
+abbrev pub done_or_refused : Result ⊤ Rule → Answer
+done_or_refused (Ok done) = Done
+done_or_refused (Err rule) = Refused rule
+
+-- an entry that was done, unless a rule refuses it
+abbrev pub asked_answer : Result LogEntry Rule → Answer
+asked_answer (Ok entry) = Did entry
+asked_answer (Err rule) = Refused rule
+
+-- what an operator's command is answered by what is seen of the service
+abbrev pub asked_by : List ℕ → List ℕ → Command → Result ServiceView Rule → Result LogEntry Rule
+asked_by tag service command (Ok view) = desk_answer tag service view command
+asked_by tag service command (Err rule) = Err rule
+
+-- an operator's command to a service of this slot
+abbrev pub slot_asked : Slot → List ℕ → List ℕ → Command → Result LogEntry Rule
+slot_asked slot tag service command = asked_by tag service command (reported_view slot service)
+
+-- no tag is there twice
+abbrev pub AreOnce : List (List ℕ) → Type 0
+AreOnce [] = Unit {0}
+AreOnce (tag ∷ tags) = (is_among tags tag ≡ false) × AreOnce tags
+
+-- the tags in the table are those that are docked or away, and there are as many
+pub record IsCounted (berths : Berths Slot) (history : History) : Type 0 where
+  pub members : (tag : List ℕ) → is_among (present_tags history) tag ≡ is_some (look tag berths)
+  pub once : AreOnce (present_tags history)
+  pub count : length berths ≡ length (present_tags history)
+
+-- the answer to an event of a module is the defined one, and the table keeps the history with it
+pub record AnswersModule (history : History) (event : EventForm) (answer : Answer) (berths : Berths Slot) : Type 0 where
+  pub answer_is : answer ≡ answer_of history event
+  pub seats : SeatsMirror berths (entry_of history event ∷ history)
+  pub counted : IsCounted berths (entry_of history event ∷ history)

@@ -1,0 +1,240 @@
+//! What the tables say against a start: its binds against the roles of the recipe, then its modules one after another.
+ghost use Rattle.std.specs.Prelude.{◌≡◌, [], option_map};
+ghost use Rattle.mtp_procs.specs.Covers.{cover_fault};
+ghost use Rattle.pol_events.specs.Refusals.{cover_rule};
+ghost use Rattle.pol_slots.specs.Slots.{slot_description};
+ghost use Rattle.mtp_codes.specs.Names.{is_among};
+ghost use Rattle.chart_core.specs.Charts.{plan};
+ghost use Rattle.chart_core.specs.Roles.{role_names};
+ghost use Rattle.chart_core.specs.Trees.{arms, tree, trees, step_plan};
+ghost use Rattle.pol_events.specs.Bound.{bound_tag};
+ghost use Rattle.pol_history.specs.Rules.{is_bound_before, role_unbound, role_unknown, twice};
+ghost use Rattle.pol_core.specs.Judging.{names_in, twice_from, sight_unready, step_unready, slot_rule, role_rule, table_unfit, tag_busy, table_busy, bind_rule};
+ghost use Rattle.pol_core.specs.Walks.{first_said, first_said_among, first_said_in_arms};
+
+use chart_core::{Arm, Chart, Node, Role};
+use chart_cursor::Sight;
+use mtp_codes::{Name, State};
+use pol_bind::covers;
+use pol_events::{Bind, Rule, bound_tag};
+use pol_slots::Slot;
+use pol_table::Table;
+
+// The first role that no bind gives a tag.
+fn role_unbound(binds: &[Bind], roles: &[Role]) -> Option<Rule>
+    ensures { result ≡ role_unbound binds.now (names_in roles.now) }
+{
+    for role in roles {
+        if bound_tag(binds, role.role).is_none() {
+            return Some(Rule::RoleUnbound { role: role.role });
+        }
+    }
+    None
+}
+
+fn has_role(roles: &[Role], name: Name) -> bool
+    ensures { result ≡ is_among (names_in roles.now) name }
+{
+    for role in roles {
+        if role.role == name {
+            return true;
+        }
+    }
+    false
+}
+
+// The first bind whose role the recipe lacks.
+fn role_unknown(binds: &[Bind], roles: &[Role]) -> Option<Rule>
+    ensures { result ≡ role_unknown binds.now (names_in roles.now) }
+{
+    for bind in binds {
+        if !has_role(roles, bind.role) {
+            return Some(Rule::RoleUnknown { role: bind.role });
+        }
+    }
+    None
+}
+
+// Whether the tag is bound to one of these roles.
+fn is_bound_before(binds: &[Bind], earlier: &[Role], tag: Name) -> bool
+    ensures { result ≡ is_bound_before binds.now (names_in earlier.now) tag }
+{
+    for role in earlier {
+        if bound_tag(binds, role.role) == Some(tag) {
+            return true;
+        }
+    }
+    false
+}
+
+fn twice(binds: &[Bind], earlier: &[Role], role: Name) -> Option<Rule>
+    ensures { result ≡ twice binds.now (names_in earlier.now) (bound_tag binds.now role) }
+{
+    let tag = bound_tag(binds, role)?;
+    if is_bound_before(binds, earlier, tag) {
+        Some(Rule::OneModuleTwice { tag })
+    } else {
+        None
+    }
+}
+
+// The first tag in the order of the roles that an earlier role has.
+fn one_module_twice(binds: &[Bind], roles: &[Role]) -> Option<Rule>
+    ensures { result ≡ twice_from binds.now [] (names_in roles.now) }
+{
+    for i in 0..roles.len() {
+        if let Some(rule) = twice(binds, &roles[..i], roles[i].role) {
+            return Some(rule);
+        }
+    }
+    None
+}
+
+// The service of a docked module wasn't reported, or isn't idle.
+fn service_unready(tag: Name, service: Name, sight: &Sight) -> Option<Rule>
+    ensures { result ≡ sight_unready tag service sight.now }
+{
+    match sight {
+        Sight::Away => None,
+        Sight::Unreported => Some(Rule::NotReported { tag, name: service }),
+        Sight::Is(view) => {
+            if view.control.state == State::Idle {
+                None
+            } else {
+                Some(Rule::NotIdle {
+                    tag,
+                    service,
+                    state: view.control.state,
+                })
+            }
+        }
+    }
+}
+
+#[cycle(walk)]
+fn walk(node: &Node, slot: &Slot, tag: Name, role: Name) -> Option<Rule>
+    ensures { result ≡ first_said (step_unready slot.now tag role) (tree node.now) }
+{
+    match node {
+        Node::Step(step) => {
+            if step.role == role {
+                service_unready(tag, step.service, &slot.view(step.service))
+            } else {
+                None
+            }
+        }
+        Node::Seq(kids) => walk_among(kids, slot, tag, role),
+        Node::Par(kids) => walk_among(kids, slot, tag, role),
+        Node::Sel(each) => walk_arms(each, slot, tag, role),
+        Node::Loop(body, _) => walk(body, slot, tag, role),
+    }
+}
+
+#[cycle(walk)]
+fn walk_among(kids: &[Node], slot: &Slot, tag: Name, role: Name) -> Option<Rule>
+    ensures { result ≡ first_said_among (step_unready slot.now tag role) (trees kids.now) }
+{
+    for kid in kids {
+        if let Some(rule) = walk(kid, slot, tag, role) {
+            return Some(rule);
+        }
+    }
+    None
+}
+
+#[cycle(walk)]
+fn walk_arms(each: &[Arm], slot: &Slot, tag: Name, role: Name) -> Option<Rule>
+    ensures { result ≡ first_said_in_arms (step_unready slot.now tag role) (arms each.now) }
+{
+    for arm in each {
+        if let Some(rule) = walk(&arm.body, slot, tag, role) {
+            return Some(rule);
+        }
+    }
+    None
+}
+
+// The module can't play the role.
+fn not_covered(chart: &Chart, role: Name, slot: &Slot) -> Option<Rule>
+    ensures { result ≡ option_map (cover_rule role) (cover_fault (plan chart.now) role (slot_description slot.now)) }
+{
+    match covers(chart, role, slot.description()) {
+        Ok(()) => None,
+        Err(rule) => Some(rule),
+    }
+}
+
+// What is wrong with a slot for a role.
+fn slot_rule(chart: &Chart, slot: &Slot, role: Name, tag: Name) -> Option<Rule>
+    ensures { result ≡ slot_rule (plan chart.now) role tag slot.now }
+{
+    if let Some(ticket) = slot.ticket() {
+        return Some(Rule::InExchange { tag, ticket });
+    }
+    if let Some(rule) = not_covered(chart, role, slot) {
+        return Some(rule);
+    }
+    walk(&chart.root, slot, tag, role)
+}
+
+// What is wrong with the module of a role, if it has one.
+fn role_rule(modules: &Table<Slot>, chart: &Chart, role: Name, tag: Option<Name>) -> Option<Rule>
+    ensures { result ≡ role_rule modules.now (plan chart.now) role tag }
+{
+    let tag = tag?;
+    match modules.get(tag) {
+        None => Some(Rule::NoModule { tag }),
+        Some(slot) => slot_rule(chart, slot, role, tag),
+    }
+}
+
+// The first thing that is wrong with a module, over the roles of the chart.
+fn first_unfit(modules: &Table<Slot>, chart: &Chart, binds: &[Bind], roles: &[Role]) -> Option<Rule>
+    ensures { result ≡ table_unfit modules.now (plan chart.now) binds.now (names_in roles.now) }
+{
+    for role in roles {
+        if let Some(rule) = role_rule(modules, chart, role.role, bound_tag(binds, role.role)) {
+            return Some(rule);
+        }
+    }
+    None
+}
+
+fn tag_busy(modules: &Table<Slot>, tag: Option<Name>) -> Option<Rule>
+    ensures { result ≡ tag_busy modules.now tag }
+{
+    let tag = tag?;
+    let batch = modules.holder(tag)?;
+    Some(Rule::Busy { tag, batch })
+}
+
+// The first module over these roles that is held.
+fn first_busy(modules: &Table<Slot>, binds: &[Bind], roles: &[Role]) -> Option<Rule>
+    ensures { result ≡ table_busy modules.now binds.now (names_in roles.now) }
+{
+    for role in roles {
+        if let Some(rule) = tag_busy(modules, bound_tag(binds, role.role)) {
+            return Some(rule);
+        }
+    }
+    None
+}
+
+/// The first rule of a start that its binds and its modules break. It takes no memory.
+pub fn bind_rule(modules: &Table<Slot>, chart: &Chart, binds: &[Bind]) -> Option<Rule>
+    ensures { result ≡ bind_rule modules.now (plan chart.now) binds.now }
+{
+    if let Some(rule) = role_unbound(binds, &chart.roles) {
+        return Some(rule);
+    }
+    if let Some(rule) = role_unknown(binds, &chart.roles) {
+        return Some(rule);
+    }
+    if let Some(rule) = one_module_twice(binds, &chart.roles) {
+        return Some(rule);
+    }
+    if let Some(rule) = first_unfit(modules, chart, binds, &chart.roles) {
+        return Some(rule);
+    }
+    first_busy(modules, binds, &chart.roles)
+}

@@ -1,0 +1,128 @@
+//! The commands that were sent to a module.
+ghost use Rattle.std.specs.Prelude.{◌≡◌, ◌≤◌, ◌<◌, drop, length, map};
+ghost use Rattle.pol_events.specs.Events.{entry_view, event_view};
+ghost use Rattle.pol_core.specs.Commands.{batch_in, entry_command, for_tag, next_sent, sent_to};
+
+use chart_core::LogEntry;
+use mtp_codes::{Command, Name, Speaker};
+use pol_events::{Answer, Entry, Event};
+
+/// A command that was sent to a service of a module.
+#[derive(Clone, Copy, Debug, PartialEq, Eq)]
+pub struct Sent {
+    /// Who sent it: the operator, or a recipe.
+    pub speaker: Speaker,
+    /// The batch, of a recipe's command.
+    pub batch: Option<Name>,
+    /// The step, of a recipe's command.
+    pub step: Option<Name>,
+    /// The service that it goes to.
+    pub service: Name,
+    /// The command.
+    pub command: Command,
+    /// The procedure that is to run, from 1, of a recipe's Start; 0 of every other command.
+    pub procedure: u16,
+}
+
+// The command of an entry of a log, with the tag of the module that it goes to; None of an entry that sends none.
+fn entry_command(batch: Option<Name>, entry: &LogEntry) -> Option<(Name, Sent)>
+    ensures { result ≡ entry_command batch entry.now }
+{
+    let (speaker, step, tag, service, command, procedure) = match *entry {
+        LogEntry::Start {
+            step,
+            tag,
+            service,
+            procedure,
+        } => (
+            Speaker::Recipe,
+            Some(step),
+            tag,
+            service,
+            Command::Start,
+            procedure,
+        ),
+        LogEntry::Finish { step, tag, service } => (
+            Speaker::Recipe,
+            Some(step),
+            tag,
+            service,
+            Command::Complete,
+            0,
+        ),
+        LogEntry::Reset { step, tag, service } => (
+            Speaker::Recipe,
+            Some(step),
+            tag,
+            service,
+            Command::Reset,
+            0,
+        ),
+        LogEntry::Stop { step, tag, service } => (
+            Speaker::Recipe,
+            Some(step),
+            tag,
+            service,
+            Command::Stop,
+            0,
+        ),
+        LogEntry::Asked {
+            tag,
+            service,
+            command,
+        } => (Speaker::Operator, None, tag, service, command, 0),
+        _ => return None,
+    };
+    let sent = Sent {
+        speaker,
+        batch,
+        step,
+        service,
+        command,
+        procedure,
+    };
+    Some((tag, sent))
+}
+
+// The batch that an event advances.
+fn batch_in(event: &Event) -> Option<Name>
+    ensures { result ≡ batch_in (event_view event.now) }
+{
+    match event {
+        Event::Advance { batch, .. } => Some(*batch),
+        _ => None,
+    }
+}
+
+// A command, where it goes to this module.
+fn for_tag(tag: Name, sent: Option<(Name, Sent)>) -> Option<Sent>
+    ensures { result ≡ for_tag tag sent }
+{
+    let (to, sent) = sent?;
+    if to == tag { Some(sent) } else { None }
+}
+
+// The command that an entry of a history sends to the module.
+fn sent_to(tag: Name, entry: &Entry) -> Option<Sent>
+    ensures { result ≡ sent_to tag (entry_view entry.now) }
+{
+    match &entry.answer {
+        Answer::Did(done) => for_tag(tag, entry_command(batch_in(&entry.event), done)),
+        _ => None,
+    }
+}
+
+/// The first command to the module among the entries from a place on, with the place after it; or None with the number of
+/// the entries. Looks at no entry before the place.
+pub fn next_command(history: &[Entry], tag: Name, place: u32) -> (Option<Sent>, u32)
+    requires place { place ≤ length history.now }
+    requires few { length history.now ≤ 200000 }
+    ensures { result ≡ next_sent tag place (map entry_view (drop place history.now)) }
+{
+    for index in place as usize..history.len() {
+        if let Some(sent) = sent_to(tag, &history[index]) {
+            return (Some(sent), index as u32 + 1);
+        }
+    }
+    (None, history.len() as u32)
+}

@@ -1,0 +1,216 @@
+//! Modules that are exchanged.
+ghost use Rattle.std.specs.Prelude.{◌≡◌, ℕ, List, Some, None, IsSome, IfOk, OnOk, OnErr, false, option_map, option_and_then};
+ghost use Rattle.chart_core.specs.Charts.{plan};
+ghost use Rattle.mtp_desc.specs.DescriptionView.{description_view};
+ghost use Rattle.pol_events.specs.Events.{exchange_begin, exchange_end, exchange_cancel};
+ghost use Rattle.mtp_codes.specs.Faults.{first_of, done_unless};
+ghost use Rattle.pol_history.specs.Looking.{History};
+ghost use Rattle.chart_cursor.specs.Logs.{active};
+ghost use Rattle.pol_events.specs.Bound.{bound_role, step_on, ArePaired};
+ghost use Rattle.pol_history.specs.Rules.{active_step, held_back};
+ghost use Rattle.mtp_procs.specs.Covers.{cover_fault, missing_by};
+ghost use Rattle.pol_history.specs.Answers.{is_full, rules};
+ghost use Rattle.pol_runs.specs.Logs.{Follows};
+ghost use Rattle.pol_slots.specs.Slots.{slot_description, slot_ticket, IsDocked, IsUnchanged};
+ghost use Rattle.pol_slots.specs.declared.slot.Slot.{Slot as slot_type};
+ghost use Rattle.pol_table.specs.Berths.{part_of};
+ghost use Rattle.pol_core.specs.Seats.{IsCounted, SeatsMirror, AnswersModule};
+ghost use Rattle.pol_core.specs.Batches.{RunsMirror};
+ghost use Rattle.pol_core.specs.Exchanges.{HaveBegunFew, IsDockedAt, SendsAway, DocksAgain, StaysAway, ticket_rule};
+
+use crate::modules::done_or_refused;
+use indexmap::IndexMap;
+use mtp_codes::Name;
+use mtp_desc::Description;
+use pol_bind::held_back_by;
+use pol_events::{Answer, Rule, bound_role};
+use pol_runs::Run;
+use pol_slots::{Slot, SlotRefusal};
+use pol_table::Table;
+use std::alloc::AllocError;
+use std::sync::Arc;
+
+// The batch that holds the module has an active step on it.
+fn active_step(modules: &Table<Slot>, runs: &IndexMap<Name, Run>, tag: Name) -> Option<Rule>
+    ensures { (history : History) → SeatsMirror modules.now history → RunsMirror runs.now.entries history → result ≡ active_step history tag }
+{
+    let Some(batch) = modules.holder(tag) else {
+        return None;
+    };
+    let Some(run) = runs.get(&batch) else {
+        return None;
+    };
+    match run.active_on(tag) {
+        None => None,
+        Some(step) => Some(Rule::ActiveStep { batch, step }),
+    }
+}
+
+/// The rule that the begin of an exchange would be refused by, while the history has room. Takes no memory.
+pub fn begin_rule(modules: &Table<Slot>, runs: &IndexMap<Name, Run>, tag: Name) -> Option<Rule>
+    ensures rule { (history : History) (at : ℕ) → SeatsMirror modules.now history → RunsMirror runs.now.entries history
+        → result ≡ first_of (rules history (exchange_begin at tag)) }
+    ensures docked { result ≡ None → IsDockedAt tag modules.now }
+{
+    let Some(slot) = modules.get(tag) else {
+        return Some(Rule::NoModule { tag });
+    };
+    if let Some(ticket) = slot.ticket() {
+        return Some(Rule::InExchange { tag, ticket });
+    }
+    if let Some(rule) = active_step(modules, runs, tag) {
+        return Some(rule);
+    }
+    slot.at_rest().err()
+}
+
+// Sends the module away that is docked under the tag.
+fn send_away(modules: &mut Table<Slot>, tag: Name) -> u32
+    requires docked { IsDockedAt tag modules.old }
+    requires few { HaveBegunFew modules.old }
+    ensures { (slot : slot_type) → part_of tag modules.old ≡ Some slot → SendsAway tag result slot modules.old modules.new }
+{
+    match modules.get_mut(tag) {
+        Some(slot) => slot.begin(),
+        None => unreachable!(),
+    }
+}
+
+/// A module is taken away to be exchanged; the answer is its ticket.
+pub fn exchange_begin(modules: &mut Table<Slot>, runs: &IndexMap<Name, Run>, tag: Name) -> Answer
+    requires few { HaveBegunFew modules.old }
+    ensures answered { (history : History) (at : ℕ) → SeatsMirror modules.old history → IsCounted modules.old history
+        → RunsMirror runs.now.entries history → is_full history ≡ false
+        → AnswersModule history (exchange_begin at tag) result modules.new }
+{
+    if let Some(rule) = begin_rule(modules, runs, tag) {
+        return Answer::Refused(rule);
+    }
+    Answer::Ticket(send_away(modules, tag))
+}
+
+// The rule that the end or the cancel of an exchange meets first: the module isn't away, or is under another ticket.
+fn ticket_rule(slot: &Slot, ticket: u32) -> Option<Rule>
+    ensures { result ≡ ticket_rule ticket (slot_ticket slot.now) }
+{
+    match slot.ticket() {
+        None => Some(Rule::NotInExchange),
+        Some(kept) => {
+            if kept == ticket {
+                None
+            } else {
+                Some(Rule::WrongTicket {
+                    kept,
+                    given: ticket,
+                })
+            }
+        }
+    }
+}
+
+// Docks another module in place of the one that is away. AllocError where memory is wanting; then nothing that is seen changes.
+fn dock_again(
+    modules: &mut Table<Slot>,
+    tag: Name,
+    ticket: u32,
+    desc: Arc<Description>,
+) -> Result<(), AllocError>
+    requires there { IsSome (part_of tag modules.old) }
+    requires away { (slot : slot_type) → part_of tag modules.old ≡ Some slot → slot_ticket slot ≡ Some ticket }
+    ensures docked { OnOk result ((slot : slot_type) → part_of tag modules.old ≡ Some slot
+        → DocksAgain tag (description_view desc.value) slot modules.old modules.new) }
+    ensures kept { OnErr result ((slot : slot_type) → part_of tag modules.old ≡ Some slot → StaysAway tag slot modules.old modules.new) }
+{
+    match modules.get_mut(tag) {
+        Some(slot) => match slot.finish(ticket, desc) {
+            Ok(()) => Ok(()),
+            Err(SlotRefusal::Memory) => Err(AllocError),
+            Err(SlotRefusal::Rule(_)) => unreachable!(),
+        },
+        None => unreachable!(),
+    }
+}
+
+// What of the batch's chart the description doesn't cover, for the role that the tag plays.
+fn missing_of(run: &Run, tag: Name, desc: &Description) -> Option<Name>
+    ensures { result ≡ option_and_then (λ role. option_map (missing_by role) (cover_fault (plan run.now.chart) role (description_view desc.now)))
+        (bound_role run.now.binds tag) }
+{
+    match bound_role(run.binds(), tag) {
+        None => None,
+        Some(role) => held_back_by(run.chart(), role, desc),
+    }
+}
+
+// The new module doesn't cover its role in the batch that holds the tag.
+fn held_back(
+    modules: &Table<Slot>,
+    runs: &IndexMap<Name, Run>,
+    tag: Name,
+    desc: &Description,
+) -> Option<Rule>
+    ensures { (history : History) → SeatsMirror modules.now history → RunsMirror runs.now.entries history
+        → result ≡ held_back history tag (description_view desc.now) }
+{
+    let Some(batch) = modules.holder(tag) else {
+        return None;
+    };
+    let Some(run) = runs.get(&batch) else {
+        return None;
+    };
+    match missing_of(run, tag, desc) {
+        None => None,
+        Some(missing) => Some(Rule::HeldBack { batch, missing }),
+    }
+}
+
+/// Another module comes in place of the one that is away. AllocError where memory is wanting; then nothing that is seen
+/// changes.
+pub fn exchange_end(
+    modules: &mut Table<Slot>,
+    runs: &IndexMap<Name, Run>,
+    tag: Name,
+    ticket: u32,
+    desc: &Arc<Description>,
+) -> Result<Answer, AllocError>
+    ensures answered { IfOk result (λ answer. (history : History) (at : ℕ) → SeatsMirror modules.old history
+        → IsCounted modules.old history → RunsMirror runs.now.entries history → is_full history ≡ false
+        → AnswersModule history (exchange_end at tag ticket (description_view desc.now.value)) answer modules.new) }
+    ensures kept { OnErr result ((history : History) → SeatsMirror modules.old history → IsCounted modules.old history
+        → SeatsMirror modules.new history × IsCounted modules.new history) }
+{
+    let Some(slot) = modules.get(tag) else {
+        return Ok(Answer::Refused(Rule::NoModule { tag }));
+    };
+    if let Some(rule) = ticket_rule(slot, ticket) {
+        return Ok(Answer::Refused(rule));
+    }
+    if let Some(rule) = held_back(modules, runs, tag, desc) {
+        return Ok(Answer::Refused(rule));
+    }
+    dock_again(modules, tag, ticket, desc.clone()?)?;
+    Ok(Answer::Done)
+}
+
+// Docks the module that is away again, by its ticket.
+fn dock_back(slot: &mut Slot, ticket: u32) -> Result<(), Rule>
+    ensures answer { result ≡ done_unless (ticket_rule ticket (slot_ticket slot.old)) }
+    ensures docked { OnOk result (IsDocked slot.old slot.new (slot_description slot.old)) }
+    ensures unchanged { OnErr result (IsUnchanged slot.old slot.new) }
+{
+    if slot.ticket().is_none() {
+        return Err(Rule::NotInExchange);
+    }
+    slot.cancel(ticket)
+}
+
+/// An exchange is cancelled: the module that is away is docked again.
+pub fn exchange_cancel(modules: &mut Table<Slot>, tag: Name, ticket: u32) -> Answer
+    ensures answered { (history : History) (at : ℕ) → SeatsMirror modules.old history → IsCounted modules.old history
+        → is_full history ≡ false → AnswersModule history (exchange_cancel at tag ticket) result modules.new }
+{
+    match modules.get_mut(tag) {
+        None => Answer::Refused(Rule::NoModule { tag }),
+        Some(slot) => done_or_refused(dock_back(slot, ticket)),
+    }
+}

@@ -1,0 +1,150 @@
+//! What events of a module are answered, and what they change in the table of modules.
+ghost use Rattle.std.specs.Prelude.{◌≡◌, ℕ, IfOk, OnErr, false};
+ghost use Rattle.mtp_desc.specs.DescriptionView.{description_view};
+ghost use Rattle.pol_events.specs.Events.{plug, unplug, report, variable, desk};
+ghost use Rattle.pol_history.specs.Looking.{History};
+ghost use Rattle.pol_history.specs.Answers.{is_full};
+ghost use Rattle.pol_history.specs.Modules.{docking_of};
+ghost use Rattle.pol_history.specs.Batches.{holder_of};
+ghost use Rattle.pol_core.specs.Calls.{plain_docking};
+ghost use Rattle.pol_core.specs.Exchanges.{HaveBegunFew};
+ghost use Rattle.pol_core.specs.Seats.{AnswersModule, IsCounted, SeatsMirror, asked_answer, done_or_refused, slot_asked};
+
+use crate::docking::Docking;
+use chart_core::LogEntry;
+use mtp_assembly::ServiceControl;
+use mtp_codes::{Command, Name, Value};
+use mtp_desc::Description;
+use pol_events::{Answer, Rule};
+use pol_slots::Slot;
+use pol_table::Table;
+use std::alloc::{AllocError, Global};
+use std::sync::Arc;
+
+/// How many modules a plant may have, docked or away.
+const MOST_MODULES: u32 = 64;
+
+/// An event that is done, unless a rule refuses it.
+pub fn done_or_refused(refused: Result<(), Rule>) -> Answer
+    ensures { result ≡ done_or_refused refused }
+{
+    match refused {
+        Ok(()) => Answer::Done,
+        Err(rule) => Answer::Refused(rule),
+    }
+}
+
+/// A module is plugged. AllocError where memory is wanting; then the table is as it was.
+pub fn plug(
+    alloc: Global,
+    modules: &mut Table<Slot>,
+    tag: Name,
+    description: &Arc<Description>,
+) -> Result<Answer, AllocError>
+    ensures answered { IfOk result (λ answer. (history : History) (at : ℕ) → SeatsMirror modules.old history
+        → IsCounted modules.old history → is_full history ≡ false
+        → AnswersModule history (plug at tag (description_view description.now.value)) answer modules.new) }
+    ensures unchanged { OnErr result (modules.new ≡ modules.old) }
+{
+    if modules.get(tag).is_some() {
+        return Ok(Answer::Refused(Rule::TagTaken));
+    }
+    if modules.len() >= MOST_MODULES {
+        return Ok(Answer::Refused(Rule::PlantFull));
+    }
+    let slot = Slot::new(alloc, description.clone()?, tag)?;
+    match modules.dock(tag, slot) {
+        Ok(()) => Ok(Answer::Done),
+        Err((_slot, _fault)) => Err(AllocError),
+    }
+}
+
+/// A module leaves, where no batch holds it.
+pub fn unplug(modules: &mut Table<Slot>, tag: Name) -> Answer
+    ensures answered { (history : History) (at : ℕ) → SeatsMirror modules.old history → IsCounted modules.old history
+        → is_full history ≡ false → AnswersModule history (unplug at tag) result modules.new }
+{
+    let Some(slot) = modules.get(tag) else {
+        return Answer::Refused(Rule::NoModule { tag });
+    };
+    if let Some(ticket) = slot.ticket() {
+        return Answer::Refused(Rule::InExchange { tag, ticket });
+    }
+    if let Some(batch) = modules.holder(tag) {
+        return Answer::Refused(Rule::Held { batch });
+    }
+    if modules.leave(tag).is_err() {
+        unreachable!();
+    }
+    Answer::Done
+}
+
+/// A service reports.
+pub fn report(
+    modules: &mut Table<Slot>,
+    tag: Name,
+    service: Name,
+    control: ServiceControl,
+) -> Answer
+    ensures answered { (history : History) (at : ℕ) → SeatsMirror modules.old history → IsCounted modules.old history
+        → is_full history ≡ false → AnswersModule history (report at tag service control) result modules.new }
+{
+    match modules.get_mut(tag) {
+        None => Answer::Refused(Rule::NoModule { tag }),
+        Some(slot) => done_or_refused(slot.report(service, control)),
+    }
+}
+
+/// A variable is reported.
+pub fn variable(modules: &mut Table<Slot>, tag: Name, name: Name, value: Value) -> Answer
+    ensures answered { (history : History) (at : ℕ) → SeatsMirror modules.old history → IsCounted modules.old history
+        → is_full history ≡ false → AnswersModule history (variable at tag name value) result modules.new }
+{
+    match modules.get_mut(tag) {
+        None => Answer::Refused(Rule::NoModule { tag }),
+        Some(slot) => done_or_refused(slot.variable(name, value)),
+    }
+}
+
+// The operator's command to a service of this slot.
+fn ask(slot: &Slot, tag: Name, service: Name, command: Command) -> Result<LogEntry, Rule>
+    ensures { result ≡ slot_asked slot.now tag service command }
+{
+    let view = slot.reported(service)?;
+    pol_desk::desk(tag, service, &view, command)
+}
+
+/// The operator commands a service of a module.
+pub fn desk(modules: &Table<Slot>, tag: Name, service: Name, command: Command) -> Answer
+    ensures answered { (history : History) (at : ℕ) → SeatsMirror modules.now history → IsCounted modules.now history
+        → is_full history ≡ false → AnswersModule history (desk at tag service command) result modules.now }
+{
+    let Some(slot) = modules.get(tag) else {
+        return Answer::Refused(Rule::NoModule { tag });
+    };
+    match ask(slot, tag, service, command) {
+        Ok(entry) => Answer::Did(entry),
+        Err(rule) => Answer::Refused(rule),
+    }
+}
+
+/// Whether a tag is docked.
+pub fn docking(modules: &Table<Slot>, tag: Name) -> Docking
+    requires { HaveBegunFew modules.now }
+    ensures { (history : History) → SeatsMirror modules.now history → plain_docking result ≡ docking_of history tag }
+{
+    let Some(slot) = modules.get(tag) else {
+        return Docking::Absent;
+    };
+    match slot.ticket() {
+        Some(ticket) => Docking::Away(ticket),
+        None => Docking::Docked(slot.begins() + 1),
+    }
+}
+
+/// The batch that holds the module.
+pub fn holder(modules: &Table<Slot>, tag: Name) -> Option<Name>
+    ensures { (history : History) → SeatsMirror modules.now history → result ≡ holder_of history tag }
+{
+    modules.holder(tag)
+}

@@ -1,0 +1,57 @@
+//! Recipes that are made known.
+ghost use Rattle.std.specs.Prelude.{◌≡◌, ℕ, ◌+◌, List, length, Some, None, IfOk, OnOk, OnErr, false, true, if◌then◌else◌};
+ghost use Rattle.std.specs.Map.{lookup};
+ghost use Rattle.std.specs.Str.{bytes_eq};
+ghost use Rattle.chart_core.specs.Charts.{plan};
+ghost use Rattle.pol_events.specs.Events.{recipe};
+ghost use Rattle.pol_events.specs.Orderly.{is_valid};
+ghost use Rattle.pol_history.specs.Looking.{History};
+ghost use Rattle.pol_history.specs.Answers.{is_full};
+ghost use Rattle.pol_core.specs.Recipes.{RecipesMirror, AnswersRecipe};
+
+use chart_core::Chart;
+use indexmap::IndexMap;
+use mtp_codes::Name;
+use pol_events::{Answer, Rule};
+use std::alloc::AllocError;
+use std::sync::Arc;
+
+// Keeps the chart of a new name.
+fn keep(
+    recipes: &mut IndexMap<Name, Arc<Chart>>,
+    name: Name,
+    chart: Arc<Chart>,
+) -> Result<(), AllocError>
+    requires { lookup (bytes_eq name) recipes.old.entries ≡ None }
+    ensures looks { OnOk result ((other : List ℕ) → lookup (bytes_eq other) recipes.new.entries
+        ≡ (if bytes_eq name other then Some chart else lookup (bytes_eq other) recipes.old.entries)) }
+    ensures count { OnOk result (length recipes.new.entries ≡ length recipes.old.entries + 1) }
+    ensures unchanged { OnErr result (recipes.new.entries ≡ recipes.old.entries) }
+{
+    match recipes.insert(name, chart) {
+        Ok(_) => Ok(()),
+        Err(_) => Err(AllocError),
+    }
+}
+
+/// A recipe is made known. AllocError where memory is wanting; then the recipes are as they were.
+pub fn recipe(
+    recipes: &mut IndexMap<Name, Arc<Chart>>,
+    name: Name,
+    chart: &Arc<Chart>,
+) -> Result<Answer, AllocError>
+    requires { is_valid (plan chart.now.value) ≡ true }
+    ensures answered { IfOk result (λ answer. (history : History) (at : ℕ) → RecipesMirror recipes.old.entries history → is_full history ≡ false
+        → AnswersRecipe history (recipe at name (plan chart.now.value)) answer recipes.new.entries) }
+    ensures unchanged { OnErr result (recipes.new.entries ≡ recipes.old.entries) }
+{
+    if recipes.contains_key(&name) {
+        return Ok(Answer::Refused(Rule::RecipeKnown));
+    }
+    if recipes.len() >= 64 {
+        return Ok(Answer::Refused(Rule::RecipesFull));
+    }
+    let chart = chart.clone()?;
+    keep(recipes, name, chart)?;
+    Ok(Answer::Done)
+}
