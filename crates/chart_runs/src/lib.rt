@@ -71,6 +71,3 @@ pub fn is_whole(alloc: Global, chart: &Chart, log: &[LogEntry]) -> Result<bool, 
     let mut marks = untouched(alloc, chart)?;
     Ok(ends(chart, &mut marks, log))
 }
-
-#[cfg(test)]
-mod tests;

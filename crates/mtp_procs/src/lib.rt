@@ -9,6 +9,3 @@ mod demand;
 
 pub use check::check_step;
 pub use demand::{StepDemand, StepFault};
-
-#[cfg(test)]
-mod tests;

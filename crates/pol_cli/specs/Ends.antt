@@ -34,13 +34,15 @@ pub record WritesTaken (of_lines : List ℕ → List ℕ) (held held' : Option (
   pub written : Appends held held' (of_lines takes.whole)
 
 -- the same, where 268,435,456 bytes were taken, as many as an input may have, and another one came
-pub record WritesTakenAndMore (of_lines : List ℕ → List ℕ) (held held' : Option (List ℕ)) (bytes left : List ℕ) : Type 0 where
+pub record WritesTakenAndMore (of_lines : List ℕ → List ℕ) (held held' : Option (List ℕ)) (bytes left : List ℕ)
+    : Type 0 where
   pub last : ℕ
   pub taken : WritesTaken of_lines held held' bytes (last ∷ left)
   pub full : length (taken.takes.whole ++ taken.takes.part) ≡ LONGEST_INPUT
 
 -- what was written is a front part of what is written for the lines whose line feed was taken
-pub record WritesTakenPart (of_lines : List ℕ → List ℕ) (held held' : Option (List ℕ)) (bytes left : List ℕ) : Type 0 where
+pub record WritesTakenPart (of_lines : List ℕ → List ℕ) (held held' : Option (List ℕ)) (bytes left : List ℕ)
+    : Type 0 where
   pub takes : Takes bytes left
   pub some : WritesSome held held' (of_lines takes.whole)
 
@@ -54,7 +56,8 @@ pub record WritesLess (output : Output) (held held' : Option (List ℕ)) (bytes 
 -- what was written is a front part of what is written for the lines that were taken, or, where the input was read to
 -- its end, of the output
 abbrev pub LeavesPart : Output → Option (List ℕ) → Option (List ℕ) → List ℕ → List ℕ → Type 0
-LeavesPart output held held' bytes left = WritesTakenPart output.of_lines held held' bytes left ⊎ WritesLess output held held' bytes left
+LeavesPart output held held' bytes left =
+    WritesTakenPart output.of_lines held held' bytes left ⊎ WritesLess output held held' bytes left
 
 -- the input has at most 268,435,456 bytes
 abbrev pub Fits : Option (List ℕ) → Type 0
@@ -75,7 +78,8 @@ Completes source source' sink sink' status =
 pub record Ends (output : Output) (source source' sink sink' : Edge) (status : Status) : Type 0 where
   -- what was written
   pub good : status ≡ Good → Between (Writes output.of_input sink.bytes sink'.bytes) source.bytes source'.bytes
-  pub taken : status ≡ ReadFault → Between (WritesTaken output.of_lines sink.bytes sink'.bytes) source.bytes source'.bytes
+  pub taken : status ≡ ReadFault
+      → Between (WritesTaken output.of_lines sink.bytes sink'.bytes) source.bytes source'.bytes
   pub taken_and_more : status ≡ TooMuchInput
       → Between (WritesTakenAndMore output.of_lines sink.bytes sink'.bytes) source.bytes source'.bytes
   pub part : (status ≡ WriteFault) ⊎ (status ≡ OutOfMemory)

@@ -20,7 +20,8 @@ pub record LineWork (State : Type 0) : Type 0 where
 -- its replies to the lines of these pieces, one after another
 abbrev pub replies : {State : Type 0} → LineWork State → State → List (List ℕ) → List ℕ
 replies work state [] = []
-replies work state (piece ∷ pieces) = work.reply state (line_of piece) ++ replies work (work.after state (line_of piece)) pieces
+replies work state (piece ∷ pieces) =
+    work.reply state (line_of piece) ++ replies work (work.after state (line_of piece)) pieces
 
 -- what it knows after them
 abbrev pub after_all : {State : Type 0} → LineWork State → State → List (List ℕ) → State

@@ -39,7 +39,8 @@ pub record Moves {State : Type 0} (before now : Moment State) : Type 0 where
   pub at_end : IsTrue now.lines.ended → (IsTrue before.lines.ended → IsAtEnd before.left) → IsAtEnd now.left
   pub sound : IsTrue now.lines.sound
 
--- the lines before the rest were replied to since the first moment, and what the job knows now is what it knows after them
+-- the lines before the rest were replied to since the first moment, and what the job knows now is what it knows after
+-- them
 pub record Served {State : Type 0} (work : LineWork State) (first now : Moment State) (held held' : Option (List ℕ))
     (bytes rest : List ℕ) : Type 0 where
   pub done : List ℕ
@@ -48,7 +49,8 @@ pub record Served {State : Type 0} (work : LineWork State) (first now : Moment S
   pub appended : Appends held held' (replies work first.state (pieces done))
 
 -- the same, where the source tells its bytes
-abbrev pub IsServed : {State : Type 0} → LineWork State → Moment State → Moment State → Option (List ℕ) → Option (List ℕ) → Type 0
+abbrev pub IsServed : {State : Type 0} → LineWork State → Moment State → Moment State → Option (List ℕ)
+    → Option (List ℕ) → Type 0
 IsServed work first now held held' = Between (Served work first now held held') first.left (ahead now.lines now.left)
 
 -- the input was read to its end, its lines were replied to, and this is what the job knows after them
@@ -59,17 +61,18 @@ pub record Replied {State : Type 0} (work : LineWork State) (start state : State
   pub written : Appends held held' (replies work start (pieces bytes))
 
 -- the next line, with the reply where there was memory for it, and what the job knows after it; or the end
-abbrev pub Replies : {State : Type 0} → LineWork State → State → State → Bool → Option (Result (Vec ℕ Global) AllocError)
-    → List ℕ → List ℕ → Type 0
+abbrev pub Replies : {State : Type 0} → LineWork State → State → State → Bool
+    → Option (Result (Vec ℕ Global) AllocError) → List ℕ → List ℕ → Type 0
 Replies work before now ended None text rest = (text ≡ []) × (rest ≡ []) × (now ≡ before)
 Replies work before now ended (Some made) text rest =
     (line : List ℕ) × IsFirstLine ended line text rest
     × IfOk made (λ reply. reply.items ≡ work.reply before line) × OnOk made (now ≡ work.after before line)
 
 -- one more line is read and replied to, or the end is seen
-pub record IsNext {State : Type 0} (work : LineWork State) (before now : Moment State) (made : Option (Result (Vec ℕ Global) AllocError))
-    : Type 0 where
-  pub replies : Between (Replies work before.state now.state now.lines.ended made) (ahead before.lines before.left) (ahead now.lines now.left)
+pub record IsNext {State : Type 0} (work : LineWork State) (before now : Moment State)
+    (made : Option (Result (Vec ℕ Global) AllocError)) : Type 0 where
+  pub replies : Between (Replies work before.state now.state now.lines.ended made) (ahead before.lines before.left)
+      (ahead now.lines now.left)
   pub gives : OnSome made (given before.lines < given now.lines)
   pub moves : Moves before now
   pub ended : IfNone made (IsTrue now.lines.ended)

@@ -24,7 +24,8 @@ fn next_reply<S: Source, J: LineJob>(
 ) -> Result<Option<Result<Vec<u8>, AllocError>>, IoFault>
     requires { IsTrue lines.old.sound }
     ensures next { IfOk result (IsNext J.work
-        (moment (J.state job.old) lines.old (S.left source.old)) (moment (J.state job.new) lines.new (S.left source.new))) }
+        (moment (J.state job.old) lines.old (S.left source.old))
+        (moment (J.state job.new) lines.new (S.left source.new))) }
     ensures fault { IfErr result (λ fault.
         Stops lines.old.taken (ahead lines.old (S.left source.old)) (S.left source.old) (S.left source.new) fault) }
     ensures open_end { OnErr result (lines.old.ended ≡ false) }

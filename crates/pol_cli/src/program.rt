@@ -13,8 +13,8 @@ use pol_io::{Sink, Source};
 use pol_words::{Task, WordFault, read_words};
 use std::alloc::Global;
 
-/// Does what the words ask for; the first word is the program's name. Words that ask for no task leave the source and the
-/// sink as they were.
+/// Does what the words ask for; the first word is the program's name. Words that ask for no task leave the source and
+/// the sink as they were.
 #[tactic(auto, using(crate::proofs::Ending::bad_words_ends, crate::proofs::Ending::no_memory_ends))]
 pub fn top<S: Source, K: Sink>(
     alloc: Global,

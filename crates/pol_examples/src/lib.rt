@@ -1,10 +1,14 @@
-//! Worked journals on `pol_cli::top`: tests alone.
+//! Worked examples across crates, most of them journals on `pol_cli::top`: tests alone.
 #![tactic(auto)]
 
 #[cfg(test)]
 mod batches;
 #[cfg(test)]
+mod chart_logs;
+#[cfg(test)]
 mod commands;
+#[cfg(test)]
+mod demands;
 #[cfg(test)]
 mod edges;
 #[cfg(test)]

@@ -41,7 +41,8 @@ fn put_batch<K: Sink>(
 fn put_batches<K: Sink>(alloc: Global, history: &[Entry], sink: &mut K) -> Result<(), JobFault>
     requires { IsOrderly (history_view history.now) }
     ensures text { OnOk result (Appends (K.held sink.old) (K.held sink.new) (batches_text (history_view history.now))) }
-    ensures part { OnErr result (WritesSome (K.held sink.old) (K.held sink.new) (batches_text (history_view history.now))) }
+    ensures part { OnErr result (WritesSome (K.held sink.old) (K.held sink.new)
+        (batches_text (history_view history.now))) }
     ensures cause { HasCauseOf JobFault.Write (K.faults sink.old) (K.faults sink.new) result }
     ensures only { IfErr result (λ fault. (fault ≢ JobFault.Read) × (fault ≢ JobFault.TooMuch)) }
 {
@@ -55,7 +56,8 @@ fn put_batches<K: Sink>(alloc: Global, history: &[Entry], sink: &mut K) -> Resul
 pub fn close<K: Sink>(alloc: Global, history: &[Entry], sink: &mut K) -> Result<(), JobFault>
     requires { IsOrderly (history_view history.now) }
     ensures text { OnOk result (Appends (K.held sink.old) (K.held sink.new) (closing_text (history_view history.now))) }
-    ensures part { OnErr result (WritesPart (K.held sink.old) (K.held sink.new) (closing_text (history_view history.now))) }
+    ensures part { OnErr result (WritesPart (K.held sink.old) (K.held sink.new)
+        (closing_text (history_view history.now))) }
     ensures cause { HasCauseOf JobFault.Write (K.faults sink.old) (K.faults sink.new) result }
     ensures only { IfErr result (λ fault. (fault ≢ JobFault.Read) × (fault ≢ JobFault.TooMuch)) }
 {

@@ -21,7 +21,8 @@ use std::alloc::{AllocError, Global};
 /// The line of the plant's answer to an event.
 fn answer_event(alloc: Global, plant: &mut Plant, event: Event) -> Result<Vec<u8>, AllocError>
     requires { IsTrue (is_orderly (event_view event)) }
-    ensures line { IfOk result (λ line. line.items ≡ answer_text (answer_of (plant_history plant.old) (event_view event))) }
+    ensures line { IfOk result (λ line.
+        line.items ≡ answer_text (answer_of (plant_history plant.old) (event_view event))) }
     ensures history { OnOk result (plant_history plant.new
         ≡ recorded (entry_of (plant_history plant.old) (event_view event)) (plant_history plant.old)) }
 {
@@ -35,7 +36,8 @@ fn answer_event(alloc: Global, plant: &mut Plant, event: Event) -> Result<Vec<u8
 fn answer(alloc: Global, plant: &mut Plant, saying: Saying) -> Result<Vec<u8>, AllocError>
     requires { IsOrderly saying }
     ensures line { IfOk result (λ line. line.items ≡ reply_text (plant_history plant.old) (saying_view saying)) }
-    ensures history { OnOk result (plant_history plant.new ≡ after_saying (plant_history plant.old) (saying_view saying)) }
+    ensures history { OnOk result (
+        plant_history plant.new ≡ after_saying (plant_history plant.old) (saying_view saying)) }
 {
     match saying {
         Saying::Nothing => Ok(Vec::new(alloc)),

@@ -1,9 +1,9 @@
 //! Demands of worked steps on a worked description.
 
-use crate::{StepDemand, StepFault, check_step};
 use mtp_codes::{Name, Setting, Short, Value};
 use mtp_desc::{Description, read_description};
 use mtp_json::{JsonRefusal, parse};
+use mtp_procs::{StepDemand, StepFault, check_step};
 use std::alloc::Global;
 use std::test::*;
 

@@ -1,8 +1,8 @@
 //! The log of a worked chart, and parts of it.
 
-use crate::{is_part, is_whole};
 use chart_core::{Chart, LogEntry, Readings};
 use chart_json::read_chart;
+use chart_runs::{is_part, is_whole};
 use mtp_codes::{Name, Reading};
 use mtp_json::parse;
 use std::alloc::Global;
