@@ -267,7 +267,13 @@ ticks_along sim next =
     stays : StayUntold sim (ticked_at sim (slice_get sim.services sim.place))
     stays place service at untold = stays_at (slice_get sim.services sim.place) refl place service at untold
 
--- a service that takes a command is then where it may be
+-- a service that a command leads elsewhere, once it told its state, is then where it may be
+pub led-next : (s : SimService) (target : State) (procedure : ℕ) (command : Command) → is_untold s ≡ false
+    → command_target s.state command ≡ Some target → IsNext (sent_to s target procedure)
+led-next s target procedure command told leads =
+    inr (edge-may s.last s.state target (told-last s told) (command-edge s.state target command leads))
+
+-- so is one that takes a command
 took-next : (d : DescriptionForm) (s : SimService) (command : Command) (procedure : ℕ) → is_untold s ≡ false
     → (after : SimService)
     → service_took d s command procedure ≡ Some after → IsNext after
@@ -283,7 +289,7 @@ took-next d s command procedure told after took =
     go false (Some target) None leads is = cc
     go false (Some target) (Some runs) leads is =
         subst IsNext (same_Some (sent_to s target runs) after is)
-        (inr (edge-may s.last s.state target (told-last s told) (command-edge s.state target command leads)))
+        (led-next s target runs command told leads)
 
 -- a service that takes a command keeps its name
 pub name-taken : (d : DescriptionForm) (s : SimService) (command : Command) (procedure : ℕ) (after : SimService)

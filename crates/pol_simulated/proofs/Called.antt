@@ -7,7 +7,12 @@ use Rattle.std.proofs.lemmas.Option.{same_Some}
 use Rattle.mtp_json.specs.Form.{repeats_by}
 use Rattle.mtp_sim.proofs.Edges.{none-at}
 use Rattle.mtp_sim.proofs.Indexed.{neither}
+use Rattle.mtp_sim.specs.declared.service.SimService.{SimService}
 use Rattle.pol_history.proofs.Names.{same-true, same-refl}
+
+-- the name of a service
+abbrev pub service_name : SimService → List ℕ
+service_name service = service.name
 
 -- where the element at a place is replaced by one of its name, that one is found in its place
 pub called-set : {A : Type 0} (name_of : A → List ℕ) (xs : List A) (i : ℕ) (x y : A) (name : List ℕ)

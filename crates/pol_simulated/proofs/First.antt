@@ -10,6 +10,8 @@ use Rattle.mtp_sim.specs.declared.plan.Drift.{Drift}
 use Rattle.mtp_sim.specs.declared.service.SimService.{SimService}
 use Rattle.mtp_sim.specs.declared.drift.SimDrift.{SimDrift}
 use Rattle.mtp_sim.specs.Sims.{first_service, first_drift}
+use Rattle.mtp_sim.proofs.Edges.{firsts-next}
+use Rattle.mtp_sim.proofs.Indexed.{first_named}
 use Rattle.pol_simulated.specs.Units.{IsTold, IsServiceTold, IsServiceCounted, IsDriftTold, service_called, drift_called, is_same_service}
 use Rattle.pol_simulated.specs.Laws.{FirstSimsAreInStep}
 
@@ -61,8 +63,10 @@ first_in_step site tag past d plan sent fresh described planned services drifts 
     described = described;
     planned = planned ∙ ap (λ drifts. Some (record { ticks = plan.ticks; run = plan.run; drifts = drifts }))
         (sym rises);
+    named = first_named d.services;
     unlike_services = repeats_map first_of is_same_service d.services ∙ services;
     unlike_drifts = drifts;
+    next = firsts-next d.services;
     services = λ name. rw fresh (told-first d name (service_called name (map first_of d.services))
         (found-image first_of (λ s. bytes_eq s.name name) d.services));
     drifts = λ name. rw fresh (drift-first (drift_called name (map first_drift plan.drifts))

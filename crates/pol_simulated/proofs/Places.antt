@@ -1,30 +1,43 @@
 -- What stands before a place of a history, and the next command from it on.
-use Rattle.std.proofs.Common.{◌≡◌, ◌≤◌, ◌<◌, ◌+◌, ℕ, suc, Bool, true, false, cond, List, [], ◌∷◌, length, Option, Some, None, refl, ap, ◌∙◌, arith}
-use Rattle.std.specs.Prelude.{◌||◌, nat_lt, nat_le, is_some, filter, option_map, if◌then◌else◌}
+use Rattle.std.proofs.Common.{◌≡◌, ◌≤◌, ◌<◌, ◌+◌, ℕ, suc, Bool, true, false, cond, List, [], ◌∷◌, length, Option, Some, None, refl, ap, sym, ◌∙◌, arith}
+use Rattle.std.specs.Prelude.{◌&&◌, ◌||◌, nat_lt, nat_le, is_some, filter, option_map, if◌then◌else◌}
 use Rattle.std.specs.Option.{option_or}
 use Rattle.std.proofs.lemmas.Option.{same_Some}
 use Rattle.std.proofs.lemmas.Bool.Decides.{nat_tests}
 use Rattle.mtp_codes.specs.declared.command.Command.{Command}
-use Rattle.chart_cursor.specs.Commands.{Sent}
+use Rattle.chart_core.specs.declared.entry.LogEntry.{LogEntry}
+use Rattle.chart_cursor.specs.Commands.{Sent, sent_by}
+use Rattle.pol_events.specs.declared.answer.Answer.{Answer}
+use Rattle.pol_events.specs.declared.answer.Answer.TheVariants.{Did}
+use Rattle.pol_history.specs.Batches.{taken}
+use Rattle.pol_history.specs.Commands.{sent_command}
 use Rattle.pol_events.specs.Events.{EntryForm}
 use Rattle.pol_history.specs.Looking.{History, is_accepted_of}
 use Rattle.pol_history.specs.Modules.{is_moving, since_docking}
-use Rattle.pol_site.specs.Stories.{sent_to, touches, story, times_sent, is_given}
+use Rattle.pol_site.specs.Stories.{if_to, is_given, sent_to, story, times_sent, touches}
 use Rattle.pol_simulated.specs.Places.{before, Found, found_at, next_command, StaysFrom, NextCounts}
 
 -- tests of numbers, both ways
 pub lt-true : (n m : ℕ) → n < m → nat_lt n m ≡ true
 lt-true n m less = grind (arith, nat_tests)
 
+-- not less
 pub lt-false : (n m : ℕ) → m ≤ n → nat_lt n m ≡ false
 lt-false n m less = grind (arith, nat_tests)
 
+-- at most
 pub le-true : (n m : ℕ) → n ≤ m → nat_le n m ≡ true
 le-true n m less = grind (arith, nat_tests)
 
+-- what the test of at most says
 pub le-holds : (n m : ℕ) → nat_le n m ≡ true → n ≤ m
 le-holds n m is = grind (arith, nat_tests)
 
+-- not at most
+pub lt-fails : (n m : ℕ) → m < n → nat_le n m ≡ false
+lt-fails n m before = grind (arith, nat_tests)
+
+-- what its failing says
 pub le-fails : (n m : ℕ) → nat_le n m ≡ false → m < n
 le-fails n m is = grind (arith, nat_tests)
 
@@ -68,12 +81,20 @@ none-counted tag from (entry ∷ older) service command stays none =
     none-of (Some x) other e = cc
 
     silent : from ≤ length older → found_at tag from (length older) entry ≡ None → sent_to tag entry ≡ None
-    silent within e = quiet (sent_to tag entry) (rw (le-true from (length older) within) at e)
+    silent within e = quiet entry.answer (rw (le-true from (length older) within) at e)
       where
-        quiet : (sent : Option Sent) → option_map {U = Found} (λ sent. record { sent = sent; place = length older })
-            sent ≡ None → sent ≡ None
-        quiet None e = refl
-        quiet (Some x) e = cc
+        nothing : (did : LogEntry) (sent : Option Sent) →
+            (if is_some sent then option_map {U = Found} (λ did. record { did = did; place = length older }) (Some did) else None)
+            ≡ None → sent ≡ None
+        nothing did None e = refl
+        nothing did (Some sent) e = cc
+
+        quiet : (answer : Answer) →
+            (if is_some (if_to tag (sent_command answer))
+            then option_map {U = Found} (λ did. record { did = did; place = length older }) (taken answer) else None) ≡ None →
+            if_to tag (sent_command answer) ≡ None
+        quiet (Did did) e = nothing did (if_to tag (sent_by did)) e
+        quiet _ e = refl
 
     go : (all : Bool) → nat_le (suc (length older)) from ≡ all → found_at tag from (length older) entry ≡ None →
         times_sent tag service command (story tag older) ≡ times_sent tag service command
@@ -119,32 +140,45 @@ count-sent tag service command entry rest sent sends stays =
     lengths true xs = refl
     lengths false xs = refl
 
--- the command found in a history stands in it
-found-within : (tag : List ℕ) (from : ℕ) (history : History) (found : Found)
-    → next_command tag from history ≡ Some found → found.place < length history × from ≤ found.place
-found-within tag from [] found is = cc
-found-within tag from (entry ∷ older) found is =
-    go (next_command tag from older) refl is (found-within tag from older found)
-  where
-    here : (late : Bool) (sent : Option Sent) → nat_le from (length older) ≡ late →
-        (if late then option_map {U = Found} (λ sent. record { sent = sent; place = length older }) sent else None)
-        ≡ Some found →
-        found.place < length (entry ∷ older) × from ≤ found.place
-    here false sent is e = cc
-    here true None is e = cc
-    here true (Some sent) is e =
-        let at : length older ≡ found.place = ap (λ (f : Found). f.place) (same_Some _ found e) in
-        let within : from ≤ length older = le-holds from (length older)
-        is in (omega (arith, at), omega (arith, at, within))
+-- what an answer sends is what its entry of a log sends
+pub taken-sends : (answer : Answer) (did : LogEntry) → taken answer ≡ Some did → sent_command answer ≡ sent_by did
+taken-sends (Did other) did is = ap sent_by (same_Some other did is)
+taken-sends _ did is = cc
 
-    go : (earlier : Option Found) → next_command tag from older ≡ earlier
-        → option_or earlier (found_at tag from (length older) entry) ≡ Some found →
-        (next_command tag from older ≡ Some found → found.place < length older × from ≤ found.place) →
-        found.place < length (entry ∷ older) × from ≤ found.place
+-- the next command is what this entry did
+pub record IsAt (tag : List ℕ) (from : ℕ) (older : History) (entry : EntryForm) (found : Found) : Type 0 where
+  pub late : nat_le from (length older) ≡ true
+  pub sent : Sent
+  pub sends : sent_to tag entry ≡ Some sent
+  pub took : taken entry.answer ≡ Some found.did
+  pub place : found.place ≡ length older
+
+-- where it is found at an entry, it is there
+pub is-at : (tag : List ℕ) (from : ℕ) (older : History) (entry : EntryForm) (found : Found) → found_at tag from (length older) entry ≡ Some found → IsAt tag from older entry found
+is-at tag from older entry found is = go (nat_le from (length older)) refl (sent_to tag entry) refl (taken entry.answer) refl is
+  where
+    go : (late : Bool) → nat_le from (length older) ≡ late → (sent : Option Sent) → sent_to tag entry ≡ sent → (did : Option LogEntry) → taken entry.answer ≡ did
+        → (if late && is_some sent then option_map {U = Found} (λ did. record { did = did; place = length older }) did else None) ≡ Some found → IsAt tag from older entry found
+    go false late sent sends did took e = cc
+    go true late None sends did took e = cc
+    go true late (Some sent) sends None took e = cc
+    go true late (Some sent) sends (Some did) took e =
+        let same = same_Some _ found e in
+        record { late = late; sent = sent; sends = sends; took = took ∙ ap Some (ap (λ (f : Found). f.did) same); place = sym (ap (λ (f : Found). f.place) same) }
+
+-- it stands in the history, and not before the place to look from
+pub found-within : (tag : List ℕ) (from : ℕ) (history : History) (found : Found) → next_command tag from history ≡ Some found → (found.place < length history) × (from ≤ found.place)
+found-within tag from [] found is = cc
+found-within tag from (entry ∷ older) found is = go (next_command tag from older) refl is (found-within tag from older found)
+  where
+    go : (earlier : Option Found) → next_command tag from older ≡ earlier → option_or earlier (found_at tag from (length older) entry) ≡ Some found
+        → (next_command tag from older ≡ Some found → (found.place < length older) × (from ≤ found.place)) → (found.place < length (entry ∷ older)) × (from ≤ found.place)
     go (Some first) earlier e again =
-        let same : first ≡ found = same_Some first found e in
-        let inside = again (earlier ∙ ap Some same) in (omega (arith, inside.0), inside.1)
-    go None earlier e again = here (nat_le from (length older)) (sent_to tag entry) refl e
+        let inside = again (earlier ∙ ap Some (same_Some first found e)) in (omega (arith, inside.0), inside.1)
+    go None earlier e again =
+        let it = is-at tag from older entry found e in
+        let within = le-holds from (length older) it.late in
+        let place = it.place in (omega (arith, place), omega (arith, place, within))
 
 -- looking at the next command
 pub next_counted : NextCounts
@@ -152,35 +186,30 @@ next_counted tag from [] found service command stays is = cc
 next_counted tag from (entry ∷ older) found service command stays is =
     go (next_command tag from older) refl is (next_counted tag from older found service command stays.1)
   where
-    here : (late : Bool) (sent : Option Sent) → nat_le from (length older) ≡ late → sent_to tag entry ≡ sent
-        → next_command tag from older ≡ None →
-        (if late then option_map {U = Found} (λ sent. record { sent = sent; place = length older }) sent else None)
-        ≡ Some found →
+    more : ℕ
+    more = if is_given service command (if_to tag (sent_by found.did)) then 1 else 0
+
+    here : IsAt tag from older entry found → next_command tag from older ≡ None →
         times_sent tag service command (story tag (before (suc found.place) (entry ∷ older)))
-        ≡ (if is_given service command (Some found.sent) then 1 else 0) + times_sent tag service command
-        (story tag (before from (entry ∷ older)))
-    here false sent late sends none e = cc
-    here true None late sends none e = cc
-    here true (Some sent) late sends none e =
-        let same = same_Some _ found e in
-        let at : length older ≡ found.place = ap (λ (f : Found). f.place) same in
-        let its : sent ≡ found.sent = ap (λ (f : Found). f.sent) same in
-        let within : from ≤ length older = le-holds from (length older) late in
-        let all : length (entry ∷ older) ≤ suc found.place = omega (arith, at) in
-        rw (before-all (suc found.place) (entry ∷ older) all, before-later from entry older within)
-        (count-sent tag service command entry (story tag older) found.sent (sends ∙ ap Some its) (stays.0 within)
-        ∙ ap (λ n. (if is_given service command (Some found.sent) then 1 else 0) + n)
+        ≡ more + times_sent tag service command (story tag (before from (entry ∷ older)))
+    here it none =
+        let place = it.place in
+        let within : from ≤ length older = le-holds from (length older) it.late in
+        let all : length (entry ∷ older) ≤ suc found.place = omega (arith, place) in
+        let sends : if_to tag (sent_by found.did) ≡ Some it.sent =
+        ap (if_to tag) (sym (taken-sends entry.answer found.did it.took)) ∙ it.sends in
+        rw (before-all (suc found.place) (entry ∷ older) all, before-later from entry older within, sends)
+        (count-sent tag service command entry (story tag older) it.sent it.sends (stays.0 within)
+        ∙ ap (λ n. (if is_given service command (Some it.sent) then 1 else 0) + n)
         (none-counted tag from older service command stays.1 none))
 
     go : (earlier : Option Found) → next_command tag from older ≡ earlier
         → option_or earlier (found_at tag from (length older) entry) ≡ Some found →
         (next_command tag from older ≡ Some found
         → times_sent tag service command (story tag (before (suc found.place) older))
-        ≡ (if is_given service command (Some found.sent) then 1 else 0) + times_sent tag service command
-        (story tag (before from older))) →
+        ≡ more + times_sent tag service command (story tag (before from older))) →
         times_sent tag service command (story tag (before (suc found.place) (entry ∷ older)))
-        ≡ (if is_given service command (Some found.sent) then 1 else 0) + times_sent tag service command
-        (story tag (before from (entry ∷ older)))
+        ≡ more + times_sent tag service command (story tag (before from (entry ∷ older)))
     go (Some first) earlier e again =
         let same : first ≡ found = same_Some first found e in
         let inside = found-within tag from older found (earlier ∙ ap Some same) in
@@ -188,4 +217,4 @@ next_counted tag from (entry ∷ older) found service command stays is =
         let other : from ≤ length older = omega (arith, inside.0, inside.1) in
         rw (before-later (suc found.place) entry older one, before-later from entry older other)
         (again (earlier ∙ ap Some same))
-    go None earlier e again = here (nat_le from (length older)) (sent_to tag entry) refl refl earlier e
+    go None earlier e again = here (is-at tag from older entry found e) earlier

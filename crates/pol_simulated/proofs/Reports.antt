@@ -1,6 +1,6 @@
 -- The reports of a module in step are accepted.
-use Rattle.std.proofs.Common.{◌≡◌, ◌≢◌, ℕ, Bool, true, false, List, [], ◌∷◌, Option, Some, None, refl, ap, sym, ◌∙◌, subst, ℤ}
-use Rattle.std.specs.Prelude.{◌||◌, not, is_none, slice_get, option_map, if◌then◌else◌}
+use Rattle.std.proofs.Common.{◌≡◌, ◌≢◌, ℕ, suc, zero, Bool, true, false, cond, List, [], ◌∷◌, Option, Some, None, refl, ap, sym, ◌∙◌, subst, ℤ}
+use Rattle.std.specs.Prelude.{◌||◌, find, map, not, is_none, slice_get, option_map, if◌then◌else◌}
 use Rattle.std.specs.List.{AllByRecursion, cons_option}
 use Rattle.std.specs.Option.{option_or}
 use Rattle.std.proofs.lemmas.Option.{same_Some}
@@ -9,6 +9,8 @@ use Rattle.mtp_codes.specs.Faults.{when}
 use Rattle.mtp_machine.specs.Machine.{is_edge, same_state, every_state}
 use Rattle.mtp_machine.proofs.EveryState.{of_each_state}
 use Rattle.mtp_assembly.specs.declared.control.ServiceControl.{ServiceControl}
+use Rattle.std.specs.Str.{bytes_eq}
+use Rattle.mtp_desc.specs.Plain.{ServiceForm}
 use Rattle.mtp_desc.specs.Lookup.{service_named}
 use Rattle.mtp_sim.specs.declared.service.SimService.{SimService}
 use Rattle.mtp_sim.specs.declared.drift.SimDrift.{SimDrift}
@@ -29,7 +31,7 @@ use Rattle.pol_simulated.proofs.Called.{called-at}
 use Rattle.pol_history.proofs.Names.{same-refl}
 
 -- what a service reported last is the newest of its controls
-last-newest : (service : List ℕ) (entries : History)
+pub last-newest : (service : List ℕ) (entries : History)
     → last_of (λ entry. reported service entry.event) entries ≡ newest (controls_in service entries)
 last-newest service [] = refl
 last-newest service (entry ∷ older) = go (reported service entry.event) (last-newest service older)
@@ -105,9 +107,38 @@ from-service sim name control is = go (service_here sim) refl is
             let parts = same_name_of _ name _ control (same_Some _ (Service name control) is) in
             record { service = service; here = at; reports = r; name_is = parts.0; control_is = parts.1 }
 
+-- a description has each service of a module that has its services
+known-named : (services : List SimService) (forms : List ServiceForm) (place : ℕ) (s : SimService) →
+    map (λ service. service.name) services ≡ map (λ form. form.name) forms → slice_get services place ≡ Some s →
+    is_none (find (λ form. bytes_eq form.name s.name) forms) ≡ false
+known-named [] forms place s named at = cc
+known-named (first ∷ others) [] place s named at = cc
+known-named (first ∷ others) (form ∷ forms) zero s named at = go (bytes_eq form.name s.name) refl
+  where
+    heads : first.name ≡ form.name
+    heads = cc
+
+    go : (here : Bool) → bytes_eq form.name s.name ≡ here →
+        is_none (cond here (Some form) (find (λ form. bytes_eq form.name s.name) forms)) ≡ false
+    go true is = refl
+    go false is =
+        let same : form.name ≡ s.name = sym heads ∙ ap (λ (service : SimService). service.name) (same_Some first s at) in
+        let clash : false ≡ true = sym is ∙ ap (λ name. bytes_eq name s.name) same ∙ same-refl s.name in
+        cc
+known-named (first ∷ others) (form ∷ forms) (suc place) s named at =
+    go (bytes_eq form.name s.name) (known-named others forms place s tails at)
+  where
+    tails : map (λ service. service.name) others ≡ map (λ form. form.name) forms
+    tails = cc
+
+    go : (here : Bool) → is_none (find (λ form. bytes_eq form.name s.name) forms) ≡ false →
+        is_none (cond here (Some form) (find (λ form. bytes_eq form.name s.name) forms)) ≡ false
+    go true others = refl
+    go false others = others
+
 -- the reports of services
 pub reports_accepted : ReportsAreAccepted
-reports_accepted site tag history sim count name control docked_is space step next known gives =
+reports_accepted site tag history sim at count name control docked_is space step gives =
     let from = from-service sim name control gives in
     let s = from.service in
     let d = sim.description in
@@ -121,11 +152,11 @@ reports_accepted site tag history sim count name control docked_is space step ne
     ∙ ap (option_map (λ control. control.state)) (last-newest s.name (since_docking (past tag history))) ∙ told.last
     in
     let may : MayTell s.last (ticked_service sim s).state =
-    told-ticked d (limit_of sim s) s (all-at IsNext sim.services sim.place s next from.here) from.reports in
+    told-ticked d (limit_of sim s) s (all-at IsNext sim.services sim.place s step.next from.here) from.reports in
     let tells : MayTell (option_map (λ control. control.state) (control_by name (past tag history))) control.state
     = subst (λ l. MayTell l control.state) (sym last)
     (subst (MayTell s.last) (sym (ap (λ (c : ServiceControl). c.state) from.control_is)) may) in
     let both = follows control.state (control_by name (past tag history)) tells in
     let there : is_none (service_named name d) ≡ false =
-    ap (λ n. is_none (service_named n d)) named ∙ known sim.place s from.here in
+    ap (λ n. is_none (service_named n d)) named ∙ known-named sim.services d.services sim.place s step.named from.here in
     (rw (space, docked_is, step.described, ap (λ b. when b NoService) there, both.0) refl, both.1)

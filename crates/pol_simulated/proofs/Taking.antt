@@ -24,8 +24,10 @@ use Rattle.pol_site.specs.Sites.{SiteForm}
 use Rattle.pol_site.specs.Stories.{controls_in}
 use Rattle.pol_site.specs.Commanded.{changes_by, is_change_by, is_own_change}
 use Rattle.pol_simulated.specs.Units.{IsTold, IsServiceTold, IsServiceCounted, IsInStep, IsCountedBy, changes_of, service_called}
-use Rattle.mtp_sim.proofs.Edges.{none-at, pending-none, same-state-is, state-refl}
-use Rattle.pol_simulated.proofs.Called.{called-at, called-set, repeats-set}
+use Rattle.mtp_sim.specs.Told.{IsNext}
+use Rattle.mtp_sim.proofs.Indexed.{named-set}
+use Rattle.mtp_sim.proofs.Edges.{all-set, led-next, none-at, pending-none, same-state-is, state-refl}
+use Rattle.pol_simulated.proofs.Called.{called-at, called-set, repeats-set, service_name}
 use Rattle.pol_simulated.specs.Laws.{CommandsKeep, one_more}
 
 -- the same target is reached from a state by one command alone
@@ -66,7 +68,7 @@ leaves state command =
     every_command) every-leaves state) command
 
 -- a service that is told is in the state that it told last
-told-state : (s : SimService) → is_untold s ≡ false → is_state s.state s.last ≡ true
+pub told-state : (s : SimService) → is_untold s ≡ false → is_state s.state s.last ≡ true
 told-state s told = go (is_state s.state s.last) told
   where
     go : (b : Bool) → not b ≡ false → b ≡ true
@@ -84,7 +86,7 @@ swapped one other apart = go (same_state one other) refl
         apart in cc
 
 -- the state told last isn't the target of a command
-moved-untold : (state target : State) (last : Option State) (command : Command) → is_state state last ≡ true
+pub moved-untold : (state target : State) (last : Option State) (command : Command) → is_state state last ≡ true
     → command_target state command ≡ Some target → is_state target last ≡ false
 moved-untold state target None command is leads = cc
 moved-untold state target (Some last) command is leads =
@@ -154,10 +156,6 @@ took-counted d s target procedure command other (old ∷ older) sent told leads 
 
 -- ---- a module
 
--- the name of a service
-abbrev service_name : SimService → List ℕ
-service_name service = service.name
-
 -- the item at the place that is found passes the test
 position-passes : {A : Type 0} (test : A → Bool) (xs : List A) (i : ℕ) (x : A) → position test xs ≡ Some i
     → slice_get xs i ≡ Some x → test x ≡ true
@@ -216,8 +214,10 @@ took-kept site tag past sim sent service command place s target procedure at nam
   record {
     described = step.described;
     planned = step.planned;
+    named = named-set sim.services place s after at refl ∙ step.named;
     unlike_services = repeats-set service_name sim.services place s after at refl ∙ step.unlike_services;
     unlike_drifts = step.unlike_drifts;
+    next = all-set IsNext sim.services place after step.next (led-next s target procedure command told leads);
     services = λ name. rw (found name) (services name (bytes_eq s.name name) refl);
     drifts = step.drifts;
   },

@@ -27,8 +27,9 @@ use Rattle.pol_site.specs.Sites.{SiteForm}
 use Rattle.pol_site.specs.Stories.{controls_in, times_sent}
 use Rattle.pol_site.specs.Commanded.{changes_by, is_own_change}
 use Rattle.pol_simulated.specs.Units.{told as told_of, IsInStep, IsCounted, IsServiceCounted, IsDriftTold, drift_called, newest, IsTold, IsServiceTold, changes_of, is_same_service, service_called}
-use Rattle.mtp_sim.proofs.Edges.{name-ticked, state-refl}
-use Rattle.pol_simulated.proofs.Called.{called-at, called-set, map-set, repeats-set}
+use Rattle.mtp_sim.proofs.Edges.{name-ticked, next-ticked-at, state-refl}
+use Rattle.mtp_sim.proofs.Indexed.{named-set}
+use Rattle.pol_simulated.proofs.Called.{called-at, called-set, map-set, repeats-set, service_name}
 use Rattle.pol_simulated.specs.Laws.{TicksKeep}
 
 -- ---- one service
@@ -103,10 +104,6 @@ step-counted d limit s controls command is =
         rw (state-refl state, u) (moved-counted d s command state controls (is.now u) e f)
 
 -- ---- a module
-
--- the name of a service
-abbrev service_name : SimService → List ℕ
-service_name service = service.name
 
 -- what the service of this name told, where a tick looked at s and reports it or not
 told-after : (d : DescriptionForm) (s after : SimService) (name : List ℕ) (reports : Bool) (found : Option SimService)
@@ -226,8 +223,10 @@ service-kept site tag past looked sim s at step counts = go (is_reported sim.des
       record {
         described = step.described;
         planned = step.planned;
+        named = named-set sim.services sim.place s after at named ∙ step.named;
         unlike_services = unlike;
         unlike_drifts = step.unlike_drifts;
+        next = next-ticked-at d (limit_of sim s) sim.services sim.place s step.next at;
         services = λ name. rw (found name) (told-after d s after name true (service_called name sim.services)
             (controls name) (finds name) named (steps name _ reports) (step.services name));
         drifts = step.drifts;
@@ -238,8 +237,10 @@ service-kept site tag past looked sim s at step counts = go (is_reported sim.des
       record {
         described = step.described;
         planned = step.planned;
+        named = named-set sim.services sim.place s after at named ∙ step.named;
         unlike_services = unlike;
         unlike_drifts = step.unlike_drifts;
+        next = next-ticked-at d (limit_of sim s) sim.services sim.place s step.next at;
         services = λ name. rw (found name) (told-after d s after name false (service_called name sim.services)
             (controls name) (finds name) named (steps name _ reports) (step.services name));
         drifts = step.drifts;
@@ -274,8 +275,10 @@ drift-kept site tag past looked sim drift at step counts = go (value_told (is_ex
       record {
         described = step.described;
         planned = step.planned;
+        named = step.named;
         unlike_services = step.unlike_services;
         unlike_drifts = step.unlike_drifts;
+        next = step.next;
         services = step.services;
         drifts = step.drifts;
       },
@@ -286,9 +289,11 @@ drift-kept site tag past looked sim drift at step counts = go (value_told (is_ex
         described = step.described;
         planned = step.planned ∙ ap (λ drifts. Some (record { ticks = sim.ticks; run = sim.run; drifts = drifts }))
             (sym (map-set drift_in sim.drifts (sim.place - length sim.services) drift (reported_at drift value) at refl));
+        named = step.named;
         unlike_services = step.unlike_services;
         unlike_drifts = repeats-set drift_name sim.drifts (sim.place - length sim.services) drift
             (reported_at drift value) at refl ∙ step.unlike_drifts;
+        next = step.next;
         services = step.services;
         drifts = λ name. rw (called-set drift_name sim.drifts (sim.place - length sim.services) drift
             (reported_at drift value) name step.unlike_drifts at refl)
@@ -311,8 +316,10 @@ ticks_kept site tag past looked sim step counts = go (service_here sim) refl (dr
       record {
         described = step.described;
         planned = step.planned;
+        named = step.named;
         unlike_services = step.unlike_services;
         unlike_drifts = step.unlike_drifts;
+        next = step.next;
         services = step.services;
         drifts = step.drifts;
       },

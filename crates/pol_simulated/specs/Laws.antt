@@ -1,5 +1,5 @@
 -- What a module's turn keeps.
-use Rattle.std.specs.Prelude.{ℕ, ◌+◌, ◌≡◌, ◌≤◌, ◌&&◌, false, is_none, slice_get, Some, map, List, [], ◌∷◌, Option, if◌then◌else◌}
+use Rattle.std.specs.Prelude.{ℕ, ◌+◌, ◌≡◌, ◌≤◌, ◌&&◌, false, Some, map, List, [], ◌∷◌, Option, if◌then◌else◌}
 use Rattle.std.specs.Str.{bytes_eq}
 use Rattle.mtp_codes.specs.declared.command.Command.{Command}
 use Rattle.mtp_json.specs.Form.{repeats_by}
@@ -10,11 +10,8 @@ use Rattle.mtp_sim.specs.Ticks.{ticked, tick_report, is_pending}
 use Rattle.mtp_sim.specs.Commands.{took, after_command}
 use Rattle.mtp_machine.specs.Machine.{same_command}
 use Rattle.mtp_assembly.specs.declared.control.ServiceControl.{ServiceControl}
-use Rattle.mtp_desc.specs.Lookup.{service_named}
-use Rattle.mtp_sim.specs.declared.service.SimService.{SimService}
 use Rattle.mtp_sim.specs.declared.report.SimReport.{SimReport}
 use Rattle.mtp_sim.specs.declared.report.SimReport.TheVariants.{Service}
-use Rattle.mtp_sim.specs.Told.{AreNext}
 use Rattle.pol_events.specs.declared.answer.Answer.TheVariants.{Done}
 use Rattle.pol_history.specs.Modules.{docked, docking_by, control_by, since_docking, description_by}
 use Rattle.pol_history.specs.Answers.{answer_of, is_full}
@@ -64,21 +61,14 @@ CountsGiveCommanded =
     (service : List ℕ) (command : Command) →
     times_changed service command (past tag history) ≤ times_sent tag service command (story tag history)
 
--- The services of a simulated module are among those of its description.
-abbrev pub IsKnown : SimForm → Type 0
-IsKnown sim =
-    (place : ℕ) (service : SimService) → slice_get sim.services place ≡ Some service →
-    is_none (service_named service.name sim.description) ≡ false
-
 -- A report of a service that a docked module in step gives is accepted, and tells a new state.
 abbrev pub ReportsAreAccepted : Type 0
 ReportsAreAccepted =
-    (site : SiteForm) (tag : List ℕ) (history : History) (sim : SimForm) (count : ℕ) (name : List ℕ)
+    (site : SiteForm) (tag : List ℕ) (history : History) (sim : SimForm) (at count : ℕ) (name : List ℕ)
     (control : ServiceControl) →
     docking_by (past tag history) ≡ docked count → is_full history ≡ false →
-    IsInStep site tag (past tag history) sim → AreNext sim.services → IsKnown sim →
-    tick_report sim ≡ Some (Service name control) →
-    (answer_of history (report_event tag (Service name control)) ≡ Done)
+    IsInStep site tag (past tag history) sim → tick_report sim ≡ Some (Service name control) →
+    (answer_of history (report_event at tag (Service name control)) ≡ Done)
     × IsNewState (control_by name (past tag history)) control.state
 
 -- A new simulator of a module of which nothing was told since docking is in step, and its changes are counted.

@@ -12,6 +12,7 @@ use Rattle.mtp_sim.specs.declared.report.SimReport.{SimReport}
 use Rattle.mtp_sim.specs.declared.report.SimReport.TheVariants.{Service, Variable}
 use Rattle.mtp_sim.specs.Sims.{SimForm, PlanForm, drift_in}
 use Rattle.mtp_sim.specs.Ticks.{control_now, is_untold}
+use Rattle.mtp_sim.specs.Told.{AreNext}
 use Rattle.pol_events.specs.Events.{EventForm, report, variable}
 use Rattle.pol_events.specs.declared.answer.Answer.TheVariants.{Done}
 use Rattle.pol_history.specs.Looking.{History}
@@ -23,15 +24,15 @@ use Rattle.pol_site.specs.Commanded.{changes_by}
 
 -- ---- what was told
 
--- the event of a report, without its stamp
-abbrev pub report_event : List ℕ → SimReport → EventForm
-report_event tag (Service name control) = report 0 tag name control
-report_event tag (Variable name value) = variable 0 tag name value
+-- the event of a report, with its stamp
+abbrev pub report_event : ℕ → List ℕ → SimReport → EventForm
+report_event at tag (Service name control) = report at tag name control
+report_event at tag (Variable name value) = variable at tag name value
 
--- what a module told: its past, and in front of it the report that still waits to be applied
+-- what a module told: its past, and in front of it the report that still waits to be applied; its stamp is no matter
 abbrev pub told : List ℕ → Option SimReport → History → History
 told tag None past = past
-told tag (Some waiting) past = record { event = report_event tag waiting; answer = Done } ∷ past
+told tag (Some waiting) past = record { event = report_event 0 tag waiting; answer = Done } ∷ past
 
 -- the newest of a list whose newest comes first
 abbrev pub newest : {A : Type 0} → List A → Option A
@@ -82,12 +83,15 @@ is_same_drift drift other = bytes_eq drift.name other.name
 abbrev pub plan_in : SimForm → PlanForm
 plan_in sim = record { ticks = sim.ticks; run = sim.run; drifts = map drift_in sim.drifts }
 
--- the module is the one that is docked, as its site plans it, and what it keeps is what was told
+-- the module is the one that is docked, as its site plans it; each of its services is where it may be; and what it
+-- keeps is what was told
 pub record IsInStep (site : SiteForm) (tag : List ℕ) (past : History) (sim : SimForm) : Type 0 where
   pub described : description_by past ≡ Some sim.description
   pub planned : plan_by site tag past ≡ Some (plan_in sim)
+  pub named : map (λ service. service.name) sim.services ≡ map (λ service. service.name) sim.description.services
   pub unlike_services : repeats_by is_same_service sim.services ≡ false
   pub unlike_drifts : repeats_by is_same_drift sim.drifts ≡ false
+  pub next : AreNext sim.services
   pub services :
       (name : List ℕ) →
       IsServiceTold sim.description (service_called name sim.services) (controls_in name (since_docking past))
