@@ -47,6 +47,7 @@ told_whole_in low high None = tt
 told_whole_in low high (Some z) = told_if (λ z. is_within low high z ≡ true) (is_within low high z) z OutOfRange
     (λ within. within)
 
+-- the same of a value
 told_whole : (low high : ℤ) (value : Data) → IfOk (whole low high value) (λ z. is_within low high z ≡ true)
 told_whole low high value = told_whole_in low high (whole_number value)
 

@@ -1,0 +1,14 @@
+pub mod Apart
+pub mod Clear
+pub mod Among
+pub mod Alone
+pub mod Owed
+pub mod Desks
+pub mod Plain
+pub mod Ended
+pub mod Owing
+pub mod Still
+pub mod Starting
+pub mod Phases
+pub mod Served
+pub mod Together

@@ -1,0 +1,317 @@
+-- How a simulated service stands to the commands that were sent to it.
+use Rattle.std.proofs.Common.{◌≡◌, ◌+◌, ℕ, Bool, true, false, cond, not, List, [], ◌∷◌, Option, Some, None, refl, ap, sym, ◌∙◌, subst}
+use Rattle.std.specs.Prelude.{◌&&◌, ◌||◌, is_some, nat_le, option_map, option_and_then, unwrap_or, if◌then◌else◌}
+use Rattle.std.specs.Option.{option_or}
+use Rattle.std.specs.Str.{bytes_eq}
+use Rattle.std.proofs.lemmas.Bool.{and_from}
+use Rattle.std.proofs.lemmas.Option.{same_Some}
+use Rattle.mtp_codes.specs.declared.command.Command.{Command}
+use Rattle.mtp_codes.specs.declared.command.Command.TheVariants as command
+use Rattle.mtp_codes.specs.declared.state.State.{State}
+use Rattle.mtp_machine.specs.Machine.{command_target, own_target, same_command}
+use Rattle.mtp_assembly.specs.declared.control.ServiceControl.{ServiceControl}
+use Rattle.mtp_modes.specs.declared.view.ServiceView.{ServiceView}
+use Rattle.mtp_desc.specs.Plain.{DescriptionForm}
+use Rattle.mtp_desc.specs.Lookup.{self_completes}
+use Rattle.mtp_sim.specs.declared.service.SimService.{SimService}
+use Rattle.mtp_sim.specs.Ticks.{control_in, control_now, is_untold, changes, changes_in, runs_through, moved_on, told, counted, service_ticked, is_reported}
+use Rattle.mtp_sim.specs.Commands.{asked_procedure, procedure_after, sent_to}
+use Rattle.chart_core.specs.Entries.{chart_entry}
+use Rattle.chart_core.specs.declared.entry.LogEntry.{LogEntry}
+use Rattle.chart_core.specs.declared.entry.LogEntry.TheVariants.{Start, Finish, Reset, Stop, Asked}
+use Rattle.chart_cursor.specs.Commands.{Sent, sent_by}
+use Rattle.pol_events.specs.Events.{advance, report}
+use Rattle.pol_events.specs.declared.answer.Answer.TheVariants.{Done, Did}
+use Rattle.pol_history.specs.Looking.{History, past, last_of}
+use Rattle.pol_history.specs.Modules.{since_docking, control_by, description_by, completes_by, seen_with}
+use Rattle.pol_history.specs.Batches.{taken}
+use Rattle.pol_history.proofs.Accepted.{paired}
+use Rattle.pol_history.proofs.Names.{same-refl}
+use Rattle.pol_site.specs.Stories.{story, if_to, is_for, started_in, procedure_started, answering, is_answered, controls_in}
+use Rattle.pol_simulated.specs.Units.{newest}
+use Rattle.pol_simulated.proofs.Taking.{moved-untold, told-state}
+use Rattle.mtp_sim.proofs.Edges.{told-last, name-ticked}
+use Rattle.pol_stillness.specs.Phases.{asked_in, is_changed, IsSettled, IsGiven, IsPhase, told_after, TicksKeepPhases, TakesSettle, SendsGive, OthersKeepPhases}
+use Rattle.pol_stillness.proofs.Desks.{view-control}
+use Rattle.pol_simulated.proofs.Reports.{last-newest}
+use Rattle.pol_stillness.proofs.Plain.{}
+use Rattle.pol_stillness.proofs.Owing.{undescribed}
+use Rattle.mtp_sim.proofs.Edges.{state-refl}
+
+-- ---- ticks
+
+-- a service that tells or moves on is told
+told-now : (s : SimService) → is_changed (told s) ≡ false
+told-now s = ap (λ b. not b && true) (state-refl s.state)
+
+-- a change of its own is told with it
+moved-now : (s : SimService) (state : State) → is_changed (moved_on s (Some state)) ≡ false
+moved-now s state = ap (λ b. not b && true) (state-refl state)
+
+-- a report of the service answers
+answers : (tag : List ℕ) (name : List ℕ) (control : ServiceControl) (old : History)
+    → is_answered tag (paired (report 0 tag name control) Done ∷ old) name ≡ true
+answers tag name control old =
+    ap (λ b. unwrap_or (option_or (if is_some (if b then Some control else None) then Some true else None)
+    (last_of (answering tag name) (since_docking old))) true) (same-refl name)
+
+-- a tick keeps a service settled
+settled-ticked : (d : DescriptionForm) (tag : List ℕ) (limit : ℕ) (s : SimService) (old : History) → IsSettled tag old s
+    → IsSettled tag (told_after d tag limit s old) (service_ticked d limit s)
+settled-ticked d tag limit s old is = go (is_untold s) (changes d s) (nat_le limit (s.count + 1)) (own_target s.state)
+    refl refl refl
+  where
+    After : Bool → Bool → Bool → Option State → SimService
+    After untold changing ripe target = cond untold (told s)
+        (cond changing (cond ripe (moved_on s target) (counted s)) s)
+
+    go : (untold changing ripe : Bool) (target : Option State) → is_untold s ≡ untold → changes d s ≡ changing
+        → own_target s.state ≡ target →
+        IsSettled tag
+        (cond (untold || (changing && ripe))
+        (record {
+          event = report 0 tag s.name (control_now d
+              (cond untold (told s) (cond changing (cond ripe (moved_on s target) (counted s)) s)));
+          answer = Done;
+        }
+        ∷ old) old)
+        (cond untold (told s) (cond changing (cond ripe (moved_on s target) (counted s)) s))
+    go true changing ripe target u e f = record
+        { runs = is.runs; answered = answers tag s.name (control_now d (told s)) old ∙ ap not (sym (told-now s)) }
+    go false false ripe target u e f = is
+    go false true false target u e f = record { runs = is.runs; answered = is.answered }
+    go false true true None u e f = let clash : false ≡ true = sym (rw f refl) ∙ e in cc
+    go false true true (Some state) u e f =
+        record {
+          runs = is.runs;
+          answered = answers tag s.name (control_now d (moved_on s (Some state))) old ∙ ap not
+              (sym (moved-now s state));
+        }
+
+-- with a command ahead the service doesn't change
+given-unreported : (d : DescriptionForm) (limit : ℕ) (s : SimService) → is_untold s ≡ false → changes d s ≡ false
+    → (is_reported d limit s ≡ false) × (service_ticked d limit s ≡ s)
+given-unreported d limit s tells still = (rw (tells, still) refl, rw (tells, still) refl)
+
+-- a tick leaves the procedure
+ticked-procedure : (d : DescriptionForm) (limit : ℕ) (s : SimService)
+    → (service_ticked d limit s).procedure ≡ s.procedure
+ticked-procedure d limit s = go (is_untold s) (changes d s) (nat_le limit (s.count + 1)) (own_target s.state)
+  where
+    go : (untold changing ripe : Bool) (target : Option State)
+        → (cond untold (told s) (cond changing (cond ripe (moved_on s target) (counted s)) s)).procedure ≡ s.procedure
+    go true changing ripe target = refl
+    go false false ripe target = refl
+    go false true false target = refl
+    go false true true None = refl
+    go false true true (Some state) = refl
+
+-- a tick of a service, settled or given a command
+pub ticks_phased : TicksKeepPhases
+ticks_phased d tag limit s old None is =
+    record {
+      phase = settled-ticked d tag limit s old is;
+      due = λ reports past described.
+          let runs : (service_ticked d limit s).procedure ≡ procedure_started tag s.name old =
+          ticked-procedure d limit s ∙ sym is.runs in
+          let name = name-ticked d limit s in
+          ap (λ n. control_in (self_completes n (service_ticked d limit s).procedure d)
+          (service_ticked d limit s).procedure (service_ticked d limit s).state) name
+          ∙ ap (λ p. control_in (self_completes s.name p d) p (service_ticked d limit s).state) runs
+          ∙ ap (λ f. control_in (completes_by s.name (procedure_started tag s.name old) f)
+          (procedure_started tag s.name old) (service_ticked d limit s).state) (sym described);
+    }
+ticks_phased d tag limit s old (Some entry) is =
+    let none = given-unreported d limit s is.tells is.still in
+    record {
+      phase =
+          subst (λ b. IsGiven d tag (if b then record
+          { event = report 0 tag s.name (control_now d (service_ticked d limit s)); answer = Done } ∷ old else old)
+          (service_ticked d limit s) entry) (sym none.0)
+          (subst (λ t. IsGiven d tag old t entry) (sym none.1) is);
+      due = λ reports past described. let clash : false ≡ true = sym none.0 ∙ reports in cc;
+    }
+
+-- ---- a command that is taken
+
+-- a service that was told is changed by a command that leads somewhere
+taken-changed : (s : SimService) (target : State) (given : Command) (procedure : ℕ) → is_untold s ≡ false
+    → command_target s.state given ≡ Some target
+    → is_changed (sent_to s target procedure) ≡ true
+taken-changed s target given procedure tells leads =
+    rw (moved-untold s.state target s.last given (told-state s tells) leads) (ap is_some (told-last s tells))
+
+-- a service takes the command that is ahead
+pub takes_settled : TakesSettle
+takes_settled d tag s old entry given =
+    record {
+      after = sent_to s given.target (procedure_started tag s.name old);
+      took =
+          ap (λ b. if b then None else option_and_then
+          (λ state. option_map (sent_to s state) (procedure_after d s given.sent.command (asked_in entry)))
+          (command_target s.state given.sent.command)) given.waits
+          ∙ ap (λ t. option_and_then (λ state. option_map (sent_to s state)
+          (procedure_after d s given.sent.command (asked_in entry))) t) given.leads
+          ∙ ap (λ p. option_map (sent_to s given.target) p) given.runs;
+      name_is = refl;
+      settled = record {
+        runs = refl;
+        answered =
+            given.unanswered
+            ∙ ap not (sym (taken-changed s given.target given.sent.command (procedure_started tag s.name old)
+            given.tells given.leads));
+      };
+    }
+
+-- ---- other entries
+
+-- another entry
+pub others_phased : OthersKeepPhases
+others_phased d tag s old ahead entry moves silent starts is = go ahead is
+  where
+    description : description_by (entry ∷ old) ≡ description_by old
+    description = ap (λ (f : Option DescriptionForm). option_or f (description_by old)) (undescribed entry.event moves)
+
+    runs : procedure_started tag s.name (entry ∷ old) ≡ procedure_started tag s.name old
+    runs =
+        ap (λ f. unwrap_or (last_of (λ each. started_in tag s.name f (taken each.answer)) (since_docking (entry ∷ old)))
+        0) description
+        ∙ ap (λ b. unwrap_or (last_of (λ each. started_in tag s.name (description_by old) (taken each.answer))
+        (if b then [] else entry ∷ since_docking old)) 0) moves
+        ∙ ap (λ found. unwrap_or (option_or found
+        (last_of (λ each. started_in tag s.name (description_by old) (taken each.answer)) (since_docking old))) 0)
+        (starts (description_by old))
+
+    answered : is_answered tag (entry ∷ old) s.name ≡ is_answered tag old s.name
+    answered =
+        ap (λ b. unwrap_or (last_of (answering tag s.name) (if b then [] else entry ∷ since_docking old)) true) moves
+        ∙ ap (λ found. unwrap_or (option_or found (last_of (answering tag s.name) (since_docking old))) true) silent
+
+    go : (ahead : Option LogEntry) → IsPhase d tag old s ahead → IsPhase d tag (entry ∷ old) s ahead
+    go None is = record { runs = runs ∙ is.runs; answered = answered ∙ is.answered }
+    go (Some did) is =
+        record {
+          sent = is.sent;
+          sends = is.sends;
+          tells = is.tells;
+          still = is.still;
+          unanswered = answered ∙ is.unanswered;
+          target = is.target;
+          leads = is.leads;
+          waits = is.waits;
+          runs = is.runs ∙ ap Some (sym runs);
+        }
+
+-- ---- a command that is sent
+
+-- what is seen of a service was reported, with what the description says
+view-self : (service : List ℕ) (description : Option DescriptionForm) (found : Option ServiceControl)
+    (view : ServiceView) → option_map (seen_with service description) found ≡ Some view
+    → view.self_completes ≡ completes_by service view.control.procedure description
+view-self service description None view is = cc
+view-self service description (Some control) view is =
+    let same = same_Some (seen_with service description control) view is in
+    subst (λ (v : ServiceView). v.self_completes ≡ completes_by service v.control.procedure description) same refl
+
+-- a service that told a state, and took no command since, has told the state in which it is
+told-one : (s : SimService) (one : State) → s.last ≡ Some one → is_changed s ≡ false → is_untold s ≡ false
+told-one s one last unchanged = go (is_untold s) (ap (λ b. is_untold s && is_some b) (sym last) ∙ unchanged)
+  where
+    go : (b : Bool) → (b && true) ≡ false → b ≡ false
+    go true is = cc
+    go false is = refl
+
+-- what is there is something
+some-of : {A : Type 0} (found : Option A) → is_some found ≡ true → (x : A) × (found ≡ Some x)
+some-of None is = cc
+some-of (Some x) is = (x, refl)
+
+-- what is the contrary of false is true, the other way round
+not-true : (b : Bool) → true ≡ not b → b ≡ false
+not-true true is = cc
+not-true false is = refl
+
+-- a command that is sent
+pub sends_given : SendsGive
+sends_given d s older at batch did sent run sends named law is_described step starts settled =
+    record {
+      sent = sent;
+      sends = sends;
+      tells = tells;
+      still = ap (λ v. changes_in v s.state) (sym self) ∙ ap
+          (λ (c : ServiceControl). changes_in law.view.self_completes c.state) (sym now) ∙ law.still;
+      unanswered = unanswered;
+      target = leads.0;
+      leads = leads.1;
+      waits = ap (λ v. same_command sent.command command.Complete && v) (sym self) ∙ law.permitted.completes;
+      runs = runs did run sends starts;
+    }
+  where
+    old : History
+    old = story sent.tag older
+
+    control : control_by s.name (past sent.tag older) ≡ Some law.view.control
+    control =
+        ap (λ n. control_by n (past sent.tag older)) (sym named)
+        ∙ view-control (control_by sent.service (past sent.tag older)) law.view
+        (seen_with sent.service (description_by (past sent.tag older))) (λ c. refl) law.seen
+
+    newest_is : newest (controls_in s.name (since_docking (past sent.tag older))) ≡ Some law.view.control
+    newest_is = sym (last-newest s.name (since_docking (past sent.tag older))) ∙ control
+
+    tells : is_untold s ≡ false
+    tells =
+        told-one s law.view.control.state (sym step.last ∙ ap (option_map (λ (c : ServiceControl). c.state)) newest_is)
+        (not-true (is_changed s) (sym law.answered ∙ ap (λ n. is_answered sent.tag old n) named ∙ settled.answered))
+
+    now : law.view.control ≡ control_now d s
+    now = same_Some law.view.control (control_now d s) (sym newest_is ∙ step.now tells)
+
+    self : law.view.self_completes ≡ runs_through d s
+    self =
+        view-self sent.service (description_by (past sent.tag older)) (control_by sent.service (past sent.tag older))
+        law.view law.seen
+        ∙ ap (λ f. completes_by sent.service law.view.control.procedure f) is_described
+        ∙ ap (λ n. self_completes n law.view.control.procedure d) named
+        ∙ ap (λ (c : ServiceControl). self_completes s.name c.procedure d) now
+
+    leads : (target : State) × (command_target s.state sent.command ≡ Some target)
+    leads =
+        let there = some-of (command_target law.view.control.state sent.command) law.permitted.leads in
+        (there.0, ap (λ (c : ServiceControl). command_target c.state sent.command) (sym now) ∙ there.1)
+
+    for-it : is_for s.name (if_to sent.tag (sent_by did)) ≡ true
+    for-it =
+        ap (λ found. is_for s.name (if_to sent.tag found)) sends
+        ∙ ap (λ b. is_for s.name (if b then Some sent else None)) (same-refl sent.tag)
+        ∙ ap (λ n. bytes_eq n s.name) named ∙ same-refl s.name
+
+    unanswered : is_answered sent.tag (paired (advance at batch) (Did did) ∷ old) s.name ≡ false
+    unanswered = ap (λ b. unwrap_or (option_or (if b then Some false else None)
+        (last_of (answering sent.tag s.name) (since_docking old))) true) for-it
+
+    Runs : LogEntry → Type 0
+    Runs did = procedure_after d s sent.command (asked_in did) ≡ Some
+        (procedure_started sent.tag s.name (paired (advance at batch) (Did did) ∷ old))
+
+    runs : (did : LogEntry) → is_some (chart_entry did) ≡ true → sent_by did ≡ Some sent
+        → ((step tag named : List ℕ) (procedure : ℕ) → did ≡ Start step tag named procedure
+        → asked_procedure s.name procedure d ≡ Some procedure) → Runs did
+    runs (Start step tag service procedure) run sends starts =
+        let its = same_Some _ sent sends in
+        let tag_is : bytes_eq tag sent.tag ≡ true =
+        ap (λ (x : Sent). bytes_eq x.tag sent.tag) its ∙ same-refl sent.tag in
+        let service_is : bytes_eq service s.name ≡ true =
+        ap (λ (x : Sent). bytes_eq x.service s.name) its ∙ ap (λ n. bytes_eq n s.name) named ∙ same-refl s.name in
+        ap (λ (x : Sent). procedure_after d s x.command procedure) (sym its) ∙ starts step tag service procedure refl
+        ∙ ap (λ b. Some (unwrap_or (option_or (if b then Some procedure else None)
+        (last_of (λ each. started_in sent.tag s.name (description_by old) (taken each.answer)) (since_docking old)))
+        0))
+        (sym (and_from (bytes_eq tag sent.tag) (bytes_eq service s.name) tag_is service_is))
+    runs (Finish step tag service) run sends starts =
+        ap (λ (x : Sent). procedure_after d s x.command 0) (sym (same_Some _ sent sends)) ∙ ap Some (sym settled.runs)
+    runs (Reset step tag service) run sends starts =
+        ap (λ (x : Sent). procedure_after d s x.command 0) (sym (same_Some _ sent sends)) ∙ ap Some (sym settled.runs)
+    runs (Stop step tag service) run sends starts = cc
+    runs (Asked tag service given) run sends starts = cc
+    runs _ run sends starts = cc
