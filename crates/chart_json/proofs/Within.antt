@@ -22,12 +22,16 @@ use Rattle.chart_json.specs.Form.{all_form, any_form, not_form, condition_by_key
 -- ---- depths
 
 -- a member of an object nests no deeper than its members
-members-below : (key : List ℕ) (members : Members) (inner : Data) → get_member key members ≡ Some inner → depth inner ≤ members_depth members
+members-below : (key : List ℕ) (members : Members) (inner : Data) → get_member key members ≡ Some inner →
+    depth inner ≤ members_depth members
 members-below key no_members inner found = cc
-members-below key (member other first others) inner found = by_order (slice_cmp nat_cmp key other) found (members-below key others inner)
+members-below key (member other first others) inner found = by_order (slice_cmp nat_cmp key other) found
+    (members-below key others inner)
   where
-    by_order : (order : Ordering) → match_ordering order (get_member key others) (Some first) (get_member key others) ≡ Some inner →
-        (get_member key others ≡ Some inner → depth inner ≤ members_depth others) → depth inner ≤ max (depth first) (members_depth others)
+    by_order : (order : Ordering) → match_ordering order (get_member key others) (Some first) (get_member key others)
+        ≡ Some inner →
+        (get_member key others ≡ Some inner → depth inner ≤ members_depth others) →
+        depth inner ≤ max (depth first) (members_depth others)
     by_order Less found below = omega (arith, below found)
     by_order Equal found below = let same : first ≡ inner = cc in omega (arith, ap depth same)
     by_order Greater found below = omega (arith, below found)
@@ -77,7 +81,8 @@ array-below (string text) items found = cc
 array-below (object entries) items found = cc
 
 -- an item of a list nests no deeper than the items
-pub item_below : (values : List Value) (i : ℕ) (value : Value) → i < length values → value ≡ get_or values i value → depth (view value) ≤ items_depth (items_view values)
+pub item_below : (values : List Value) (i : ℕ) (value : Value) → i < length values → value ≡ get_or values i value →
+    depth (view value) ≤ items_depth (items_view values)
 item_below [] i value inside is = absurd (omega arith)
 item_below (first ∷ values) zero value inside is = omega (arith, ap (λ value. depth (view value)) is)
 item_below (first ∷ values) (suc i) value inside is = omega (arith, item_below values i value (omega arith) is)
@@ -86,29 +91,40 @@ item_below (first ∷ values) (suc i) value inside is = omega (arith, item_below
 pub needed_below : (key : List ℕ) (value inner : Data) → need key anything value ≡ Ok inner → depth inner < depth value
 needed_below key value inner found = go (get key value) refl found
   where
-    go : (there : Option Data) → get key value ≡ there → under key (here (present anything there)) ≡ Ok inner → depth inner < depth value
+    go : (there : Option Data) → get key value ≡ there → under key (here (present anything there)) ≡ Ok inner →
+        depth inner < depth value
     go None is found = cc
     go (Some other) is found = let same : other ≡ inner = cc in value_below key value inner (is ∙ ap Some same)
 
 -- the list that is needed at a key
-list-below : (sizes : Data → Finding Items) → FindsItems sizes → (key : List ℕ) (value : Data) (items : Items) → need key sizes value ≡ Ok items →
+list-below : (sizes : Data → Finding Items) → FindsItems sizes → (key : List ℕ) (value : Data) (items : Items) →
+    need key sizes value ≡ Ok items →
     suc (items_depth items) < depth value
 list-below sizes finds key value items found = go (get key value) refl found
   where
-    inside-of : (inner : Data) (read : Finding Items) → sizes inner ≡ read → under key (here read) ≡ Ok items → as_array inner ≡ Some items
+    inside-of : (inner : Data) (read : Finding Items) → sizes inner ≡ read → under key (here read) ≡ Ok items →
+        as_array inner ≡ Some items
     inside-of inner (Ok list) is found = let same : list ≡ items = cc in finds inner items (is ∙ ap Ok same)
     inside-of inner (Err kind) is found = cc
 
-    go : (there : Option Data) → get key value ≡ there → under key (here (present sizes there)) ≡ Ok items → suc (items_depth items) < depth value
+    go : (there : Option Data) → get key value ≡ there → under key (here (present sizes there)) ≡ Ok items →
+        suc (items_depth items) < depth value
     go None is found = cc
     go (Some inner) is found =
-        omega (arith, value_below key value inner is, array-below inner items (inside-of inner (sizes inner) refl found))
+        omega (
+          arith,
+          value_below key value inner is,
+          array-below inner items
+              (inside-of inner (sizes inner) refl found),
+        )
 
-pub list_below : (low high : ℕ) (key : List ℕ) (value : Data) (items : Items) → need key (items_in low high) value ≡ Ok items →
+pub list_below : (low high : ℕ) (key : List ℕ) (value : Data) (items : Items) →
+    need key (items_in low high) value ≡ Ok items →
     suc (items_depth items) < depth value
 list_below low high = list-below (items_in low high) (in-finds low high)
 
-pub list_from_below : (low : ℕ) (key : List ℕ) (value : Data) (items : Items) → need key (items_from low) value ≡ Ok items →
+pub list_from_below : (low : ℕ) (key : List ℕ) (value : Data) (items : Items) →
+    need key (items_from low) value ≡ Ok items →
     suc (items_depth items) < depth value
 list_from_below low = list-below (items_from low) (from-finds low)
 
@@ -118,7 +134,8 @@ list_from_below low = list-below (items_from low) (from-finds low)
 abbrev Agree : {A : Type 0} → (Data → Reading A) → (Data → Reading A) → ℕ → Type 0
 Agree one other levels = (value : Data) → depth value < levels → one value ≡ other value
 
-each-agree : {A : Type 0} (one other : Data → Reading A) (place : ℕ) (items : Items) → Agree one other (suc (items_depth items)) →
+each-agree : {A : Type 0} (one other : Data → Reading A) (place : ℕ) (items : Items) →
+    Agree one other (suc (items_depth items)) →
     each one place items ≡ each other place items
 unfolding each
 each-agree one other place no_items agree = refl
@@ -129,7 +146,8 @@ each-agree {A} one other place (item value rest) agree =
     ∙ ap (λ read. in_place place (other value) >>= λ first. read >>= λ others. Ok (first ∷ others)) others
 
 -- the value at a key
-inside-agree : {A : Type 0} (key : List ℕ) (one other : Data → Reading A) (value : Data) → Agree one other (depth value) →
+inside-agree : {A : Type 0} (key : List ℕ) (one other : Data → Reading A) (value : Data) →
+    Agree one other (depth value) →
     inside key one value ≡ inside key other value
 inside-agree key one other value agree = go (get key value) refl
   where
@@ -140,9 +158,11 @@ inside-agree key one other value agree = go (get key value) refl
     go (Some inner) is = ap (under key) (agree inner (value_below key value inner is))
 
 -- the items of a list at a key
-items-agree : {A : Type 0} (key : List ℕ) (sizes : Data → Finding Items) → FindsItems sizes → (one other : Data → Reading A) (value : Data) →
+items-agree : {A : Type 0} (key : List ℕ) (sizes : Data → Finding Items) → FindsItems sizes →
+    (one other : Data → Reading A) (value : Data) →
     Agree one other (depth value) →
-    (need key sizes value >>= λ values. under key (each one 0 values)) ≡ (need key sizes value >>= λ values. under key (each other 0 values))
+    (need key sizes value >>= λ values. under key (each one 0 values))
+    ≡ (need key sizes value >>= λ values. under key (each other 0 values))
 items-agree key sizes finds one other value agree = go (need key sizes value) refl
   where
     go : (read : Reading Items) → need key sizes value ≡ read →
@@ -154,7 +174,8 @@ items-agree key sizes finds one other value agree = go (need key sizes value) re
 
 -- ---- conditions
 
-key-agree : (one other : Data → Reading Formula) (value : Data) → Agree one other (depth value) → condition_by_key one value ≡ condition_by_key other value
+key-agree : (one other : Data → Reading Formula) (value : Data) → Agree one other (depth value) →
+    condition_by_key one value ≡ condition_by_key other value
 unfolding condition_by_key all_form any_form not_form
 key-agree one other value agree =
     rw (
@@ -164,7 +185,8 @@ key-agree one other value agree =
     ) refl
 
 -- a reading that goes deep enough reads all
-within-agree : (levels more : ℕ) (value : Data) → depth value < levels → depth value < more → condition_within levels value ≡ condition_within more value
+within-agree : (levels more : ℕ) (value : Data) → depth value < levels → depth value < more →
+    condition_within levels value ≡ condition_within more value
 unfolding condition_within
 within-agree zero more value less fewer = absurd (omega arith)
 within-agree (suc levels) zero value less fewer = absurd (omega arith)
@@ -183,14 +205,16 @@ formula_steps value =
 
 -- ---- nodes
 
-arm-agree : (one other : Data → Reading Tree) (value : Data) → Agree one other (depth value) → arm_of one value ≡ arm_of other value
+arm-agree : (one other : Data → Reading Tree) (value : Data) → Agree one other (depth value) →
+    arm_of one value ≡ arm_of other value
 unfolding arm_of
 arm-agree one other value agree =
     ap (λ read. object_here value >>= λ _. inside (codes "when") condition_of value >>= λ when. read >>= λ body.
     nothing_but (codes "when then") value >>= λ _. Ok (record { when = when; body = body }))
     (inside-agree (codes "then") one other value agree)
 
-node-agree : (one other : Data → Reading Tree) (value : Data) → Agree one other (depth value) → node_by_key one value ≡ node_by_key other value
+node-agree : (one other : Data → Reading Tree) (value : Data) → Agree one other (depth value) →
+    node_by_key one value ≡ node_by_key other value
 unfolding node_by_key seq_form par_form sel_form loop_form
 node-agree one other value agree =
     rw (
@@ -201,7 +225,8 @@ node-agree one other value agree =
       inside-agree (codes "loop") one other value agree,
     ) refl
 
-tree-agree : (levels more : ℕ) (value : Data) → depth value < levels → depth value < more → tree_within levels value ≡ tree_within more value
+tree-agree : (levels more : ℕ) (value : Data) → depth value < levels → depth value < more →
+    tree_within levels value ≡ tree_within more value
 unfolding tree_within
 tree-agree zero more value less fewer = absurd (omega arith)
 tree-agree (suc levels) zero value less fewer = absurd (omega arith)

@@ -210,3 +210,30 @@ fn a_condition_has_at_most_16_tests_and_a_selection_16_arms(rt: HostRuntime) -> 
     );
     Ok(())
 }
+
+// Deeper than any text that is read nests.
+const DEEP: u32 = 130;
+
+#[test]
+fn a_chart_is_read_whatever_its_depth_and_a_deep_condition_refused_as_a_whole(
+    rt: HostRuntime,
+) -> Result<(), Fail> {
+    let alloc = rt.alloc();
+    let roles = value(alloc, DOSER)?;
+    let (mut node, mut until) = (value(alloc, STEP)?, value(alloc, r#"{"const":true}"#)?);
+    for _ in 0..DEEP {
+        node = json!(in alloc; {"loop": node, "until": {"const": true}})?;
+        until = json!(in alloc; {"not": until})?;
+    }
+    let chart = read_chart(alloc, &roles, &node).ok().ok_or("no chart")?;
+    let (_, written) = write_chart(alloc, &chart)?;
+    let again = read_chart(alloc, &roles, &written);
+    assert!(rt; again.is_ok());
+    let step = value(alloc, STEP)?;
+    let deep = json!(in alloc; {"loop": step, "until": until})?;
+    assert_eq!(rt;
+        told(alloc, read_chart(alloc, &roles, &deep))?.as_str(),
+        r#"OutOfRange "chart.until""#
+    );
+    Ok(())
+}

@@ -31,11 +31,13 @@ memory-completes : (source source' sink sink' : Edge) → Completes source sourc
 memory-completes source source' sink sink' unread unwritten = if-told _ source.bytes (λ bytes fits. inr refl)
 
 -- an input that has too much doesn't fit
-much-completes : (source source' sink sink' : Edge) → IsTooMuch source.bytes → Completes source source' sink sink' status.TooMuchInput
+much-completes : (source source' sink sink' : Edge) → IsTooMuch source.bytes →
+    Completes source source' sink sink' status.TooMuchInput
 much-completes source source' sink sink' much unread unwritten = too_long source.bytes much
   where
     too_long : (told : Option (List ℕ)) → IsTooMuch told →
-        IfSome told (λ bytes. length bytes ≤ 268435456 → (status.TooMuchInput ≡ status.Good) ⊎ (status.TooMuchInput ≡ status.OutOfMemory))
+        IfSome told (λ bytes. length bytes ≤ 268435456 → (status.TooMuchInput ≡ status.Good) ⊎
+        (status.TooMuchInput ≡ status.OutOfMemory))
     too_long None much = tt
     too_long (Some bytes) much = λ fits. absurd (omega arith)
 
@@ -56,8 +58,10 @@ bad_words_ends output source sink = record {
 }
 
 -- there was no memory, and a part was written
-memory-ends : (output : Output) (source source' sink sink' : Edge) → Between (LeavesPart output sink.bytes sink'.bytes) source.bytes source'.bytes →
-    source'.faults ≡ source.faults → sink'.faults ≡ sink.faults → Ends output source source' sink sink' status.OutOfMemory
+memory-ends : (output : Output) (source source' sink sink' : Edge) →
+    Between (LeavesPart output sink.bytes sink'.bytes) source.bytes source'.bytes →
+    source'.faults ≡ source.faults → sink'.faults ≡ sink.faults →
+    Ends output source source' sink sink' status.OutOfMemory
 memory-ends output source source' sink sink' leaves read wrote = record {
   good = λ is. cc;
   taken = λ is. cc;
@@ -73,7 +77,8 @@ memory-ends output source source' sink sink' leaves read wrote = record {
 }
 
 -- there was no memory to begin
-pub no_memory_ends : (output : Output) → output.of_lines [] ≡ [] → (source sink : Edge) → Ends output source source sink sink status.OutOfMemory
+pub no_memory_ends : (output : Output) → output.of_lines [] ≡ [] → (source sink : Edge) →
+    Ends output source source sink sink status.OutOfMemory
 no_memory_ends output none source sink =
     memory-ends output source source sink sink (nothing_leaves output none sink.bytes source.bytes) refl refl
 

@@ -1,14 +1,16 @@
 -- The journal theorem, from the laws of all legal histories.
-use Rattle.std.proofs.Common.{◌≡◌, ℕ, List, [], ◌∷◌, ◌++◌, sym, subst}
+use Rattle.std.proofs.Common.{◌≡◌, ◌<◌, ℕ, List, [], ◌∷◌, ◌++◌, length, sym, subst, arith, length-append}
 use Rattle.pol_io.specs.Pieces.{pieces}
 use Rattle.pol_history.specs.Looking.{History}
-use Rattle.pol_history.specs.Lines.{items_of, events_in}
+use Rattle.pol_history.specs.Lines.{answers_of, closing_text, events_in, history_of, items_of, output_of}
 use Rattle.pol_history.specs.Runs.{IsLegal, IsOrderly}
+use Rattle.pol_history.specs.Texts.{batches_text, end_text}
 use Rattle.pol_history.proofs.Legal.{legal-after, orderly-after}
 use Rattle.pol_conduct.specs.Sound.{HistoriesAreSound, EntriesAreRight}
 use Rattle.pol_removal.proofs.Reading.{events-orderly}
 use Rattle.pol_removal.specs.Removal.{RemovalOfLines}
 use Rattle.pol_cli.specs.Journal.{Was, JournalTheorem}
+use Rattle.pol_cli.proofs.BatchLines.{some_end}
 
 -- a history that was earlier is legal too
 legal-before : (later history : History) → IsLegal (later ++ history) → IsLegal history
@@ -31,6 +33,15 @@ was-orderly bytes history was =
     orderly-before was.0 history (subst IsOrderly (sym was.1)
     (orderly-after [] (events_in (items_of bytes)) tt (events-orderly (pieces bytes))))
 
+-- the output goes on behind the answers: the end line at least
+longer-output : (bytes : List ℕ) → length (answers_of bytes) < length (output_of bytes)
+longer-output bytes =
+    let end = some_end in
+    rw (
+      length-append (answers_of bytes) (closing_text (history_of bytes)),
+      length-append (batches_text (history_of bytes)) end_text,
+    ) (omega arith)
+
 -- what holds of all legal histories of orderly events holds of it
 pub journal : HistoriesAreSound → EntriesAreRight → RemovalOfLines → (bytes : List ℕ) → JournalTheorem bytes
 journal sound right removal bytes = record {
@@ -38,4 +49,5 @@ journal sound right removal bytes = record {
   right = λ history entry was.
       right history entry (was-legal bytes (entry ∷ history) was) (was-orderly bytes (entry ∷ history) was).1;
   removal = λ tags. removal tags bytes;
+  longer = longer-output bytes;
 }

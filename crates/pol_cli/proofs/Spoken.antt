@@ -13,21 +13,25 @@ use Rattle.pol_cli.specs.LineWork.{IsShort, IsTooLong}
 -- a short line is not too long
 in-limit : (line : List ℕ) → IsShort line → nat_lt 1048576 (length line) ≡ false
 in-limit line short =
-    false_from_ne_true (nat_lt 1048576 (length line)) (λ long. let over = ltb-true 1048576 (length line) long in absurd (omega arith))
+    false_from_ne_true (nat_lt 1048576 (length line)) (λ long. let over = ltb-true 1048576 (length line) long in
+    absurd (omega arith))
 
 -- a short line of blanks says nothing
-pub says_nothing : (line : List ℕ) → IsShort line → list_all lines.is_blank_byte line ≡ true → lines.nothing ≡ lines.saying_of line
+pub says_nothing : (line : List ℕ) → IsShort line → list_all lines.is_blank_byte line ≡ true →
+    lines.nothing ≡ lines.saying_of line
 unfolding lines.saying_of
 says_nothing line short blank = rw (in-limit line short, blank)
 
 -- another one says its event
-pub says_event : (line : List ℕ) (event : EventForm) → IsShort line → list_all lines.is_blank_byte line ≡ false → event_of line ≡ Ok event →
+pub says_event : (line : List ℕ) (event : EventForm) → IsShort line → list_all lines.is_blank_byte line ≡ false →
+    event_of line ≡ Ok event →
     lines.an_event event ≡ lines.saying_of line
 unfolding lines.saying_of
 says_event line event short some is = rw (in-limit line short, some, is)
 
 -- or is at fault
-pub says_fault : (line : List ℕ) (fault : LineFault) → IsShort line → list_all lines.is_blank_byte line ≡ false → event_of line ≡ Err fault →
+pub says_fault : (line : List ℕ) (fault : LineFault) → IsShort line → list_all lines.is_blank_byte line ≡ false →
+    event_of line ≡ Err fault →
     lines.a_fault fault ≡ lines.saying_of line
 unfolding lines.saying_of
 says_fault line fault short some is = rw (in-limit line short, some, is)

@@ -1,8 +1,8 @@
 -- What holds of the history that an input leaves: the journal theorem.
-use Rattle.std.specs.Prelude.{ℕ, ◌≡◌, List, ◌∷◌, ◌++◌}
+use Rattle.std.specs.Prelude.{ℕ, ◌≡◌, ◌<◌, List, ◌∷◌, ◌++◌, length}
 use Rattle.pol_events.specs.Events.{EntryForm}
 use Rattle.pol_history.specs.Looking.{History}
-use Rattle.pol_history.specs.Lines.{history_of, output_of}
+use Rattle.pol_history.specs.Lines.{answers_of, history_of, output_of}
 use Rattle.pol_history.specs.Paths.{ReportsArePaths}
 use Rattle.pol_conduct.specs.Charts.{LogsFollowCharts}
 use Rattle.pol_conduct.specs.Permitted.{CommandsArePermitted}
@@ -14,11 +14,12 @@ abbrev pub Was : List ℕ → History → Type 0
 Was bytes history = (later : History) × (later ++ history ≡ history_of bytes)
 
 -- The journal theorem of an input: at each time while it was answered the history was sound, each entry of it is right,
--- and taking out the lines of some modules takes out just their output lines.
+-- taking out the lines of some modules takes out just their output lines, and the output goes on behind the answers.
 pub record JournalTheorem (bytes : List ℕ) : Type 0 where
   pub sound : (history : History) → Was bytes history → IsSound history
   pub right : (history : History) (entry : EntryForm) → Was bytes (entry ∷ history) → IsRight history entry
   pub removal : (tags : List (List ℕ)) → output_of (without tags bytes) ≡ output_without tags bytes
+  pub longer : length (answers_of bytes) < length (output_of bytes)
 
 -- what holds of every legal history, whether an input leaves it or not; the theorem rests on it
 pub record Laws : Type 0 where

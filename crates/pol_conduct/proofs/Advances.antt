@@ -43,21 +43,27 @@ was-started None none = cc
 was-started (Some started) none = (started, refl)
 
 -- what a started batch with a chart does next
-next-of-it : (history : History) (batch : List ℕ) (started : Started) (chart : ChartPlan) → start_of history batch ≡ Some started →
+next-of-it : (history : History) (batch : List ℕ) (started : Started) (chart : ChartPlan) →
+    start_of history batch ≡ Some started →
     chart_named started.recipe (recipes history) ≡ Some chart →
-    next_of history batch ≡ Some (next_by chart (is_frozen history batch) (log_of history batch) (seen_by history started))
+    next_of history batch ≡ Some (next_by chart (is_frozen history batch) (log_of history batch)
+    (seen_by history started))
 next-of-it history batch started chart start_is chart_is =
-    ap (option_and_then (next_of_started (recipes history) (past_of_batch batch history) (λ tag. past tag history))) start_is
-    ∙ ap (option_map (λ chart. next_by chart (is_frozen history batch) (log_of history batch) (seen_by history started))) chart_is
+    ap (option_and_then (next_of_started (recipes history) (past_of_batch batch history)
+    (λ tag. past tag history))) start_is
+    ∙ ap (option_map (λ chart. next_by chart (is_frozen history batch) (log_of history batch)
+    (seen_by history started))) chart_is
 
 -- where the run of the chart goes on, that is what comes next in it
-goes-on : (chart : ChartPlan) (log : List LogEntry) (seen : Sights) (frozen broke stop : Bool) (broken : Option LogEntry) →
+goes-on : (chart : ChartPlan) (log : List LogEntry) (seen : Sights) (frozen broke stop : Bool)
+    (broken : Option LogEntry) →
     frozen ≡ false → broke ≡ false → stop ≡ false → broken ≡ None →
     (if frozen then next_by chart true log seen
     else if broke || stop then stop_next seen broke (active chart log)
     else broke_or broken (run_next (next_after chart (chart_entries log) seen)))
     ≡ run_next (next_after chart (chart_entries log) seen)
-goes-on chart log seen frozen broke stop broken unfrozen unbroken unstopped whole = rw (unfrozen, unbroken, unstopped, whole) refl
+goes-on chart log seen frozen broke stop broken unfrozen unbroken unstopped whole = rw
+    (unfrozen, unbroken, unstopped, whole) refl
 
 module _ (history : History) (batch : List ℕ) (started : Started) (chart : ChartPlan)
     (legal : IsLegal history) (orderly : IsOrderly history) (start_is : start_of history batch ≡ Some started)
@@ -80,7 +86,8 @@ module _ (history : History) (batch : List ℕ) (started : Started) (chart : Cha
 
 -- an accepted advance, by its event and its answer
 advanced-one : (history : History) (at : ℕ) (batch : List ℕ) (answer : Answer) → IsLegal history → IsOrderly history →
-    answer ≡ answer_of history (advance at batch) → is_accepted (answer_of history (advance at batch)) ≡ true → IsAdvanced history batch answer
+    answer ≡ answer_of history (advance at batch) → is_accepted (answer_of history (advance at batch)) ≡ true →
+    IsAdvanced history batch answer
 advanced-one history at batch answer legal orderly is accepted =
     let free = accepted-none history (advance at batch) accepted in
     let (started, start_is) = was-started (start_of history batch) free.0 in

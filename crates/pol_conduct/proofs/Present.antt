@@ -20,45 +20,55 @@ use Rattle.pol_conduct.proofs.Covering.{described}
 -- ---- lists of tags
 
 -- what holds of all holds of those that a filter keeps
-all-filtered : {X : Type 0} (P : X → Type 0) (keeps : X → Bool) (xs : List X) → AllByRecursion P xs → AllByRecursion P (filter keeps xs)
+all-filtered : {X : Type 0} (P : X → Type 0) (keeps : X → Bool) (xs : List X) → AllByRecursion P xs →
+    AllByRecursion P (filter keeps xs)
 all-filtered P keeps [] all = tt
 all-filtered {X} P keeps (x ∷ xs) all = go (keeps x) (all-filtered P keeps xs all.1)
   where
-    go : (kept : Bool) → AllByRecursion P (filter keeps xs) → AllByRecursion P (cond kept (x ∷ filter keeps xs) (filter keeps xs))
+    go : (kept : Bool) → AllByRecursion P (filter keeps xs) →
+        AllByRecursion P (cond kept (x ∷ filter keeps xs) (filter keeps xs))
     go true rest = (all.0, rest)
     go false rest = rest
 
 -- a filter keeps names apart
-distinct-filtered : (keeps : List ℕ → Bool) (names : List (List ℕ)) → IsDistinct bytes_eq names → IsDistinct bytes_eq (filter keeps names)
+distinct-filtered : (keeps : List ℕ → Bool) (names : List (List ℕ)) → IsDistinct bytes_eq names →
+    IsDistinct bytes_eq (filter keeps names)
 unfolding IsDistinct
 distinct-filtered keeps [] apart = tt
 distinct-filtered keeps (name ∷ names) apart = go (keeps name) (distinct-filtered keeps names apart.1)
   where
-    go : (kept : Bool) → IsDistinct bytes_eq (filter keeps names) → IsDistinct bytes_eq (cond kept (name ∷ filter keeps names) (filter keeps names))
+    go : (kept : Bool) → IsDistinct bytes_eq (filter keeps names) →
+        IsDistinct bytes_eq (cond kept (name ∷ filter keeps names) (filter keeps names))
     go true rest = (all-filtered (λ other. bytes_eq name other ≡ false) keeps names apart.0, rest)
     go false rest = rest
 
 -- none of the tags without this one is this one
-apart-from : (tag : List ℕ) (tags : List (List ℕ)) → AllByRecursion (λ other. bytes_eq tag other ≡ false) (tags_without tag tags)
+apart-from : (tag : List ℕ) (tags : List (List ℕ)) → AllByRecursion (λ other. bytes_eq tag other ≡ false)
+    (tags_without tag tags)
 apart-from tag [] = tt
 apart-from tag (each ∷ tags) = go (bytes_eq each tag) refl (apart-from tag tags)
   where
     other : bytes_eq each tag ≡ false → bytes_eq tag each ≡ false
     other is =
         false_from_ne_true (bytes_eq tag each)
-        (λ same. let clash : false ≡ true = sym is ∙ ap (λ name. bytes_eq each name) (same-true tag each same) ∙ same-refl each in cc)
+        (λ same. let clash : false ≡ true = sym is ∙ ap (λ name. bytes_eq each name) (same-true tag each same)
+        ∙ same-refl each in cc)
 
-    go : (same : Bool) → bytes_eq each tag ≡ same → AllByRecursion (λ other. bytes_eq tag other ≡ false) (tags_without tag tags) →
-        AllByRecursion (λ other. bytes_eq tag other ≡ false) (cond (not same) (each ∷ tags_without tag tags) (tags_without tag tags))
+    go : (same : Bool) → bytes_eq each tag ≡ same → AllByRecursion (λ other. bytes_eq tag other ≡ false)
+        (tags_without tag tags) →
+        AllByRecursion (λ other. bytes_eq tag other ≡ false)
+        (cond (not same) (each ∷ tags_without tag tags) (tags_without tag tags))
     go true is rest = rest
     go false is rest = (other is, rest)
 
 -- the tags without another one have this one just where they had it
-among-others : (other tag : List ℕ) (tags : List (List ℕ)) → bytes_eq other tag ≡ false → is_among (tags_without other tags) tag ≡ is_among tags tag
+among-others : (other tag : List ℕ) (tags : List (List ℕ)) → bytes_eq other tag ≡ false →
+    is_among (tags_without other tags) tag ≡ is_among tags tag
 among-others other tag tags apart =
     any-filter_same (λ each. bytes_eq each tag) (λ each. not (bytes_eq each other)) true
     (λ each is. ap not (false_from_ne_true (bytes_eq each other)
-    (λ same. let clash : false ≡ true = sym apart ∙ ap (λ name. bytes_eq name tag) (sym (same-true each other same)) ∙ is in cc))) tags
+    (λ same. let clash : false ≡ true = sym apart ∙ ap (λ name. bytes_eq name tag) (sym (same-true each other same))
+    ∙ is in cc))) tags
 
 -- and the tags without this one haven't
 among-without : (tag : List ℕ) (tags : List (List ℕ)) → is_among (tags_without tag tags) tag ≡ false
@@ -78,7 +88,8 @@ found-there tag (docked count) none = refl
 found-there tag (away ticket) none = refl
 
 -- an event of one module, by what it makes of its own tag and of the others
-counted-at : (tag other : List ℕ) (tags after : List (List ℕ)) (entry : EntryForm) (past : History) (kept : Bool) → kept ≡ true →
+counted-at : (tag other : List ℕ) (tags after : List (List ℕ)) (entry : EntryForm) (past : History) (kept : Bool) →
+    kept ≡ true →
     IsCounted tag tags past → (bytes_eq other tag ≡ false → is_among after tag ≡ is_among tags tag) →
     (other ≡ tag → IsCounted tag after (entry ∷ past)) →
     IsCounted tag after (cond (bytes_eq other tag && kept) (entry ∷ past) past)
@@ -90,55 +101,72 @@ counted-at tag other tags after entry past kept accepted before apart own = go (
 
 module _ (history : History) (tag : List ℕ) (before : IsCounted tag (present_tags history) (past tag history)) where
   -- a module whose exchange begins or ends is there before and after
-  moved : (entry : EntryForm) (other : List ℕ) (kept : Bool) → kept ≡ true → no_module other (docking_of history other) ≡ None →
+  moved : (entry : EntryForm) (other : List ℕ) (kept : Bool) → kept ≡ true →
+      no_module other (docking_of history other) ≡ None →
       is_there (docking_by (entry ∷ past tag history)) ≡ true →
-      IsCounted tag (present_tags history) (cond (bytes_eq other tag && kept) (entry ∷ past tag history) (past tag history))
+      IsCounted tag (present_tags history) (cond (bytes_eq other tag && kept) (entry ∷ past tag history)
+      (past tag history))
   moved entry other kept accepted free there =
-      counted-at tag other (present_tags history) (present_tags history) entry (past tag history) kept accepted before (λ apart. refl)
-      (λ same. before ∙ found-there tag (docking_of history tag) (ap (λ name. no_module name (docking_of history name)) (sym same) ∙ free) ∙ sym there)
+      counted-at tag other (present_tags history) (present_tags history) entry (past tag history) kept accepted before
+      (λ apart. refl)
+      (λ same. before ∙ found-there tag (docking_of history tag)
+      (ap (λ name. no_module name (docking_of history name)) (sym same) ∙ free) ∙ sym there)
 
   -- an event that moves nothing
-  stayed : (entry : EntryForm) (other : List ℕ) (kept : Bool) → kept ≡ true → docking_by (entry ∷ past tag history) ≡ docking_by (past tag history) →
-      IsCounted tag (present_tags history) (cond (bytes_eq other tag && kept) (entry ∷ past tag history) (past tag history))
+  stayed : (entry : EntryForm) (other : List ℕ) (kept : Bool) → kept ≡ true →
+      docking_by (entry ∷ past tag history) ≡ docking_by (past tag history) →
+      IsCounted tag (present_tags history) (cond (bytes_eq other tag && kept) (entry ∷ past tag history)
+      (past tag history))
   stayed entry other kept accepted same =
-      counted-at tag other (present_tags history) (present_tags history) entry (past tag history) kept accepted before (λ apart. refl)
+      counted-at tag other (present_tags history) (present_tags history) entry (past tag history) kept accepted before
+      (λ apart. refl)
       (λ own. before ∙ ap is_there (sym same))
 
   -- after an accepted event, by its kind
   counted-one : (event : EventForm) (answer : _) → is_accepted answer ≡ true → NoneHolds (rules history event) →
-      IsCounted tag (present_tags (record { event = event; answer = answer } ∷ history)) (past tag (record { event = event; answer = answer } ∷ history))
+      IsCounted tag (present_tags (record { event = event; answer = answer } ∷ history))
+      (past tag (record { event = event; answer = answer } ∷ history))
   counted-one (plug at other description) answer accepted free =
       let entry : EntryForm = record { event = plug at other description; answer = answer } in
       let tags = present_tags history in
-      subst (λ kept. IsCounted tag (present_after (plug at other description) kept tags) (cond (bytes_eq other tag && kept) (entry ∷ past tag history) (past tag history)))
+      subst (λ kept. IsCounted tag (present_after (plug at other description) kept tags)
+      (cond (bytes_eq other tag && kept) (entry ∷ past tag history) (past tag history)))
       (sym accepted)
       (counted-at tag other tags (other ∷ tags_without other tags) entry (past tag history) true refl before
       (λ apart. ap (λ same. same || is_among (tags_without other tags) tag) apart ∙ among-others other tag tags apart)
-      (λ same. ap (λ same. same || is_among (tags_without other tags) tag) (ap (λ name. bytes_eq name tag) same ∙ same-refl tag)))
+      (λ same. ap (λ same. same || is_among (tags_without other tags) tag)
+      (ap (λ name. bytes_eq name tag) same ∙ same-refl tag)))
   counted-one (unplug at other) answer accepted free =
       let entry : EntryForm = record { event = unplug at other; answer = answer } in
       let tags = present_tags history in
-      subst (λ kept. IsCounted tag (present_after (unplug at other) kept tags) (cond (bytes_eq other tag && kept) (entry ∷ past tag history) (past tag history)))
+      subst (λ kept. IsCounted tag (present_after (unplug at other) kept tags)
+      (cond (bytes_eq other tag && kept) (entry ∷ past tag history) (past tag history)))
       (sym accepted)
       (counted-at tag other tags (tags_without other tags) entry (past tag history) true refl before
       (λ apart. among-others other tag tags apart)
       (λ same. ap (λ name. is_among (tags_without name tags) tag) same ∙ among-without tag tags))
   counted-one (report at other service control) answer accepted free =
-      stayed (record { event = report at other service control; answer = answer }) other (is_accepted answer) accepted refl
+      stayed (record { event = report at other service control; answer = answer }) other
+      (is_accepted answer) accepted refl
   counted-one (variable at other name value) answer accepted free =
       stayed (record { event = variable at other name value; answer = answer }) other (is_accepted answer) accepted refl
   counted-one (desk at other service command) answer accepted free =
-      stayed (record { event = desk at other service command; answer = answer }) other (is_accepted answer) accepted refl
+      stayed (record { event = desk at other service command; answer = answer }) other
+      (is_accepted answer) accepted refl
   counted-one (exchange_begin at other) answer accepted free =
-      moved (record { event = exchange_begin at other; answer = answer }) other (is_accepted answer) accepted free.0 refl
+      moved (record { event = exchange_begin at other; answer = answer }) other
+      (is_accepted answer) accepted free.0 refl
   counted-one (exchange_end at other ticket description) answer accepted free =
-      moved (record { event = exchange_end at other ticket description; answer = answer }) other (is_accepted answer) accepted free.0 refl
+      moved (record { event = exchange_end at other ticket description; answer = answer }) other
+      (is_accepted answer) accepted free.0 refl
   counted-one (exchange_cancel at other ticket) answer accepted free =
-      moved (record { event = exchange_cancel at other ticket; answer = answer }) other (is_accepted answer) accepted free.0 refl
+      moved (record { event = exchange_cancel at other ticket; answer = answer }) other
+      (is_accepted answer) accepted free.0 refl
   counted-one _ answer accepted free = before
 
 -- the tags stay apart
-once-after : (event : EventForm) (accepted : Bool) (tags : List (List ℕ)) → IsDistinct bytes_eq tags → IsDistinct bytes_eq (present_after event accepted tags)
+once-after : (event : EventForm) (accepted : Bool) (tags : List (List ℕ)) → IsDistinct bytes_eq tags →
+    IsDistinct bytes_eq (present_after event accepted tags)
 unfolding IsDistinct
 once-after (plug at tag description) true tags apart =
     (apart-from tag tags, distinct-filtered (λ other. not (bytes_eq other tag)) tags apart)
@@ -147,12 +175,14 @@ once-after _ _ tags apart = apart
 
 -- a refused event changes neither
 refused-counted : (history : History) (tag : List ℕ) (entry : EntryForm) → is_accepted entry.answer ≡ false →
-    IsCounted tag (present_tags history) (past tag history) → IsCounted tag (present_tags (entry ∷ history)) (past tag (entry ∷ history))
+    IsCounted tag (present_tags history) (past tag history) →
+    IsCounted tag (present_tags (entry ∷ history)) (past tag (entry ∷ history))
 refused-counted history tag entry refused before =
     let same_tags : present_tags (entry ∷ history) ≡ present_tags history
     = ap (λ accepted. present_after entry.event accepted (present_tags history)) refused ∙ silent entry.event in
     let same_past : past tag (entry ∷ history) ≡ past tag history
-    = ap (λ kept. cond kept (entry ∷ past tag history) (past tag history)) (and_right (is_module tag (subject entry.event)) (is_accepted entry.answer) refused) in
+    = ap (λ kept. cond kept (entry ∷ past tag history) (past tag history))
+    (and_right (is_module tag (subject entry.event)) (is_accepted entry.answer) refused) in
     rw (same_tags, same_past) before
   where
     silent : (event : EventForm) → present_after event false (present_tags history) ≡ present_tags history
@@ -162,12 +192,15 @@ refused-counted history tag entry refused before =
 
 -- nor does the count differ after any event
 counted-step : (history : History) (tag : List ℕ) (entry : EntryForm) → entry.answer ≡ answer_of history entry.event →
-    IsCounted tag (present_tags history) (past tag history) → IsCounted tag (present_tags (entry ∷ history)) (past tag (entry ∷ history))
+    IsCounted tag (present_tags history) (past tag history) →
+    IsCounted tag (present_tags (entry ∷ history)) (past tag (entry ∷ history))
 counted-step history tag entry answered before = go (is_accepted entry.answer) refl
   where
-    go : (accepted : Bool) → is_accepted entry.answer ≡ accepted → IsCounted tag (present_tags (entry ∷ history)) (past tag (entry ∷ history))
+    go : (accepted : Bool) → is_accepted entry.answer ≡ accepted →
+        IsCounted tag (present_tags (entry ∷ history)) (past tag (entry ∷ history))
     go true is =
-        counted-one history tag before entry.event entry.answer is (accepted-none history entry.event (ap is_accepted (sym answered) ∙ is))
+        counted-one history tag before entry.event entry.answer is
+        (accepted-none history entry.event (ap is_accepted (sym answered) ∙ is))
     go false is = refused-counted history tag entry is before
 
 -- the tags that are counted are those that are there
@@ -184,5 +217,6 @@ tags_counted (entry ∷ history) legal =
 -- each of them has a description
 pub tags_described : TagsAreDescribed
 tags_described history tag legal orderly there =
-    let found = described history legal orderly tag (λ is. let clash : false ≡ true = sym (ap is_there is) ∙ there in cc) in
+    let found = described history legal orderly tag (λ is. let clash : false ≡ true = sym (ap is_there is) ∙ there in
+    cc) in
     (found.description, found.described)

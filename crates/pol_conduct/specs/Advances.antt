@@ -20,16 +20,16 @@ use Rattle.pol_conduct.specs.Kept.{IsOpen}
 abbrev pub seen_by : History → Started → Sights
 seen_by history started = sights_by started.binds (λ tag. past tag history)
 
--- the run of the batch's chart goes on: the batch isn't frozen, it didn't break, nobody had it stopped, and the service of
--- no active step is stopped or aborted
+-- the run of the batch's chart goes on: the batch isn't frozen, it didn't break, nobody had it stopped, and the service
+-- of no active step is stopped or aborted
 pub record GoesOn (history : History) (batch : List ℕ) (started : Started) (chart : ChartPlan) : Type 0 where
   pub unfrozen : is_frozen history batch ≡ false
   pub unbroken : has_broken (log_of history batch) ≡ false
   pub unstopped : was_stopped (log_of history batch) ≡ false
   pub whole : first_broken (seen_by history started) (active chart (log_of history batch)) ≡ None
 
--- the answer is what comes next in the run of the chart: the entry of the first awaited node that is ready; where none is,
--- the obstacle of the first awaited node; and completed, only after a complete run
+-- the answer is what comes next in the run of the chart: the entry of the first awaited node that is ready; where none
+-- is, the obstacle of the first awaited node; and completed, only after a complete run
 pub record AnswersNext (chart : ChartPlan) (run : List LogEntry) (seen : Sights) (answer : Answer) : Type 0 where
   pub next : CursorNext
   pub is_next : IsNext chart run (ready_after chart run seen) next

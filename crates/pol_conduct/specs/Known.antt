@@ -48,12 +48,14 @@ TagsAreCounted = (history : History) → IsLegal history → CountsTags history
 -- in every legal history of orderly events each tag that is docked or away has a description
 abbrev pub TagsAreDescribed : Type 0
 TagsAreDescribed =
-    (history : History) (tag : List ℕ) → IsLegal history → IsOrderly history → is_there (docking_of history tag) ≡ true →
+    (history : History) (tag : List ℕ) → IsLegal history → IsOrderly history →
+    is_there (docking_of history tag) ≡ true →
     (description : DescriptionForm) × (description_of history tag ≡ Some description)
 
 -- the batch sees its modules: each role of its chart has a tag, and the service of each active step was reported
 pub record SeesModules (history : History) (batch : List ℕ) (started : Started) (chart : ChartPlan) : Type 0 where
-  pub tags : (role : List ℕ) → Contains (role_names chart) role → (tag : List ℕ) × ((seen_by history started).tag role ≡ Some tag)
+  pub tags : (role : List ℕ) → Contains (role_names chart) role →
+      (tag : List ℕ) × ((seen_by history started).tag role ≡ Some tag)
   pub views : (step : StepPlan) → Contains (active chart (log_of history batch)) step →
       (view : ServiceView) × ((seen_by history started).view step.role step.service ≡ sight.Is view)
 

@@ -22,14 +22,16 @@ use Rattle.pol_conduct.specs.Permitted.{WasPermitted}
 pub record IsSound (history : History) : Type 0 where
   pub legal : IsLegal history
   pub orderly : IsOrderly history
-  -- the reports of a service since its module was docked are a path of the state machine
+  -- the states that a service reported after its module's last docking are a path of the state machine
   pub paths : (tag service : List ℕ) → IsPath (reported_states history tag service)
   -- a started batch has a valid chart, and its log follows it
   pub charts : (batch : List ℕ) (started : Started) → start_of history batch ≡ Some started →
       (found : HasChart history batch) × FollowsChart history batch found.chart
   -- what is kept of each open batch, what it sees of its modules, and which batch holds a module
-  pub batches : (batch : List ℕ) (started : Started) (chart : ChartPlan) → IsOpen history batch started chart → IsKept history batch started chart
-  pub sights : (batch : List ℕ) (started : Started) (chart : ChartPlan) → IsOpen history batch started chart → SeesModules history batch started chart
+  pub batches : (batch : List ℕ) (started : Started) (chart : ChartPlan) → IsOpen history batch started chart →
+      IsKept history batch started chart
+  pub sights : (batch : List ℕ) (started : Started) (chart : ChartPlan) → IsOpen history batch started chart →
+      SeesModules history batch started chart
   pub holders : (tag batch : List ℕ) → holder_of history tag ≡ Some batch → IsHolder history tag batch
   -- the tags that are counted are those that are there, and each of them has a description
   pub tags : CountsTags history
@@ -42,7 +44,8 @@ pub record IsRight (history : History) (entry : EntryForm) : Type 0 where
   -- a command that it sends was permitted
   pub permitted : (sent : Sent) → sent_command entry.answer ≡ Some sent → WasPermitted history sent
   -- an accepted advance is answered as the runs of the chart say
-  pub advances : (at : ℕ) (batch : List ℕ) → entry.event ≡ advance at batch → is_accepted entry.answer ≡ true → IsAdvanced history batch entry.answer
+  pub advances : (at : ℕ) (batch : List ℕ) → entry.event ≡ advance at batch → is_accepted entry.answer ≡ true →
+      IsAdvanced history batch entry.answer
   -- a refused event changes nothing
   pub refused : is_accepted entry.answer ≡ false → ChangesNothing entry history
 
@@ -52,4 +55,5 @@ HistoriesAreSound = (history : History) → IsLegal history → IsOrderly histor
 
 -- and each entry of it is right
 abbrev pub EntriesAreRight : Type 0
-EntriesAreRight = (history : History) (entry : EntryForm) → IsLegal (entry ∷ history) → IsOrderly history → IsRight history entry
+EntriesAreRight = (history : History) (entry : EntryForm) → IsLegal (entry ∷ history) → IsOrderly history →
+    IsRight history entry

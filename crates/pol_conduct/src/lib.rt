@@ -1,7 +1,7 @@
-//! How a plant conducts itself, whatever journal it is given: every command was permitted before it was sent, every batch
-//! log follows its chart, an advance is answered by what comes next in the runs of that chart, what every event keeps of
-//! the batches and their modules, and that no answer rests on a value that is missing. Each is a law over all legal
-//! histories, the contract of a function with an empty body; `specs/Sound.antt` has them together.
+//! How a plant conducts itself, whatever journal it is given: every command was permitted before it was sent, every
+//! batch log follows its chart, an advance is answered by what comes next in the runs of that chart, what every event
+//! keeps of the batches and their modules, and that no answer rests on a value that is missing. Each is a law over all
+//! legal histories, the contract of a function with an empty body; `specs/Sound.antt` has them together.
 //!
 //! It knows nothing of how an answer is found.
 #![tactic(auto)]
@@ -21,7 +21,8 @@ pub fn commands_are_permitted()
     ensures { CommandsArePermitted }
 {}
 
-/// The chart's entries in a batch's log are a partial run of its chart, and a complete one where the batch was completed.
+/// The chart's entries in a batch's log are a partial run of its chart, and a complete one where the batch was
+/// completed.
 pub fn logs_follow_charts()
     ensures { LogsFollowCharts }
 {}
@@ -44,8 +45,8 @@ pub fn what_is_there_is_known()
     ensures sights { OpenBatchesSee }
 {}
 
-/// Each module that an open batch binds is held by it, is there and covers its role; and the service of each active step
-/// was reported since its module was docked.
+/// Each module that an open batch binds is held by it, is there and covers its role; and the service of each active
+/// step was reported since its module was docked.
 #[tactic(auto, using(crate::proofs::Keeping::batches_kept))]
 pub fn batches_are_kept()
     ensures { BatchesAreKept }

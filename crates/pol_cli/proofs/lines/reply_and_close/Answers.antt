@@ -8,8 +8,10 @@ returns-in_err-lines-clause-leaves g c =
     rw fault.1 (nothing_done g.J.LineJob.work (g.J.LineJob.state c.args.job.now) _ _ _ fault.2)
 
 pub returns-clause-output : goal.returns-clause-output
-returns-clause-output g c = ended_well _ _ c.close.result _ _ _ _ _ _ c.in_ok-reply_to_all.ensures.replied c.close.ensures.text
+returns-clause-output g c = ended_well _ _ c.close.result _ _ _ _ _ _ c.in_ok-reply_to_all.ensures.replied
+    c.close.ensures.text
 
 pub returns-clause-leaves : goal.returns-clause-leaves
 returns-clause-leaves g c =
-    end_stopped _ _ c.close.result _ _ _ _ _ _ c.in_ok-reply_to_all.ensures.replied c.close.ensures.part c.close.ensures.only
+    end_stopped _ _ c.close.result _ _ _ _ _ _ c.in_ok-reply_to_all.ensures.replied c.close.ensures.part
+    c.close.ensures.only

@@ -18,7 +18,8 @@ pub loop-made-preserved : goal.loop-made-preserved
 loop-made-preserved g c =
     let invariant = c.loop-made.invariant in
     record {
-      served = served_on g.J.LineJob.work _ _ _ _ _ _ c.in-Some.made invariant.served (rw c.in-Some.is at c.in_ok-made.ensures.next)
+      served = served_on g.J.LineJob.work _ _ _ _ _ _ c.in-Some.made invariant.served
+          (rw c.in-Some.is at c.in_ok-made.ensures.next)
           c.in_ok-put_reply.ensures.was_made c.in_ok-put_reply.ensures.text;
       moves = moves_on _ _ _ invariant.moves c.in_ok-made.ensures.next.moves;
       source_sound = c.in_ok-made.ensures.cause.done ∙ invariant.source_sound;
@@ -29,7 +30,8 @@ pub returns-clause-replied : goal.returns-clause-replied
 returns-clause-replied g c =
     let invariant = c.loop-made.invariant in
     let next = rw c.in_default.is at c.in_ok-made.ensures.next in
-    served_all g.J.LineJob.work _ _ _ _ _ c.requires invariant.served next (moves_on _ _ _ invariant.moves c.in_ok-made.ensures.next.moves)
+    served_all g.J.LineJob.work _ _ _ _ _ c.requires invariant.served next
+    (moves_on _ _ _ invariant.moves c.in_ok-made.ensures.next.moves)
 
 pub returns-clause-fits : goal.returns-clause-fits
 returns-clause-fits g c =
@@ -51,8 +53,10 @@ returns-in_err-made-clause-too_much g c =
 pub returns-in_err-put_reply-clause-leaves : goal.returns-in_err-put_reply-clause-leaves
 returns-in_err-put_reply-clause-leaves g c =
     let invariant = c.loop-made.invariant in
-    let fault = err_from_is_err_and c.from_residual-in_err-put_reply.result c.from_residual-in_err-put_reply.ensures.1 in
+    let fault = err_from_is_err_and c.from_residual-in_err-put_reply.result c.from_residual-in_err-put_reply.ensures.1
+    in
     let only = c.in_err-put_reply.ensures.only in
     rw (fault.1, fault.2) (part_leaves _ _ _ _ _ _ only.0 only.1
-    (stopped_reply g.J.LineJob.work _ _ _ _ _ _ c.in-Some.made c.requires invariant.served (rw c.in-Some.is at c.in_ok-made.ensures.next)
+    (stopped_reply g.J.LineJob.work _ _ _ _ _ _ c.in-Some.made c.requires invariant.served
+    (rw c.in-Some.is at c.in_ok-made.ensures.next)
     (moves_on _ _ _ invariant.moves c.in_ok-made.ensures.next.moves) c.in_err-put_reply.ensures.part))

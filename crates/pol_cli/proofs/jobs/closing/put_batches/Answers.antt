@@ -15,7 +15,8 @@ loop-entry-init g c = record {
 pub loop-entry-preserved : goal.loop-entry-preserved
 loop-entry-preserved g c =
     let history = history_view c.args.history.now in
-    let cut = cut_lines history c.args.history.now c.loop-entry.entry-index c.entry-item.result c.loop-entry-test.true c.entry-item.is in
+    let cut = cut_lines history c.args.history.now c.loop-entry.entry-index c.entry-item.result c.loop-entry-test.true
+    c.entry-item.is in
     record {
       so_far = up_to_next _ _ _ (start_text history (entry_view c.entry-item.result)) _ _
           (subst (λ rest. WritesUpTo (g.K.Sink.held c.args.sink.now) (g.K.Sink.held c.loop-entry.sink) rest
@@ -26,7 +27,8 @@ loop-entry-preserved g c =
 pub returns-in_err-put_batch-clause-part : goal.returns-in_err-put_batch-clause-part
 returns-in_err-put_batch-clause-part g c =
     let history = history_view c.args.history.now in
-    let cut = cut_lines history c.args.history.now c.loop-entry.entry-index c.entry-item.result c.loop-entry-test.true c.entry-item.is in
+    let cut = cut_lines history c.args.history.now c.loop-entry.entry-index c.entry-item.result c.loop-entry-test.true
+    c.entry-item.is in
     let fault = err_from_is_err_and c.from_residual.result c.from_residual.ensures.1 in
     rw fault.1 (up_to_part _ _ _ (start_text history (entry_view c.entry-item.result)) _ _
     (subst (λ rest. WritesUpTo (g.K.Sink.held c.args.sink.now) (g.K.Sink.held c.loop-entry.sink) rest
