@@ -5,3 +5,4 @@ pub mod Places
 pub mod Counted
 pub mod Reports
 pub mod First
+pub mod Planned

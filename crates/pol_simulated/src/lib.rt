@@ -1,12 +1,14 @@
 //! What a simulated module keeps beside a history: it is in step with what it told there, and its changes are counted
-//! against the commands that it looked at; so each change has its command, and its reports are accepted. Each is a law
-//! over plain data, the contract of a function with an empty body.
+//! against the commands that it looked at; so each change has its command, and its reports are accepted. An event that
+//! brings a module a plan brings it the site's. Each is a law over plain data, the contract of a function with an empty
+//! body.
 //!
 //! It knows nothing of batches, of threads or of who takes turns. What a module in step is stands in `specs/Units.antt`.
 #![tactic(auto)]
 
 ghost use Rattle.pol_simulated.specs.Laws.{CommandsKeep, CountsGiveCommanded, FirstSimsAreInStep, ReportsAreAccepted, TicksKeep, UntouchedKeeps};
 ghost use Rattle.pol_simulated.specs.Places.{NextCounts};
+ghost use Rattle.pol_simulated.specs.Planned.{EndsBringPlans, PlugsBringPlans};
 
 /// A new simulator, of whose module nothing was told since docking, is in step, and its changes are counted.
 pub fn first_sims_are_in_step()
@@ -44,4 +46,16 @@ pub fn counts_give_commanded()
 /// A report of a service that a docked module in step gives is accepted, and tells a new state.
 pub fn reports_are_accepted()
     ensures { ReportsAreAccepted }
+{}
+
+/// A plug brings the plan of the site's module with its tag.
+#[tactic(auto, using(crate::proofs::Planned::plugs_bring))]
+pub fn plugs_bring_plans()
+    ensures { PlugsBringPlans }
+{}
+
+/// The end of an exchange brings the plan of the site's exchange that was begun last.
+#[tactic(auto, using(crate::proofs::Planned::ends_bring))]
+pub fn ends_bring_plans()
+    ensures { EndsBringPlans }
 {}
