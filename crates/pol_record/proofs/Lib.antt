@@ -1,3 +1,5 @@
 pub mod Mapped
 pub mod Floats
 pub mod Rising
+pub mod Known
+pub mod Written

@@ -1,41 +1,24 @@
 //! Lines of batches: what a batch was started with, its log and its outcome.
-ghost use Rattle.std.specs.Prelude.{◌≡◌, IfOk, IsTrue, None, false, if◌then◌else◌};
+ghost use Rattle.std.specs.Prelude.{◌≡◌, IfOk, IsTrue, false};
 ghost use Rattle.serde_json.specs.View.{view};
 ghost use Rattle.serde_json.specs.Written.{has_float};
-ghost use Rattle.pol_events.specs.Events.{entry_view, event_view, history_view};
+ghost use Rattle.pol_events.specs.Events.{history_view};
 ghost use Rattle.pol_events.specs.Orderly.{rise};
-ghost use Rattle.pol_history.specs.Batches.{log_of, started_batch};
-ghost use Rattle.pol_history.specs.Looking.{is_accepted};
+ghost use Rattle.pol_history.specs.Batches.{log_of};
 ghost use Rattle.pol_history.specs.Runs.{IsOrderly};
 ghost use Rattle.pol_history.specs.Texts.{batch_data, batch_object, batch_text, outcome_text};
-ghost use Rattle.pol_lookback.specs.Starts.{started};
+ghost use Rattle.pol_record.specs.Gathered.{HasBindsInOrder, known_of, plain_record, plain_start, record_text};
 
 use crate::answers::outcome_name;
 use crate::entries::log_value;
+use crate::gathering::BatchRecords;
 use crate::lines::line_of;
+use crate::records::{BatchRecord, Start, record_of};
 use chart_core::LogEntry;
 use mtp_codes::Name;
-use pol_events::{Entry, Event, Outcome, write_binds};
-use pol_lookback::{Start, is_accepted, log_of, outcome_of, start_of};
+use pol_events::{Entry, Outcome, write_binds};
 use serde_json::{Value, json};
 use std::alloc::{AllocError, Global};
-
-/// The batch that an accepted start starts; None for any other entry.
-pub fn started_batch(entry: &Entry) -> Option<Name>
-    ensures { result ≡ if is_accepted (entry_view entry.now).answer then started_batch (entry_view entry.now).event else None }
-{
-    match entry.event {
-        Event::Start { batch, .. } if is_accepted(&entry.answer) => Some(batch),
-        _ => None,
-    }
-}
-
-/// The batch's log, the oldest entry first.
-pub fn batch_log(alloc: Global, history: &[Entry], batch: Name) -> Result<Vec<LogEntry>, AllocError>
-    ensures { IfOk result (λ log. log.items ≡ log_of (history_view history.now) batch) }
-{
-    log_of(alloc, history, batch)
-}
 
 fn outcome_text(outcome: Option<Outcome>) -> &'static str
     ensures { result.now ≡ outcome_text outcome }
@@ -65,12 +48,12 @@ fn batch_object(
 fn batch_value(
     alloc: Global,
     batch: Name,
-    start: Start,
+    start: &Start,
     log: &[LogEntry],
     outcome: Option<Outcome>,
 ) -> Result<Value, AllocError>
-    requires { IsTrue (rise start.binds.now) }
-    ensures { IfOk result (λ value. view value ≡ batch_data batch (started start.entry) log.now outcome) }
+    requires { IsTrue (rise start.now.binds.now) }
+    ensures { IfOk result (λ value. view value ≡ batch_data batch (plain_start start.now) log.now outcome) }
 {
     let binds = write_binds(alloc, start.binds)?;
     let log = log_value(alloc, log)?;
@@ -84,16 +67,44 @@ fn batch_value(
     )
 }
 
+fn record_line(alloc: Global, batch: Name, known: &BatchRecord) -> Result<Vec<u8>, AllocError>
+    requires { HasBindsInOrder (plain_record known.now) }
+    ensures { IfOk result (λ line. line.items ≡ record_text batch (plain_record known.now)) }
+{
+    let Some(start) = &known.start else {
+        return Ok(Vec::new(alloc));
+    };
+    let value = batch_value(alloc, batch, start, &known.log, known.outcome)?;
+    line_of(alloc, &value)
+}
+
+/// The line of a batch that was gathered: the same line as [`batch_line`]'s. No bytes for a batch that wasn't started.
+pub fn gathered_line(
+    alloc: Global,
+    gathered: &BatchRecords,
+    batch: Name,
+) -> Result<Vec<u8>, AllocError>
+    requires { HasBindsInOrder (known_of gathered.now.records.entries batch) }
+    ensures { IfOk result (λ line. line.items ≡ record_text batch (known_of gathered.now.records.entries batch)) }
+{
+    match gathered.records.get(&batch) {
+        Some(known) => record_line(alloc, batch, known),
+        None => Ok(Vec::new(alloc)),
+    }
+}
+
+/// The batch's log, the oldest entry first.
+pub fn batch_log(alloc: Global, history: &[Entry], batch: Name) -> Result<Vec<LogEntry>, AllocError>
+    ensures { IfOk result (λ log. log.items ≡ log_of (history_view history.now) batch) }
+{
+    Ok(record_of(alloc, history, batch)?.log)
+}
+
 /// The line of a batch: its name, what plays each role, its log, its outcome (Running while it is open) and its recipe.
 /// No bytes for a batch that wasn't started.
 pub fn batch_line(alloc: Global, history: &[Entry], batch: Name) -> Result<Vec<u8>, AllocError>
     requires { IsOrderly (history_view history.now) }
     ensures { IfOk result (λ line. line.items ≡ batch_text (history_view history.now) batch) }
 {
-    let Some(start) = start_of(history, batch) else {
-        return Ok(Vec::new(alloc));
-    };
-    let log = log_of(alloc, history, batch)?;
-    let value = batch_value(alloc, batch, start, &log, outcome_of(history, batch))?;
-    line_of(alloc, &value)
+    record_line(alloc, batch, &record_of(alloc, history, batch)?)
 }

@@ -5,7 +5,7 @@ ghost use Rattle.pol_events.specs.Events.{event_view, history_view};
 ghost use Rattle.pol_events.specs.Orderly.{is_orderly};
 ghost use Rattle.pol_history.specs.Runs.{IsOrderly};
 
-use crate::{answer_line, batch_line, batch_log, end_line, fault_line};
+use crate::{answer_line, batch_line, batch_log, end_line, fault_line, gather, gathered_line};
 use chart_core::{ChartFault, LogEntry, Readings, Why};
 use mtp_codes::{Command, Forbid, Name, Reading, State};
 use mtp_json::{FaultKind, JsonFault, Path, PathPart};
@@ -456,6 +456,34 @@ fn a_batch_that_is_not_closed_is_running(rt: HostRuntime) -> Result<(), Fail> {
             .as_slice()
     );
     assert!(rt; batch_line(alloc, &history, named("r2")?)?.is_empty());
+    Ok(())
+}
+
+#[test]
+fn each_batch_that_was_started_has_its_line_in_the_order_of_the_starts(
+    rt: HostRuntime,
+) -> Result<(), Fail> {
+    let alloc = rt.alloc();
+    let first = named("r3")?;
+    let second = named("r1")?;
+    let history = history_of(
+        started(alloc, first, named("M")?)?,
+        started(alloc, second, named("N")?)?,
+        advanced(first, Answer::Closed(Outcome::Stopped)),
+    );
+    let gathered = gather(alloc, &history)?;
+    assert!(rt; gathered.started.as_slice() == [first, second].as_slice());
+    let mut lines = Vec::new(alloc);
+    for batch in [first, second, named("r2")?] {
+        lines.extend_from_slice(gathered_line(alloc, &gathered, batch)?.as_slice())?;
+    }
+    assert_eq!(rt;
+        lines.as_slice(),
+        br#"{"batch":"r3","bind":{"A":"M"},"log":[],"outcome":"Stopped","recipe":"one"}
+{"batch":"r1","bind":{"A":"N"},"log":[],"outcome":"Running","recipe":"one"}
+"#
+            .as_slice()
+    );
     Ok(())
 }
 

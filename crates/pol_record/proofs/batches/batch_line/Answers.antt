@@ -1,15 +1,10 @@
-use Rattle.std.proofs.Common.{◌∙◌, ap, sym}
-use Rattle.serde_json.specs.Written.{has_float}
+-- In an orderly history the binds of each start stand in order.
 use Rattle.pol_events.specs.Events.{history_view}
-use Rattle.pol_lookback.specs.Starts.{started}
-use Rattle.pol_record.proofs.Floats.{batch_whole}
-use Rattle.pol_record.proofs.Rising.{start_rises}
+use Rattle.pol_record.specs.Gathered.{plain_record}
+use Rattle.pol_record.proofs.Rising.{known-in-order}
 use Rattle.pol_record.proofs.batches.batch_line.Goals as goal
 
-pub batch_value-requires : goal.batch_value-requires
-batch_value-requires c =
-    start_rises c.args.batch (history_view c.args.history.now) (started c.in-Some.start) c.requires (sym c.in-Some.ensures)
-
-pub line_of-requires : goal.line_of-requires
-line_of-requires c =
-    ap has_float c.in_ok-value.ensures ∙ batch_whole c.args.batch (started c.in-Some.start) c.deref.result.now c.outcome_of.result
+pub record_line-requires : goal.record_line-requires
+record_line-requires c =
+    known-in-order c.args.batch (history_view c.args.history.now) (plain_record c.in_ok-record_of.field-0) c.requires
+    c.in_ok-record_of.ensures
