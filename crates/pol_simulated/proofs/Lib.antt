@@ -6,3 +6,4 @@ pub mod Counted
 pub mod Reports
 pub mod First
 pub mod Planned
+pub mod Values

@@ -2,3 +2,4 @@ pub mod Units
 pub mod Places
 pub mod Laws
 pub mod Planned
+pub mod Values

@@ -1,5 +1,5 @@
 //! What a simulated module keeps beside a history: it is in step with what it told there, and its changes are counted
-//! against the commands that it looked at; so each change has its command, and its reports are accepted. An event that
+//! against the commands that it looked at; so each change has its command, and its reports are allowed. An event that
 //! brings a module a plan brings it the site's. Each is a law over plain data, the contract of a function with an empty
 //! body.
 //!
@@ -9,6 +9,7 @@
 ghost use Rattle.pol_simulated.specs.Laws.{CommandsKeep, CountsGiveCommanded, FirstSimsAreInStep, ReportsAreAccepted, TicksKeep, UntouchedKeeps};
 ghost use Rattle.pol_simulated.specs.Places.{NextCounts};
 ghost use Rattle.pol_simulated.specs.Planned.{EndsBringPlans, PlugsBringPlans};
+ghost use Rattle.pol_simulated.specs.Values.{CommandsKeepDrifts, FirstDriftsAreKept, PlansAreKept, TicksKeepDrifts, ValuesAreAllowed};
 
 /// A new simulator, of whose module nothing was told since docking, is in step, and its changes are counted.
 pub fn first_sims_are_in_step()
@@ -55,7 +56,35 @@ pub fn plugs_bring_plans()
 {}
 
 /// The end of an exchange brings the plan of the site's exchange that was begun last.
-#[tactic(auto, using(crate::proofs::Planned::ends_bring))]
 pub fn ends_bring_plans()
     ensures { EndsBringPlans }
+{}
+
+/// A plan that a site may give is the one that a new simulator keeps, and no two of its drifts are of one name.
+#[tactic(auto, using(crate::proofs::Values::plans_kept))]
+pub fn plans_are_kept()
+    ensures { PlansAreKept }
+{}
+
+/// The drifts of a new simulator are such as a site may give, and haven't fallen below their first values.
+#[tactic(auto, using(crate::proofs::Values::first_drifts_kept))]
+pub fn first_drifts_are_kept()
+    ensures { FirstDriftsAreKept }
+{}
+
+/// A tick keeps them so.
+#[tactic(auto, using(crate::proofs::Values::drifts_ticked))]
+pub fn ticks_keep_drifts()
+    ensures { TicksKeepDrifts }
+{}
+
+/// So does a command.
+#[tactic(auto, using(crate::proofs::Values::drifts_commanded))]
+pub fn commands_keep_drifts()
+    ensures { CommandsKeepDrifts }
+{}
+
+/// A value that a docked module in step reports is allowed.
+pub fn values_are_allowed()
+    ensures { ValuesAreAllowed }
 {}
