@@ -10,44 +10,56 @@ use Rattle.chart_cursor.specs.Logs.{active}
 use Rattle.pol_events.specs.Bound.{step_on}
 use Rattle.pol_events.specs.declared.answer.Rule.{Rule}
 use Rattle.pol_events.specs.declared.answer.Rule.TheVariants.{ActiveStep}
-use Rattle.pol_history.specs.Looking.{History, past_of_batch, recipes}
 use Rattle.pol_history.specs.Batches.{Started, chart_by, log_by}
+use Rattle.pol_history.specs.Looking.{History, past_of_batch, recipes}
 use Rattle.pol_history.specs.Rules.{active_step_on, active_step, by_holder}
 use Rattle.pol_slots.specs.declared.slot.Slot.{Slot}
-use Rattle.pol_table.specs.Berths.{Berths}
 use Rattle.pol_table.specs.Berths as tables
+use Rattle.pol_table.specs.Berths.{Berths}
 use Rattle.pol_runs.specs.Logs.{Follows}
 use Rattle.pol_runs.specs.Runs.{PlainRun}
-use Rattle.pol_core.specs.Seats.{SeatsMirror}
 use Rattle.pol_core.specs.Batches.{RunKeeps, IsRun, RunsMirror}
+use Rattle.pol_core.specs.Seats.{SeatsMirror}
 use Rattle.pol_core.proofs.Unfit.{holder-same}
 
 -- a module that no batch holds
-pub no-holder-acts : (history : History) (tag : List ℕ) (berths : Berths Slot) → SeatsMirror berths history → tables.holder_of tag berths ≡ None → None ≡ active_step history tag
+pub no-holder-acts : (history : History) (tag : List ℕ) (berths : Berths Slot) → SeatsMirror berths history →
+    tables.holder_of tag berths ≡ None → None ≡ active_step history tag
 no-holder-acts history tag berths mirror is =
-    sym (ap (by_holder (λ batch. active_step_on (recipes history) tag batch (past_of_batch batch history))) (sym (holder-same berths history tag mirror) ∙ is))
+    sym (ap (by_holder (λ batch. active_step_on (recipes history) tag batch (past_of_batch batch history)))
+    (sym (holder-same berths history tag mirror) ∙ is))
 
-held-acts : (history : History) (tag batch : List ℕ) (berths : Berths Slot) → SeatsMirror berths history → tables.holder_of tag berths ≡ Some batch →
+-- the holder's past decides
+held-acts : (history : History) (tag batch : List ℕ) (berths : Berths Slot) → SeatsMirror berths history →
+    tables.holder_of tag berths ≡ Some batch →
     active_step history tag ≡ active_step_on (recipes history) tag batch (past_of_batch batch history)
 held-acts history tag batch berths mirror is =
-    ap (by_holder (λ batch. active_step_on (recipes history) tag batch (past_of_batch batch history))) (sym (holder-same berths history tag mirror) ∙ is)
+    ap (by_holder (λ batch. active_step_on (recipes history) tag batch (past_of_batch batch history)))
+    (sym (holder-same berths history tag mirror) ∙ is)
 
 -- a holder without a run
-pub no-run-acts : (history : History) (tag batch : List ℕ) (berths : Berths Slot) (runs : List (List ℕ × PlainRun)) → SeatsMirror berths history → RunsMirror runs history →
+pub no-run-acts : (history : History) (tag batch : List ℕ) (berths : Berths Slot)
+    (runs : List (List ℕ × PlainRun)) → SeatsMirror berths history → RunsMirror runs history →
     tables.holder_of tag berths ≡ Some batch → lookup (bytes_eq batch) runs ≡ None → None ≡ active_step history tag
 no-run-acts history tag batch berths runs mirror batches is gone =
-    let none : past_of_batch batch history ≡ [] = subst (λ found. IsRun batch found (past_of_batch batch history) (recipes history)) gone (batches batch) in
+    let none : past_of_batch batch history ≡ [] =
+    subst (λ found. IsRun batch found (past_of_batch batch history) (recipes history)) gone (batches batch) in
     sym (held-acts history tag batch berths mirror is ∙ ap (active_step_on (recipes history) tag batch) none)
 
+-- the rule names the step
 mapped : (batch : List ℕ) (found : Option StepPlan) →
-    option_map (λ step. ActiveStep batch step.name) found ≡ option_map (ActiveStep batch) (option_map (λ step. step.name) found)
+    option_map (λ step. ActiveStep batch step.name) found ≡ option_map (ActiveStep batch)
+    (option_map (λ step. step.name) found)
 mapped batch None = refl
 mapped batch (Some step) = refl
 
 -- the first active step of the holder's run on the module
-pub run-acts : (history : History) (tag batch : List ℕ) (berths : Berths Slot) (runs : List (List ℕ × PlainRun)) (run : PlainRun) (step : Option (List ℕ)) →
-    SeatsMirror berths history → RunsMirror runs history → tables.holder_of tag berths ≡ Some batch → lookup (bytes_eq batch) runs ≡ Some run →
-    ((log : List LogEntry) → Follows run log → step ≡ option_map (λ step. step.name) (step_on run.binds tag (active (plan run.chart) log))) →
+pub run-acts : (history : History) (tag batch : List ℕ) (berths : Berths Slot) (runs : List (List ℕ × PlainRun))
+    (run : PlainRun) (step : Option (List ℕ)) →
+    SeatsMirror berths history → RunsMirror runs history → tables.holder_of tag berths ≡ Some batch →
+    lookup (bytes_eq batch) runs ≡ Some run →
+    ((log : List LogEntry) → Follows run log → step ≡ option_map (λ step. step.name)
+    (step_on run.binds tag (active (plan run.chart) log))) →
     option_map (ActiveStep batch) step ≡ active_step history tag
 run-acts history tag batch berths runs run step mirror batches is found says =
     let keeps : RunKeeps batch run (past_of_batch batch history) (recipes history)
@@ -56,10 +68,12 @@ run-acts history tag batch berths runs run step mirror batches is found says =
     ∙ sym (mapped batch (step_on run.binds tag (active (plan run.chart) (log_by (past_of_batch batch history)))))
     ∙ sym (held-acts history tag batch berths mirror is
     ∙ ap (λ found. option_and_then (by_chart found) found) keeps.started
-    ∙ ap (option_and_then (λ chart. option_map (λ step. ActiveStep batch step.name) (step_on run.binds tag (active chart (log_by (past_of_batch batch history)))))) keeps.charted)
+    ∙ ap (option_and_then (λ chart. option_map (λ step. ActiveStep batch step.name)
+    (step_on run.binds tag (active chart (log_by (past_of_batch batch history)))))) keeps.charted)
   where
     by_chart : Option Started → Started → Option Rule
     by_chart found started =
         option_and_then
-        (λ chart. option_map (λ step. ActiveStep batch step.name) (step_on started.binds tag (active chart (log_by (past_of_batch batch history)))))
+        (λ chart. option_map (λ step. ActiveStep batch step.name)
+        (step_on started.binds tag (active chart (log_by (past_of_batch batch history)))))
         (chart_by (recipes history) (Some started))

@@ -3,22 +3,22 @@ use Rattle.std.proofs.Common.{◌≡◌, ℕ, Bool, true, false, List, [], ◌�
 use Rattle.std.specs.Option.{option_or, option_map}
 use Rattle.mtp_codes.specs.Faults.{unless}
 use Rattle.mtp_codes.specs.declared.command.Command.{Command}
-use Rattle.chart_core.specs.declared.entry.LogEntry.TheVariants.{Asked}
 use Rattle.mtp_modes.specs.declared.view.ServiceView.{ServiceView}
+use Rattle.chart_core.specs.declared.entry.LogEntry.TheVariants.{Asked}
 use Rattle.pol_events.specs.Events.{EventForm, desk}
 use Rattle.pol_events.specs.Refusals.{in_exchange, no_service, forbidden}
 use Rattle.pol_events.specs.declared.answer.Answer.{Answer}
 use Rattle.pol_events.specs.declared.answer.Answer.TheVariants.{Did}
 use Rattle.pol_events.specs.declared.answer.Rule.{Rule}
 use Rattle.pol_events.specs.declared.answer.Rule.TheVariants.{NotReported}
+use Rattle.pol_history.specs.Answers.{first_rule, answer_of, is_full}
 use Rattle.pol_history.specs.Looking.{History, is_accepted, past}
 use Rattle.pol_history.specs.Modules.{docking_by, ticket_of, control_by, seen_with}
 use Rattle.pol_history.specs.Rules.{by_description, by_view, not_reported}
-use Rattle.pol_history.specs.Answers.{first_rule, answer_of, is_full}
 use Rattle.pol_history.specs.Runs.{entry_of}
 use Rattle.pol_history.proofs.Accepted.{paired, with-room}
-use Rattle.pol_slots.specs.Slots.{slot_tag, slot_ticket, slot_description}
 use Rattle.pol_slots.specs.Sights as sights
+use Rattle.pol_slots.specs.Slots.{slot_tag, slot_ticket, slot_description}
 use Rattle.pol_slots.specs.declared.slot.Slot.{Slot}
 use Rattle.pol_table.specs.Berths.{Berths, part_of}
 use Rattle.pol_core.specs.Seats.{SlotKeeps, SeatsMirror, IsCounted, AnswersModule, asked_answer, asked_by, slot_asked}
@@ -30,37 +30,47 @@ use Rattle.pol_core.proofs.Telling.{seated-slot, seats-unmoved}
 -- the view of the service, and whether a command may go to it
 viewed : (tag service : List ℕ) (command : Command) (view : Option ServiceView) →
     asked_answer (asked_by tag service command (sights.view_unless None (NotReported tag service) view))
-    ≡ first_rule (not_reported tag service view ∷ by_view (forbidden command) view ∷ []) (Did (Asked tag service command))
+    ≡ first_rule (not_reported tag service view ∷ by_view (forbidden command) view ∷ [])
+    (Did (Asked tag service command))
 viewed tag service command None = refl
 viewed tag service command (Some view) = go (forbidden command view)
   where
-    go : (rule : Option Rule) → asked_answer (unless rule (Asked tag service command)) ≡ first_rule (rule ∷ []) (Did (Asked tag service command))
+    go : (rule : Option Rule) → asked_answer (unless rule (Asked tag service command))
+        ≡ first_rule (rule ∷ []) (Did (Asked tag service command))
     go None = refl
     go (Some rule) = refl
 
+-- the rules before it, and then the view
 asked : (tag service : List ℕ) (command : Command) (away lacks : Option Rule) (view : Option ServiceView) →
-    asked_answer (asked_by tag service command (sights.view_unless (option_or away lacks) (NotReported tag service) view))
-    ≡ first_rule (away ∷ lacks ∷ not_reported tag service view ∷ by_view (forbidden command) view ∷ []) (Did (Asked tag service command))
+    asked_answer (asked_by tag service command (sights.view_unless (option_or away lacks)
+    (NotReported tag service) view))
+    ≡ first_rule (away ∷ lacks ∷ not_reported tag service view ∷ by_view (forbidden command) view ∷ [])
+    (Did (Asked tag service command))
 asked tag service command (Some rule) lacks view = refl
 asked tag service command None (Some rule) view = refl
 asked tag service command None None view = viewed tag service command view
 
 -- what the slot answers is what the rules say
-pub desk-judged : (history : History) (at : ℕ) (tag service : List ℕ) (command : Command) (slot : Slot) → is_full history ≡ false →
+pub desk-judged : (history : History) (at : ℕ) (tag service : List ℕ) (command : Command) (slot : Slot) →
+    is_full history ≡ false →
     SlotKeeps tag slot (past tag history) →
     asked_answer (slot_asked slot tag service command) ≡ answer_of history (desk at tag service command)
 desk-judged history at tag service command slot room keeps =
     ap (λ control. asked_answer (asked_by tag service command (sights.view_unless
     (option_or (in_exchange (slot_tag slot) (slot_ticket slot)) (no_service service (slot_description slot)))
-    (NotReported (slot_tag slot) service) (option_map (sights.view_by service (slot_description slot)) control)))) (keeps.controls service)
+    (NotReported (slot_tag slot) service) (option_map (sights.view_by service (slot_description slot)) control))))
+    (keeps.controls service)
     ∙ rw (keeps.tag_is, keeps.ticket)
-    (asked tag service command (in_exchange tag (ticket_of (docking_by past'))) (no_service service (slot_description slot))
+    (asked tag service command (in_exchange tag (ticket_of (docking_by past')))
+    (no_service service (slot_description slot))
     (option_map (sights.view_by service (slot_description slot)) (control_by service past'))
     ∙ sym (with-room history (desk at tag service command) room
     ∙ rw (there-is tag (docking_by past') keeps.is_there)
-    (ap (λ description. first_rule (in_exchange tag (ticket_of (docking_by past')) ∷ by_description (no_service service) description
+    (ap (λ description. first_rule (in_exchange tag (ticket_of (docking_by past')) ∷ by_description
+    (no_service service) description
     ∷ not_reported tag service (option_map (seen_with service description) (control_by service past'))
-    ∷ by_view (forbidden command) (option_map (seen_with service description) (control_by service past')) ∷ []) (Did (Asked tag service command))) keeps.description)))
+    ∷ by_view (forbidden command) (option_map (seen_with service description) (control_by service past')) ∷ [])
+    (Did (Asked tag service command))) keeps.description)))
   where
     past' : History
     past' = past tag history
@@ -68,7 +78,8 @@ desk-judged history at tag service command slot room keeps =
 -- ---- the table stays
 
 -- an accepted command changes nothing that the slot keeps
-asked-keeps : (tag other service : List ℕ) (command : Command) (slot : Slot) (past : History) (at : ℕ) (answer : Answer) → SlotKeeps tag slot past →
+asked-keeps : (tag other service : List ℕ) (command : Command) (slot : Slot) (past : History)
+    (at : ℕ) (answer : Answer) → SlotKeeps tag slot past →
     SlotKeeps tag slot (paired (desk at other service command) answer ∷ past)
 asked-keeps tag other service command slot past at answer keeps =
     record {
@@ -82,9 +93,12 @@ asked-keeps tag other service command slot past at answer keeps =
       values = keeps.values;
     }
 
-pub desk-answered : (history : History) (at : ℕ) (tag service : List ℕ) (command : Command) (slot : Slot) (berths : Berths Slot) (answer : Answer) →
+-- a command that goes to the service, or a rule
+pub desk-answered : (history : History) (at : ℕ) (tag service : List ℕ) (command : Command)
+    (slot : Slot) (berths : Berths Slot) (answer : Answer) →
     is_full history ≡ false → SeatsMirror berths history → IsCounted berths history → part_of tag berths ≡ Some slot →
-    answer ≡ asked_answer (slot_asked slot tag service command) → AnswersModule history (desk at tag service command) answer berths
+    answer ≡ asked_answer (slot_asked slot tag service command) →
+    AnswersModule history (desk at tag service command) answer berths
 desk-answered history at tag service command slot berths answer room seats counted found is =
     let event : EventForm = desk at tag service command in
     let keeps = seated-slot history tag berths slot seats found in
@@ -93,12 +107,15 @@ desk-answered history at tag service command slot berths answer room seats count
   where
     go : (accepted : Bool) → is_accepted answer ≡ accepted → answer ≡ answer_of history (desk at tag service command) →
         AnswersModule history (desk at tag service command) answer berths
-    go false refused same = refused-answered history (desk at tag service command) answer berths same refused seats counted
+    go false refused same = refused-answered history (desk at tag service command) answer berths
+        same refused seats counted
     go true accepted same =
         let event : EventForm = desk at tag service command in
         record {
           answer_is = same;
-          seats = seats-unmoved history (entry_of history event) tag slot berths refl (ap is_accepted (sym same) ∙ accepted) found
-              (λ keeps. asked-keeps tag tag service command slot (past tag history) at (answer_of history event) keeps) seats;
+          seats = seats-unmoved history (entry_of history event) tag slot berths refl (ap is_accepted (sym same)
+              ∙ accepted) found
+              (λ keeps. asked-keeps tag tag service command slot (past tag history) at
+              (answer_of history event) keeps) seats;
           counted = counted-same history (entry_of history event) berths refl counted;
         }

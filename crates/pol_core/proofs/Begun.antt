@@ -6,46 +6,47 @@ use Rattle.std.specs.Map.{lookup}
 use Rattle.std.specs.Option.{option_map, option_or}
 use Rattle.std.specs.Str.{bytes_eq}
 use Rattle.std.specs.declared.sync.Arc.{Arc}
-use Rattle.mtp_codes.specs.Names.{is_among}
 use Rattle.mtp_codes.specs.Faults.{when, first_of, done_unless}
+use Rattle.mtp_codes.specs.Names.{is_among}
 use Rattle.chart_core.specs.Charts.{plan}
 use Rattle.chart_core.specs.Roles.{ChartPlan, role_names}
 use Rattle.chart_core.specs.declared.chart.Chart.{Chart}
+use Rattle.pol_events.specs.Bound.{bound_tag, tags_of}
 use Rattle.pol_events.specs.Events.{start}
 use Rattle.pol_events.specs.Orderly.{roles_once}
 use Rattle.pol_events.specs.declared.answer.Answer.TheVariants.{Done, Refused}
 use Rattle.pol_events.specs.declared.answer.Rule.{Rule}
 use Rattle.pol_events.specs.declared.answer.Rule.TheVariants.{NoRecipe, BatchKnown, BatchesFull}
 use Rattle.pol_events.specs.declared.event.Bind.{Bind}
-use Rattle.pol_history.specs.Looking.{History, past_of_batch, recipes}
-use Rattle.pol_history.specs.Batches.{start_by, chart_named, is_start}
-use Rattle.pol_events.specs.Bound.{bound_tag, tags_of}
-use Rattle.pol_history.specs.Rules.{batch_known, batches_full, busy_module, role_unbound, role_unknown, one_module_twice, modules_unfit, busy}
+use Rattle.pol_events.proofs.Lists.{member-first, member-later, none-first}
+use Rattle.pol_events.proofs.Options.{neither}
 use Rattle.pol_history.specs.Answers.{start_rules, rules, answer_of, is_full}
+use Rattle.pol_history.specs.Batches.{start_by, chart_named, is_start}
+use Rattle.pol_history.specs.Looking.{History, past_of_batch, recipes}
+use Rattle.pol_history.specs.Rules.{batch_known, batches_full, busy_module, role_unbound, role_unknown, one_module_twice, modules_unfit, busy}
 use Rattle.pol_history.proofs.Accepted.{paired}
+use Rattle.pol_history.proofs.Binds.{IsFitting, fitting}
+use Rattle.pol_history.proofs.Holders.{started}
 use Rattle.pol_slots.specs.declared.slot.Slot.{Slot}
-use Rattle.pol_table.specs.Berths.{Berth, Berths, look, part_of, held_by}
-use Rattle.pol_table.specs.Berths as tables
 use Rattle.pol_table.specs.Answers.{missing_at, busy_at, holding}
+use Rattle.pol_table.specs.Berths as tables
+use Rattle.pol_table.specs.Berths.{Berth, Berths, look, part_of, held_by}
 use Rattle.pol_table.specs.declared.faults.HoldFault.{HoldFault}
 use Rattle.pol_table.specs.declared.faults.HoldFault.TheVariants as fault
 use Rattle.pol_runs.specs.Runs.{PlainRun}
 use Rattle.pol_core.specs.Batches.{IsRun}
-use Rattle.pol_core.specs.Recipes.{RecipesMirror}
-use Rattle.pol_core.specs.Mirrors.{Mirrors, Answers}
 use Rattle.pol_core.specs.Judging.{part_rule, role_rule, table_unfit, tag_busy, table_busy, bind_rule, chart_rule}
+use Rattle.pol_core.specs.Mirrors.{Mirrors, Answers}
+use Rattle.pol_core.specs.Recipes.{RecipesMirror}
 use Rattle.pol_core.specs.Starting.{Begins}
 use Rattle.pol_core.proofs.Judging.{ruled}
-use Rattle.pol_events.proofs.Options.{neither}
-use Rattle.pol_events.proofs.Lists.{member-first, member-later, none-first}
-use Rattle.pol_history.proofs.Binds.{IsFitting, fitting}
-use Rattle.pol_core.proofs.Unfit.{twice-same, defined_rule, bind-rule-same}
 use Rattle.pol_core.proofs.Starts.{seats-started, runs-started}
-use Rattle.pol_history.proofs.Holders.{started}
 use Rattle.pol_core.proofs.Together.{known-same, refused-all}
+use Rattle.pol_core.proofs.Unfit.{twice-same, defined_rule, bind-rule-same}
 
 -- ---- the answer, as one rule after another
 
+-- the seven rules of a start, those of its binds and modules as one
 rows : (a b c d e f g : Option Rule) → first_of (a ∷ b ∷ c ∷ d ∷ e ∷ f ∷ g ∷ [])
     ≡ option_or a (option_or (option_or b (option_or c (option_or d (option_or e f)))) g)
 rows (Some x) b c d e f g = refl
@@ -57,118 +58,159 @@ rows None None None None None (Some x) g = refl
 rows None None None None None None (Some x) = refl
 rows None None None None None None None = refl
 
-run-known : (found : Option PlainRun) (history : History) (batch : List ℕ) → IsRun batch found (past_of_batch batch history) (recipes history) →
+-- a batch has a run exactly where it was started
+run-known : (found : Option PlainRun) (history : History) (batch : List ℕ) →
+    IsRun batch found (past_of_batch batch history) (recipes history) →
     is_some (start_by (past_of_batch batch history)) ≡ is_some found
 run-known None history batch is = ap (λ past. is_some (start_by past)) is
 run-known (Some run) history batch keeps = ap is_some keeps.started
 
-no-past : (found : Option PlainRun) (history : History) (batch : List ℕ) → IsRun batch found (past_of_batch batch history) (recipes history) → found ≡ None →
+-- a batch without a run has no past
+no-past : (found : Option PlainRun) (history : History) (batch : List ℕ) →
+    IsRun batch found (past_of_batch batch history) (recipes history) → found ≡ None →
     past_of_batch batch history ≡ []
 no-past None history batch is none = is
 no-past (Some run) history batch keeps none = cc
 
 -- the chart that is kept is the recipe's
-pub charted-is : {Z : Type 0} (history : History) (known : List (List ℕ × Arc Chart Z)) (name : List ℕ) (chart : Arc Chart Z) → RecipesMirror known history →
+pub charted-is : {Z : Type 0} (history : History) (known : List (List ℕ × Arc Chart Z)) (name : List ℕ)
+    (chart : Arc Chart Z) → RecipesMirror known history →
     lookup (bytes_eq name) known ≡ Some chart → chart_named name (recipes history) ≡ Some (plan chart.value)
 charted-is {Z} history known name chart mirror found =
     sym (mirror.named name) ∙ ap (option_map (λ (chart : Arc Chart Z). plan chart.value)) found
 
 -- what the tables say against the start of a known recipe is what its rules say
-pub start-rules : {Z : Type 0} (history : History) (at : ℕ) (batch name : List ℕ) (binds : List Bind) (chart : ChartPlan) (berths : Berths Slot)
+pub start-rules : {Z : Type 0} (history : History) (at : ℕ) (batch name : List ℕ) (binds : List Bind)
+    (chart : ChartPlan) (berths : Berths Slot)
     (runs : List (List ℕ × PlainRun)) (known : List (List ℕ × Arc Chart Z)) → Mirrors berths runs known history →
-    chart_named name (recipes history) ≡ Some chart → first_of (rules history (start at batch name binds)) ≡ chart_rule berths runs batch binds chart
+    chart_named name (recipes history) ≡ Some chart → first_of (rules history (start at batch name binds))
+    ≡ chart_rule berths runs batch binds chart
 start-rules history at batch name binds chart berths runs known mirrors charted =
     ap (λ found. first_of (start_rules history batch binds found)) charted
-    ∙ rows (batch_known (start_by (past_of_batch batch history))) (role_unbound binds (role_names chart)) (role_unknown binds (role_names chart))
-    (one_module_twice binds [] (role_names chart)) (modules_unfit history chart binds (role_names chart)) (busy history binds (role_names chart)) (batches_full history)
-    ∙ ap (λ there. option_or (when there BatchKnown) (option_or (defined_rule history chart binds) (batches_full history)))
+    ∙ rows (batch_known (start_by (past_of_batch batch history))) (role_unbound binds (role_names chart))
+    (role_unknown binds (role_names chart))
+    (one_module_twice binds [] (role_names chart)) (modules_unfit history chart binds (role_names chart))
+    (busy history binds (role_names chart)) (batches_full history)
+    ∙ ap (λ there. option_or (when there BatchKnown) (option_or (defined_rule history chart binds)
+    (batches_full history)))
     (run-known (lookup (bytes_eq batch) runs) history batch (mirrors.batches batch))
-    ∙ ap (λ rule. option_or (when (is_some (lookup (bytes_eq batch) runs)) BatchKnown) (option_or rule (batches_full history)))
+    ∙ ap (λ rule. option_or (when (is_some (lookup (bytes_eq batch) runs)) BatchKnown)
+    (option_or rule (batches_full history)))
     (sym (bind-rule-same berths history chart binds mirrors.seats))
-    ∙ ap (λ n. option_or (when (is_some (lookup (bytes_eq batch) runs)) BatchKnown) (option_or (bind_rule berths chart binds) (when (nat_le 128 n) BatchesFull)))
+    ∙ ap (λ n. option_or (when (is_some (lookup (bytes_eq batch) runs)) BatchKnown)
+    (option_or (bind_rule berths chart binds) (when (nat_le 128 n) BatchesFull)))
     (sym mirrors.starts)
 
 -- there is no such recipe
-pub no-recipe-rules : {Z : Type 0} (history : History) (at : ℕ) (batch name : List ℕ) (binds : List Bind) (known : List (List ℕ × Arc Chart Z)) →
-    RecipesMirror known history → lookup (bytes_eq name) known ≡ None → first_of (rules history (start at batch name binds)) ≡ Some NoRecipe
+pub no-recipe-rules : {Z : Type 0} (history : History) (at : ℕ) (batch name : List ℕ) (binds : List Bind)
+    (known : List (List ℕ × Arc Chart Z)) →
+    RecipesMirror known history → lookup (bytes_eq name) known ≡ None →
+    first_of (rules history (start at batch name binds)) ≡ Some NoRecipe
 no-recipe-rules {Z} history at batch name binds known mirror none =
     ap (λ found. first_of (start_rules history batch binds found))
     (sym (mirror.named name) ∙ ap (option_map (λ (chart : Arc Chart Z). plan chart.value)) none)
 
 -- a rule is against the start
-pub start-refused : {Z : Type 0} (history : History) (at : ℕ) (batch name : List ℕ) (binds : List Bind) (rule : Rule) (berths : Berths Slot)
-    (runs : List (List ℕ × PlainRun)) (known : List (List ℕ × Arc Chart Z)) → Mirrors berths runs known history → is_full history ≡ false →
-    first_of (rules history (start at batch name binds)) ≡ Some rule → Answers history (start at batch name binds) (Refused rule) berths runs known
+pub start-refused : {Z : Type 0} (history : History) (at : ℕ) (batch name : List ℕ) (binds : List Bind)
+    (rule : Rule) (berths : Berths Slot)
+    (runs : List (List ℕ × PlainRun)) (known : List (List ℕ × Arc Chart Z)) → Mirrors berths runs known history →
+    is_full history ≡ false →
+    first_of (rules history (start at batch name binds)) ≡ Some rule →
+    Answers history (start at batch name binds) (Refused rule) berths runs known
 start-refused history at batch name binds rule berths runs known mirrors room is =
     refused-all history (start at batch name binds) (Refused rule) berths runs known
     (sym (ruled history (start at batch name binds) (Some rule) room is)) refl mirrors
 
 -- ---- binds that no rule is against: they are paired, and their modules are there and free
 
-pub binds-fit : (berths : Berths Slot) (chart : ChartPlan) (binds : List Bind) → roles_once binds ≡ true → bind_rule berths chart binds ≡ None → IsFitting chart binds
+-- the binds fit the roles of the chart
+pub binds-fit : (berths : Berths Slot) (chart : ChartPlan) (binds : List Bind) → roles_once binds ≡ true →
+    bind_rule berths chart binds ≡ None → IsFitting chart binds
 binds-fit berths chart binds once none =
     let a = neither (role_unbound binds (role_names chart)) _ none in
     let b = neither (role_unknown binds (role_names chart)) _ a.1 in
-    let c = neither _ (option_or (table_unfit berths chart binds (role_names chart)) (table_busy berths binds (role_names chart))) b.1 in
+    let c = neither _ (option_or (table_unfit berths chart binds (role_names chart))
+    (table_busy berths binds (role_names chart))) b.1 in
     fitting chart binds once a.0 b.0 (sym (twice-same binds [] [] (role_names chart) (λ tag. refl)) ∙ c.0)
 
+-- no rule is against a module, nor is one held
 binds-judged : (berths : Berths Slot) (chart : ChartPlan) (binds : List Bind) → bind_rule berths chart binds ≡ None →
     (table_unfit berths chart binds (role_names chart) ≡ None) × (table_busy berths binds (role_names chart) ≡ None)
 binds-judged berths chart binds none =
     let a = neither (role_unbound binds (role_names chart)) _ none in
     let b = neither (role_unknown binds (role_names chart)) _ a.1 in
-    let c = neither _ (option_or (table_unfit berths chart binds (role_names chart)) (table_busy berths binds (role_names chart))) b.1 in
+    let c = neither _ (option_or (table_unfit berths chart binds (role_names chart))
+    (table_busy berths binds (role_names chart))) b.1 in
     neither (table_unfit berths chart binds (role_names chart)) (table_busy berths binds (role_names chart)) c.1
 
-none-of-tags : {A : Type 0} (f : List ℕ → Option A) (binds : List Bind) → ((bind : Bind) → Contains binds bind → f bind.tag ≡ None) → first_of (map f (tags_of binds)) ≡ None
+-- what says nothing of each bind says nothing of their tags
+none-of-tags : {A : Type 0} (f : List ℕ → Option A) (binds : List Bind) →
+    ((bind : Bind) → Contains binds bind → f bind.tag ≡ None) → first_of (map f (tags_of binds)) ≡ None
 none-of-tags f [] none = refl
 none-of-tags f (bind ∷ binds) none =
     ap (λ found. option_or found (first_of (map f (tags_of binds)))) (none bind (member-first bind binds))
     ∙ none-of-tags f binds (λ other inside. none other (member-later bind other binds inside))
 
-part-there : {T : Type 0} (tag : List ℕ) (fault : HoldFault) (found : Option (Berth T)) → (option_map (λ berth. berth.part) found ≡ None → ⊥) →
+-- a tag that has a part is there
+part-there : {T : Type 0} (tag : List ℕ) (fault : HoldFault) (found : Option (Berth T)) →
+    (option_map (λ berth. berth.part) found ≡ None → ⊥) →
     cond (is_some found) None (Some fault) ≡ None
 part-there tag fault None there = absurd (there refl)
 part-there tag fault (Some berth) there = refl
 
+-- a module that isn't busy isn't held
 unheld : (tag : List ℕ) (holder : Option (List ℕ)) → busy_module tag holder ≡ None → holder ≡ None
 unheld tag None none = refl
 unheld tag (Some batch) none = cc
 
-pub tags-free : (berths : Berths Slot) (chart : ChartPlan) (binds : List Bind) → roles_once binds ≡ true → bind_rule berths chart binds ≡ None →
+-- all modules are there and free
+pub tags-free : (berths : Berths Slot) (chart : ChartPlan) (binds : List Bind) → roles_once binds ≡ true →
+    bind_rule berths chart binds ≡ None →
     holding (tags_of binds) berths ≡ Ok tt
 tags-free berths chart binds once none =
     let judged = binds-judged berths chart binds none in
     let missing : first_of (map (missing_at berths) (tags_of binds)) ≡ None
-    = none-of-tags (missing_at berths) binds (λ bind inside. part-there bind.tag (fault.NoModule bind.tag) (look bind.tag berths) (there bind inside judged.0)) in
+    = none-of-tags (missing_at berths) binds (λ bind inside. part-there bind.tag (fault.NoModule bind.tag)
+    (look bind.tag berths) (there bind inside judged.0)) in
     let free : first_of (map (busy_at berths) (tags_of binds)) ≡ None
-    = none-of-tags (busy_at berths) binds (λ bind inside. ap (option_map (fault.Busy bind.tag)) (unheld bind.tag (tables.holder_of bind.tag berths) (not-busy bind inside judged.1))) in
-    ap (λ found. done_unless (option_or found (first_of (map (busy_at berths) (tags_of binds))))) missing ∙ ap done_unless free
+    = none-of-tags (busy_at berths) binds (λ bind inside. ap (option_map (fault.Busy bind.tag))
+    (unheld bind.tag (tables.holder_of bind.tag berths) (not-busy bind inside judged.1))) in
+    ap (λ found. done_unless (option_or found (first_of (map (busy_at berths) (tags_of binds))))) missing
+    ∙ ap done_unless free
   where
     fits : IsFitting chart binds
     fits = binds-fit berths chart binds once none
 
-    there : (bind : Bind) → Contains binds bind → table_unfit berths chart binds (role_names chart) ≡ None → part_of bind.tag berths ≡ None → ⊥
+    there : (bind : Bind) → Contains binds bind → table_unfit berths chart binds (role_names chart) ≡ None →
+        part_of bind.tag berths ≡ None → ⊥
     there bind inside judged gone =
         let rule : role_rule berths chart bind.role (Some bind.tag) ≡ None
         = ap (role_rule berths chart bind.role) (sym (fits.paired.by_role bind inside))
-        ∙ none-first (λ role. role_rule berths chart role (bound_tag binds role)) (role_names chart) bind.role judged (fits.known bind inside) in
-        let clash : part_rule chart bind.role bind.tag None ≡ None = ap (part_rule chart bind.role bind.tag) (sym gone) ∙ rule in cc
+        ∙ none-first (λ role. role_rule berths chart role (bound_tag binds role))
+        (role_names chart) bind.role judged (fits.known bind inside) in
+        let clash : part_rule chart bind.role bind.tag None ≡ None =
+        ap (part_rule chart bind.role bind.tag) (sym gone) ∙ rule in cc
 
-    not-busy : (bind : Bind) → Contains binds bind → table_busy berths binds (role_names chart) ≡ None → busy_module bind.tag (tables.holder_of bind.tag berths) ≡ None
+    not-busy : (bind : Bind) → Contains binds bind → table_busy berths binds (role_names chart) ≡ None →
+        busy_module bind.tag (tables.holder_of bind.tag berths) ≡ None
     not-busy bind inside judged =
         ap (tag_busy berths) (sym (fits.paired.by_role bind inside))
-        ∙ none-first (λ role. tag_busy berths (bound_tag binds role)) (role_names chart) bind.role judged (fits.known bind inside)
+        ∙ none-first (λ role. tag_busy berths (bound_tag binds role)) (role_names chart) bind.role judged
+        (fits.known bind inside)
 
 -- ---- a start that comes about
 
-held-some : (among : Bool) (batch : List ℕ) (found : Option (Berth Slot)) → is_some (option_map (λ berth. cond among (held_by batch berth) berth) found) ≡ is_some found
+-- who holds a berth doesn't change whether there is one
+held-some : (among : Bool) (batch : List ℕ) (found : Option (Berth Slot)) →
+    is_some (option_map (λ berth. cond among (held_by batch berth) berth) found) ≡ is_some found
 held-some among batch None = refl
 held-some among batch (Some berth) = refl
 
 -- where no rule is against it, the batch is new, and each bind is found by its role and by its tag
-pub fresh-batch : (berths : Berths Slot) (runs : List (List ℕ × PlainRun)) (batch : List ℕ) (binds : List Bind) (chart : ChartPlan) →
-    chart_rule berths runs batch binds chart ≡ None → (lookup (bytes_eq batch) runs ≡ None) × (bind_rule berths chart binds ≡ None)
+pub fresh-batch : (berths : Berths Slot) (runs : List (List ℕ × PlainRun)) (batch : List ℕ)
+    (binds : List Bind) (chart : ChartPlan) →
+    chart_rule berths runs batch binds chart ≡ None → (lookup (bytes_eq batch) runs ≡ None)
+    × (bind_rule berths chart binds ≡ None)
 fresh-batch berths runs batch binds chart none =
     let first = neither (when (is_some (lookup (bytes_eq batch) runs)) BatchKnown) _ none in
     let second = neither (bind_rule berths chart binds) _ first.1 in
@@ -178,10 +220,14 @@ fresh-batch berths runs batch binds chart none =
     unknown None none = refl
     unknown (Some run) none = cc
 
-pub start-answered : {Z : Type 0} (history : History) (at : ℕ) (batch name : List ℕ) (binds : List Bind) (chart : Arc Chart Z) (old new : Berths Slot)
-    (runs after : List (List ℕ × PlainRun)) (known : List (List ℕ × Arc Chart Z)) → Mirrors old runs known history → is_full history ≡ false →
+-- the batch is started
+pub start-answered : {Z : Type 0} (history : History) (at : ℕ) (batch name : List ℕ) (binds : List Bind)
+    (chart : Arc Chart Z) (old new : Berths Slot)
+    (runs after : List (List ℕ × PlainRun)) (known : List (List ℕ × Arc Chart Z)) → Mirrors old runs known history →
+    is_full history ≡ false →
     lookup (bytes_eq name) known ≡ Some chart → chart_rule old runs batch binds (plan chart.value) ≡ None →
-    Begins batch (plan chart.value) binds old new runs after → length new ≡ length old → Answers history (start at batch name binds) Done new after known
+    Begins batch (plan chart.value) binds old new runs after → length new ≡ length old →
+    Answers history (start at batch name binds) Done new after known
 start-answered history at batch name binds chart old new runs after known mirrors room found none begins count =
     let charted = charted-is history known name chart mirrors.recipes found in
     let answer : answer_of history (start at batch name binds) ≡ Done
@@ -191,12 +237,16 @@ start-answered history at batch name binds chart old new runs after known mirror
     let past-none = no-past (lookup (bytes_eq batch) runs) history batch (mirrors.batches batch) fresh in
     record {
       answer_is = sym answer;
-      mirrors = subst (λ answer. Mirrors new after known (paired (start at batch name binds) answer ∷ history)) (sym answer)
+      mirrors = subst (λ answer. Mirrors new after known (paired (start at batch name binds) answer ∷ history))
+          (sym answer)
           (record {
-            seats = seats-started history at batch name (plan chart.value) binds old new runs after past-none begins mirrors.seats;
-            batches = runs-started history at batch name (plan chart.value) binds old new runs after past-none charted begins mirrors.batches;
+            seats = seats-started history at batch name (plan chart.value) binds old new runs
+                after past-none begins mirrors.seats;
+            batches = runs-started history at batch name (plan chart.value) binds old new runs
+                after past-none charted begins mirrors.batches;
             counted = record {
-              members = λ tag. mirrors.counted.members tag ∙ sym (ap is_some (begins.holds.held tag) ∙ held-some (is_among (tags_of binds) tag) batch (look tag old));
+              members = λ tag. mirrors.counted.members tag ∙ sym (ap is_some (begins.holds.held tag)
+                  ∙ held-some (is_among (tags_of binds) tag) batch (look tag old));
               once = mirrors.counted.once;
               count = count ∙ mirrors.counted.count;
             };

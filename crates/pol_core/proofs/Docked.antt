@@ -16,10 +16,12 @@ Counts past absent = Unit {0}
 Counts past (docked count) = count ≡ dockings_by past
 Counts past (away ticket) = Unit {0}
 
+-- where there is a docking, it counts so
 abbrev MayCount : History → Option Docking → Type 0
 MayCount past None = Unit {0}
 MayCount past (Some docking) = Counts past docking
 
+-- each event that docks a module counts so
 after-counts : (past : History) (event : EventForm) (answer : Answer) → MayCount past (docking_after past event answer)
 after-counts past (plug at tag description) answer = refl
 after-counts past (unplug at tag) answer = tt
@@ -28,15 +30,20 @@ after-counts past (exchange_end at tag ticket description) answer = refl
 after-counts past (exchange_cancel at tag ticket) answer = refl
 after-counts past _ answer = tt
 
-last-counts : (past entries : History) → MayCount past (last_of (λ entry. docking_after past entry.event entry.answer) entries)
+-- so does the last of them
+last-counts : (past entries : History) →
+    MayCount past (last_of (λ entry. docking_after past entry.event entry.answer) entries)
 last-counts past [] = tt
-last-counts past (entry ∷ entries) = go (docking_after past entry.event entry.answer) (after-counts past entry.event entry.answer) (last-counts past entries)
+last-counts past (entry ∷ entries) = go (docking_after past entry.event entry.answer)
+    (after-counts past entry.event entry.answer) (last-counts past entries)
   where
-    go : (found : Option Docking) → MayCount past found → MayCount past (last_of (λ entry. docking_after past entry.event entry.answer) entries) →
+    go : (found : Option Docking) → MayCount past found →
+        MayCount past (last_of (λ entry. docking_after past entry.event entry.answer) entries) →
         MayCount past (option_or found (last_of (λ entry. docking_after past entry.event entry.answer) entries))
     go None here later = later
     go (Some docking) here later = here
 
+-- so does the docking of the past
 counts-past : (past : History) → Counts past (docking_by past)
 counts-past past = go (last_of (λ entry. docking_after past entry.event entry.answer) past) (last-counts past past)
   where
@@ -44,22 +51,27 @@ counts-past past = go (last_of (λ entry. docking_after past entry.event entry.a
     go None counts = tt
     go (Some docking) counts = counts
 
-docked-then : (past : History) (docking : Docking) → (docking ≡ absent → ⊥) → ticket_of docking ≡ None → Counts past docking → docking ≡ docked (dockings_by past)
+-- a module that is there and not away is docked
+docked-then : (past : History) (docking : Docking) → (docking ≡ absent → ⊥) → ticket_of docking ≡ None →
+    Counts past docking → docking ≡ docked (dockings_by past)
 docked-then past absent there docked' counts = absurd (there refl)
 docked-then past (docked count) there docked' counts = ap docked counts
 docked-then past (away ticket) there docked' counts = cc
 
 -- the slot is docked
-pub docked-is : (tag : List ℕ) (slot : Slot) (past : History) → SlotKeeps tag slot past → slot_ticket slot ≡ None → docked (slot_begins slot + 1) ≡ docking_by past
+pub docked-is : (tag : List ℕ) (slot : Slot) (past : History) → SlotKeeps tag slot past → slot_ticket slot ≡ None →
+    docked (slot_begins slot + 1) ≡ docking_by past
 docked-is tag slot past keeps docked' =
-    ap docked (same (slot_begins slot) (dockings_by past) (keeps.dockings ∙ ap (λ ticket. dockings_by past + (if is_some ticket then 1 else 0)) docked'))
+    ap docked (same (slot_begins slot) (dockings_by past) (keeps.dockings
+    ∙ ap (λ ticket. dockings_by past + (if is_some ticket then 1 else 0)) docked'))
     ∙ sym (docked-then past (docking_by past) keeps.is_there (sym keeps.ticket ∙ docked') (counts-past past))
   where
     same : (b d : ℕ) → b + 1 ≡ d + 0 → b + 1 ≡ d
     same b d is = omega (arith, is)
 
 -- or away
-pub away-is : (tag : List ℕ) (slot : Slot) (past : History) (ticket : ℕ) → SlotKeeps tag slot past → slot_ticket slot ≡ Some ticket → away ticket ≡ docking_by past
+pub away-is : (tag : List ℕ) (slot : Slot) (past : History) (ticket : ℕ) → SlotKeeps tag slot past →
+    slot_ticket slot ≡ Some ticket → away ticket ≡ docking_by past
 away-is tag slot past ticket keeps gone = go (docking_by past) (sym keeps.ticket ∙ gone)
   where
     go : (docking : Docking) → ticket_of docking ≡ Some ticket → away ticket ≡ docking

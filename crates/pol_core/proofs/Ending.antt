@@ -10,12 +10,13 @@ use Rattle.pol_events.specs.declared.answer.Answer.{Answer}
 use Rattle.pol_events.specs.declared.answer.Answer.TheVariants.{Done, Refused}
 use Rattle.pol_events.specs.declared.answer.Rule.{Rule}
 use Rattle.pol_events.specs.declared.answer.Rule.TheVariants.{WrongTicket}
+use Rattle.pol_history.specs.Answers.{first_rule, answer_of, is_full}
 use Rattle.pol_history.specs.Looking.{History, is_accepted, past}
 use Rattle.pol_history.specs.Modules.{Docking, absent, docked, away, docking_by, ticket_of, dockings_by}
 use Rattle.pol_history.specs.Rules.{not_in_exchange, held_back}
-use Rattle.pol_history.specs.Answers.{first_rule, answer_of, is_full}
 use Rattle.pol_history.specs.Runs.{entry_of}
 use Rattle.pol_history.proofs.Accepted.{paired, with-room}
+use Rattle.pol_history.proofs.Pasts.{past-own}
 use Rattle.pol_slots.specs.Slots.{slot_ticket, slot_description, slot_begins, IsDocked}
 use Rattle.pol_slots.specs.declared.slot.Slot.{Slot}
 use Rattle.pol_table.specs.Berths.{Berths, part_of, with_part}
@@ -25,7 +26,6 @@ use Rattle.pol_core.proofs.Again.{end-keeps}
 use Rattle.pol_core.proofs.Counting.{counted-part, counted-same}
 use Rattle.pol_core.proofs.Judging.{there-is, refuse}
 use Rattle.pol_core.proofs.Plugging.{refused-answered}
-use Rattle.pol_history.proofs.Pasts.{past-own}
 use Rattle.pol_core.proofs.Telling.{seated-slot, slot-changes}
 
 -- the module is away under the given ticket, where the ticket meets no rule
@@ -33,7 +33,8 @@ pub right-ticket : (given : ℕ) (found : Option ℕ) → ticket_rule given foun
 right-ticket given None none = cc
 right-ticket given (Some kept) none = go (kept == given) refl none
   where
-    go : (same : Bool) → (kept == given) ≡ same → when (not same) (WrongTicket kept given) ≡ None → Some kept ≡ Some given
+    go : (same : Bool) → (kept == given) ≡ same → when (not same) (WrongTicket kept given) ≡ None →
+        Some kept ≡ Some given
     go true same none = ap Some (eqb-true kept given same)
     go false same none = cc
 
@@ -51,15 +52,20 @@ two-rules given (away kept) rest answer there = go (wrong_ticket given (Some kep
 
 -- ---- the end
 
-pub end-answer : (history : History) (at : ℕ) (tag : List ℕ) (ticket : ℕ) (description : DescriptionForm) (slot : Slot) → is_full history ≡ false →
+-- the answer to the end of an exchange, by the slot
+pub end-answer : (history : History) (at : ℕ) (tag : List ℕ) (ticket : ℕ) (description : DescriptionForm)
+    (slot : Slot) → is_full history ≡ false →
     SlotKeeps tag slot (past tag history) →
-    answer_of history (exchange_end at tag ticket description) ≡ refuse (ticket_rule ticket (slot_ticket slot)) (refuse (held_back history tag description) Done)
+    answer_of history (exchange_end at tag ticket description)
+    ≡ refuse (ticket_rule ticket (slot_ticket slot)) (refuse (held_back history tag description) Done)
 end-answer history at tag ticket description slot room keeps =
     with-room history (exchange_end at tag ticket description) room
-    ∙ ap (λ gone. first_rule (gone ∷ not_in_exchange docking ∷ wrong_ticket ticket (ticket_of docking) ∷ held_back history tag description ∷ []) Done)
+    ∙ ap (λ gone. first_rule (gone ∷ not_in_exchange docking ∷ wrong_ticket ticket (ticket_of docking)
+    ∷ held_back history tag description ∷ []) Done)
     (there-is tag docking keeps.is_there)
     ∙ two-rules ticket docking (held_back history tag description ∷ []) Done keeps.is_there
-    ∙ ap (λ kept. refuse (ticket_rule ticket kept) (first_rule (held_back history tag description ∷ []) Done)) (sym keeps.ticket)
+    ∙ ap (λ kept. refuse (ticket_rule ticket kept) (first_rule (held_back history tag description ∷ []) Done))
+    (sym keeps.ticket)
     ∙ ap (refuse (ticket_rule ticket (slot_ticket slot))) (one (held_back history tag description))
   where
     docking : Docking
@@ -69,15 +75,20 @@ end-answer history at tag ticket description slot room keeps =
     one None = refl
     one (Some rule) = refl
 
-pub end-refused : (history : History) (at : ℕ) (tag : List ℕ) (ticket : ℕ) (description : DescriptionForm) (slot : Slot) (berths : Berths Slot) (rule : Rule) →
+-- the module isn't away, or is under another ticket
+pub end-refused : (history : History) (at : ℕ) (tag : List ℕ) (ticket : ℕ) (description : DescriptionForm)
+    (slot : Slot) (berths : Berths Slot) (rule : Rule) →
     is_full history ≡ false → SeatsMirror berths history → IsCounted berths history → part_of tag berths ≡ Some slot →
-    ticket_rule ticket (slot_ticket slot) ≡ Some rule → AnswersModule history (exchange_end at tag ticket description) (Refused rule) berths
+    ticket_rule ticket (slot_ticket slot) ≡ Some rule →
+    AnswersModule history (exchange_end at tag ticket description) (Refused rule) berths
 end-refused history at tag ticket description slot berths rule room seats counted found is =
     refused-answered history (exchange_end at tag ticket description) (Refused rule) berths
     (sym (end-answer history at tag ticket description slot room (seated-slot history tag berths slot seats found)
     ∙ ap (λ rule. refuse rule (refuse (held_back history tag description) Done)) is)) refl seats counted
 
-pub end-held-back : (history : History) (at : ℕ) (tag : List ℕ) (ticket : ℕ) (description : DescriptionForm) (slot : Slot) (berths : Berths Slot) (rule : Rule) →
+-- the new module doesn't cover its role
+pub end-held-back : (history : History) (at : ℕ) (tag : List ℕ) (ticket : ℕ) (description : DescriptionForm)
+    (slot : Slot) (berths : Berths Slot) (rule : Rule) →
     is_full history ≡ false → SeatsMirror berths history → IsCounted berths history → part_of tag berths ≡ Some slot →
     ticket_rule ticket (slot_ticket slot) ≡ None → held_back history tag description ≡ Some rule →
     AnswersModule history (exchange_end at tag ticket description) (Refused rule) berths
@@ -87,9 +98,12 @@ end-held-back history at tag ticket description slot berths rule room seats coun
     ∙ ap (λ rule. refuse rule (refuse (held_back history tag description) Done)) right
     ∙ ap (λ rule. refuse rule Done) is)) refl seats counted
 
-pub end-answered : (history : History) (at : ℕ) (tag : List ℕ) (ticket : ℕ) (description : DescriptionForm) (slot : Slot) (old new : Berths Slot) →
+-- the exchange ends
+pub end-answered : (history : History) (at : ℕ) (tag : List ℕ) (ticket : ℕ) (description : DescriptionForm)
+    (slot : Slot) (old new : Berths Slot) →
     is_full history ≡ false → SeatsMirror old history → IsCounted old history → part_of tag old ≡ Some slot →
-    ticket_rule ticket (slot_ticket slot) ≡ None → held_back history tag description ≡ None → DocksAgain tag description slot old new →
+    ticket_rule ticket (slot_ticket slot) ≡ None → held_back history tag description ≡ None →
+    DocksAgain tag description slot old new →
     AnswersModule history (exchange_end at tag ticket description) Done new
 end-answered history at tag ticket description slot old new room seats counted found right none docks =
     let event : EventForm = exchange_end at tag ticket description in
@@ -100,24 +114,31 @@ end-answered history at tag ticket description slot old new room seats counted f
     ∙ ap (λ rule. refuse rule Done) none in
     let seats' : SeatsMirror (with_part tag old docks.after) (entry_of history event ∷ history)
     = slot-changes history event tag old slot docks.after refl seats found
-    (subst (SlotKeeps tag docks.after) (sym (past-own history (entry_of history event) tag refl (ap is_accepted answer)))
+    (subst (SlotKeeps tag docks.after)
+    (sym (past-own history (entry_of history event) tag refl (ap is_accepted answer)))
     (subst (λ answer. SlotKeeps tag docks.after (paired event answer ∷ past tag history)) (sym answer)
-    (end-keeps tag ticket description slot docks.after (past tag history) at (right-ticket ticket (slot_ticket slot) right) docks.docks keeps))) in
+    (end-keeps tag ticket description slot docks.after (past tag history) at
+    (right-ticket ticket (slot_ticket slot) right) docks.docks keeps))) in
     record {
       answer_is = sym answer;
       seats = subst (λ berths. SeatsMirror berths (entry_of history event ∷ history)) (sym docks.table) seats';
       counted = subst (λ berths. IsCounted berths (entry_of history event ∷ history)) (sym docks.table)
-          (counted-same history (entry_of history event) (with_part tag old docks.after) refl (counted-part history tag docks.after old counted));
+          (counted-same history (entry_of history event) (with_part tag old docks.after) refl
+          (counted-part history tag docks.after old counted));
     }
 
 -- ---- the cancel
 
-pub cancel-judged : (history : History) (at : ℕ) (tag : List ℕ) (ticket : ℕ) (slot : Slot) → is_full history ≡ false → SlotKeeps tag slot (past tag history) →
-    done_or_refused (done_unless (ticket_rule ticket (slot_ticket slot))) ≡ answer_of history (exchange_cancel at tag ticket)
+-- what the slot answers to a cancel is what the rules say
+pub cancel-judged : (history : History) (at : ℕ) (tag : List ℕ) (ticket : ℕ) (slot : Slot) →
+    is_full history ≡ false → SlotKeeps tag slot (past tag history) →
+    done_or_refused (done_unless (ticket_rule ticket (slot_ticket slot)))
+    ≡ answer_of history (exchange_cancel at tag ticket)
 cancel-judged history at tag ticket slot room keeps =
     told (ticket_rule ticket (slot_ticket slot))
     ∙ sym (with-room history (exchange_cancel at tag ticket) room
-    ∙ ap (λ gone. first_rule (gone ∷ not_in_exchange docking ∷ wrong_ticket ticket (ticket_of docking) ∷ []) Done) (there-is tag docking keeps.is_there)
+    ∙ ap (λ gone. first_rule (gone ∷ not_in_exchange docking ∷ wrong_ticket ticket (ticket_of docking) ∷ []) Done)
+    (there-is tag docking keeps.is_there)
     ∙ two-rules ticket docking [] Done keeps.is_there
     ∙ ap (λ kept. refuse (ticket_rule ticket kept) Done) (sym keeps.ticket))
   where
@@ -129,8 +150,10 @@ cancel-judged history at tag ticket slot room keeps =
     told (Some rule) = refl
 
 -- the slot keeps the past that ends in the cancel of the exchange
-cancel-keeps : (tag : List ℕ) (ticket : ℕ) (old new : Slot) (past : History) (at : ℕ) (answer : Answer) → slot_ticket old ≡ Some ticket →
-    IsDocked old new (slot_description old) → SlotKeeps tag old past → SlotKeeps tag new (paired (exchange_cancel at tag ticket) answer ∷ past)
+cancel-keeps : (tag : List ℕ) (ticket : ℕ) (old new : Slot) (past : History) (at : ℕ) (answer : Answer) →
+    slot_ticket old ≡ Some ticket →
+    IsDocked old new (slot_description old) → SlotKeeps tag old past →
+    SlotKeeps tag new (paired (exchange_cancel at tag ticket) answer ∷ past)
 cancel-keeps tag ticket old new past at answer gone docks keeps =
     record {
       tag_is = docks.tag ∙ keeps.tag_is;
@@ -149,11 +172,14 @@ cancel-keeps tag ticket old new past at answer gone docks keeps =
     counts b c d is was = omega (arith, is, was)
 
 -- where it is cancelled
-pub cancelled-keeps : (tag : List ℕ) (ticket : ℕ) (old new : Slot) (past : History) (at : ℕ) (answer : Answer) (result : Result ⊤ Rule) →
-    result ≡ done_unless (ticket_rule ticket (slot_ticket old)) → OnOk result (IsDocked old new (slot_description old)) → SlotKeeps tag old past →
+pub cancelled-keeps : (tag : List ℕ) (ticket : ℕ) (old new : Slot) (past : History) (at : ℕ)
+    (answer : Answer) (result : Result ⊤ Rule) →
+    result ≡ done_unless (ticket_rule ticket (slot_ticket old)) →
+    OnOk result (IsDocked old new (slot_description old)) → SlotKeeps tag old past →
     OnOk result (SlotKeeps tag new (paired (exchange_cancel at tag ticket) answer ∷ past))
 cancelled-keeps tag ticket old new past at answer (Ok done) is docks keeps =
-    cancel-keeps tag ticket old new past at answer (right-ticket ticket (slot_ticket old) (no-rule (ticket_rule ticket (slot_ticket old)) is)) docks keeps
+    cancel-keeps tag ticket old new past at answer (right-ticket ticket (slot_ticket old)
+    (no-rule (ticket_rule ticket (slot_ticket old)) is)) docks keeps
   where
     no-rule : (rule : Option Rule) → ◌≡◌ {A = Result ⊤ Rule} (Ok done) (done_unless rule) → rule ≡ None
     no-rule None is = refl

@@ -5,12 +5,14 @@ use Rattle.std.specs.Result.{result_err}
 use Rattle.mtp_codes.specs.Faults.{done_unless}
 
 -- an error tells the fault
-pub err-is : {E : Type 0} (fault : Option E) (rule : E) → ◌≡◌ {A = Result ⊤ E} (done_unless fault) (Err rule) → fault ≡ Some rule
+pub err-is : {E : Type 0} (fault : Option E) (rule : E) → ◌≡◌ {A = Result ⊤ E} (done_unless fault) (Err rule) →
+    fault ≡ Some rule
 err-is None rule is = cc
 err-is (Some other) rule is = let same : other ≡ rule = cc in ap Some same
 
 -- success tells that there is none
-pub ok-none : {E : Type 0} (fault : Option E) (done : ⊤) → ◌≡◌ {A = Result ⊤ E} (done_unless fault) (Ok done) → fault ≡ None
+pub ok-none : {E : Type 0} (fault : Option E) (done : ⊤) → ◌≡◌ {A = Result ⊤ E} (done_unless fault) (Ok done) →
+    fault ≡ None
 ok-none None done is = refl
 ok-none (Some other) done is = cc
 

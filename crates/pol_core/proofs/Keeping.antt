@@ -2,8 +2,8 @@
 use Rattle.std.proofs.Common.{◌≡◌, ℕ, Bool, true, false, cond, List, ◌∷◌, Option, Some, None, refl, ap, sym, ◌∙◌}
 use Rattle.std.specs.Option.{option_or}
 use Rattle.std.specs.Str.{bytes_eq}
-use Rattle.mtp_assembly.specs.declared.control.ServiceControl.{ServiceControl}
 use Rattle.mtp_codes.specs.declared.value.Value.{Value}
+use Rattle.mtp_assembly.specs.declared.control.ServiceControl.{ServiceControl}
 use Rattle.pol_events.specs.Events.{report, variable}
 use Rattle.pol_events.specs.declared.answer.Answer.{Answer}
 use Rattle.pol_history.specs.Looking.{History}
@@ -14,7 +14,8 @@ use Rattle.pol_slots.specs.declared.slot.Slot.{Slot}
 use Rattle.pol_core.specs.Seats.{SlotKeeps}
 
 -- a slot that contracts see unchanged
-pub unchanged-keeps : (tag : List ℕ) (old new : Slot) (past : History) → SameModule old new → SameControls old new → SameValues old new →
+pub unchanged-keeps : (tag : List ℕ) (old new : Slot) (past : History) → SameModule old new →
+    SameControls old new → SameValues old new →
     SlotKeeps tag old past → SlotKeeps tag new past
 unchanged-keeps tag old new past same controls values keeps =
     record {
@@ -28,12 +29,15 @@ unchanged-keeps tag old new past same controls values keeps =
       values = λ name. values name ∙ keeps.values name;
     }
 
-either-or : {A : Type 0} (same : Bool) (here : A) (was found : Option A) → was ≡ found → (cond same (Some here) was) ≡ option_or (cond same (Some here) None) found
+-- a value that was put, or what was there before
+either-or : {A : Type 0} (same : Bool) (here : A) (was found : Option A) → was ≡ found →
+    (cond same (Some here) was) ≡ option_or (cond same (Some here) None) found
 either-or true here was found is = refl
 either-or false here was found is = is
 
 -- a service reports
-pub report-keeps : (tag : List ℕ) (old new : Slot) (past : History) (at : ℕ) (other service : List ℕ) (control : ServiceControl) (answer : Answer) →
+pub report-keeps : (tag : List ℕ) (old new : Slot) (past : History) (at : ℕ) (other service : List ℕ)
+    (control : ServiceControl) (answer : Answer) →
     SameModule old new → SameValues old new →
     ((name : List ℕ) → last_control new name ≡ (cond (bytes_eq service name) (Some control) (last_control old name))) →
     SlotKeeps tag old past → SlotKeeps tag new (paired (report at other service control) answer ∷ past)
@@ -45,12 +49,14 @@ report-keeps tag old new past at other service control answer same values report
       description = keeps.description ∙ ap Some (sym same.description);
       begins = same.begins ∙ keeps.begins;
       dockings = rw (same.begins, same.ticket) keeps.dockings;
-      controls = λ name. reported name ∙ either-or (bytes_eq service name) control (last_control old name) (control_by name past) (keeps.controls name);
+      controls = λ name. reported name ∙ either-or (bytes_eq service name) control (last_control old name)
+          (control_by name past) (keeps.controls name);
       values = λ name. values name ∙ keeps.values name;
     }
 
 -- a variable is reported
-pub variable-keeps : (tag : List ℕ) (old new : Slot) (past : History) (at : ℕ) (other variable_name : List ℕ) (value : Value) (answer : Answer) →
+pub variable-keeps : (tag : List ℕ) (old new : Slot) (past : History) (at : ℕ) (other variable_name : List ℕ)
+    (value : Value) (answer : Answer) →
     SameModule old new → SameControls old new →
     ((name : List ℕ) → last_value new name ≡ (cond (bytes_eq variable_name name) (Some value) (last_value old name))) →
     SlotKeeps tag old past → SlotKeeps tag new (paired (variable at other variable_name value) answer ∷ past)
@@ -63,5 +69,6 @@ variable-keeps tag old new past at other variable_name value answer same control
       begins = same.begins ∙ keeps.begins;
       dockings = rw (same.begins, same.ticket) keeps.dockings;
       controls = λ service. controls service ∙ keeps.controls service;
-      values = λ name. reported name ∙ either-or (bytes_eq variable_name name) value (last_value old name) (value_by name past) (keeps.values name);
+      values = λ name. reported name ∙ either-or (bytes_eq variable_name name) value (last_value old name)
+          (value_by name past) (keeps.values name);
     }

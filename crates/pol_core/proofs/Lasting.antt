@@ -7,48 +7,52 @@ use Rattle.std.specs.Str.{bytes_eq}
 use Rattle.mtp_codes.specs.Faults.{when, done_unless}
 use Rattle.chart_core.specs.Charts.{plan}
 use Rattle.chart_core.specs.declared.entry.LogEntry.TheVariants.{StopAsked}
+use Rattle.chart_core.specs.declared.next.Outcome.{Outcome}
+use Rattle.chart_cursor.specs.Logs.{has_broken, was_stopped}
 use Rattle.pol_events.specs.Events.{EventForm, EntryForm, freeze, thaw, stop_batch}
 use Rattle.pol_events.specs.declared.answer.Answer.{Answer}
 use Rattle.pol_events.specs.declared.answer.Answer.TheVariants.{Done, Did, Refused}
-use Rattle.chart_core.specs.declared.next.Outcome.{Outcome}
 use Rattle.pol_events.specs.declared.answer.Rule.{Rule}
 use Rattle.pol_events.specs.declared.answer.Rule.TheVariants.{BatchClosed, AlreadyFrozen, NotFrozen}
+use Rattle.pol_history.specs.Answers.{first_rule, rules, otherwise, answer_of, is_full}
+use Rattle.pol_history.specs.Batches.{starting, start_by, closing, outcome_by, outcome_of, freezing, is_frozen_by, log_by}
 use Rattle.pol_history.specs.Looking.{History, of_batch, subject, is_accepted, past_of_batch, recipes, last_of}
 use Rattle.pol_history.specs.Modules.{present_tags}
-use Rattle.pol_history.specs.Batches.{starting, start_by, closing, outcome_by, outcome_of, freezing, is_frozen_by, log_by}
 use Rattle.pol_history.specs.Refused.{ChangesNothing}
 use Rattle.pol_history.specs.Rules.{no_batch, batch_closed, already_frozen, not_frozen}
-use Rattle.pol_history.specs.Answers.{first_rule, rules, otherwise, answer_of, is_full}
 use Rattle.pol_history.specs.Runs.{entry_of}
 use Rattle.pol_history.proofs.Accepted.{paired, with-room}
 use Rattle.pol_history.proofs.Names.{same-true}
+use Rattle.pol_history.proofs.Pasts.{log-grows}
+use Rattle.pol_history.proofs.Refused.{refused-nothing}
 use Rattle.pol_slots.specs.declared.slot.Slot.{Slot}
 use Rattle.pol_table.specs.Berths.{Berths, look}
 use Rattle.pol_runs.specs.Logs.{Follows}
 use Rattle.pol_runs.specs.Runs.{PlainRun}
-use Rattle.chart_cursor.specs.Logs.{has_broken, was_stopped}
-use Rattle.pol_core.specs.Seats.{SeatsMirror, IsCounted, done_or_refused}
 use Rattle.pol_core.specs.Batches.{RunKeeps, IsRun, RunsMirror, ChangesRun, Stops, StopsOne, IsOpenRun, not_open, freed_if, AnswersBatch}
-use Rattle.pol_core.proofs.Judging.{refuse}
-use Rattle.pol_history.proofs.Refused.{refused-nothing}
-use Rattle.pol_core.proofs.Seating.{seats-refused}
-use Rattle.pol_core.proofs.Counting.{counted-same}
+use Rattle.pol_core.specs.Seats.{SeatsMirror, IsCounted, done_or_refused}
 use Rattle.pol_core.proofs.Closing.{seats-freed}
+use Rattle.pol_core.proofs.Counting.{counted-same}
+use Rattle.pol_core.proofs.Judging.{refuse}
+use Rattle.pol_core.proofs.Seating.{seats-refused}
 use Rattle.pol_core.proofs.Stepping.{run-keeps, runs-changed}
-use Rattle.pol_history.proofs.Pasts.{log-grows}
 
 -- ---- refused events
 
 -- the runs keep a history with a refused event
-pub runs-refused : (history : History) (entry : EntryForm) (runs : List (List ℕ × PlainRun)) → ChangesNothing entry history → RunsMirror runs history →
+pub runs-refused : (history : History) (entry : EntryForm) (runs : List (List ℕ × PlainRun)) →
+    ChangesNothing entry history → RunsMirror runs history →
     RunsMirror runs (entry ∷ history)
 runs-refused history entry runs nothing mirror batch =
     subst (IsRun batch (lookup (bytes_eq batch) runs) (past_of_batch batch (entry ∷ history))) (sym nothing.recipes)
-    (subst (λ past. IsRun batch (lookup (bytes_eq batch) runs) past (recipes history)) (sym (nothing.batch_pasts batch)) (mirror batch))
+    (subst (λ past. IsRun batch (lookup (bytes_eq batch) runs) past (recipes history))
+    (sym (nothing.batch_pasts batch)) (mirror batch))
 
 -- so do all tables
-pub batch-refused : (history : History) (event : EventForm) (answer : Answer) (modules : Berths Slot) (runs : List (List ℕ × PlainRun)) →
-    answer ≡ answer_of history event → is_accepted answer ≡ false → SeatsMirror modules history → IsCounted modules history → RunsMirror runs history →
+pub batch-refused : (history : History) (event : EventForm) (answer : Answer) (modules : Berths Slot)
+    (runs : List (List ℕ × PlainRun)) →
+    answer ≡ answer_of history event → is_accepted answer ≡ false → SeatsMirror modules history →
+    IsCounted modules history → RunsMirror runs history →
     AnswersBatch history event answer modules runs
 batch-refused history event answer modules runs is refused seats counted batches =
     let entry : EntryForm = entry_of history event in
@@ -61,51 +65,67 @@ batch-refused history event answer modules runs is refused seats counted batches
     }
 
 -- the first two rules of a batch, by its run
-batch-rules : (batch : List ℕ) (found : Option PlainRun) (past recipes : History) (rest : List (Option Rule)) (answer : Answer) → IsRun batch found past recipes →
-    first_rule (no_batch (start_by past) ∷ batch_closed past ∷ rest) answer ≡ refuse (not_open found) (first_rule rest answer)
-batch-rules batch None past recipes rest answer is = ap (λ past. first_rule (no_batch (start_by past) ∷ batch_closed past ∷ rest) answer) is
+batch-rules : (batch : List ℕ) (found : Option PlainRun) (past recipes : History) (rest : List (Option Rule))
+    (answer : Answer) → IsRun batch found past recipes →
+    first_rule (no_batch (start_by past) ∷ batch_closed past ∷ rest) answer
+    ≡ refuse (not_open found) (first_rule rest answer)
+batch-rules batch None past recipes rest answer is =
+    ap (λ past. first_rule (no_batch (start_by past) ∷ batch_closed past ∷ rest) answer) is
 batch-rules batch (Some run) past recipes rest answer keeps =
     ap (λ found. first_rule (no_batch found ∷ batch_closed past ∷ rest) answer) keeps.started
     ∙ ap (λ outcome. first_rule (when (is_some outcome) BatchClosed ∷ rest) answer) (sym keeps.outcome_is)
     ∙ go run.outcome
   where
-    go : (outcome : Option Outcome) → first_rule (when (is_some outcome) BatchClosed ∷ rest) answer ≡ refuse (when (is_some outcome) BatchClosed) (first_rule rest answer)
+    go : (outcome : Option Outcome) → first_rule (when (is_some outcome) BatchClosed ∷ rest) answer
+        ≡ refuse (when (is_some outcome) BatchClosed) (first_rule rest answer)
     go None = refl
     go (Some closed) = refl
 
 -- the event has the two rules first, and then these
 abbrev pub BatchRules : History → EventForm → List ℕ → List (Option Rule) → Type 0
 BatchRules history event batch rest =
-    rules history event ≡ no_batch (start_by (past_of_batch batch history)) ∷ batch_closed (past_of_batch batch history) ∷ rest
+    rules history event ≡ no_batch (start_by (past_of_batch batch history)) ∷ batch_closed
+    (past_of_batch batch history) ∷ rest
 
-batch-answer : (history : History) (event : EventForm) (batch : List ℕ) (rest : List (Option Rule)) (runs : List (List ℕ × PlainRun)) →
+-- the answer to an event of a batch, by its run
+batch-answer : (history : History) (event : EventForm) (batch : List ℕ) (rest : List (Option Rule))
+    (runs : List (List ℕ × PlainRun)) →
     BatchRules history event batch rest → is_full history ≡ false → RunsMirror runs history →
-    answer_of history event ≡ refuse (not_open (lookup (bytes_eq batch) runs)) (first_rule rest (otherwise history event))
+    answer_of history event ≡ refuse (not_open (lookup (bytes_eq batch) runs))
+    (first_rule rest (otherwise history event))
 batch-answer history event batch rest runs same room batches =
     with-room history event room
     ∙ ap (λ rules. first_rule rules (otherwise history event)) same
-    ∙ batch-rules batch (lookup (bytes_eq batch) runs) (past_of_batch batch history) (recipes history) rest (otherwise history event) (batches batch)
+    ∙ batch-rules batch (lookup (bytes_eq batch) runs) (past_of_batch batch history) (recipes history) rest
+    (otherwise history event) (batches batch)
 
 -- a batch that isn't open
-pub not-open-answered : (history : History) (event : EventForm) (batch : List ℕ) (rest : List (Option Rule)) (rule : Rule) (modules : Berths Slot)
-    (runs : List (List ℕ × PlainRun)) → BatchRules history event batch rest → is_full history ≡ false → SeatsMirror modules history → IsCounted modules history →
-    RunsMirror runs history → not_open (lookup (bytes_eq batch) runs) ≡ Some rule → AnswersBatch history event (Refused rule) modules runs
+pub not-open-answered : (history : History) (event : EventForm) (batch : List ℕ) (rest : List (Option Rule))
+    (rule : Rule) (modules : Berths Slot)
+    (runs : List (List ℕ × PlainRun)) → BatchRules history event batch rest → is_full history ≡ false →
+    SeatsMirror modules history → IsCounted modules history →
+    RunsMirror runs history → not_open (lookup (bytes_eq batch) runs) ≡ Some rule →
+    AnswersBatch history event (Refused rule) modules runs
 not-open-answered history event batch rest rule modules runs same room seats counted batches is =
     batch-refused history event (Refused rule) modules runs
-    (sym (batch-answer history event batch rest runs same room batches ∙ ap (λ rule. refuse rule (first_rule rest (otherwise history event))) is))
+    (sym (batch-answer history event batch rest runs same room batches
+    ∙ ap (λ rule. refuse rule (first_rule rest (otherwise history event))) is))
     refl seats counted batches
 
 -- an open batch meets neither rule
-pub open-answer : (history : History) (event : EventForm) (batch : List ℕ) (rest : List (Option Rule)) (run : PlainRun) (runs : List (List ℕ × PlainRun)) →
+pub open-answer : (history : History) (event : EventForm) (batch : List ℕ) (rest : List (Option Rule))
+    (run : PlainRun) (runs : List (List ℕ × PlainRun)) →
     BatchRules history event batch rest → is_full history ≡ false → RunsMirror runs history → IsOpenRun batch run runs →
     answer_of history event ≡ first_rule rest (otherwise history event)
 open-answer history event batch rest run runs same room batches open' =
     batch-answer history event batch rest runs same room batches
     ∙ ap (λ found. refuse (not_open found) (first_rule rest (otherwise history event))) open'.found
-    ∙ ap (λ outcome. refuse (when (is_some outcome) BatchClosed) (first_rule rest (otherwise history event))) open'.is_open
+    ∙ ap (λ outcome. refuse (when (is_some outcome) BatchClosed) (first_rule rest (otherwise history event)))
+    open'.is_open
 
 -- looking back, the batch isn't closed
-pub open-outcome : (history : History) (batch : List ℕ) (run : PlainRun) (runs : List (List ℕ × PlainRun)) → RunsMirror runs history → IsOpenRun batch run runs →
+pub open-outcome : (history : History) (batch : List ℕ) (run : PlainRun) (runs : List (List ℕ × PlainRun)) →
+    RunsMirror runs history → IsOpenRun batch run runs →
     outcome_of history batch ≡ None
 open-outcome history batch run runs batches open' =
     let keeps = run-keeps history batch runs run batches open'.found in
@@ -114,13 +134,17 @@ open-outcome history batch run runs batches open' =
 -- ---- a run that goes on
 
 -- an accepted event that doesn't close its batch changes one run, and no module
-pub batch-stays : (history : History) (event : EventForm) (batch : List ℕ) (answer : Answer) (after : PlainRun) (modules : Berths Slot)
+pub batch-stays : (history : History) (event : EventForm) (batch : List ℕ) (answer : Answer)
+    (after : PlainRun) (modules : Berths Slot)
     (runs new : List (List ℕ × PlainRun)) → subject event ≡ of_batch batch → starting event ≡ None →
-    present_tags (entry_of history event ∷ history) ≡ present_tags history → answer ≡ answer_of history event → is_accepted answer ≡ true →
+    present_tags (entry_of history event ∷ history) ≡ present_tags history → answer ≡ answer_of history event →
+    is_accepted answer ≡ true →
     closing answer ≡ None → outcome_of history batch ≡ None → ChangesRun batch after runs new →
     RunKeeps batch after (paired event answer ∷ past_of_batch batch history) (recipes history) →
-    SeatsMirror modules history → IsCounted modules history → RunsMirror runs history → AnswersBatch history event answer modules new
-batch-stays history event batch answer after modules runs new is unstarted present same accepted unclosed open' changes keeps seats counted batches =
+    SeatsMirror modules history → IsCounted modules history → RunsMirror runs history →
+    AnswersBatch history event answer modules new
+batch-stays history event batch answer after modules runs new is unstarted present same accepted
+    unclosed open' changes keeps seats counted batches =
     let entry : EntryForm = paired event answer in
     record {
       answer_is = same;
@@ -133,21 +157,28 @@ batch-stays history event batch answer after modules runs new is unstarted prese
     }
 
 -- a run in the place of another, of the same past
-runs-replaced : (history : History) (batch : List ℕ) (after : PlainRun) (old new : List (List ℕ × PlainRun)) → ChangesRun batch after old new →
-    RunKeeps batch after (past_of_batch batch history) (recipes history) → RunsMirror old history → RunsMirror new history
+runs-replaced : (history : History) (batch : List ℕ) (after : PlainRun) (old new : List (List ℕ × PlainRun)) →
+    ChangesRun batch after old new →
+    RunKeeps batch after (past_of_batch batch history) (recipes history) → RunsMirror old history →
+    RunsMirror new history
 runs-replaced history batch after old new changes keeps mirror other =
-    subst (λ found. IsRun other found (past_of_batch other history) (recipes history)) (sym (changes other)) (go (bytes_eq batch other) refl)
+    subst (λ found. IsRun other found (past_of_batch other history) (recipes history)) (sym (changes other))
+    (go (bytes_eq batch other) refl)
   where
     go : (same : Bool) → bytes_eq batch other ≡ same →
-        IsRun other (cond same (Some after) (lookup (bytes_eq other) old)) (past_of_batch other history) (recipes history)
-    go true same = subst (λ other. RunKeeps other after (past_of_batch other history) (recipes history)) (same-true batch other same) keeps
+        IsRun other (cond same (Some after) (lookup (bytes_eq other) old)) (past_of_batch other history)
+        (recipes history)
+    go true same = subst (λ other. RunKeeps other after (past_of_batch other history) (recipes history))
+        (same-true batch other same) keeps
     go false apart = mirror other
 
 -- ---- a freeze begins or ends
 
 -- the run with this freeze keeps a past that says so
-frozen-keeps : (batch : List ℕ) (run : PlainRun) (past recipes after : History) (to : Bool) → start_by after ≡ start_by past → log_by after ≡ log_by past →
-    outcome_by after ≡ outcome_by past → to ≡ is_frozen_by after → RunKeeps batch run past recipes → RunKeeps batch (record run { frozen = to }) after recipes
+frozen-keeps : (batch : List ℕ) (run : PlainRun) (past recipes after : History) (to : Bool) →
+    start_by after ≡ start_by past → log_by after ≡ log_by past →
+    outcome_by after ≡ outcome_by past → to ≡ is_frozen_by after → RunKeeps batch run past recipes →
+    RunKeeps batch (record run { frozen = to }) after recipes
 frozen-keeps batch run past recipes after to starts logs outcomes frozen keeps =
     let follows : Follows run (log_by after) = subst (Follows run) (sym logs) keeps.follows in
     record {
@@ -155,50 +186,71 @@ frozen-keeps batch run past recipes after to starts logs outcomes frozen keeps =
       recipe = keeps.recipe;
       started = starts ∙ keeps.started;
       charted = keeps.charted;
-      follows = record { marks = follows.marks; broke = follows.broke; stopped = follows.stopped; active = follows.active };
+      follows = record {
+        marks = follows.marks;
+        broke = follows.broke;
+        stopped = follows.stopped;
+        active = follows.active;
+      };
       frozen_is = frozen;
       outcome_is = keeps.outcome_is ∙ sym outcomes;
     }
 
 -- an event that begins or ends a freeze is refused where that is so already, and else done
-freeze-set : (history : History) (event : EventForm) (batch : List ℕ) (to refuses : Bool) (rule : Rule) (run : PlainRun) (modules : Berths Slot)
-    (runs new : List (List ℕ × PlainRun)) → subject event ≡ of_batch batch → starting event ≡ None → freezing event ≡ Some to →
-    present_tags (entry_of history event ∷ history) ≡ present_tags history → answer_of history event ≡ first_rule (when refuses rule ∷ []) Done →
-    (refuses ≡ true → to ≡ run.frozen) → IsOpenRun batch run runs → ChangesRun batch (record run { frozen = to }) runs new →
+freeze-set : (history : History) (event : EventForm) (batch : List ℕ) (to refuses : Bool) (rule : Rule)
+    (run : PlainRun) (modules : Berths Slot)
+    (runs new : List (List ℕ × PlainRun)) → subject event ≡ of_batch batch → starting event ≡ None →
+    freezing event ≡ Some to →
+    present_tags (entry_of history event ∷ history) ≡ present_tags history →
+    answer_of history event ≡ first_rule (when refuses rule ∷ []) Done →
+    (refuses ≡ true → to ≡ run.frozen) → IsOpenRun batch run runs →
+    ChangesRun batch (record run { frozen = to }) runs new →
     SeatsMirror modules history → IsCounted modules history → RunsMirror runs history →
     AnswersBatch history event (done_or_refused (done_unless (when refuses rule))) modules new
-freeze-set history event batch to true rule run modules runs new is unstarted freezes present same already open' changes seats counted batches =
+freeze-set history event batch to true rule run modules runs new is unstarted freezes present
+    same already open' changes seats counted batches =
     let keeps = run-keeps history batch runs run batches open'.found in
     batch-refused history event (Refused rule) modules new (sym same) refl seats counted
     (runs-replaced history batch (record run { frozen = to }) runs new changes
-    (frozen-keeps batch run (past_of_batch batch history) (recipes history) (past_of_batch batch history) to refl refl refl (already refl ∙ keeps.frozen_is) keeps) batches)
-freeze-set history event batch to false rule run modules runs new is unstarted freezes present same already open' changes seats counted batches =
+    (frozen-keeps batch run (past_of_batch batch history) (recipes history)
+    (past_of_batch batch history) to refl refl refl (already refl ∙ keeps.frozen_is) keeps) batches)
+freeze-set history event batch to false rule run modules runs new is unstarted freezes present
+    same already open' changes seats counted batches =
     let keeps = run-keeps history batch runs run batches open'.found in
     let past' = past_of_batch batch history in
-    batch-stays history event batch Done (record run { frozen = to }) modules runs new is unstarted present (sym same) refl refl
+    batch-stays history event batch Done (record run { frozen = to }) modules runs new is unstarted present
+    (sym same) refl refl
     (open-outcome history batch run runs batches open') changes
-    (frozen-keeps batch run past' (recipes history) (paired event Done ∷ past') to (ap (λ starts. option_or starts (start_by past')) unstarted) refl refl
-    (ap (λ frozen. unwrap_or (option_or frozen (last_of (λ (entry : EntryForm). freezing entry.event) past')) false) (sym freezes)) keeps) seats counted batches
+    (frozen-keeps batch run past' (recipes history) (paired event Done ∷ past') to
+    (ap (λ starts. option_or starts (start_by past')) unstarted) refl refl
+    (ap (λ frozen. unwrap_or (option_or frozen (last_of (λ (entry : EntryForm). freezing entry.event) past')) false)
+    (sym freezes)) keeps) seats counted batches
 
-pub freeze-answered : (history : History) (at : ℕ) (batch : List ℕ) (run : PlainRun) (modules : Berths Slot) (runs new : List (List ℕ × PlainRun)) →
+-- a batch is frozen
+pub freeze-answered : (history : History) (at : ℕ) (batch : List ℕ) (run : PlainRun) (modules : Berths Slot)
+    (runs new : List (List ℕ × PlainRun)) →
     is_full history ≡ false → IsOpenRun batch run runs → ChangesRun batch (record run { frozen = true }) runs new →
     SeatsMirror modules history → IsCounted modules history → RunsMirror runs history →
     AnswersBatch history (freeze at batch) (done_or_refused (done_unless (when run.frozen AlreadyFrozen))) modules new
 freeze-answered history at batch run modules runs new room open' changes seats counted batches =
     let keeps = run-keeps history batch runs run batches open'.found in
     freeze-set history (freeze at batch) batch true run.frozen AlreadyFrozen run modules runs new refl refl refl refl
-    (open-answer history (freeze at batch) batch (already_frozen (past_of_batch batch history) ∷ []) run runs refl room batches open'
+    (open-answer history (freeze at batch) batch (already_frozen (past_of_batch batch history) ∷ [])
+    run runs refl room batches open'
     ∙ ap (λ frozen. first_rule (when frozen AlreadyFrozen ∷ []) Done) (sym keeps.frozen_is))
     sym open' changes seats counted batches
 
-pub thaw-answered : (history : History) (at : ℕ) (batch : List ℕ) (run : PlainRun) (modules : Berths Slot) (runs new : List (List ℕ × PlainRun)) →
+-- a frozen batch goes on
+pub thaw-answered : (history : History) (at : ℕ) (batch : List ℕ) (run : PlainRun) (modules : Berths Slot)
+    (runs new : List (List ℕ × PlainRun)) →
     is_full history ≡ false → IsOpenRun batch run runs → ChangesRun batch (record run { frozen = false }) runs new →
     SeatsMirror modules history → IsCounted modules history → RunsMirror runs history →
     AnswersBatch history (thaw at batch) (done_or_refused (done_unless (when (not run.frozen) NotFrozen))) modules new
 thaw-answered history at batch run modules runs new room open' changes seats counted batches =
     let keeps = run-keeps history batch runs run batches open'.found in
     freeze-set history (thaw at batch) batch false (not run.frozen) NotFrozen run modules runs new refl refl refl refl
-    (open-answer history (thaw at batch) batch (not_frozen (past_of_batch batch history) ∷ []) run runs refl room batches open'
+    (open-answer history (thaw at batch) batch (not_frozen (past_of_batch batch history) ∷ [])
+    run runs refl room batches open'
     ∙ ap (λ frozen. first_rule (when (not frozen) NotFrozen ∷ []) Done) (sym keeps.frozen_is))
     (already run.frozen) open' changes seats counted batches
   where
@@ -209,17 +261,21 @@ thaw-answered history at batch run modules runs new room open' changes seats cou
 -- ---- a stop
 
 -- the answer, where the stop is new or not
-stop-told : (is_new is_old : Bool) → is_new ≡ not is_old → (if is_new then Did StopAsked else Done) ≡ (if is_old then Done else Did StopAsked)
+stop-told : (is_new is_old : Bool) → is_new ≡ not is_old → (if is_new then Did StopAsked else Done)
+    ≡ (if is_old then Done else Did StopAsked)
 stop-told is_new true is = ap (λ new. if new then Did StopAsked else Done) is
 stop-told is_new false is = ap (λ new. if new then Did StopAsked else Done) is
 
-stopped-keeps : (batch : List ℕ) (at : ℕ) (is_new : Bool) (run after : PlainRun) (past recipes : History) → Stops is_new run after → RunKeeps batch run past recipes →
+-- the run keeps the past that ends in the stop
+stopped-keeps : (batch : List ℕ) (at : ℕ) (is_new : Bool) (run after : PlainRun) (past recipes : History) →
+    Stops is_new run after → RunKeeps batch run past recipes →
     RunKeeps batch after (paired (stop_batch at batch) (if is_new then Did StopAsked else Done) ∷ past) recipes
 stopped-keeps batch at is_new run after past recipes stops keeps =
     record {
       batch_is = stops.same_batch.batch ∙ keeps.batch_is;
       recipe = keeps.recipe;
-      started = keeps.started ∙ ap (λ binds. Some (record { recipe = keeps.recipe; binds = binds })) (sym stops.same_batch.binds);
+      started = keeps.started ∙ ap (λ binds. Some (record { recipe = keeps.recipe; binds = binds }))
+          (sym stops.same_batch.binds);
       charted = keeps.charted ∙ ap (λ chart. Some (plan chart)) (sym stops.same_batch.chart);
       follows = follows is_new (stops.log (log_by past) keeps.follows);
       frozen_is = stops.frozen_is;
@@ -231,18 +287,22 @@ stopped-keeps batch at is_new run after past recipes stops keeps =
     follows true follows' = subst (Follows after) (sym (log-grows past (stop_batch at batch) StopAsked)) follows'
     follows false follows' = follows'
 
-    unclosed : (is_new : Bool) → outcome_by past ≡ outcome_by (paired (stop_batch at batch) (if is_new then Did StopAsked else Done) ∷ past)
+    unclosed : (is_new : Bool) → outcome_by past ≡ outcome_by
+        (paired (stop_batch at batch) (if is_new then Did StopAsked else Done) ∷ past)
     unclosed true = refl
     unclosed false = refl
 
-pub stop-answered : (history : History) (at : ℕ) (batch : List ℕ) (is_new : Bool) (run : PlainRun) (modules : Berths Slot) (runs new : List (List ℕ × PlainRun)) →
+-- a batch is to be stopped
+pub stop-answered : (history : History) (at : ℕ) (batch : List ℕ) (is_new : Bool) (run : PlainRun)
+    (modules : Berths Slot) (runs new : List (List ℕ × PlainRun)) →
     is_full history ≡ false → IsOpenRun batch run runs → StopsOne batch is_new run runs new →
     SeatsMirror modules history → IsCounted modules history → RunsMirror runs history →
     AnswersBatch history (stop_batch at batch) (if is_new then Did StopAsked else Done) modules new
 stop-answered history at batch is_new run modules runs new room open' stops seats counted batches =
     let keeps = run-keeps history batch runs run batches open'.found in
     let past' = past_of_batch batch history in
-    batch-stays history (stop_batch at batch) batch (if is_new then Did StopAsked else Done) stops.after modules runs new refl refl refl
+    batch-stays history (stop_batch at batch) batch (if is_new then Did StopAsked else Done)
+    stops.after modules runs new refl refl refl
     (stop-told is_new (has_broken (log_by past') || was_stopped (log_by past'))
     (stops.stops.asked (log_by past') keeps.follows)
     ∙ sym (open-answer history (stop_batch at batch) batch [] run runs refl room batches open'))

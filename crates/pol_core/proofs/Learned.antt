@@ -15,24 +15,25 @@ use Rattle.pol_events.specs.Orderly.{is_valid}
 use Rattle.pol_events.specs.declared.answer.Answer.{Answer}
 use Rattle.pol_events.specs.declared.answer.Answer.TheVariants.{Done, Refused}
 use Rattle.pol_events.specs.declared.answer.Rule.TheVariants.{RecipeKnown, RecipesFull}
-use Rattle.pol_history.specs.Looking.{History, is_accepted, past, past_of_batch, recipes, last_of}
-use Rattle.pol_history.specs.Batches.{chart_named, takes, if_open, holder_of}
-use Rattle.pol_history.specs.Rules.{recipes_full}
 use Rattle.pol_history.specs.Answers.{first_rule, answer_of, is_full}
+use Rattle.pol_history.specs.Batches.{chart_named, takes, if_open, holder_of}
+use Rattle.pol_history.specs.Looking.{History, is_accepted, past, past_of_batch, recipes, last_of}
+use Rattle.pol_history.specs.Rules.{recipes_full}
 use Rattle.pol_history.specs.Runs.{entry_of}
 use Rattle.pol_history.proofs.Accepted.{paired, with-room}
 use Rattle.pol_history.proofs.Names.{same-true}
+use Rattle.pol_history.proofs.Refused.{refused-nothing}
 use Rattle.pol_slots.specs.declared.slot.Slot.{Slot}
 use Rattle.pol_table.specs.Berths.{Berths, look}
 use Rattle.pol_runs.specs.Runs.{PlainRun}
-use Rattle.pol_core.specs.Seats.{IsSeated}
 use Rattle.pol_core.specs.Batches.{IsRun}
-use Rattle.pol_core.specs.Recipes.{AreValid, RecipesMirror, AnswersRecipe}
 use Rattle.pol_core.specs.Mirrors.{Mirrors, Answers}
-use Rattle.pol_history.proofs.Refused.{refused-nothing}
+use Rattle.pol_core.specs.Recipes.{AreValid, RecipesMirror, AnswersRecipe}
+use Rattle.pol_core.specs.Seats.{IsSeated}
 use Rattle.pol_core.proofs.Counting.{counted-same}
 use Rattle.pol_core.proofs.Together.{known-same}
 
+-- a chart without a fault is valid
 valid-is : (chart : ChartPlan) → is_valid chart ≡ true → IsValid chart
 valid-is chart is = none (chart_fault chart) is
   where
@@ -41,7 +42,8 @@ valid-is chart is = none (chart_fault chart) is
     none (Some fault) is = cc
 
 module _ {Z : Type 0} where
-  mapped-is : (found : Option (Arc Chart Z)) → is_some (option_map (λ (chart : Arc Chart Z). plan chart.value) found) ≡ is_some found
+  mapped-is : (found : Option (Arc Chart Z)) →
+      is_some (option_map (λ (chart : Arc Chart Z). plan chart.value) found) ≡ is_some found
   mapped-is None = refl
   mapped-is (Some chart) = refl
 
@@ -49,57 +51,81 @@ module _ {Z : Type 0} where
       is_some (chart_named name (recipes history)) ≡ is_some (lookup (bytes_eq name) known)
   named-is history known name mirror = ap is_some (sym (mirror.named name)) ∙ mapped-is (lookup (bytes_eq name) known)
 
-  recipe-answer : (history : History) (at : ℕ) (name : List ℕ) (chart : ChartPlan) (known : List (List ℕ × Arc Chart Z)) → RecipesMirror known history →
+  recipe-answer : (history : History) (at : ℕ) (name : List ℕ) (chart : ChartPlan)
+      (known : List (List ℕ × Arc Chart Z)) → RecipesMirror known history →
       is_full history ≡ false → answer_of history (recipe at name chart)
-      ≡ first_rule (when (is_some (lookup (bytes_eq name) known)) RecipeKnown ∷ when (nat_le 64 (length known)) RecipesFull ∷ []) Done
+      ≡ first_rule (when (is_some (lookup (bytes_eq name) known)) RecipeKnown ∷ when
+      (nat_le 64 (length known)) RecipesFull ∷ []) Done
   recipe-answer history at name chart known mirror room =
       with-room history (recipe at name chart) room
-      ∙ ap (λ there. first_rule (when there RecipeKnown ∷ recipes_full (recipes history) ∷ []) Done) (named-is history known name mirror)
-      ∙ ap (λ n. first_rule (when (is_some (lookup (bytes_eq name) known)) RecipeKnown ∷ when (nat_le 64 n) RecipesFull ∷ []) Done) (sym mirror.count)
+      ∙ ap (λ there. first_rule (when there RecipeKnown ∷ recipes_full (recipes history) ∷ []) Done)
+      (named-is history known name mirror)
+      ∙ ap (λ n. first_rule (when (is_some (lookup (bytes_eq name) known)) RecipeKnown ∷ when
+      (nat_le 64 n) RecipesFull ∷ []) Done) (sym mirror.count)
 
   -- a refused recipe
-  refused-recipe : (history : History) (at : ℕ) (name : List ℕ) (chart : ChartPlan) (known : List (List ℕ × Arc Chart Z)) (answer : Answer) →
+  refused-recipe : (history : History) (at : ℕ) (name : List ℕ) (chart : ChartPlan)
+      (known : List (List ℕ × Arc Chart Z)) (answer : Answer) →
       answer ≡ answer_of history (recipe at name chart) → is_accepted answer ≡ false → RecipesMirror known history →
       AnswersRecipe history (recipe at name chart) answer known
   refused-recipe history at name chart known answer is refused mirror =
-      let nothing = refused-nothing (entry_of history (recipe at name chart)) history (ap is_accepted (sym is) ∙ refused) in
+      let nothing = refused-nothing (entry_of history (recipe at name chart)) history (ap is_accepted (sym is)
+      ∙ refused) in
       record {
         answer_is = is;
         known_is = known-same history (entry_of history (recipe at name chart)) known nothing.recipes mirror;
         names = λ other chart is. ap (chart_named other) nothing.recipes ∙ is;
       }
 
-  pub known-recipe : (history : History) (at : ℕ) (name : List ℕ) (chart : ChartPlan) (known : List (List ℕ × Arc Chart Z)) → RecipesMirror known history →
-      is_full history ≡ false → is_some (lookup (bytes_eq name) known) ≡ true → AnswersRecipe history (recipe at name chart) (Refused RecipeKnown) known
+  pub known-recipe : (history : History) (at : ℕ) (name : List ℕ) (chart : ChartPlan)
+      (known : List (List ℕ × Arc Chart Z)) → RecipesMirror known history →
+      is_full history ≡ false → is_some (lookup (bytes_eq name) known) ≡ true →
+      AnswersRecipe history (recipe at name chart) (Refused RecipeKnown) known
   known-recipe history at name chart known mirror room there =
       refused-recipe history at name chart known (Refused RecipeKnown)
       (sym (recipe-answer history at name chart known mirror room
-      ∙ ap (λ there. first_rule (when there RecipeKnown ∷ when (nat_le 64 (length known)) RecipesFull ∷ []) Done) there)) refl mirror
+      ∙ ap (λ there. first_rule (when there RecipeKnown ∷ when (nat_le 64 (length known)) RecipesFull ∷ []) Done)
+      there)) refl mirror
 
-  full-recipe : (history : History) (at : ℕ) (name : List ℕ) (chart : ChartPlan) (known : List (List ℕ × Arc Chart Z)) → RecipesMirror known history →
-      is_full history ≡ false → is_some (lookup (bytes_eq name) known) ≡ false → (full : Bool) → nat_le 64 (length known) ≡ full →
+  full-recipe : (history : History) (at : ℕ) (name : List ℕ) (chart : ChartPlan)
+      (known : List (List ℕ × Arc Chart Z)) → RecipesMirror known history →
+      is_full history ≡ false → is_some (lookup (bytes_eq name) known) ≡ false → (full : Bool) →
+      nat_le 64 (length known) ≡ full →
       answer_of history (recipe at name chart) ≡ first_rule (when full RecipesFull ∷ []) Done
   full-recipe history at name chart known mirror room new full is =
       recipe-answer history at name chart known mirror room
       ∙ ap (λ there. first_rule (when there RecipeKnown ∷ when (nat_le 64 (length known)) RecipesFull ∷ []) Done) new
       ∙ ap (λ full. first_rule (when full RecipesFull ∷ []) Done) is
 
-  pub no-room-recipe : (history : History) (at : ℕ) (name : List ℕ) (chart : ChartPlan) (known : List (List ℕ × Arc Chart Z)) → RecipesMirror known history →
+  pub no-room-recipe : (history : History) (at : ℕ) (name : List ℕ) (chart : ChartPlan)
+      (known : List (List ℕ × Arc Chart Z)) → RecipesMirror known history →
       is_full history ≡ false → is_some (lookup (bytes_eq name) known) ≡ false → nat_le 64 (length known) ≡ true →
       AnswersRecipe history (recipe at name chart) (Refused RecipesFull) known
   no-room-recipe history at name chart known mirror room new full =
-      refused-recipe history at name chart known (Refused RecipesFull) (sym (full-recipe history at name chart known mirror room new true full)) refl mirror
+      refused-recipe history at name chart known (Refused RecipesFull)
+      (sym (full-recipe history at name chart known mirror room new true full)) refl mirror
 
-  pub new-recipe : (history : History) (at : ℕ) (name : List ℕ) (kept : Arc Chart Z) (old new : List (List ℕ × Arc Chart Z)) → RecipesMirror old history →
-      is_full history ≡ false → is_some (lookup (bytes_eq name) old) ≡ false → nat_le 64 (length old) ≡ false → is_valid (plan kept.value) ≡ true →
-      ((other : List ℕ) → lookup (bytes_eq other) new ≡ cond (bytes_eq name other) (Some kept) (lookup (bytes_eq other) old)) → length new ≡ length old + 1 →
+  pub new-recipe : (history : History) (at : ℕ) (name : List ℕ) (kept : Arc Chart Z)
+      (old new : List (List ℕ × Arc Chart Z)) → RecipesMirror old history →
+      is_full history ≡ false → is_some (lookup (bytes_eq name) old) ≡ false → nat_le 64 (length old) ≡ false →
+      is_valid (plan kept.value) ≡ true →
+      ((other : List ℕ) → lookup (bytes_eq other) new ≡ cond (bytes_eq name other) (Some kept)
+      (lookup (bytes_eq other) old)) → length new ≡ length old + 1 →
       AnswersRecipe history (recipe at name (plan kept.value)) Done new
   new-recipe history at name kept old new mirror room fresh few valid looks count =
       record {
         answer_is = sym answer;
-        known_is = subst (λ answer. RecipesMirror new (paired (recipe at name (plan kept.value)) answer ∷ history)) (sym answer)
-            (record { named = named; valid = all-valid; count = count ∙ more (length old) (length (recipes history)) mirror.count });
-        names = λ other chart is. subst (λ answer. chart_named other (recipes (paired (recipe at name (plan kept.value)) answer ∷ history)) ≡ Some chart) (sym answer) (keeps other chart is);
+        known_is = subst (λ answer. RecipesMirror new (paired (recipe at name (plan kept.value)) answer ∷ history))
+            (sym answer)
+            (record {
+              named = named;
+              valid = all-valid;
+              count = count
+                  ∙ more (length old) (length (recipes history)) mirror.count;
+            });
+        names = λ other chart is. subst (λ answer. chart_named other
+            (recipes (paired (recipe at name (plan kept.value)) answer ∷ history)) ≡ Some chart)
+            (sym answer) (keeps other chart is);
       }
     where
       answer : answer_of history (recipe at name (plan kept.value)) ≡ Done
@@ -112,7 +138,8 @@ module _ {Z : Type 0} where
           ≡ option_or (cond (bytes_eq name other) (Some (plan kept.value)) None) (chart_named other (recipes history))
       named other = ap (option_map (λ (chart : Arc Chart Z). plan chart.value)) (looks other) ∙ go (bytes_eq name other)
         where
-          go : (same : Bool) → option_map (λ (chart : Arc Chart Z). plan chart.value) (cond same (Some kept) (lookup (bytes_eq other) old))
+          go : (same : Bool) → option_map (λ (chart : Arc Chart Z). plan chart.value)
+              (cond same (Some kept) (lookup (bytes_eq other) old))
               ≡ option_or (cond same (Some (plan kept.value)) None) (chart_named other (recipes history))
           go true = refl
           go false = mirror.named other
@@ -120,29 +147,37 @@ module _ {Z : Type 0} where
       all-valid : AreValid new
       all-valid other chart is = go (bytes_eq name other) (sym (looks other) ∙ is)
         where
-          go : (same : Bool) → cond same (Some kept) (lookup (bytes_eq other) old) ≡ Some chart → IsValid (plan chart.value)
-          go true is = let one : kept ≡ chart = cc in subst (λ (chart : Arc Chart Z). IsValid (plan chart.value)) one (valid-is (plan kept.value) valid)
+          go : (same : Bool) → cond same (Some kept) (lookup (bytes_eq other) old) ≡ Some chart →
+              IsValid (plan chart.value)
+          go true is = let one : kept ≡ chart = cc in
+              subst (λ (chart : Arc Chart Z). IsValid (plan chart.value)) one (valid-is (plan kept.value) valid)
           go false is = mirror.valid other chart is
 
       keeps : (other : List ℕ) (chart : ChartPlan) → chart_named other (recipes history) ≡ Some chart →
-          option_or (cond (bytes_eq name other) (Some (plan kept.value)) None) (chart_named other (recipes history)) ≡ Some chart
+          option_or (cond (bytes_eq name other) (Some (plan kept.value)) None) (chart_named other (recipes history))
+          ≡ Some chart
       keeps other chart is = go (bytes_eq name other) refl
         where
-          go : (same : Bool) → bytes_eq name other ≡ same → option_or (cond same (Some (plan kept.value)) None) (chart_named other (recipes history)) ≡ Some chart
+          go : (same : Bool) → bytes_eq name other ≡ same → option_or (cond same (Some (plan kept.value)) None)
+              (chart_named other (recipes history)) ≡ Some chart
           go false same = is
           go true same =
-              let clash : true ≡ false = sym (ap is_some is) ∙ ap (λ name. is_some (chart_named name (recipes history))) (sym (same-true name other same))
+              let clash : true ≡ false = sym (ap is_some is)
+              ∙ ap (λ name. is_some (chart_named name (recipes history))) (sym (same-true name other same))
               ∙ named-is history old name mirror ∙ fresh in cc
 
   -- all tables after a recipe
-  pub recipe-answered : (history : History) (at : ℕ) (name : List ℕ) (chart : ChartPlan) (answer : Answer) (berths : Berths Slot) (runs : List (List ℕ × PlainRun))
-      (old new : List (List ℕ × Arc Chart Z)) → Mirrors berths runs old history → AnswersRecipe history (recipe at name chart) answer new →
+  pub recipe-answered : (history : History) (at : ℕ) (name : List ℕ) (chart : ChartPlan) (answer : Answer)
+      (berths : Berths Slot) (runs : List (List ℕ × PlainRun))
+      (old new : List (List ℕ × Arc Chart Z)) → Mirrors berths runs old history →
+      AnswersRecipe history (recipe at name chart) answer new →
       Answers history (recipe at name chart) answer berths runs new
   recipe-answered history at name chart answer berths runs old new mirrors takes' =
       record {
         answer_is = takes'.answer_is;
         mirrors = record {
-          seats = λ tag. subst (IsSeated tag (look tag berths) (past tag history)) (sym (holders tag)) (mirrors.seats tag);
+          seats = λ tag. subst (IsSeated tag (look tag berths) (past tag history)) (sym (holders tag))
+              (mirrors.seats tag);
           batches = λ batch. run batch (lookup (bytes_eq batch) runs) (mirrors.batches batch);
           counted = counted-same history entry berths refl mirrors.counted;
           recipes = takes'.known_is;
@@ -163,10 +198,12 @@ module _ {Z : Type 0} where
 
       holders : (tag : List ℕ) → holder_of (entry ∷ history) tag ≡ holder_of history tag
       holders tag =
-          ap (λ found. if_open (entry ∷ history) (option_or found (last_of (takes tag) history))) (none (is_accepted (answer_of history (recipe at name chart))))
+          ap (λ found. if_open (entry ∷ history) (option_or found (last_of (takes tag) history)))
+          (none (is_accepted (answer_of history (recipe at name chart))))
           ∙ opens (last_of (takes tag) history)
 
-      run : (batch : List ℕ) (found : Option PlainRun) → IsRun batch found (past_of_batch batch history) (recipes history) →
+      run : (batch : List ℕ) (found : Option PlainRun) → IsRun batch found (past_of_batch batch history)
+          (recipes history) →
           IsRun batch found (past_of_batch batch history) (recipes (entry ∷ history))
       run batch None is = is
       run batch (Some kept) keeps =

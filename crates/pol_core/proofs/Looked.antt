@@ -11,11 +11,11 @@ use Rattle.chart_core.specs.declared.next.Outcome.{Outcome}
 use Rattle.pol_events.specs.Events.{EventForm}
 use Rattle.pol_events.specs.declared.answer.Rule.{Rule}
 use Rattle.pol_events.specs.declared.answer.Rule.TheVariants.{BatchClosed, HistoryFull}
-use Rattle.pol_history.specs.Looking.{History, past_of_batch, recipes}
+use Rattle.pol_history.specs.Answers.{rules, otherwise, first_rule, answer_of, is_full}
 use Rattle.pol_history.specs.Batches.{Started, start_by, chart_by, outcome_by}
 use Rattle.pol_history.specs.Following.{next_of, next_of_started}
-use Rattle.pol_history.specs.Answers.{rules, otherwise, first_rule, answer_of, is_full}
 use Rattle.pol_history.specs.Looking as looking
+use Rattle.pol_history.specs.Looking.{History, past_of_batch, recipes}
 use Rattle.pol_slots.specs.declared.slot.Slot.{Slot}
 use Rattle.pol_table.specs.Berths.{Berths}
 use Rattle.pol_runs.specs.Runs.{PlainRun}
@@ -30,47 +30,61 @@ use Rattle.pol_core.proofs.Stepping.{run-keeps, next-of-is}
 -- ---- what comes next
 
 -- an open batch has a next entry
-pub open-comes : (history : History) (batch : List ℕ) (berths : Berths Slot) (run : PlainRun) (runs : List (List ℕ × PlainRun)) (next : Next) →
-    SeatsMirror berths history → RunsMirror runs history → IsOpenRun batch run runs → ComesNext (table_sights berths run.binds) next run →
+pub open-comes : (history : History) (batch : List ℕ) (berths : Berths Slot) (run : PlainRun)
+    (runs : List (List ℕ × PlainRun)) (next : Next) →
+    SeatsMirror berths history → RunsMirror runs history → IsOpenRun batch run runs →
+    ComesNext (table_sights berths run.binds) next run →
     Some next ≡ open_next history batch
 open-comes history batch berths run runs next seats batches open' comes =
-    sym (ap (λ outcome. if is_none outcome then next_of history batch else None) (open-outcome history batch run runs batches open')
+    sym (ap (λ outcome. if is_none outcome then next_of history batch else None)
+    (open-outcome history batch run runs batches open')
     ∙ next-of-is history batch berths run next seats (run-keeps history batch runs run batches open'.found) comes)
 
 -- a batch that isn't open has none
-pub not-open-none : (history : History) (batch : List ℕ) (rule : Rule) (runs : List (List ℕ × PlainRun)) → RunsMirror runs history →
+pub not-open-none : (history : History) (batch : List ℕ) (rule : Rule) (runs : List (List ℕ × PlainRun)) →
+    RunsMirror runs history →
     not_open (lookup (bytes_eq batch) runs) ≡ Some rule → None ≡ open_next history batch
 not-open-none history batch rule runs mirror is = go (lookup (bytes_eq batch) runs) (mirror batch) is
   where
     begins : Option Started → Option Next
-    begins found = option_and_then (next_of_started (recipes history) (past_of_batch batch history) (λ tag. looking.past tag history)) found
+    begins found = option_and_then (next_of_started (recipes history) (past_of_batch batch history)
+        (λ tag. looking.past tag history)) found
 
-    go : (found : Option PlainRun) → IsRun batch found (past_of_batch batch history) (recipes history) → not_open found ≡ Some rule → None ≡ open_next history batch
+    go : (found : Option PlainRun) → IsRun batch found (past_of_batch batch history) (recipes history) →
+        not_open found ≡ Some rule → None ≡ open_next history batch
     go None none is =
         sym (ap (λ past. if is_none (outcome_by past) then next_of history batch else None) none
         ∙ ap (λ past. begins (start_by past)) none)
     go (Some run) keeps is =
-        sym (ap (λ outcome. if is_none outcome then next_of history batch else None) (sym keeps.outcome_is) ∙ closed run.outcome is)
+        sym (ap (λ outcome. if is_none outcome then next_of history batch else None) (sym keeps.outcome_is)
+        ∙ closed run.outcome is)
       where
-        closed : (outcome : Option Outcome) → when (is_some outcome) BatchClosed ≡ Some rule → (if is_none outcome then next_of history batch else None) ≡ None
+        closed : (outcome : Option Outcome) → when (is_some outcome) BatchClosed ≡ Some rule →
+            (if is_none outcome then next_of history batch else None) ≡ None
         closed None is = cc
         closed (Some outcome) is = refl
 
 -- ---- the settings of a step
 
-pub run-settings : (history : History) (batch name : List ℕ) (run : PlainRun) (runs : List (List ℕ × PlainRun)) → RunsMirror runs history →
+-- a started batch has its chart's steps
+pub run-settings : (history : History) (batch name : List ℕ) (run : PlainRun) (runs : List (List ℕ × PlainRun)) →
+    RunsMirror runs history →
     lookup (bytes_eq batch) runs ≡ Some run → settings_named name (plan run.chart) ≡ settings_of history batch name
 run-settings history batch name run runs mirror found =
     let keeps = run-keeps history batch runs run mirror found in
     sym (ap (λ started. option_and_then (settings_named name) (chart_by (recipes history) started)) keeps.started
     ∙ ap (option_and_then (settings_named name)) keeps.charted)
 
-pub no-run-settings : (history : History) (batch name : List ℕ) (runs : List (List ℕ × PlainRun)) → RunsMirror runs history →
+-- a batch that isn't started has none
+pub no-run-settings : (history : History) (batch name : List ℕ) (runs : List (List ℕ × PlainRun)) →
+    RunsMirror runs history →
     lookup (bytes_eq batch) runs ≡ None → None ≡ settings_of history batch name
 no-run-settings history batch name runs mirror none = go (lookup (bytes_eq batch) runs) (mirror batch) none
   where
-    go : (found : Option PlainRun) → IsRun batch found (past_of_batch batch history) (recipes history) → found ≡ None → None ≡ settings_of history batch name
-    go None is none = sym (ap (λ past. option_and_then (settings_named name) (chart_by (recipes history) (start_by past))) is)
+    go : (found : Option PlainRun) → IsRun batch found (past_of_batch batch history) (recipes history) →
+        found ≡ None → None ≡ settings_of history batch name
+    go None is none =
+        sym (ap (λ past. option_and_then (settings_named name) (chart_by (recipes history) (start_by past))) is)
     go (Some run) keeps none = cc
 
 -- ---- the rule that an event would be refused by
@@ -80,7 +94,8 @@ pub refused-by : (history : History) (event : EventForm) (rule : Option Rule) �
     refusal (otherwise history event) ≡ Ok tt → refused_first (length history) rule ≡ refusal (answer_of history event)
 refused-by history event rule is accepted =
     go (is_full history) rule
-    ∙ ap (λ rule. refusal (first_rule (when (is_full history) HistoryFull ∷ []) (refuse rule (otherwise history event)))) is
+    ∙ ap (λ rule. refusal (first_rule (when (is_full history) HistoryFull ∷ [])
+    (refuse rule (otherwise history event)))) is
     ∙ back (is_full history) (first-is (rules history event))
   where
     go : (full : Bool) (rule : Option Rule) → done_unless (option_or (when full HistoryFull) rule)
@@ -89,11 +104,14 @@ refused-by history event rule is accepted =
     go false None = sym accepted
     go false (Some rule) = refl
 
-    first-is : (rules : List (Option Rule)) → refuse (first_of rules) (otherwise history event) ≡ first_rule rules (otherwise history event)
+    first-is : (rules : List (Option Rule)) → refuse (first_of rules) (otherwise history event)
+        ≡ first_rule rules (otherwise history event)
     first-is rules = sym (refused-first rules (otherwise history event))
 
-    back : (full : Bool) → refuse (first_of (rules history event)) (otherwise history event) ≡ first_rule (rules history event) (otherwise history event) →
-        refusal (first_rule (when full HistoryFull ∷ []) (refuse (first_of (rules history event)) (otherwise history event)))
+    back : (full : Bool) → refuse (first_of (rules history event)) (otherwise history event)
+        ≡ first_rule (rules history event) (otherwise history event) →
+        refusal (first_rule (when full HistoryFull ∷ []) (refuse (first_of (rules history event))
+        (otherwise history event)))
         ≡ refusal (first_rule (when full HistoryFull ∷ rules history event) (otherwise history event))
     back true same = refl
     back false same = ap refusal same

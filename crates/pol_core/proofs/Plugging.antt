@@ -8,24 +8,25 @@ use Rattle.pol_events.specs.Events.{EventForm, EntryForm, plug}
 use Rattle.pol_events.specs.declared.answer.Answer.{Answer}
 use Rattle.pol_events.specs.declared.answer.Answer.TheVariants.{Done, Refused}
 use Rattle.pol_events.specs.declared.answer.Rule.TheVariants.{TagTaken, PlantFull}
+use Rattle.pol_history.specs.Answers.{first_rule, answer_of, is_full}
+use Rattle.pol_history.specs.Batches.{holder_of}
 use Rattle.pol_history.specs.Looking.{History, is_accepted, past}
 use Rattle.pol_history.specs.Modules.{Docking, absent, docked, away, docking_by}
-use Rattle.pol_history.specs.Batches.{holder_of}
 use Rattle.pol_history.specs.Rules.{tag_taken, plant_full}
-use Rattle.pol_history.specs.Answers.{first_rule, answer_of, is_full}
 use Rattle.pol_history.specs.Runs.{entry_of}
 use Rattle.pol_history.proofs.Accepted.{paired, with-room}
+use Rattle.pol_history.proofs.Pasts.{past-own}
+use Rattle.pol_history.proofs.Refused.{refused-nothing}
 use Rattle.pol_slots.specs.Slots.{slot_tag, slot_ticket, slot_description, slot_begins, IsUnreported}
 use Rattle.pol_slots.specs.declared.slot.Slot.{Slot}
 use Rattle.pol_table.specs.Berths.{Berth, Berths, look}
 use Rattle.pol_core.specs.Seats.{SlotKeeps, IsTaken, IsEmpty, IsSeated, SeatsMirror, IsCounted, AnswersModule}
-use Rattle.pol_history.proofs.Refused.{refused-nothing}
-use Rattle.pol_core.proofs.Seating.{Changes, seat-changes, seats-refused}
-use Rattle.pol_history.proofs.Pasts.{past-own}
 use Rattle.pol_core.proofs.Counting.{counted-more}
+use Rattle.pol_core.proofs.Seating.{Changes, seat-changes, seats-refused}
 
 -- a new slot keeps the past that ends in its plug
-pub plug-keeps : (tag other : List ℕ) (slot : Slot) (past : History) (at : ℕ) (description : DescriptionForm) (answer : Answer) → slot_tag slot ≡ tag →
+pub plug-keeps : (tag other : List ℕ) (slot : Slot) (past : History) (at : ℕ) (description : DescriptionForm)
+    (answer : Answer) → slot_tag slot ≡ tag →
     slot_description slot ≡ description → slot_begins slot ≡ 0 → slot_ticket slot ≡ None → IsUnreported slot →
     SlotKeeps tag slot (paired (plug at other description) answer ∷ past)
 plug-keeps tag other slot past at description answer tag_is description_is begins ticket unreported =
@@ -40,13 +41,15 @@ plug-keeps tag other slot past at description answer tag_is description_is begin
       values = unreported.values;
     }
 
+-- a tag that is there is taken
 taken-docking : (docking : Docking) → (docking ≡ absent → ⊥) → tag_taken docking ≡ Some TagTaken
 taken-docking absent there = absurd (there refl)
 taken-docking (docked count) there = refl
 taken-docking (away ticket) there = refl
 
 -- a refused event of a module
-pub refused-answered : (history : History) (event : EventForm) (answer : Answer) (berths : Berths Slot) → answer ≡ answer_of history event → is_accepted answer ≡ false →
+pub refused-answered : (history : History) (event : EventForm) (answer : Answer) (berths : Berths Slot) →
+    answer ≡ answer_of history event → is_accepted answer ≡ false →
     SeatsMirror berths history → IsCounted berths history → AnswersModule history event answer berths
 refused-answered history event answer berths is refused seats counted =
     let nothing = refused-nothing (entry_of history event) history (ap is_accepted (sym is) ∙ refused) in
@@ -60,37 +63,52 @@ refused-answered history event answer berths is refused seats counted =
       };
     }
 
-pub tag-taken : (history : History) (at : ℕ) (tag : List ℕ) (description : DescriptionForm) (berths : Berths Slot) (found : Option (Berth Slot)) → look tag berths ≡ found →
-    is_some found ≡ true → SeatsMirror berths history → is_full history ≡ false → Refused TagTaken ≡ answer_of history (plug at tag description)
+-- a tag that is there is refused
+pub tag-taken : (history : History) (at : ℕ) (tag : List ℕ) (description : DescriptionForm)
+    (berths : Berths Slot) (found : Option (Berth Slot)) → look tag berths ≡ found →
+    is_some found ≡ true → SeatsMirror berths history → is_full history ≡ false →
+    Refused TagTaken ≡ answer_of history (plug at tag description)
 tag-taken history at tag description berths None is some seats room = cc
 tag-taken history at tag description berths (Some berth) is some seats room =
-    let taken : IsTaken tag berth (past tag history) (holder_of history tag) = subst (λ found. IsSeated tag found (past tag history) (holder_of history tag)) is (seats tag) in
+    let taken : IsTaken tag berth (past tag history) (holder_of history tag) =
+    subst (λ found. IsSeated tag found (past tag history) (holder_of history tag)) is (seats tag) in
     sym (with-room history (plug at tag description) room
-    ∙ ap (λ rule. first_rule (rule ∷ plant_full history ∷ []) Done) (taken-docking (docking_by (past tag history)) taken.slot_keeps.is_there))
+    ∙ ap (λ rule. first_rule (rule ∷ plant_full history ∷ []) Done)
+    (taken-docking (docking_by (past tag history)) taken.slot_keeps.is_there))
 
 -- a new tag is refused where the plant is full, and else done
-pub new-tag : (history : History) (at : ℕ) (tag : List ℕ) (description : DescriptionForm) (berths : Berths Slot) → look tag berths ≡ None → SeatsMirror berths history →
+pub new-tag : (history : History) (at : ℕ) (tag : List ℕ) (description : DescriptionForm) (berths : Berths Slot) →
+    look tag berths ≡ None → SeatsMirror berths history →
     IsCounted berths history → is_full history ≡ false →
     answer_of history (plug at tag description) ≡ first_rule (when (nat_le 64 (length berths)) PlantFull ∷ []) Done
 new-tag history at tag description berths is seats counted room =
-    let empty : IsEmpty (past tag history) (holder_of history tag) = subst (λ found. IsSeated tag found (past tag history) (holder_of history tag)) is (seats tag) in
+    let empty : IsEmpty (past tag history) (holder_of history tag) =
+    subst (λ found. IsSeated tag found (past tag history) (holder_of history tag)) is (seats tag) in
     with-room history (plug at tag description) room
     ∙ ap (λ docking. first_rule (tag_taken docking ∷ plant_full history ∷ []) Done) empty.is_absent
     ∙ ap (λ n. first_rule (when (nat_le 64 n) PlantFull ∷ []) Done) (sym counted.count)
 
-pub plug-answered : (history : History) (at : ℕ) (tag : List ℕ) (description : DescriptionForm) (slot : Slot) (old new : Berths Slot) → look tag old ≡ None →
+-- a new tag gets a berth
+pub plug-answered : (history : History) (at : ℕ) (tag : List ℕ) (description : DescriptionForm)
+    (slot : Slot) (old new : Berths Slot) → look tag old ≡ None →
     nat_le 64 (length old) ≡ false → SlotKeeps tag slot (paired (plug at tag description) Done ∷ past tag history) →
     Changes tag (Some (record { part = slot; holder = None })) old new → length new ≡ length old + 1 →
-    SeatsMirror old history → IsCounted old history → is_full history ≡ false → AnswersModule history (plug at tag description) Done new
+    SeatsMirror old history → IsCounted old history → is_full history ≡ false →
+    AnswersModule history (plug at tag description) Done new
 plug-answered history at tag description slot old new is few keeps changes more seats counted room =
-    let answer = new-tag history at tag description old is seats counted room ∙ ap (λ full. first_rule (when full PlantFull ∷ []) Done) few in
-    let empty : IsEmpty (past tag history) (holder_of history tag) = subst (λ found. IsSeated tag found (past tag history) (holder_of history tag)) is (seats tag) in
+    let answer = new-tag history at tag description old is seats counted room
+    ∙ ap (λ full. first_rule (when full PlantFull ∷ []) Done) few in
+    let empty : IsEmpty (past tag history) (holder_of history tag) =
+    subst (λ found. IsSeated tag found (past tag history) (holder_of history tag)) is (seats tag) in
     let entry : EntryForm = paired (plug at tag description) Done in
     record {
       answer_is = sym answer;
       seats = subst (λ answer. SeatsMirror new (paired (plug at tag description) answer ∷ history)) (sym answer)
           (seat-changes history entry tag (Some (record { part = slot; holder = None })) old new refl changes
-          (record { slot_keeps = subst (SlotKeeps tag slot) (sym (past-own history entry tag refl refl)) keeps; held_by = sym empty.free }) seats);
+          (record {
+            slot_keeps = subst (SlotKeeps tag slot) (sym (past-own history entry tag refl refl)) keeps;
+            held_by = sym empty.free;
+          }) seats);
       counted = subst (λ answer. IsCounted new (paired (plug at tag description) answer ∷ history)) (sym answer)
           (counted-more history entry tag (record { part = slot; holder = None }) old new is refl changes more counted);
     }

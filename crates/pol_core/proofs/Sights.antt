@@ -4,12 +4,12 @@ use Rattle.std.specs.Option.{option_map}
 use Rattle.mtp_codes.specs.declared.value.Value.{Value}
 use Rattle.mtp_codes.specs.declared.value.Value.TheVariants as value
 use Rattle.mtp_modes.specs.declared.view.ServiceView.{ServiceView}
+use Rattle.pol_events.specs.Bound.{bound_tag}
 use Rattle.pol_events.specs.declared.event.Bind.{Bind}
+use Rattle.pol_history.specs.Batches.{holder_of}
+use Rattle.pol_history.specs.Following.{sight_in, reading_in, service_sight, variable_sight, sights_by}
 use Rattle.pol_history.specs.Looking.{History, past}
 use Rattle.pol_history.specs.Modules.{Docking, absent, docked, away, docking_by, ticket_of, seen_with, control_by, view_by, value_by}
-use Rattle.pol_history.specs.Batches.{holder_of}
-use Rattle.pol_events.specs.Bound.{bound_tag}
-use Rattle.pol_history.specs.Following.{sight_in, reading_in, service_sight, variable_sight, sights_by}
 use Rattle.pol_slots.specs.Sights as slots
 use Rattle.pol_slots.specs.Sights.{sight_of, reading_of, slot_sight, slot_reading}
 use Rattle.pol_slots.specs.Slots.{slot_ticket, slot_description}
@@ -18,13 +18,17 @@ use Rattle.pol_table.specs.Berths.{Berth, Berths, look}
 use Rattle.pol_core.specs.Seats.{SlotKeeps, IsSeated, SeatsMirror}
 use Rattle.pol_core.specs.Seen.{slot_sees, slot_reads, tag_sees, tag_reads, table_sights}
 
-sight-there : (docking : Docking) (view : Option ServiceView) → (docking ≡ absent → ⊥) → sight_of (ticket_of docking) view ≡ sight_in docking view
+-- what is seen of a service of a module that is there, by its ticket
+sight-there : (docking : Docking) (view : Option ServiceView) → (docking ≡ absent → ⊥) →
+    sight_of (ticket_of docking) view ≡ sight_in docking view
 sight-there absent view there = absurd (there refl)
 sight-there (docked count) None there = refl
 sight-there (docked count) (Some view) there = refl
 sight-there (away ticket) view there = refl
 
-reading-there : (docking : Docking) (found : Option Value) → (docking ≡ absent → ⊥) → reading_of (ticket_of docking) found ≡ reading_in docking found
+-- what is seen of a variable, likewise
+reading-there : (docking : Docking) (found : Option Value) → (docking ≡ absent → ⊥) →
+    reading_of (ticket_of docking) found ≡ reading_in docking found
 reading-there absent found there = absurd (there refl)
 reading-there (docked count) None there = refl
 reading-there (docked count) (Some (value.Whole number)) there = refl
@@ -32,42 +36,66 @@ reading-there (docked count) (Some (value.Bit bit)) there = refl
 reading-there (docked count) (Some (value.Text text)) there = refl
 reading-there (away ticket) found there = refl
 
-pub slot-sight : (tag service : List ℕ) (slot : Slot) (past : History) → SlotKeeps tag slot past → slot_sight slot service ≡ sight_in (docking_by past) (view_by service past)
+-- what a slot shows of a service is what its module's past shows
+pub slot-sight : (tag service : List ℕ) (slot : Slot) (past : History) → SlotKeeps tag slot past →
+    slot_sight slot service ≡ sight_in (docking_by past) (view_by service past)
 slot-sight tag service slot past keeps =
-    ap (λ last. sight_of (slot_ticket slot) (option_map (slots.view_by service (slot_description slot)) last)) (keeps.controls service)
-    ∙ ap (λ ticket. sight_of ticket (option_map (slots.view_by service (slot_description slot)) (control_by service past))) keeps.ticket
-    ∙ ap (λ found. sight_of (ticket_of (docking_by past)) (option_map (seen_with service found) (control_by service past))) (sym keeps.description)
+    ap (λ last. sight_of (slot_ticket slot) (option_map (slots.view_by service (slot_description slot)) last))
+    (keeps.controls service)
+    ∙ ap (λ ticket. sight_of ticket (option_map (slots.view_by service (slot_description slot))
+    (control_by service past))) keeps.ticket
+    ∙ ap (λ found. sight_of (ticket_of (docking_by past)) (option_map (seen_with service found)
+    (control_by service past))) (sym keeps.description)
     ∙ sight-there (docking_by past) (view_by service past) keeps.is_there
 
-slot-reading : (tag name : List ℕ) (slot : Slot) (past : History) → SlotKeeps tag slot past → slot_reading slot name ≡ reading_in (docking_by past) (value_by name past)
+-- so is what it shows of a variable
+slot-reading : (tag name : List ℕ) (slot : Slot) (past : History) → SlotKeeps tag slot past →
+    slot_reading slot name ≡ reading_in (docking_by past) (value_by name past)
 slot-reading tag name slot past keeps =
     ap (reading_of (slot_ticket slot)) (keeps.values name)
     ∙ ap (λ ticket. reading_of ticket (value_by name past)) keeps.ticket
     ∙ reading-there (docking_by past) (value_by name past) keeps.is_there
 
-seen-seated : (tag service : List ℕ) (found : Option (Berth Slot)) (past : History) (holder : Option (List ℕ)) → IsSeated tag found past holder →
+-- so it is of a tag, whether it has a berth or not
+seen-seated : (tag service : List ℕ) (found : Option (Berth Slot)) (past : History) (holder : Option (List ℕ)) →
+    IsSeated tag found past holder →
     slot_sees (option_map (λ berth. berth.part) found) service ≡ sight_in (docking_by past) (view_by service past)
-seen-seated tag service None past holder seated = ap (λ docking. sight_in docking (view_by service past)) (sym seated.is_absent)
+seen-seated tag service None past holder seated =
+    ap (λ docking. sight_in docking (view_by service past)) (sym seated.is_absent)
 seen-seated tag service (Some berth) past holder seated = slot-sight tag service berth.part past seated.slot_keeps
 
-read-seated : (tag name : List ℕ) (found : Option (Berth Slot)) (past : History) (holder : Option (List ℕ)) → IsSeated tag found past holder →
+-- so is what is read of it
+read-seated : (tag name : List ℕ) (found : Option (Berth Slot)) (past : History) (holder : Option (List ℕ)) →
+    IsSeated tag found past holder →
     slot_reads (option_map (λ berth. berth.part) found) name ≡ reading_in (docking_by past) (value_by name past)
-read-seated tag name None past holder seated = ap (λ docking. reading_in docking (value_by name past)) (sym seated.is_absent)
+read-seated tag name None past holder seated =
+    ap (λ docking. reading_in docking (value_by name past)) (sym seated.is_absent)
 read-seated tag name (Some berth) past holder seated = slot-reading tag name berth.part past seated.slot_keeps
 
+-- what a batch sees by the table is what it sees by the pasts
 pub sights-same : (berths : Berths Slot) (history : History) (binds : List Bind) → SeatsMirror berths history →
     table_sights berths binds ≡ sights_by binds (λ tag. past tag history)
 sights-same berths history binds mirror =
-    let view : (role service : List ℕ) → tag_sees berths (bound_tag binds role) service ≡ service_sight (λ tag. past tag history) service (bound_tag binds role)
+    let view : (role service : List ℕ) → tag_sees berths (bound_tag binds role) service
+    ≡ service_sight (λ tag. past tag history) service (bound_tag binds role)
     = λ role service. sees (bound_tag binds role) service in
-    let reading : (role name : List ℕ) → tag_reads berths (bound_tag binds role) name ≡ variable_sight (λ tag. past tag history) name (bound_tag binds role)
+    let reading : (role name : List ℕ) → tag_reads berths (bound_tag binds role) name
+    ≡ variable_sight (λ tag. past tag history) name (bound_tag binds role)
     = λ role name. reads (bound_tag binds role) name in
-    λ i. record { tag = bound_tag binds; view = λ role service. view role service i; reading = λ role name. reading role name i }
+    λ i. record {
+      tag = bound_tag binds;
+      view = λ role service. view role service i;
+      reading = λ role name. reading role name i;
+    }
   where
-    sees : (tag : Option (List ℕ)) (service : List ℕ) → tag_sees berths tag service ≡ service_sight (λ tag. past tag history) service tag
+    sees : (tag : Option (List ℕ)) (service : List ℕ) → tag_sees berths tag service
+        ≡ service_sight (λ tag. past tag history) service tag
     sees None service = refl
-    sees (Some tag) service = seen-seated tag service (look tag berths) (past tag history) (holder_of history tag) (mirror tag)
+    sees (Some tag) service = seen-seated tag service (look tag berths) (past tag history)
+        (holder_of history tag) (mirror tag)
 
-    reads : (tag : Option (List ℕ)) (name : List ℕ) → tag_reads berths tag name ≡ variable_sight (λ tag. past tag history) name tag
+    reads : (tag : Option (List ℕ)) (name : List ℕ) → tag_reads berths tag name
+        ≡ variable_sight (λ tag. past tag history) name tag
     reads None name = refl
-    reads (Some tag) name = read-seated tag name (look tag berths) (past tag history) (holder_of history tag) (mirror tag)
+    reads (Some tag) name = read-seated tag name (look tag berths) (past tag history) (holder_of history tag)
+        (mirror tag)

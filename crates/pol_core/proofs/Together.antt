@@ -1,49 +1,52 @@
 -- All tables after an event.
 use Rattle.std.proofs.Common.{◌≡◌, ℕ, true, false, cond, List, [], ◌∷◌, ◌++◌, None, is_some, refl, ap, sym, ◌∙◌, subst, reverse, map, length, ◌<◌, ◌≤◌, arith}
 use Rattle.std.specs.Prelude.{◌&&◌, filter}
-use Rattle.std.specs.declared.sync.Arc.{Arc}
-use Rattle.chart_core.specs.declared.chart.Chart.{Chart}
-use Rattle.pol_history.specs.Batches.{starting, chart_named, is_start}
+use Rattle.std.proofs.lemmas.Bool.{lt-leb}
+use Rattle.std.proofs.lemmas.List.{map-append, reverse-append, length-reverse, length-map}
 use Rattle.std.specs.Map.{lookup}
 use Rattle.std.specs.Str.{bytes_eq}
-use Rattle.std.proofs.lemmas.List.{map-append, reverse-append, length-reverse, length-map}
-use Rattle.std.proofs.lemmas.Bool.{lt-leb}
+use Rattle.std.specs.declared.sync.Arc.{Arc}
+use Rattle.chart_core.specs.declared.chart.Chart.{Chart}
 use Rattle.pol_events.specs.Events.{event_view, EventForm, EntryForm, entry_view, history_view}
 use Rattle.pol_events.specs.Orderly.{is_orderly}
-use Rattle.pol_events.specs.declared.event.Event.{Event}
-use Rattle.pol_history.specs.Answers.{is_full, answer_of}
-use Rattle.pol_history.specs.Runs.{recorded, entry_of}
-use Rattle.pol_history.proofs.Accepted.{paired}
-use Rattle.pol_core.specs.Histories.{IsPlantHistory}
-use Rattle.pol_core.specs.Mirrors.{Mirrors, Answers}
-use Rattle.pol_history.proofs.Recording.{recorded-with-room}
 use Rattle.pol_events.specs.declared.answer.Answer.{Answer}
 use Rattle.pol_events.specs.declared.event.Entry.{Entry}
+use Rattle.pol_events.specs.declared.event.Event.{Event}
+use Rattle.pol_history.specs.Answers.{is_full, answer_of}
+use Rattle.pol_history.specs.Batches.{starting, chart_named, is_start}
 use Rattle.pol_history.specs.Looking.{History, of_module, of_batch, subject, is_batch, is_recipe, is_accepted, past_of_batch, recipes}
+use Rattle.pol_history.specs.Runs.{recorded, entry_of}
+use Rattle.pol_history.proofs.Accepted.{paired}
+use Rattle.pol_history.proofs.Recording.{recorded-with-room}
+use Rattle.pol_history.proofs.Refused.{refused-nothing, starts-refused}
 use Rattle.pol_slots.specs.declared.slot.Slot.{Slot}
 use Rattle.pol_table.specs.Berths.{Berths}
 use Rattle.pol_runs.specs.Runs.{PlainRun}
-use Rattle.pol_core.specs.Seats.{SeatsMirror, IsCounted, AnswersModule}
 use Rattle.pol_core.specs.Batches.{IsRun, RunsMirror, AnswersBatch}
+use Rattle.pol_core.specs.Histories.{IsPlantHistory}
+use Rattle.pol_core.specs.Mirrors.{Mirrors, Answers}
 use Rattle.pol_core.specs.Recipes.{RecipesMirror}
-use Rattle.pol_history.proofs.Refused.{refused-nothing, starts-refused}
-use Rattle.pol_core.proofs.Seating.{seats-refused}
+use Rattle.pol_core.specs.Seats.{SeatsMirror, IsCounted, AnswersModule}
 use Rattle.pol_core.proofs.Counting.{counted-same}
 use Rattle.pol_core.proofs.Lasting.{runs-refused}
+use Rattle.pol_core.proofs.Seating.{seats-refused}
 
 -- an event of a module changes no run
-pub runs-apart : (history : History) (entry : EntryForm) (tag : List ℕ) (runs : List (List ℕ × PlainRun)) → subject entry.event ≡ of_module tag → RunsMirror runs history →
+pub runs-apart : (history : History) (entry : EntryForm) (tag : List ℕ) (runs : List (List ℕ × PlainRun)) →
+    subject entry.event ≡ of_module tag → RunsMirror runs history →
     RunsMirror runs (entry ∷ history)
 runs-apart history entry tag runs is mirror batch =
     let past : past_of_batch batch (entry ∷ history) ≡ past_of_batch batch history
-    = ap (λ of. cond (is_batch batch of && is_accepted entry.answer) (entry ∷ past_of_batch batch history) (past_of_batch batch history)) is in
+    = ap (λ of. cond (is_batch batch of && is_accepted entry.answer) (entry ∷ past_of_batch batch history)
+    (past_of_batch batch history)) is in
     let known : recipes (entry ∷ history) ≡ recipes history
     = ap (λ of. cond (is_recipe of && is_accepted entry.answer) (entry ∷ recipes history) (recipes history)) is in
     subst (IsRun batch (lookup (bytes_eq batch) runs) (past_of_batch batch (entry ∷ history))) (sym known)
     (subst (λ past. IsRun batch (lookup (bytes_eq batch) runs) past (recipes history)) (sym past) (mirror batch))
 
 -- the recipes, where none is made known
-pub known-same : {Z : Type 0} (history : History) (entry : EntryForm) (known : List (List ℕ × Arc Chart Z)) → recipes (entry ∷ history) ≡ recipes history →
+pub known-same : {Z : Type 0} (history : History) (entry : EntryForm) (known : List (List ℕ × Arc Chart Z)) →
+    recipes (entry ∷ history) ≡ recipes history →
     RecipesMirror known history → RecipesMirror known (entry ∷ history)
 known-same history entry known same mirror =
     record {
@@ -52,16 +55,24 @@ known-same history entry known same mirror =
       count = mirror.count ∙ ap length (sym same);
     }
 
-recipes-apart : (history : History) (entry : EntryForm) (tag : List ℕ) → subject entry.event ≡ of_module tag → recipes (entry ∷ history) ≡ recipes history
-recipes-apart history entry tag is = ap (λ of. cond (is_recipe of && is_accepted entry.answer) (entry ∷ recipes history) (recipes history)) is
+-- an event of a module changes no recipe
+recipes-apart : (history : History) (entry : EntryForm) (tag : List ℕ) → subject entry.event ≡ of_module tag →
+    recipes (entry ∷ history) ≡ recipes history
+recipes-apart history entry tag is =
+    ap (λ of. cond (is_recipe of && is_accepted entry.answer) (entry ∷ recipes history) (recipes history)) is
 
 -- the count of the starts, where nothing is started
-pub starts-same : (history : History) (entry : EntryForm) → starting entry.event ≡ None → length (filter is_start (entry ∷ history)) ≡ length (filter is_start history)
+pub starts-same : (history : History) (entry : EntryForm) → starting entry.event ≡ None →
+    length (filter is_start (entry ∷ history)) ≡ length (filter is_start history)
 starts-same history entry unstarted =
-    ap (λ found. length (cond (is_some found && is_accepted entry.answer) (entry ∷ filter is_start history) (filter is_start history))) unstarted
+    ap (λ found. length (cond (is_some found && is_accepted entry.answer) (entry ∷ filter is_start history)
+    (filter is_start history))) unstarted
 
-pub module-answered : {Z : Type 0} (history : History) (event : EventForm) (tag : List ℕ) (answer : Answer) (old new : Berths Slot) (runs : List (List ℕ × PlainRun))
-    (known : List (List ℕ × Arc Chart Z)) → subject event ≡ of_module tag → starting event ≡ None → Mirrors old runs known history →
+-- all tables after an event of a module
+pub module-answered : {Z : Type 0} (history : History) (event : EventForm) (tag : List ℕ) (answer : Answer)
+    (old new : Berths Slot) (runs : List (List ℕ × PlainRun))
+    (known : List (List ℕ × Arc Chart Z)) → subject event ≡ of_module tag → starting event ≡ None →
+    Mirrors old runs known history →
     AnswersModule history event answer new → Answers history event answer new runs known
 module-answered history event tag answer old new runs known is unstarted mirrors answers =
     record {
@@ -70,18 +81,28 @@ module-answered history event tag answer old new runs known is unstarted mirrors
         seats = answers.seats;
         batches = runs-apart history (entry_of history event) tag runs is mirrors.batches;
         counted = answers.counted;
-        recipes = known-same history (entry_of history event) known (recipes-apart history (entry_of history event) tag is) mirrors.recipes;
+        recipes = known-same history (entry_of history event) known
+            (recipes-apart history (entry_of history event) tag is) mirrors.recipes;
         starts = mirrors.starts ∙ sym (starts-same history (entry_of history event) unstarted);
       };
     }
 
 -- other modules that keep the same history
-pub module-kept : {Z : Type 0} (history : History) (old new : Berths Slot) (runs : List (List ℕ × PlainRun)) (known : List (List ℕ × Arc Chart Z)) →
+pub module-kept : {Z : Type 0} (history : History) (old new : Berths Slot) (runs : List (List ℕ × PlainRun))
+    (known : List (List ℕ × Arc Chart Z)) →
     Mirrors old runs known history → SeatsMirror new history → IsCounted new history → Mirrors new runs known history
 module-kept history old new runs known mirrors seats counted =
-    record { seats = seats; batches = mirrors.batches; counted = counted; recipes = mirrors.recipes; starts = mirrors.starts }
+    record {
+      seats = seats;
+      batches = mirrors.batches;
+      counted = counted;
+      recipes = mirrors.recipes;
+      starts = mirrors.starts;
+    }
 
-pub batch-answered : {Z : Type 0} (history : History) (event : EventForm) (batch : List ℕ) (answer : Answer) (old new : Berths Slot) (runs after : List (List ℕ × PlainRun))
+-- all tables after an event of a batch that is no start
+pub batch-answered : {Z : Type 0} (history : History) (event : EventForm) (batch : List ℕ)
+    (answer : Answer) (old new : Berths Slot) (runs after : List (List ℕ × PlainRun))
     (known : List (List ℕ × Arc Chart Z)) → subject event ≡ of_batch batch → starting event ≡ None →
     Mirrors old runs known history → AnswersBatch history event answer new after → length after ≡ length runs →
     Answers history event answer new after known
@@ -93,14 +114,17 @@ batch-answered history event batch answer old new runs after known is unstarted 
         batches = answers.batches;
         counted = answers.counted;
         recipes = known-same history (entry_of history event) known
-            (ap (λ of. cond (is_recipe of && is_accepted (answer_of history event)) (entry_of history event ∷ recipes history) (recipes history)) is) mirrors.recipes;
+            (ap (λ of. cond (is_recipe of && is_accepted (answer_of history event))
+            (entry_of history event ∷ recipes history) (recipes history)) is) mirrors.recipes;
         starts = count ∙ mirrors.starts ∙ sym (starts-same history (entry_of history event) unstarted);
       };
     }
 
 -- a refused event
-pub refused-all : {Z : Type 0} (history : History) (event : EventForm) (answer : Answer) (berths : Berths Slot) (runs : List (List ℕ × PlainRun))
-    (known : List (List ℕ × Arc Chart Z)) → answer ≡ answer_of history event → is_accepted answer ≡ false → Mirrors berths runs known history →
+pub refused-all : {Z : Type 0} (history : History) (event : EventForm) (answer : Answer) (berths : Berths Slot)
+    (runs : List (List ℕ × PlainRun))
+    (known : List (List ℕ × Arc Chart Z)) → answer ≡ answer_of history event → is_accepted answer ≡ false →
+    Mirrors berths runs known history →
     Answers history event answer berths runs known
 refused-all history event answer berths runs known is refused mirrors =
     let entry : EntryForm = entry_of history event in
@@ -118,8 +142,10 @@ refused-all history event answer berths runs known is refused mirrors =
     }
 
 -- an entry at the end of the entries is the newest of the history
-pub pushed : (entries : List Entry) (entry : Entry) → history_view (entries ++ entry ∷ []) ≡ entry_view entry ∷ history_view entries
-pushed entries entry = ap reverse (map-append entry_view entries (entry ∷ [])) ∙ reverse-append (map entry_view entries) (entry_view entry ∷ [])
+pub pushed : (entries : List Entry) (entry : Entry) → history_view (entries ++ entry ∷ [])
+    ≡ entry_view entry ∷ history_view entries
+pushed entries entry = ap reverse (map-append entry_view entries (entry ∷ []))
+    ∙ reverse-append (map entry_view entries) (entry_view entry ∷ [])
 
 -- as many entries as the history has
 pub length-history : (entries : List Entry) → length (history_view entries) ≡ length entries
@@ -133,15 +159,19 @@ short-has-room entries short =
     lt-leb 200000 (length (history_view entries)) below
 
 -- the history with the answered event at its end
-pub appended : (old new : List Entry) (event : Event) (answer : Answer) → new ≡ old ++ record { event = event; answer = answer } ∷ [] →
-    answer ≡ answer_of (history_view old) (event_view event) → history_view new ≡ entry_of (history_view old) (event_view event) ∷ history_view old
+pub appended : (old new : List Entry) (event : Event) (answer : Answer) →
+    new ≡ old ++ record { event = event; answer = answer } ∷ [] →
+    answer ≡ answer_of (history_view old) (event_view event) →
+    history_view new ≡ entry_of (history_view old) (event_view event) ∷ history_view old
 appended old new event answer is same =
     ap history_view is ∙ pushed old (record { event = event; answer = answer })
     ∙ ap (λ answer. paired (event_view event) answer ∷ history_view old) same
 
 -- what the plant keeps, it keeps with the answered event
-pub grown : {Z : Type 0} (old new : List Entry) (event : Event) (answer : Answer) (berths : Berths Slot) (runs : List (List ℕ × PlainRun)) (known : List (List ℕ × Arc Chart Z)) →
-    new ≡ old ++ record { event = event; answer = answer } ∷ [] → length old < 200000 → is_orderly (event_view event) ≡ true →
+pub grown : {Z : Type 0} (old new : List Entry) (event : Event) (answer : Answer) (berths : Berths Slot)
+    (runs : List (List ℕ × PlainRun)) (known : List (List ℕ × Arc Chart Z)) →
+    new ≡ old ++ record { event = event; answer = answer } ∷ [] → length old < 200000 →
+    is_orderly (event_view event) ≡ true →
     IsPlantHistory (history_view old) → Answers (history_view old) (event_view event) answer berths runs known →
     IsPlantHistory (history_view new) × Mirrors berths runs known (history_view new)
 grown old new event answer berths runs known is short orderly kept takes =
@@ -159,7 +189,8 @@ grown old new event answer berths runs known is short orderly kept takes =
     )
 
 -- and this is the recorded history
-pub recorded-is : (old new : List Entry) (event : Event) (answer : Answer) → new ≡ old ++ record { event = event; answer = answer } ∷ [] → length old < 200000 →
+pub recorded-is : (old new : List Entry) (event : Event) (answer : Answer) →
+    new ≡ old ++ record { event = event; answer = answer } ∷ [] → length old < 200000 →
     answer ≡ answer_of (history_view old) (event_view event) →
     history_view new ≡ recorded (entry_of (history_view old) (event_view event)) (history_view old)
 recorded-is old new event answer is short same =

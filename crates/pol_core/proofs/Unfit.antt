@@ -4,60 +4,71 @@ use Rattle.std.specs.Prelude.{◌||◌, filter, filter_map, option_map, option_a
 use Rattle.std.specs.List.{cons_option}
 use Rattle.std.specs.Option.{option_or}
 use Rattle.std.specs.Str.{bytes_eq}
-use Rattle.mtp_codes.specs.Names.{same_name, is_among}
 use Rattle.mtp_codes.specs.Faults.{when, first_of}
+use Rattle.mtp_codes.specs.Names.{same_name, is_among}
 use Rattle.mtp_modes.specs.declared.view.ServiceView.{ServiceView}
 use Rattle.mtp_procs.specs.Covers.{cover_fault}
 use Rattle.chart_core.specs.Roles.{ChartPlan, role_names}
 use Rattle.chart_core.specs.Trees.{StepPlan, Placed, steps}
+use Rattle.pol_events.specs.Bound.{bound_tag}
 use Rattle.pol_events.specs.Refusals.{in_exchange, cover_rule}
 use Rattle.pol_events.specs.declared.answer.Rule.{Rule}
 use Rattle.pol_events.specs.declared.answer.Rule.TheVariants.{OneModuleTwice}
 use Rattle.pol_events.specs.declared.event.Bind.{Bind}
+use Rattle.pol_history.specs.Batches.{holder_of}
+use Rattle.pol_history.specs.Following.{sight_in}
 use Rattle.pol_history.specs.Looking.{History, past}
 use Rattle.pol_history.specs.Modules.{Docking, absent, docked, away, docking_by, ticket_of, description_by, view_by}
-use Rattle.pol_history.specs.Batches.{holder_of}
-use Rattle.pol_events.specs.Bound.{bound_tag}
-use Rattle.pol_history.specs.Following.{sight_in}
 use Rattle.pol_history.specs.Rules.{no_module, not_covered, not_reported, not_idle, unready, not_ready, services_of, module_rules, module_rule, modules_unfit, busy_module, busy_role, busy, is_bound_before, twice, one_module_twice, role_unbound, role_unknown}
-use Rattle.pol_slots.specs.Slots.{slot_ticket, slot_description}
 use Rattle.pol_slots.specs.Sights.{slot_sight}
+use Rattle.pol_slots.specs.Slots.{slot_ticket, slot_description}
 use Rattle.pol_slots.specs.declared.slot.Slot.{Slot}
-use Rattle.pol_table.specs.Berths.{Berth, Berths, look}
 use Rattle.pol_table.specs.Berths as tables
-use Rattle.pol_core.specs.Seats.{SlotKeeps, IsSeated, SeatsMirror}
+use Rattle.pol_table.specs.Berths.{Berth, Berths, look}
 use Rattle.pol_core.specs.Judging.{twice_from, sight_unready, step_unready, slot_rule, part_rule, role_rule, table_unfit, tag_busy, table_busy, bind_rule}
+use Rattle.pol_core.specs.Seats.{SlotKeeps, IsSeated, SeatsMirror}
 use Rattle.pol_core.specs.Walks.{first_said}
-use Rattle.pol_core.proofs.Walked.{or-none-right, said, said-is}
 use Rattle.pol_core.proofs.Judging.{there-is}
 use Rattle.pol_core.proofs.Sights.{slot-sight}
+use Rattle.pol_core.proofs.Walked.{or-none-right, said, said-is}
 
 -- ---- the services of a role
 
-docked-sight : (tag service : List ℕ) (docking : Docking) (view : Option ServiceView) → (docking ≡ absent → ⊥) → ticket_of docking ≡ None →
-    sight_unready tag service (sight_in docking view) ≡ option_or (not_reported tag service view) (not_idle tag service view)
+-- what is seen of a service of a docked module
+docked-sight : (tag service : List ℕ) (docking : Docking) (view : Option ServiceView) → (docking ≡ absent → ⊥) →
+    ticket_of docking ≡ None →
+    sight_unready tag service (sight_in docking view) ≡ option_or (not_reported tag service view)
+    (not_idle tag service view)
 docked-sight tag service absent view there docked' = absurd (there refl)
 docked-sight tag service (docked count) None there docked' = refl
 docked-sight tag service (docked count) (Some view) there docked' = refl
 docked-sight tag service (away ticket) view there docked' = cc
 
-service-same : (tag service : List ℕ) (slot : Slot) (past : History) → SlotKeeps tag slot past → slot_ticket slot ≡ None →
+-- a service is unready by its slot exactly as by its past
+service-same : (tag service : List ℕ) (slot : Slot) (past : History) → SlotKeeps tag slot past →
+    slot_ticket slot ≡ None →
     sight_unready tag service (slot_sight slot service) ≡ unready tag past service
 service-same tag service slot past keeps docked' =
     ap (sight_unready tag service) (slot-sight tag service slot past keeps)
     ∙ docked-sight tag service (docking_by past) (view_by service past) keeps.is_there (sym keeps.ticket ∙ docked')
 
-services-same : (tag role : List ℕ) (slot : Slot) (past : History) → ((service : List ℕ) → sight_unready tag service (slot_sight slot service) ≡ unready tag past service) →
+-- so are the services of a role
+services-same : (tag role : List ℕ) (slot : Slot) (past : History) →
+    ((service : List ℕ) → sight_unready tag service (slot_sight slot service) ≡ unready tag past service) →
     (placed : List Placed) → said (step_unready slot tag role) placed
-    ≡ not_ready tag past (map (λ step. step.service) (filter (λ step. same_name step.role role) (map (λ placed. placed.step) placed)))
+    ≡ not_ready tag past (map (λ step. step.service) (filter (λ step. same_name step.role role)
+    (map (λ placed. placed.step) placed)))
 services-same tag role slot past same [] = refl
-services-same tag role slot past same (each ∷ placed) = go (same_name each.step.role role) (services-same tag role slot past same placed)
+services-same tag role slot past same (each ∷ placed) =
+    go (same_name each.step.role role) (services-same tag role slot past same placed)
   where
     rest : List StepPlan
     rest = filter (λ step. same_name step.role role) (map (λ placed. placed.step) placed)
 
-    go : (own : Bool) → said (step_unready slot tag role) placed ≡ not_ready tag past (map (λ step. step.service) rest) →
-        option_or (cond own (sight_unready tag each.step.service (slot_sight slot each.step.service)) None) (said (step_unready slot tag role) placed)
+    go : (own : Bool) → said (step_unready slot tag role) placed
+        ≡ not_ready tag past (map (λ step. step.service) rest) →
+        option_or (cond own (sight_unready tag each.step.service (slot_sight slot each.step.service)) None)
+        (said (step_unready slot tag role) placed)
         ≡ not_ready tag past (map (λ step. step.service) (cond own (each.step ∷ rest) rest))
     go true later =
         ap (λ found. option_or found (said (step_unready slot tag role) placed)) (same each.step.service)
@@ -66,22 +77,27 @@ services-same tag role slot past same (each ∷ placed) = go (same_name each.ste
 
 -- ---- the rules of a module
 
+-- a slot meets the rules that its module's past meets
 slot-rule-same : (chart : ChartPlan) (role tag : List ℕ) (slot : Slot) (past : History) → SlotKeeps tag slot past →
     slot_rule chart role tag slot ≡ first_of (module_rules chart role tag past)
 slot-rule-same chart role tag slot past keeps = go (slot_ticket slot) refl
   where
     others : Option Rule
-    others = option_or (not_covered chart role (description_by past)) (option_or (not_ready tag past (services_of chart role)) None)
+    others = option_or (not_covered chart role (description_by past))
+        (option_or (not_ready tag past (services_of chart role)) None)
 
     looked : first_of (module_rules chart role tag past) ≡ option_or (in_exchange tag (slot_ticket slot)) others
     looked =
-        ap (λ rule. option_or rule (option_or (in_exchange tag (ticket_of (docking_by past))) others)) (there-is tag (docking_by past) keeps.is_there)
+        ap (λ rule. option_or rule (option_or (in_exchange tag (ticket_of (docking_by past))) others))
+        (there-is tag (docking_by past) keeps.is_there)
         ∙ ap (λ ticket. option_or (in_exchange tag ticket) others) (sym keeps.ticket)
 
     mine : Option Rule
-    mine = option_or (option_map (cover_rule role) (cover_fault chart role (slot_description slot))) (first_said (step_unready slot tag role) chart.root)
+    mine = option_or (option_map (cover_rule role) (cover_fault chart role (slot_description slot)))
+        (first_said (step_unready slot tag role) chart.root)
 
-    go : (ticket : Option ℕ) → slot_ticket slot ≡ ticket → slot_rule chart role tag slot ≡ first_of (module_rules chart role tag past)
+    go : (ticket : Option ℕ) → slot_ticket slot ≡ ticket → slot_rule chart role tag slot
+        ≡ first_of (module_rules chart role tag past)
     go (Some ticket) is =
         ap (λ ticket. option_or (in_exchange tag ticket) mine) is
         ∙ sym (looked ∙ ap (λ ticket. option_or (in_exchange tag ticket) others) is)
@@ -91,47 +107,70 @@ slot-rule-same chart role tag slot past keeps = go (slot_ticket slot) refl
         (said-is (step_unready slot tag role) chart.root 0
         ∙ services-same tag role slot past (λ service. service-same tag service slot past keeps is) (steps chart.root 0)
         ∙ sym (or-none-right (not_ready tag past (services_of chart role))))
-        ∙ ap (λ description. option_or (not_covered chart role description) (option_or (not_ready tag past (services_of chart role)) None)) (sym keeps.description)
+        ∙ ap (λ description. option_or (not_covered chart role description)
+        (option_or (not_ready tag past (services_of chart role)) None)) (sym keeps.description)
         ∙ sym (looked ∙ ap (λ ticket. option_or (in_exchange tag ticket) others) is)
 
-part-same : (chart : ChartPlan) (role tag : List ℕ) (found : Option (Berth Slot)) (past : History) (holder : Option (List ℕ)) → IsSeated tag found past holder →
+-- so does a tag, whether it has a slot or not
+part-same : (chart : ChartPlan) (role tag : List ℕ) (found : Option (Berth Slot)) (past : History)
+    (holder : Option (List ℕ)) → IsSeated tag found past holder →
     part_rule chart role tag (option_map (λ berth. berth.part) found) ≡ first_of (module_rules chart role tag past)
 part-same chart role tag None past holder seated =
     sym (ap (λ docking. option_or (no_module tag docking)
     (option_or (in_exchange tag (ticket_of (docking_by past)))
-    (option_or (not_covered chart role (description_by past)) (option_or (not_ready tag past (services_of chart role)) None)))) seated.is_absent)
-part-same chart role tag (Some berth) past holder seated = slot-rule-same chart role tag berth.part past seated.slot_keeps
+    (option_or (not_covered chart role (description_by past))
+    (option_or (not_ready tag past (services_of chart role)) None)))) seated.is_absent)
+part-same chart role tag (Some berth) past holder seated =
+    slot-rule-same chart role tag berth.part past seated.slot_keeps
 
-role-same : (berths : Berths Slot) (history : History) (chart : ChartPlan) (role : List ℕ) → SeatsMirror berths history → (tag : Option (List ℕ)) →
+-- so does a role, whether it has a tag or not
+role-same : (berths : Berths Slot) (history : History) (chart : ChartPlan) (role : List ℕ) →
+    SeatsMirror berths history → (tag : Option (List ℕ)) →
     role_rule berths chart role tag ≡ module_rule history chart role tag
 role-same berths history chart role mirror None = refl
-role-same berths history chart role mirror (Some tag) = part-same chart role tag (look tag berths) (past tag history) (holder_of history tag) (mirror tag)
+role-same berths history chart role mirror (Some tag) =
+    part-same chart role tag (look tag berths) (past tag history) (holder_of history tag) (mirror tag)
 
-first-same : {X : Type 0} (f g : X → Option Rule) → ((x : X) → f x ≡ g x) → (xs : List X) → first_of (map f xs) ≡ first_of (map g xs)
+-- two rules that say the same of each say the same of a list
+first-same : {X : Type 0} (f g : X → Option Rule) → ((x : X) → f x ≡ g x) → (xs : List X) →
+    first_of (map f xs) ≡ first_of (map g xs)
 first-same f g same [] = refl
-first-same f g same (x ∷ xs) = ap (λ found. option_or found (first_of (map f xs))) (same x) ∙ ap (option_or (g x)) (first-same f g same xs)
+first-same f g same (x ∷ xs) =
+    ap (λ found. option_or found (first_of (map f xs))) (same x) ∙ ap (option_or (g x)) (first-same f g same xs)
 
-unfit-same : (berths : Berths Slot) (history : History) (chart : ChartPlan) (binds : List Bind) (roles : List (List ℕ)) → SeatsMirror berths history →
+-- so do all roles
+unfit-same : (berths : Berths Slot) (history : History) (chart : ChartPlan) (binds : List Bind)
+    (roles : List (List ℕ)) → SeatsMirror berths history →
     table_unfit berths chart binds roles ≡ modules_unfit history chart binds roles
 unfit-same berths history chart binds roles mirror =
-    first-same (λ role. role_rule berths chart role (bound_tag binds role)) (λ role. module_rule history chart role (bound_tag binds role))
+    first-same (λ role. role_rule berths chart role (bound_tag binds role))
+    (λ role. module_rule history chart role (bound_tag binds role))
     (λ role. role-same berths history chart role mirror (bound_tag binds role)) roles
 
 -- ---- who holds a module
 
-held-seated : (tag : List ℕ) (found : Option (Berth Slot)) (past : History) (holder : Option (List ℕ)) → IsSeated tag found past holder →
+-- a berth is held by the holder
+held-seated : (tag : List ℕ) (found : Option (Berth Slot)) (past : History) (holder : Option (List ℕ)) →
+    IsSeated tag found past holder →
     option_and_then (λ berth. berth.holder) found ≡ holder
 held-seated tag None past holder seated = sym seated.free
 held-seated tag (Some berth) past holder seated = seated.held_by
 
-pub holder-same : (berths : Berths Slot) (history : History) (tag : List ℕ) → SeatsMirror berths history → tables.holder_of tag berths ≡ holder_of history tag
-holder-same berths history tag mirror = held-seated tag (look tag berths) (past tag history) (holder_of history tag) (mirror tag)
+-- the holder by the table is the holder
+pub holder-same : (berths : Berths Slot) (history : History) (tag : List ℕ) → SeatsMirror berths history →
+    tables.holder_of tag berths ≡ holder_of history tag
+holder-same berths history tag mirror =
+    held-seated tag (look tag berths) (past tag history) (holder_of history tag) (mirror tag)
 
-busy-one : (berths : Berths Slot) (history : History) → SeatsMirror berths history → (tag : Option (List ℕ)) → tag_busy berths tag ≡ busy_role history tag
+-- a role is busy by the table exactly where it is
+busy-one : (berths : Berths Slot) (history : History) → SeatsMirror berths history → (tag : Option (List ℕ)) →
+    tag_busy berths tag ≡ busy_role history tag
 busy-one berths history mirror None = refl
 busy-one berths history mirror (Some tag) = ap (busy_module tag) (holder-same berths history tag mirror)
 
-busy-same : (berths : Berths Slot) (history : History) (binds : List Bind) (roles : List (List ℕ)) → SeatsMirror berths history →
+-- so are all roles
+busy-same : (berths : Berths Slot) (history : History) (binds : List Bind) (roles : List (List ℕ)) →
+    SeatsMirror berths history →
     table_busy berths binds roles ≡ busy history binds roles
 busy-same berths history binds roles mirror =
     first-same (λ role. tag_busy berths (bound_tag binds role)) (λ role. busy_role history (bound_tag binds role))
@@ -139,58 +178,75 @@ busy-same berths history binds roles mirror =
 
 -- ---- the order of the earlier roles is of no account
 
+-- it is the same how two ors are grouped
 or-assoc : (a b c : Bool) → (a || (b || c)) ≡ ((a || b) || c)
 or-assoc true b c = refl
 or-assoc false b c = refl
 
+-- or false is as before
 or-false : (a : Bool) → (a || false) ≡ a
 or-false true = refl
 or-false false = refl
 
+-- it is the same which of two comes first
 or-swap : (a b : Bool) → (a || (b || false)) ≡ (b || a)
 or-swap true true = refl
 or-swap true false = refl
 or-swap false true = refl
 or-swap false false = refl
 
+-- a tag is bound to one of two lists of roles
 before-append : (binds : List Bind) (front : List (List ℕ)) (role tag : List ℕ) →
-    is_bound_before binds (front ++ role ∷ []) tag ≡ (is_bound_before binds front tag || is_bound_before binds (role ∷ []) tag)
+    is_bound_before binds (front ++ role ∷ []) tag
+    ≡ (is_bound_before binds front tag || is_bound_before binds (role ∷ []) tag)
 before-append binds [] role tag = refl
 before-append binds (first ∷ front) role tag = go (bound_tag binds first) (before-append binds front role tag)
   where
-    go : (found : Option (List ℕ)) → is_bound_before binds (front ++ role ∷ []) tag ≡ (is_bound_before binds front tag || is_bound_before binds (role ∷ []) tag) →
+    go : (found : Option (List ℕ)) → is_bound_before binds (front ++ role ∷ []) tag
+        ≡ (is_bound_before binds front tag || is_bound_before binds (role ∷ []) tag) →
         is_among (cons_option found (filter_map (bound_tag binds) (front ++ role ∷ []))) tag
-        ≡ (is_among (cons_option found (filter_map (bound_tag binds) front)) tag || is_bound_before binds (role ∷ []) tag)
+        ≡ (is_among (cons_option found (filter_map (bound_tag binds) front)) tag || is_bound_before binds
+        (role ∷ []) tag)
     go None rest = rest
     go (Some other) rest =
         ap (λ later. bytes_eq other tag || later) rest
         ∙ or-assoc (bytes_eq other tag) (is_bound_before binds front tag) (is_bound_before binds (role ∷ []) tag)
 
+-- it is bound to one role
 before-one : (binds : List Bind) (earlier : List (List ℕ)) (role tag : List ℕ) →
-    (is_bound_before binds earlier tag || is_bound_before binds (role ∷ []) tag) ≡ is_bound_before binds (role ∷ earlier) tag
+    (is_bound_before binds earlier tag || is_bound_before binds (role ∷ []) tag)
+    ≡ is_bound_before binds (role ∷ earlier) tag
 before-one binds earlier role tag = go (bound_tag binds role)
   where
     go : (found : Option (List ℕ)) →
-        (is_bound_before binds earlier tag || is_among (cons_option found []) tag) ≡ is_among (cons_option found (filter_map (bound_tag binds) earlier)) tag
+        (is_bound_before binds earlier tag || is_among (cons_option found []) tag)
+        ≡ is_among (cons_option found (filter_map (bound_tag binds) earlier)) tag
     go None = or-false (is_bound_before binds earlier tag)
     go (Some other) = or-swap (is_bound_before binds earlier tag) (bytes_eq other tag)
 
-twice-as : (binds : List Bind) (front earlier : List (List ℕ)) → ((tag : List ℕ) → is_bound_before binds front tag ≡ is_bound_before binds earlier tag) →
+-- a tag is bound twice whatever order the earlier roles have
+twice-as : (binds : List Bind) (front earlier : List (List ℕ)) →
+    ((tag : List ℕ) → is_bound_before binds front tag ≡ is_bound_before binds earlier tag) →
     (found : Option (List ℕ)) → twice binds front found ≡ twice binds earlier found
 twice-as binds front earlier same None = refl
 twice-as binds front earlier same (Some tag) = ap (λ before. when before (OneModuleTwice tag)) (same tag)
 
-pub twice-same : (binds : List Bind) (front earlier roles : List (List ℕ)) → ((tag : List ℕ) → is_bound_before binds front tag ≡ is_bound_before binds earlier tag) →
+-- so the first such tag is the same
+pub twice-same : (binds : List Bind) (front earlier roles : List (List ℕ)) →
+    ((tag : List ℕ) → is_bound_before binds front tag ≡ is_bound_before binds earlier tag) →
     twice_from binds front roles ≡ one_module_twice binds earlier roles
 twice-same binds front earlier [] same = refl
 twice-same binds front earlier (role ∷ roles) same =
-    ap (λ found. option_or found (twice_from binds (front ++ role ∷ []) roles)) (twice-as binds front earlier same (bound_tag binds role))
+    ap (λ found. option_or found (twice_from binds (front ++ role ∷ []) roles))
+    (twice-as binds front earlier same (bound_tag binds role))
     ∙ ap (option_or (twice binds earlier (bound_tag binds role)))
     (twice-same binds (front ++ role ∷ []) (role ∷ earlier) roles
-    (λ tag. before-append binds front role tag ∙ ap (λ before. before || is_bound_before binds (role ∷ []) tag) (same tag) ∙ before-one binds earlier role tag))
+    (λ tag. before-append binds front role tag ∙ ap (λ before. before || is_bound_before binds (role ∷ []) tag)
+    (same tag) ∙ before-one binds earlier role tag))
 
 -- ---- all together
 
+-- the rules of the binds and modules of a start, as they are defined
 abbrev pub defined_rule : History → ChartPlan → List Bind → Option Rule
 defined_rule history chart binds =
     option_or (role_unbound binds (role_names chart))
@@ -198,15 +254,20 @@ defined_rule history chart binds =
     (option_or (one_module_twice binds [] (role_names chart))
     (option_or (modules_unfit history chart binds (role_names chart)) (busy history binds (role_names chart)))))
 
-pub bind-rule-same : (berths : Berths Slot) (history : History) (chart : ChartPlan) (binds : List Bind) → SeatsMirror berths history →
+-- what the tables say of them is what looking back says
+pub bind-rule-same : (berths : Berths Slot) (history : History) (chart : ChartPlan) (binds : List Bind) →
+    SeatsMirror berths history →
     bind_rule berths chart binds ≡ defined_rule history chart binds
 bind-rule-same berths history chart binds mirror =
     ap (λ found. option_or (role_unbound binds (role_names chart)) (option_or (role_unknown binds (role_names chart))
-    (option_or found (option_or (table_unfit berths chart binds (role_names chart)) (table_busy berths binds (role_names chart))))))
+    (option_or found (option_or (table_unfit berths chart binds (role_names chart))
+    (table_busy berths binds (role_names chart))))))
     (twice-same binds [] [] (role_names chart) (λ tag. refl))
     ∙ ap (λ found. option_or (role_unbound binds (role_names chart)) (option_or (role_unknown binds (role_names chart))
-    (option_or (one_module_twice binds [] (role_names chart)) (option_or found (table_busy berths binds (role_names chart))))))
+    (option_or (one_module_twice binds [] (role_names chart))
+    (option_or found (table_busy berths binds (role_names chart))))))
     (unfit-same berths history chart binds (role_names chart) mirror)
     ∙ ap (λ found. option_or (role_unbound binds (role_names chart)) (option_or (role_unknown binds (role_names chart))
-    (option_or (one_module_twice binds [] (role_names chart)) (option_or (modules_unfit history chart binds (role_names chart)) found))))
+    (option_or (one_module_twice binds [] (role_names chart))
+    (option_or (modules_unfit history chart binds (role_names chart)) found))))
     (busy-same berths history binds (role_names chart) mirror)

@@ -8,35 +8,37 @@ use Rattle.pol_events.specs.Refusals.{in_exchange}
 use Rattle.pol_events.specs.declared.answer.Answer.TheVariants.{Done, Refused}
 use Rattle.pol_events.specs.declared.answer.Rule.{Rule}
 use Rattle.pol_events.specs.declared.answer.Rule.TheVariants.{Held, InExchange}
+use Rattle.pol_history.specs.Answers.{first_rule, answer_of, is_full}
+use Rattle.pol_history.specs.Batches.{holder_of}
 use Rattle.pol_history.specs.Looking.{History, past}
 use Rattle.pol_history.specs.Modules.{docking_by, ticket_of, present_tags, tags_without}
-use Rattle.pol_history.specs.Batches.{holder_of}
 use Rattle.pol_history.specs.Rules.{by_holder}
-use Rattle.pol_history.specs.Answers.{first_rule, answer_of, is_full}
 use Rattle.pol_history.proofs.Accepted.{paired, with-room}
 use Rattle.pol_history.proofs.Names.{same-true}
+use Rattle.pol_history.proofs.Pasts.{past-own}
 use Rattle.pol_slots.specs.Slots.{slot_ticket}
 use Rattle.pol_slots.specs.declared.slot.Slot.{Slot}
 use Rattle.pol_table.specs.Answers.{parting, parting_from, leaving}
-use Rattle.pol_table.specs.Berths.{Berth, Berths, look, part_of}
 use Rattle.pol_table.specs.Berths as tables
+use Rattle.pol_table.specs.Berths.{Berth, Berths, look, part_of}
 use Rattle.pol_core.specs.Seats.{IsTaken, IsSeated, SeatsMirror, AreOnce, IsCounted, AnswersModule}
 use Rattle.pol_core.proofs.Judging.{there-is, refuse}
 use Rattle.pol_core.proofs.Plugging.{refused-answered}
 use Rattle.pol_core.proofs.Seating.{Changes, seat-changes}
-use Rattle.pol_history.proofs.Pasts.{past-own}
 use Rattle.pol_core.proofs.Telling.{has-berth}
 
 -- ---- a tag taken out of others
 
 -- another tag is among the rest as before, and this one isn't
-among-without : (tag other : List ℕ) (tags : List (List ℕ)) → is_among (tags_without tag tags) other ≡ (if bytes_eq tag other then false else is_among tags other)
+among-without : (tag other : List ℕ) (tags : List (List ℕ)) → is_among (tags_without tag tags) other
+    ≡ (if bytes_eq tag other then false else is_among tags other)
 among-without tag other [] = none (bytes_eq tag other)
   where
     none : (same : Bool) → false ≡ (if same then false else false)
     none true = refl
     none false = refl
-among-without tag other (first ∷ tags) = go (bytes_eq first tag) refl (bytes_eq tag other) refl (among-without tag other tags)
+among-without tag other (first ∷ tags) =
+    go (bytes_eq first tag) refl (bytes_eq tag other) refl (among-without tag other tags)
   where
     apart : bytes_eq first tag ≡ false → bytes_eq tag other ≡ true → bytes_eq first other ≡ false
     apart away same = subst (λ name. bytes_eq first name ≡ false) (same-true tag other same) away
@@ -46,29 +48,36 @@ among-without tag other (first ∷ tags) = go (bytes_eq first tag) refl (bytes_e
         is_among (cond (not (bytes_eq first tag)) (first ∷ tags_without tag tags) (tags_without tag tags)) other
         ≡ (if bytes_eq tag other then false else bytes_eq first other || is_among tags other)
     go true here true same rest = rw (here, same) (rest ∙ rw same refl)
-    go false here true same rest = rw (here, same) (ap (λ one. one || is_among (tags_without tag tags) other) (apart here same) ∙ rest ∙ rw same refl)
+    go false here true same rest = rw (here, same) (ap (λ one. one || is_among (tags_without tag tags) other)
+        (apart here same) ∙ rest ∙ rw same refl)
     go true here false away rest =
-        rw (here, away) (rest ∙ rw away (ap (λ name. name || is_among tags other) (sym (subst (λ name. bytes_eq name other ≡ false) (sym (same-true first tag here)) away))))
+        rw (here, away) (rest
+        ∙ rw away (ap (λ name. name || is_among tags other)
+        (sym (subst (λ name. bytes_eq name other ≡ false) (sym (same-true first tag here)) away))))
     go false here false away rest = rw (here, away) (ap (λ among. bytes_eq first other || among) (rest ∙ rw away refl))
 
 -- a tag that isn't among others isn't among fewer of them
-out-of-fewer : (tag other : List ℕ) (tags : List (List ℕ)) → is_among tags other ≡ false → is_among (tags_without tag tags) other ≡ false
+out-of-fewer : (tag other : List ℕ) (tags : List (List ℕ)) → is_among tags other ≡ false →
+    is_among (tags_without tag tags) other ≡ false
 out-of-fewer tag other tags out = among-without tag other tags ∙ go (bytes_eq tag other)
   where
     go : (same : Bool) → (if same then false else is_among tags other) ≡ false
     go true = refl
     go false = out
 
+-- no tag is there twice without one
 once-without : (tag : List ℕ) (tags : List (List ℕ)) → AreOnce tags → AreOnce (tags_without tag tags)
 once-without tag [] once = tt
 once-without tag (first ∷ tags) once = go (bytes_eq first tag) (once-without tag tags once.1)
   where
-    go : (here : Bool) → AreOnce (tags_without tag tags) → AreOnce (cond (not here) (first ∷ tags_without tag tags) (tags_without tag tags))
+    go : (here : Bool) → AreOnce (tags_without tag tags) →
+        AreOnce (cond (not here) (first ∷ tags_without tag tags) (tags_without tag tags))
     go true rest = rest
     go false rest = (out-of-fewer tag first tags once.0, rest)
 
 -- without a tag that is among them, there is one less
-length-without : (tag : List ℕ) (tags : List (List ℕ)) → AreOnce tags → is_among tags tag ≡ true → length (tags_without tag tags) + 1 ≡ length tags
+length-without : (tag : List ℕ) (tags : List (List ℕ)) → AreOnce tags → is_among tags tag ≡ true →
+    length (tags_without tag tags) + 1 ≡ length tags
 length-without tag [] once among = cc
 length-without tag (first ∷ tags) once among = go (bytes_eq first tag) refl among (length-without tag tags once.1)
   where
@@ -79,24 +88,32 @@ length-without tag (first ∷ tags) once among = go (bytes_eq first tag) refl am
         stays : (same : Bool) → bytes_eq other tag ≡ same → bytes_eq other tag || is_among others tag ≡ false →
             (is_among others tag ≡ false → tags_without tag others ≡ others) →
             cond (not (bytes_eq other tag)) (other ∷ tags_without tag others) (tags_without tag others) ≡ other ∷ others
-        stays true is out rest = let clash : true ≡ false = ap (λ same. same || is_among others tag) (sym is) ∙ out in cc
-        stays false is out rest = rw is (ap (λ more. other ∷ more) (rest (ap (λ same. same || is_among others tag) (sym is) ∙ out)))
+        stays true is out rest = let clash : true ≡ false = ap (λ same. same || is_among others tag) (sym is)
+            ∙ out in cc
+        stays false is out rest =
+            rw is (ap (λ more. other ∷ more) (rest (ap (λ same. same || is_among others tag) (sym is) ∙ out)))
 
     plus-one : (n : ℕ) → n + 1 ≡ suc n
     plus-one n = omega arith
 
     go : (here : Bool) → bytes_eq first tag ≡ here → bytes_eq first tag || is_among tags tag ≡ true →
         (is_among tags tag ≡ true → length (tags_without tag tags) + 1 ≡ length tags) →
-        length (cond (not (bytes_eq first tag)) (first ∷ tags_without tag tags) (tags_without tag tags)) + 1 ≡ length (first ∷ tags)
+        length (cond (not (bytes_eq first tag)) (first ∷ tags_without tag tags) (tags_without tag tags)) + 1
+        ≡ length (first ∷ tags)
     go true here among rest =
-        rw here (ap (λ others. length others + 1) (all-stay tags (subst (λ name. is_among tags name ≡ false) (same-true first tag here) once.0)) ∙ plus-one (length tags))
+        rw here (ap (λ others. length others + 1) (all-stay tags
+        (subst (λ name. is_among tags name ≡ false) (same-true first tag here) once.0)) ∙ plus-one (length tags))
     go false here among rest =
-        let shorter : length (tags_without tag tags) + 1 ≡ length tags = rest (ap (λ same. same || is_among tags tag) (sym here) ∙ among) in
-        rw here (ap (λ n. n + 1) (sym (plus-one (length (tags_without tag tags)))) ∙ ap (λ n. n + 1) shorter ∙ plus-one (length tags))
+        let shorter : length (tags_without tag tags) + 1 ≡ length tags =
+        rest (ap (λ same. same || is_among tags tag) (sym here) ∙ among) in
+        rw here (ap (λ n. n + 1) (sym (plus-one (length (tags_without tag tags)))) ∙ ap (λ n. n + 1) shorter
+        ∙ plus-one (length tags))
 
 -- one module less
-counted-less : (history : History) (entry : EntryForm) (tag : List ℕ) (berth : Berth Slot) (old new : Berths Slot) → look tag old ≡ Some berth →
-    present_tags (entry ∷ history) ≡ tags_without tag (present_tags history) → Changes tag None old new → length new + 1 ≡ length old →
+counted-less : (history : History) (entry : EntryForm) (tag : List ℕ) (berth : Berth Slot) (old new : Berths Slot) →
+    look tag old ≡ Some berth →
+    present_tags (entry ∷ history) ≡ tags_without tag (present_tags history) → Changes tag None old new →
+    length new + 1 ≡ length old →
     IsCounted old history → IsCounted new (entry ∷ history)
 counted-less history entry tag berth old new found present changes less counted =
     record {
@@ -106,11 +123,13 @@ counted-less history entry tag berth old new found present changes less counted 
           ∙ go (bytes_eq tag other) (look other old) ∙ ap is_some (sym (changes other));
       once = rw present (once-without tag (present_tags history) counted.once);
       count = same (length new) (length (tags_without tag (present_tags history)))
-          (less ∙ counted.count ∙ sym (length-without tag (present_tags history) counted.once (counted.members tag ∙ ap is_some found)))
+          (less ∙ counted.count ∙ sym (length-without tag (present_tags history) counted.once (counted.members tag
+          ∙ ap is_some found)))
           ∙ ap length (sym present);
     }
   where
-    go : (here : Bool) (found : Option (Berth Slot)) → (if here then false else is_some found) ≡ is_some (cond here None found)
+    go : (here : Bool) (found : Option (Berth Slot)) → (if here then false else is_some found)
+        ≡ is_some (cond here None found)
     go true found = refl
     go false found = refl
 
@@ -119,50 +138,69 @@ counted-less history entry tag berth old new found present changes less counted 
 
 -- ---- the answer
 
+-- the rules after the first
 rows : (a b : Option Rule) → first_rule (a ∷ b ∷ []) Done ≡ refuse a (refuse b Done)
 rows (Some x) b = refl
 rows None (Some x) = refl
 rows None None = refl
 
-unplug-answer : (history : History) (at : ℕ) (tag : List ℕ) (berth : Berth Slot) → is_full history ≡ false → IsTaken tag berth (past tag history) (holder_of history tag) →
-    answer_of history (unplug at tag) ≡ refuse (in_exchange tag (slot_ticket berth.part)) (refuse (by_holder (λ batch. Some (Held batch)) berth.holder) Done)
+-- the answer by the berth
+unplug-answer : (history : History) (at : ℕ) (tag : List ℕ) (berth : Berth Slot) → is_full history ≡ false →
+    IsTaken tag berth (past tag history) (holder_of history tag) →
+    answer_of history (unplug at tag) ≡ refuse (in_exchange tag (slot_ticket berth.part))
+    (refuse (by_holder (λ batch. Some (Held batch)) berth.holder) Done)
 unplug-answer history at tag berth room taken =
     with-room history (unplug at tag) room
-    ∙ ap (λ gone. first_rule (gone ∷ in_exchange tag (ticket_of (docking_by (past tag history))) ∷ by_holder (λ batch. Some (Held batch)) (holder_of history tag) ∷ []) Done)
+    ∙ ap (λ gone. first_rule (gone ∷ in_exchange tag (ticket_of (docking_by (past tag history)))
+    ∷ by_holder (λ batch. Some (Held batch)) (holder_of history tag) ∷ []) Done)
     (there-is tag (docking_by (past tag history)) taken.slot_keeps.is_there)
-    ∙ rows (in_exchange tag (ticket_of (docking_by (past tag history)))) (by_holder (λ batch. Some (Held batch)) (holder_of history tag))
-    ∙ ap (λ ticket. refuse (in_exchange tag ticket) (refuse (by_holder (λ batch. Some (Held batch)) (holder_of history tag)) Done)) (sym taken.slot_keeps.ticket)
-    ∙ ap (λ holder. refuse (in_exchange tag (slot_ticket berth.part)) (refuse (by_holder (λ batch. Some (Held batch)) holder) Done)) (sym taken.held_by)
+    ∙ rows (in_exchange tag (ticket_of (docking_by (past tag history))))
+    (by_holder (λ batch. Some (Held batch)) (holder_of history tag))
+    ∙ ap (λ ticket. refuse (in_exchange tag ticket)
+    (refuse (by_holder (λ batch. Some (Held batch)) (holder_of history tag)) Done)) (sym taken.slot_keeps.ticket)
+    ∙ ap (λ holder. refuse (in_exchange tag (slot_ticket berth.part))
+    (refuse (by_holder (λ batch. Some (Held batch)) holder) Done)) (sym taken.held_by)
 
 -- the berth of a part, and what it keeps
-seated-berth : (history : History) (tag : List ℕ) (berths : Berths Slot) (berth : Berth Slot) → SeatsMirror berths history → look tag berths ≡ Some berth →
+seated-berth : (history : History) (tag : List ℕ) (berths : Berths Slot) (berth : Berth Slot) →
+    SeatsMirror berths history → look tag berths ≡ Some berth →
     IsTaken tag berth (past tag history) (holder_of history tag)
-seated-berth history tag berths berth seats found = subst (λ found. IsSeated tag found (past tag history) (holder_of history tag)) found (seats tag)
+seated-berth history tag berths berth seats found =
+    subst (λ found. IsSeated tag found (past tag history) (holder_of history tag)) found (seats tag)
 
 -- a module that is away stays
-pub unplug-away : (history : History) (at : ℕ) (tag : List ℕ) (slot : Slot) (ticket : ℕ) (berths : Berths Slot) → is_full history ≡ false →
-    SeatsMirror berths history → IsCounted berths history → part_of tag berths ≡ Some slot → slot_ticket slot ≡ Some ticket →
+pub unplug-away : (history : History) (at : ℕ) (tag : List ℕ) (slot : Slot) (ticket : ℕ) (berths : Berths Slot) →
+    is_full history ≡ false →
+    SeatsMirror berths history → IsCounted berths history → part_of tag berths ≡ Some slot →
+    slot_ticket slot ≡ Some ticket →
     AnswersModule history (unplug at tag) (Refused (InExchange tag ticket)) berths
 unplug-away history at tag slot ticket berths room seats counted found away =
     let has = has-berth tag berths slot found in
     refused-answered history (unplug at tag) (Refused (InExchange tag ticket)) berths
     (sym (unplug-answer history at tag has.berth room (seated-berth history tag berths has.berth seats has.found)
-    ∙ ap (λ ticket. refuse (in_exchange tag ticket) (refuse (by_holder (λ batch. Some (Held batch)) has.berth.holder) Done)) (ap (λ slot. slot_ticket slot) has.part_is ∙ away)))
+    ∙ ap (λ ticket. refuse (in_exchange tag ticket)
+    (refuse (by_holder (λ batch. Some (Held batch)) has.berth.holder) Done))
+    (ap (λ slot. slot_ticket slot) has.part_is ∙ away)))
     refl seats counted
 
 -- a module that is held stays
-pub unplug-held : (history : History) (at : ℕ) (tag : List ℕ) (slot : Slot) (batch : List ℕ) (berths : Berths Slot) → is_full history ≡ false →
+pub unplug-held : (history : History) (at : ℕ) (tag : List ℕ) (slot : Slot) (batch : List ℕ)
+    (berths : Berths Slot) → is_full history ≡ false →
     SeatsMirror berths history → IsCounted berths history → part_of tag berths ≡ Some slot → slot_ticket slot ≡ None →
     tables.holder_of tag berths ≡ Some batch → AnswersModule history (unplug at tag) (Refused (Held batch)) berths
 unplug-held history at tag slot batch berths room seats counted found docked' is =
     let has = has-berth tag berths slot found in
-    let held : has.berth.holder ≡ Some batch = ap (option_and_then (λ (berth : Berth Slot). berth.holder)) (sym has.found) ∙ is in
+    let held : has.berth.holder ≡ Some batch = ap (option_and_then (λ (berth : Berth Slot). berth.holder))
+    (sym has.found) ∙ is in
     refused-answered history (unplug at tag) (Refused (Held batch)) berths
     (sym (unplug-answer history at tag has.berth room (seated-berth history tag berths has.berth seats has.found)
-    ∙ ap (λ ticket. refuse (in_exchange tag ticket) (refuse (by_holder (λ batch. Some (Held batch)) has.berth.holder) Done)) (ap (λ slot. slot_ticket slot) has.part_is ∙ docked')
+    ∙ ap (λ ticket. refuse (in_exchange tag ticket)
+    (refuse (by_holder (λ batch. Some (Held batch)) has.berth.holder) Done))
+    (ap (λ slot. slot_ticket slot) has.part_is ∙ docked')
     ∙ ap (λ holder. refuse (by_holder (λ batch. Some (Held batch)) holder) Done) held))
     refl seats counted
 
+-- a part that no batch holds leaves
 leaves : {T : Type 0} (tag : List ℕ) (berths : Berths T) (found : Option (Berth T)) → is_some found ≡ true →
     option_and_then (λ (berth : Berth T). berth.holder) found ≡ None → is_ok (parting_from found) ≡ true
 leaves tag berths None there free = cc
@@ -173,30 +211,40 @@ leaves {T} tag berths (Some berth) there free = go berth.holder free
     go (Some batch) free = cc
 
 -- a module that no batch holds can leave
-pub free-leaves : (tag : List ℕ) (slot : Slot) (berths : Berths Slot) → part_of tag berths ≡ Some slot → tables.holder_of tag berths ≡ None →
+pub free-leaves : (tag : List ℕ) (slot : Slot) (berths : Berths Slot) → part_of tag berths ≡ Some slot →
+    tables.holder_of tag berths ≡ None →
     is_ok (leaving tag berths) ≡ true
 free-leaves tag slot berths found free =
     let has = has-berth tag berths slot found in
     leaves tag berths (look tag berths) (ap is_some has.found) free
 
 -- a module leaves
-pub unplug-answered : (history : History) (at : ℕ) (tag : List ℕ) (slot : Slot) (old new : Berths Slot) → is_full history ≡ false →
-    SeatsMirror old history → IsCounted old history → part_of tag old ≡ Some slot → slot_ticket slot ≡ None → tables.holder_of tag old ≡ None →
+pub unplug-answered : (history : History) (at : ℕ) (tag : List ℕ) (slot : Slot) (old new : Berths Slot) →
+    is_full history ≡ false →
+    SeatsMirror old history → IsCounted old history → part_of tag old ≡ Some slot → slot_ticket slot ≡ None →
+    tables.holder_of tag old ≡ None →
     Changes tag None old new → length new + 1 ≡ length old → AnswersModule history (unplug at tag) Done new
 unplug-answered history at tag slot old new room seats counted found docked' is changes less =
     let has = has-berth tag old slot found in
     let taken = seated-berth history tag old has.berth seats has.found in
-    let free : has.berth.holder ≡ None = ap (option_and_then (λ (berth : Berth Slot). berth.holder)) (sym has.found) ∙ is in
+    let free : has.berth.holder ≡ None = ap (option_and_then (λ (berth : Berth Slot). berth.holder)) (sym has.found)
+    ∙ is in
     let answer : answer_of history (unplug at tag) ≡ Done
     = unplug-answer history at tag has.berth room taken
-    ∙ ap (λ ticket. refuse (in_exchange tag ticket) (refuse (by_holder (λ batch. Some (Held batch)) has.berth.holder) Done)) (ap (λ slot. slot_ticket slot) has.part_is ∙ docked')
+    ∙ ap (λ ticket. refuse (in_exchange tag ticket)
+    (refuse (by_holder (λ batch. Some (Held batch)) has.berth.holder) Done))
+    (ap (λ slot. slot_ticket slot) has.part_is ∙ docked')
     ∙ ap (λ holder. refuse (by_holder (λ batch. Some (Held batch)) holder) Done) free in
     let entry : EntryForm = paired (unplug at tag) Done in
     record {
       answer_is = sym answer;
       seats = subst (λ answer. SeatsMirror new (paired (unplug at tag) answer ∷ history)) (sym answer)
           (seat-changes history entry tag None old new refl changes
-          (record { is_absent = ap docking_by (past-own history entry tag refl refl); free = sym taken.held_by ∙ free }) seats);
+          (record {
+            is_absent = ap docking_by (past-own history entry tag refl refl);
+            free = sym taken.held_by
+                ∙ free;
+          }) seats);
       counted = subst (λ answer. IsCounted new (paired (unplug at tag) answer ∷ history)) (sym answer)
           (counted-less history entry tag has.berth old new has.found refl changes less counted);
     }

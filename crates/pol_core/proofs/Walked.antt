@@ -12,12 +12,15 @@ pub or-none-right : {A : Type 0} (found : Option A) → option_or found None ≡
 or-none-right None = refl
 or-none-right (Some x) = refl
 
-first-append : {X A : Type 0} (f : X → Option A) (xs ys : List X) → first_of (map f (xs ++ ys)) ≡ option_or (first_of (map f xs)) (first_of (map f ys))
+-- the first of two lists
+first-append : {X A : Type 0} (f : X → Option A) (xs ys : List X) → first_of (map f (xs ++ ys))
+    ≡ option_or (first_of (map f xs)) (first_of (map f ys))
 first-append f [] ys = refl
 first-append {X} {A} f (x ∷ xs) ys = go (f x) (first-append f xs ys)
   where
     go : (found : Option A) → first_of (map f (xs ++ ys)) ≡ option_or (first_of (map f xs)) (first_of (map f ys)) →
-        option_or found (first_of (map f (xs ++ ys))) ≡ option_or (option_or found (first_of (map f xs))) (first_of (map f ys))
+        option_or found (first_of (map f (xs ++ ys))) ≡ option_or (option_or found (first_of (map f xs)))
+        (first_of (map f ys))
     go None rest = rest
     go (Some y) rest = refl
 
@@ -25,26 +28,31 @@ first-append {X} {A} f (x ∷ xs) ys = go (f x) (first-append f xs ys)
 abbrev pub said : {A : Type 0} → (StepPlan → Option A) → List Placed → Option A
 said says placed = first_of (map (λ (each : Placed). says each.step) placed)
 
-said-append : {A : Type 0} (says : StepPlan → Option A) (xs ys : List Placed) → said says (xs ++ ys) ≡ option_or (said says xs) (said says ys)
+-- what the steps of two lists say first
+said-append : {A : Type 0} (says : StepPlan → Option A) (xs ys : List Placed) →
+    said says (xs ++ ys) ≡ option_or (said says xs) (said says ys)
 said-append says xs ys = first-append (λ each. says each.step) xs ys
 
 mutual
   -- the walk finds what the steps say first
-  pub said-is : {A : Type 0} (says : StepPlan → Option A) (each : Tree) (n : ℕ) → first_said says each ≡ said says (steps each n)
+  pub said-is : {A : Type 0} (says : StepPlan → Option A) (each : Tree) (n : ℕ) →
+      first_said says each ≡ said says (steps each n)
   said-is says (leaf step) n = sym (or-none-right (says step))
   said-is says (seq each) n = said-among-is says each (n + 1)
   said-is says (par each) n = said-among-is says each (n + 1)
   said-is says (choice each) n = said-in-arms-is says each (n + 1)
   said-is says (loop body until) n = said-is says body (n + 1)
 
-  said-among-is : {A : Type 0} (says : StepPlan → Option A) (each : Trees) (n : ℕ) → first_said_among says each ≡ said says (all_steps each n)
+  said-among-is : {A : Type 0} (says : StepPlan → Option A) (each : Trees) (n : ℕ) →
+      first_said_among says each ≡ said says (all_steps each n)
   said-among-is says no_trees n = refl
   said-among-is says (more_trees each others) n =
       ap (λ found. option_or found (first_said_among says others)) (said-is says each n)
       ∙ ap (option_or (said says (steps each n))) (said-among-is says others (n + size each))
       ∙ sym (said-append says (steps each n) (all_steps others (n + size each)))
 
-  said-in-arms-is : {A : Type 0} (says : StepPlan → Option A) (each : Arms) (n : ℕ) → first_said_in_arms says each ≡ said says (arm_steps each n)
+  said-in-arms-is : {A : Type 0} (says : StepPlan → Option A) (each : Arms) (n : ℕ) →
+      first_said_in_arms says each ≡ said says (arm_steps each n)
   said-in-arms-is says no_arms n = refl
   said-in-arms-is says (more_arms condition each others) n =
       ap (λ found. option_or found (first_said_in_arms says others)) (said-is says each n)
@@ -53,17 +61,21 @@ mutual
 
 -- the first settings under a name are those of the step of that name
 named-settings : (name : List ℕ) (placed : List Placed) →
-    said (settings_if name) placed ≡ option_map (λ placed. placed.step.settings) (find (λ placed. bytes_eq placed.step.name name) placed)
+    said (settings_if name) placed ≡ option_map (λ placed. placed.step.settings)
+    (find (λ placed. bytes_eq placed.step.name name) placed)
 named-settings name [] = refl
 named-settings name (each ∷ placed) = go (bytes_eq each.step.name name) (named-settings name placed)
   where
-    go : (same : Bool) → said (settings_if name) placed ≡ option_map (λ placed. placed.step.settings) (find (λ placed. bytes_eq placed.step.name name) placed) →
+    go : (same : Bool) → said (settings_if name) placed ≡ option_map (λ placed. placed.step.settings)
+        (find (λ placed. bytes_eq placed.step.name name) placed) →
         option_or (if same then Some each.step.settings else None) (said (settings_if name) placed)
-        ≡ option_map (λ placed. placed.step.settings) (if same then Some each else find (λ placed. bytes_eq placed.step.name name) placed)
+        ≡ option_map (λ placed. placed.step.settings) (if same then Some each else find
+        (λ placed. bytes_eq placed.step.name name) placed)
     go true later = refl
     go false later = later
 
 -- so does the walk find them
 pub settings-found : (name : List ℕ) (root : Tree) →
-    first_said (settings_if name) root ≡ option_map (λ placed. placed.step.settings) (find (λ placed. bytes_eq placed.step.name name) (steps root 0))
+    first_said (settings_if name) root ≡ option_map (λ placed. placed.step.settings)
+    (find (λ placed. bytes_eq placed.step.name name) (steps root 0))
 settings-found name root = said-is (settings_if name) root 0 ∙ named-settings name (steps root 0)

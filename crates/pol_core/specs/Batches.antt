@@ -1,30 +1,30 @@
 -- What the runs keep of a history: for each batch what looking back gives.
 use Rattle.std.specs.Prelude.{ℕ, ◌≡◌, Bool, false, not, ◌||◌, List, [], ◌∷◌, ◌++◌, Option, Some, None, is_some, if◌then◌else◌}
-use Rattle.mtp_codes.specs.Faults.{when}
-use Rattle.chart_core.specs.declared.entry.LogEntry.TheVariants.{StopAsked}
-use Rattle.pol_events.specs.declared.answer.Rule.{Rule}
-use Rattle.pol_events.specs.declared.answer.Rule.TheVariants.{NoBatch, BatchClosed}
 use Rattle.std.specs.Map.{lookup}
+use Rattle.std.specs.Option.{option_or, option_map}
 use Rattle.std.specs.Str.{bytes_eq}
+use Rattle.mtp_codes.specs.Faults.{when}
 use Rattle.chart_core.specs.Charts.{plan}
-use Rattle.pol_history.specs.Looking.{History, past_of_batch, recipes}
-use Rattle.pol_history.specs.Batches.{start_by, chart_named, outcome_by, is_frozen_by, log_by}
-use Rattle.pol_runs.specs.Runs.{PlainRun, SameBatch}
-use Rattle.pol_runs.specs.Logs.{Follows, closing_in, log_after}
+use Rattle.chart_core.specs.declared.entry.LogEntry.{LogEntry}
+use Rattle.chart_core.specs.declared.entry.LogEntry.TheVariants.{StopAsked}
+use Rattle.chart_core.specs.declared.next.Next.{Next}
+use Rattle.chart_core.specs.declared.next.Outcome.{Outcome}
+use Rattle.chart_cursor.specs.Logs.{has_broken, was_stopped}
+use Rattle.chart_cursor.specs.NextEntry.{next_by}
+use Rattle.chart_cursor.specs.Sights.{Sights}
 use Rattle.pol_events.specs.Events.{EventForm}
 use Rattle.pol_events.specs.declared.answer.Answer.{Answer}
+use Rattle.pol_events.specs.declared.answer.Rule.{Rule}
+use Rattle.pol_events.specs.declared.answer.Rule.TheVariants.{NoBatch, BatchClosed}
 use Rattle.pol_history.specs.Answers.{answer_of}
+use Rattle.pol_history.specs.Batches.{start_by, chart_named, outcome_by, is_frozen_by, log_by}
+use Rattle.pol_history.specs.Looking.{History, past_of_batch, recipes}
 use Rattle.pol_history.specs.Runs.{entry_of}
 use Rattle.pol_slots.specs.declared.slot.Slot.{Slot}
 use Rattle.pol_table.specs.Berths.{Berth, Berths, freed_from}
+use Rattle.pol_runs.specs.Logs.{Follows, closing_in, log_after}
+use Rattle.pol_runs.specs.Runs.{PlainRun, SameBatch}
 use Rattle.pol_core.specs.Seats.{SeatsMirror, IsCounted}
-use Rattle.chart_cursor.specs.NextEntry.{next_by}
-use Rattle.chart_cursor.specs.Logs.{has_broken, was_stopped}
-use Rattle.std.specs.Option.{option_or, option_map}
-use Rattle.chart_core.specs.declared.next.Outcome.{Outcome}
-use Rattle.chart_core.specs.declared.entry.LogEntry.{LogEntry}
-use Rattle.chart_cursor.specs.Sights.{Sights}
-use Rattle.chart_core.specs.declared.next.Next.{Next}
 
 -- the run keeps what its batch's past gives
 pub record RunKeeps (batch : List ℕ) (run : PlainRun) (past recipes : History) : Type 0 where
@@ -43,7 +43,8 @@ IsRun batch (Some run) past recipes = RunKeeps batch run past recipes
 
 -- each batch has so
 abbrev pub RunsMirror : List (List ℕ × PlainRun) → History → Type 0
-RunsMirror runs history = (batch : List ℕ) → IsRun batch (lookup (bytes_eq batch) runs) (past_of_batch batch history) (recipes history)
+RunsMirror runs history =
+    (batch : List ℕ) → IsRun batch (lookup (bytes_eq batch) runs) (past_of_batch batch history) (recipes history)
 
 -- a berth, freed from the batch where that is closed
 abbrev pub freed_if : {T : Type 0} → Option Outcome → List ℕ → Option (Berth T) → Option (Berth T)
@@ -53,7 +54,8 @@ freed_if (Some outcome) batch berth = option_map (freed_from batch) berth
 -- one run is this one afterwards, and no other has changed
 abbrev pub ChangesRun : List ℕ → PlainRun → List (List ℕ × PlainRun) → List (List ℕ × PlainRun) → Type 0
 ChangesRun batch after old new =
-    (other : List ℕ) → lookup (bytes_eq other) new ≡ (if bytes_eq batch other then Some after else lookup (bytes_eq other) old)
+    (other : List ℕ) → lookup (bytes_eq other) new
+    ≡ (if bytes_eq batch other then Some after else lookup (bytes_eq other) old)
 
 -- the run has done what comes next
 pub record Settles (next : Next) (old new : PlainRun) : Type 0 where
@@ -63,7 +65,8 @@ pub record Settles (next : Next) (old new : PlainRun) : Type 0 where
   pub outcome_is : new.outcome ≡ option_or (closing_in next) old.outcome
 
 -- the run of this batch has done so, and no other run has changed
-pub record SettlesOne (batch : List ℕ) (next : Next) (run : PlainRun) (old new : List (List ℕ × PlainRun)) : Type 0 where
+pub record SettlesOne (batch : List ℕ) (next : Next) (run : PlainRun)
+    (old new : List (List ℕ × PlainRun)) : Type 0 where
   pub after : PlainRun
   pub settles : Settles next run after
   pub runs : ChangesRun batch after old new
@@ -77,7 +80,8 @@ pub record Stops (is_new : Bool) (old new : PlainRun) : Type 0 where
   pub outcome_is : new.outcome ≡ old.outcome
 
 -- so is the run of this batch, and no other run has changed
-pub record StopsOne (batch : List ℕ) (is_new : Bool) (run : PlainRun) (old new : List (List ℕ × PlainRun)) : Type 0 where
+pub record StopsOne (batch : List ℕ) (is_new : Bool) (run : PlainRun)
+    (old new : List (List ℕ × PlainRun)) : Type 0 where
   pub after : PlainRun
   pub stops : Stops is_new run after
   pub runs : ChangesRun batch after old new
@@ -97,7 +101,8 @@ pub record IsOpenRun (batch : List ℕ) (run : PlainRun) (runs : List (List ℕ 
   pub is_open : run.outcome ≡ None
 
 -- the answer to an event of a batch is the defined one, and the tables keep the history with it
-pub record AnswersBatch (history : History) (event : EventForm) (answer : Answer) (modules : Berths Slot) (runs : List (List ℕ × PlainRun)) : Type 0 where
+pub record AnswersBatch (history : History) (event : EventForm) (answer : Answer) (modules : Berths Slot)
+    (runs : List (List ℕ × PlainRun)) : Type 0 where
   pub answer_is : answer ≡ answer_of history event
   pub seats : SeatsMirror modules (entry_of history event ∷ history)
   pub counted : IsCounted modules (entry_of history event ∷ history)

@@ -1,6 +1,8 @@
 -- What the plant's calls answer that only look: each is found by looking back over the history.
 use Rattle.std.specs.Prelude.{ℕ, ⊤, List, Option, None, Result, Ok, Err, is_none, nat_le, find, option_and_then, option_map, if◌then◌else◌}
+use Rattle.std.specs.Option.{option_or}
 use Rattle.std.specs.Str.{bytes_eq}
+use Rattle.mtp_codes.specs.Faults.{when, done_unless}
 use Rattle.mtp_codes.specs.declared.value.Setting.{Setting}
 use Rattle.chart_core.specs.Roles.{ChartPlan}
 use Rattle.chart_core.specs.Trees.{steps}
@@ -9,12 +11,10 @@ use Rattle.pol_events.specs.declared.answer.Answer.{Answer}
 use Rattle.pol_events.specs.declared.answer.Answer.TheVariants.{Refused}
 use Rattle.pol_events.specs.declared.answer.Rule.{Rule}
 use Rattle.pol_events.specs.declared.answer.Rule.TheVariants.{HistoryFull}
-use Rattle.mtp_codes.specs.Faults.{when, done_unless}
-use Rattle.std.specs.Option.{option_or}
-use Rattle.pol_history.specs.Looking.{History}
-use Rattle.pol_history.specs.Modules as modules
 use Rattle.pol_history.specs.Batches.{outcome_of, chart_of}
 use Rattle.pol_history.specs.Following.{next_of}
+use Rattle.pol_history.specs.Looking.{History}
+use Rattle.pol_history.specs.Modules as modules
 use Rattle.pol_core.specs.declared.docking.Docking.{Docking}
 use Rattle.pol_core.specs.declared.docking.Docking.TheVariants as docking
 
@@ -33,7 +33,8 @@ refused_first count rule = done_unless (option_or (when (nat_le 200000 count) Hi
 
 -- the settings of the chart's step of this name
 abbrev pub settings_named : List ℕ → ChartPlan → Option (List Setting)
-settings_named name chart = option_map (λ placed. placed.step.settings) (find (λ placed. bytes_eq placed.step.name name) (steps chart.root 0))
+settings_named name chart =
+    option_map (λ placed. placed.step.settings) (find (λ placed. bytes_eq placed.step.name name) (steps chart.root 0))
 
 -- the settings of a step of the batch; none where the batch isn't started or its chart lacks the step
 abbrev pub settings_of : History → List ℕ → List ℕ → Option (List Setting)

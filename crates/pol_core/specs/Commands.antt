@@ -14,7 +14,14 @@ use Rattle.pol_core.specs.declared.commands.Sent.{Sent}
 -- a recipe's command
 abbrev pub by_recipe : Option (List ℕ) → List ℕ → List ℕ → Command → ℕ → Sent
 by_recipe batch step service command procedure =
-    record { speaker = Recipe; batch = batch; step = Some step; service = service; command = command; procedure = procedure }
+    record {
+      speaker = Recipe;
+      batch = batch;
+      step = Some step;
+      service = service;
+      command = command;
+      procedure = procedure;
+    }
 
 -- an operator's command
 abbrev pub by_operator : Option (List ℕ) → List ℕ → Command → Sent
@@ -23,7 +30,8 @@ by_operator batch service command =
 
 -- the command of an entry of a log, with the tag of the module that it goes to; Finish sends Complete
 abbrev pub entry_command : Option (List ℕ) → LogEntry → Option (List ℕ × Sent)
-entry_command batch (Start step tag service procedure) = Some (tag, by_recipe batch step service command.Start procedure)
+entry_command batch (Start step tag service procedure) =
+    Some (tag, by_recipe batch step service command.Start procedure)
 entry_command batch (Finish step tag service) = Some (tag, by_recipe batch step service command.Complete 0)
 entry_command batch (Reset step tag service) = Some (tag, by_recipe batch step service command.Reset 0)
 entry_command batch (Stop step tag service) = Some (tag, by_recipe batch step service command.Stop 0)
@@ -54,8 +62,8 @@ abbrev pub found_at : ℕ → Option Sent → Option Sent × ℕ → Option Sent
 found_at place (Some sent) later = (Some sent, place + 1)
 found_at place None later = later
 
--- the first command to the module among these entries, the oldest first, the first of which stands at the place; with the
--- place after it, or else the place after all
+-- the first command to the module among these entries, the oldest first, the first of which stands at the place; with
+-- the place after it, or else the place after all
 abbrev pub next_sent : List ℕ → ℕ → List EntryForm → Option Sent × ℕ
 next_sent tag place [] = (None, place)
 next_sent tag place (entry ∷ later) = found_at place (sent_to tag entry) (next_sent tag (place + 1) later)

@@ -1,15 +1,15 @@
 -- The exchange of a module for another.
 use Rattle.std.specs.Prelude.{ℕ, ◌≡◌, ◌+◌, ◌<◌, List, Option, Some, None}
+use Rattle.mtp_desc.specs.Plain.{DescriptionForm}
 use Rattle.pol_events.specs.Refusals.{wrong_ticket}
 use Rattle.pol_events.specs.declared.answer.Rule.{Rule}
 use Rattle.pol_events.specs.declared.answer.Rule.TheVariants.{NotInExchange}
 use Rattle.pol_slots.specs.Slots.{slot_tag, slot_ticket, slot_description, slot_begins, IsUnreported, IsDocked, IsUnchanged}
-use Rattle.mtp_desc.specs.Plain.{DescriptionForm}
 use Rattle.pol_slots.specs.declared.slot.Slot.{Slot}
 use Rattle.pol_table.specs.Berths.{Berths, part_of, with_part}
 
--- the rule that the end or the cancel of an exchange meets first, by the ticket under which the module is away: it isn't
--- away, or the given ticket is another
+-- the rule that the end or the cancel of an exchange meets first, by the ticket under which the module is away: it is
+-- not away, or the given ticket is another
 abbrev pub ticket_rule : ℕ → Option ℕ → Option Rule
 ticket_rule given None = Some NotInExchange
 ticket_rule given (Some kept) = wrong_ticket given (Some kept)
@@ -40,7 +40,8 @@ abbrev pub HaveBegunFew : Berths Slot → Type 0
 HaveBegunFew berths = (tag : List ℕ) (slot : Slot) → part_of tag berths ≡ Some slot → slot_begins slot < 4294967295
 
 -- another module docks in place of the one that is away
-pub record DocksAgain (tag : List ℕ) (description : DescriptionForm) (slot : Slot) (old new : Berths Slot) : Type 0 where
+pub record DocksAgain (tag : List ℕ) (description : DescriptionForm) (slot : Slot)
+    (old new : Berths Slot) : Type 0 where
   pub after : Slot
   pub docks : IsDocked slot after description
   pub table : new ≡ with_part tag old after

@@ -3,7 +3,8 @@ use Rattle.std.specs.Prelude.{◌≤◌, length}
 use Rattle.pol_history.specs.Looking.{History}
 use Rattle.pol_history.specs.Runs.{IsLegal, IsOrderly}
 
--- each answer is the one that the entries before it give, each event is as a line says it, and there are at most 200,000
+-- each answer is the one that the entries before it give, each event is as a line says it, and there are at most
+-- 200,000
 pub record IsPlantHistory (history : History) : Type 0 where
   pub legal : IsLegal history
   pub orderly : IsOrderly history

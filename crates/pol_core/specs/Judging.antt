@@ -1,29 +1,29 @@
 -- What the tables say against a start.
-use Rattle.std.specs.Map.{lookup}
-use Rattle.std.specs.Str.{bytes_eq}
 use Rattle.std.specs.Prelude.{ℕ, not, nat_le, length, is_some, List, [], ◌∷◌, ◌++◌, map, Option, Some, None, option_map, if◌then◌else◌}
+use Rattle.std.specs.Map.{lookup}
 use Rattle.std.specs.Option.{option_or}
-use Rattle.mtp_codes.specs.Names.{same_name}
+use Rattle.std.specs.Str.{bytes_eq}
 use Rattle.mtp_codes.specs.Faults.{when, first_of}
+use Rattle.mtp_codes.specs.Names.{same_name}
 use Rattle.mtp_machine.specs.States.{is_idle}
+use Rattle.mtp_procs.specs.Covers.{cover_fault}
 use Rattle.chart_core.specs.Roles.{ChartPlan, role_plan, role_names}
 use Rattle.chart_core.specs.Trees.{StepPlan}
 use Rattle.chart_core.specs.declared.role.Role.{Role}
 use Rattle.chart_cursor.specs.declared.sight.Sight.{Sight}
 use Rattle.chart_cursor.specs.declared.sight.Sight.TheVariants as sight
-use Rattle.mtp_procs.specs.Covers.{cover_fault}
+use Rattle.pol_events.specs.Bound.{bound_tag}
 use Rattle.pol_events.specs.Refusals.{cover_rule, in_exchange}
 use Rattle.pol_events.specs.declared.answer.Rule.{Rule}
 use Rattle.pol_events.specs.declared.answer.Rule.TheVariants.{NoModule, NotReported, NotIdle, BatchKnown, BatchesFull}
 use Rattle.pol_events.specs.declared.event.Bind.{Bind}
-use Rattle.pol_events.specs.Bound.{bound_tag}
 use Rattle.pol_history.specs.Rules.{busy_module, twice, role_unbound, role_unknown}
-use Rattle.pol_runs.specs.Runs.{PlainRun}
-use Rattle.pol_slots.specs.Slots.{slot_ticket, slot_description}
 use Rattle.pol_slots.specs.Sights.{slot_sight}
+use Rattle.pol_slots.specs.Slots.{slot_ticket, slot_description}
 use Rattle.pol_slots.specs.declared.slot.Slot.{Slot}
-use Rattle.pol_core.specs.Walks.{first_said}
 use Rattle.pol_table.specs.Berths.{Berths, part_of, holder_of}
+use Rattle.pol_runs.specs.Runs.{PlainRun}
+use Rattle.pol_core.specs.Walks.{first_said}
 
 -- the names of these roles
 abbrev pub names_in : List Role → List (List ℕ)
@@ -32,13 +32,15 @@ names_in roles = map (λ role. role.role) (map role_plan roles)
 -- the first tag in the order of the roles that an earlier role has, the earlier roles in their order
 abbrev pub twice_from : List Bind → List (List ℕ) → List (List ℕ) → Option Rule
 twice_from binds front [] = None
-twice_from binds front (role ∷ roles) = option_or (twice binds front (bound_tag binds role)) (twice_from binds (front ++ role ∷ []) roles)
+twice_from binds front (role ∷ roles) =
+    option_or (twice binds front (bound_tag binds role)) (twice_from binds (front ++ role ∷ []) roles)
 
 -- what is seen of a service of a docked module: it wasn't reported, or isn't idle
 abbrev pub sight_unready : List ℕ → List ℕ → Sight → Option Rule
 sight_unready tag service sight.Away = None
 sight_unready tag service sight.Unreported = Some (NotReported tag service)
-sight_unready tag service (sight.Is view) = when (not (is_idle view.control.state)) (NotIdle tag service view.control.state)
+sight_unready tag service (sight.Is view) =
+    when (not (is_idle view.control.state)) (NotIdle tag service view.control.state)
 
 -- the service of a step of the role is so
 abbrev pub step_unready : Slot → List ℕ → List ℕ → StepPlan → Option Rule

@@ -8,25 +8,28 @@ use Rattle.chart_core.specs.Charts.{plan}
 use Rattle.chart_core.specs.Roles.{ChartPlan}
 use Rattle.chart_core.specs.Valid.{IsValid}
 use Rattle.chart_core.specs.declared.chart.Chart.{Chart}
-use Rattle.pol_history.specs.Looking.{History, recipes}
-use Rattle.pol_history.specs.Batches.{chart_named}
-use Rattle.pol_history.specs.Answers.{answer_of}
-use Rattle.pol_history.specs.Runs.{entry_of}
 use Rattle.pol_events.specs.Events.{EventForm}
 use Rattle.pol_events.specs.declared.answer.Answer.{Answer}
+use Rattle.pol_history.specs.Answers.{answer_of}
+use Rattle.pol_history.specs.Batches.{chart_named}
+use Rattle.pol_history.specs.Looking.{History, recipes}
+use Rattle.pol_history.specs.Runs.{entry_of}
 
 -- each chart is valid
 abbrev pub AreValid : {Z : Type 0} → List (List ℕ × Arc Chart Z) → Type 0
-AreValid {Z} known = (name : List ℕ) (chart : Arc Chart Z) → lookup (bytes_eq name) known ≡ Some chart → IsValid (plan chart.value)
+AreValid {Z} known =
+    (name : List ℕ) (chart : Arc Chart Z) → lookup (bytes_eq name) known ≡ Some chart → IsValid (plan chart.value)
 
 -- each name has the chart that the accepted recipes bring, and there are as many
 pub record RecipesMirror {Z : Type 0} (known : List (List ℕ × Arc Chart Z)) (history : History) : Type 0 where
-  pub named : (name : List ℕ) → option_map (λ (chart : Arc Chart Z). plan chart.value) (lookup (bytes_eq name) known) ≡ chart_named name (recipes history)
+  pub named : (name : List ℕ) → option_map (λ (chart : Arc Chart Z). plan chart.value)
+      (lookup (bytes_eq name) known) ≡ chart_named name (recipes history)
   pub valid : AreValid known
   pub count : length known ≡ length (recipes history)
 
 -- the answer to a recipe is the defined one, the recipes keep the history with it, and none changes
-pub record AnswersRecipe {Z : Type 0} (history : History) (event : EventForm) (answer : Answer) (known : List (List ℕ × Arc Chart Z)) : Type 0 where
+pub record AnswersRecipe {Z : Type 0} (history : History) (event : EventForm) (answer : Answer)
+    (known : List (List ℕ × Arc Chart Z)) : Type 0 where
   pub answer_is : answer ≡ answer_of history event
   pub known_is : RecipesMirror known (entry_of history event ∷ history)
   pub names : (name : List ℕ) (chart : ChartPlan) → chart_named name (recipes history) ≡ Some chart

@@ -1,21 +1,21 @@
 -- What the table of modules keeps of a history: for each tag what looking back gives.
 use Rattle.std.specs.Prelude.{ℕ, ◌≡◌, ◌+◌, false, List, [], ◌∷◌, length, Option, Some, None, is_some, Result, Ok, Err, ⊤, if◌then◌else◌}
+use Rattle.mtp_codes.specs.Names.{is_among}
 use Rattle.mtp_codes.specs.declared.command.Command.{Command}
 use Rattle.mtp_modes.specs.declared.view.ServiceView.{ServiceView}
 use Rattle.chart_core.specs.declared.entry.LogEntry.{LogEntry}
-use Rattle.pol_desk.specs.Desk.{desk_answer}
+use Rattle.pol_events.specs.Events.{EventForm}
 use Rattle.pol_events.specs.declared.answer.Answer.{Answer}
 use Rattle.pol_events.specs.declared.answer.Answer.TheVariants.{Done, Did, Refused}
 use Rattle.pol_events.specs.declared.answer.Rule.{Rule}
-use Rattle.pol_history.specs.Looking.{History, past}
-use Rattle.mtp_codes.specs.Names.{is_among}
-use Rattle.pol_events.specs.Events.{EventForm}
 use Rattle.pol_history.specs.Answers.{answer_of}
-use Rattle.pol_history.specs.Runs.{entry_of}
-use Rattle.pol_history.specs.Modules.{present_tags, absent, docking_by, ticket_of, description_by, begins_by, dockings_by, control_by, value_by}
 use Rattle.pol_history.specs.Batches.{holder_of}
-use Rattle.pol_slots.specs.Slots.{slot_tag, slot_ticket, slot_description, slot_begins, last_control, last_value}
+use Rattle.pol_history.specs.Looking.{History, past}
+use Rattle.pol_history.specs.Modules.{present_tags, absent, docking_by, ticket_of, description_by, begins_by, dockings_by, control_by, value_by}
+use Rattle.pol_history.specs.Runs.{entry_of}
+use Rattle.pol_desk.specs.Desk.{desk_answer}
 use Rattle.pol_slots.specs.Sights.{reported_view}
+use Rattle.pol_slots.specs.Slots.{slot_tag, slot_ticket, slot_description, slot_begins, last_control, last_value}
 use Rattle.pol_slots.specs.declared.slot.Slot.{Slot}
 use Rattle.pol_table.specs.Berths.{Berth, Berths, look}
 

@@ -1,12 +1,12 @@
 -- What a batch sees of its modules, by the table.
 use Rattle.std.specs.Prelude.{ℕ, List, Option, Some, None}
 use Rattle.chart_cursor.specs.Sights.{Sights}
-use Rattle.chart_cursor.specs.declared.sight.Sight.{Sight}
-use Rattle.chart_cursor.specs.declared.sight.Sight.TheVariants as sight
 use Rattle.chart_cursor.specs.declared.sight.ReadingSight.{ReadingSight}
 use Rattle.chart_cursor.specs.declared.sight.ReadingSight.TheVariants as reading_sight
-use Rattle.pol_events.specs.declared.event.Bind.{Bind}
+use Rattle.chart_cursor.specs.declared.sight.Sight.{Sight}
+use Rattle.chart_cursor.specs.declared.sight.Sight.TheVariants as sight
 use Rattle.pol_events.specs.Bound.{bound_tag}
+use Rattle.pol_events.specs.declared.event.Bind.{Bind}
 use Rattle.pol_slots.specs.Sights.{slot_sight, slot_reading}
 use Rattle.pol_slots.specs.declared.slot.Slot.{Slot}
 use Rattle.pol_table.specs.Berths.{Berths, part_of}
@@ -26,6 +26,7 @@ abbrev pub tag_sees : Berths Slot → Option (List ℕ) → List ℕ → Sight
 tag_sees berths None service = sight.Unreported
 tag_sees berths (Some tag) service = slot_sees (part_of tag berths) service
 
+-- what is seen of the variable of a tag, likewise
 abbrev pub tag_reads : Berths Slot → Option (List ℕ) → List ℕ → ReadingSight
 tag_reads berths None name = reading_sight.Unreported
 tag_reads berths (Some tag) name = slot_reads (part_of tag berths) name

@@ -6,13 +6,13 @@ use Rattle.std.specs.Str.{bytes_eq}
 use Rattle.mtp_codes.specs.Names.{is_among}
 use Rattle.chart_core.specs.Charts.{plan}
 use Rattle.chart_core.specs.Roles.{ChartPlan}
-use Rattle.pol_events.specs.declared.event.Bind.{Bind}
 use Rattle.pol_events.specs.Bound.{tags_of}
-use Rattle.pol_runs.specs.Runs.{PlainRun}
-use Rattle.pol_runs.specs.Logs.{Follows}
+use Rattle.pol_events.specs.declared.event.Bind.{Bind}
 use Rattle.pol_slots.specs.declared.slot.Slot.{Slot}
-use Rattle.pol_table.specs.Berths.{Berths, look, held_by}
 use Rattle.pol_table.specs.Answers.{holding}
+use Rattle.pol_table.specs.Berths.{Berths, look, held_by}
+use Rattle.pol_runs.specs.Logs.{Follows}
+use Rattle.pol_runs.specs.Runs.{PlainRun}
 
 -- a run that has just begun
 pub record IsNew (batch : List ℕ) (chart : ChartPlan) (binds : List Bind) (run : PlainRun) : Type 0 where
@@ -26,12 +26,15 @@ pub record IsNew (batch : List ℕ) (chart : ChartPlan) (binds : List Bind) (run
 -- the batch holds all of these tags
 pub record Holds (tags : List (List ℕ)) (batch : List ℕ) (old new : Berths Slot) : Type 0 where
   pub free : holding tags old ≡ Ok tt
-  pub held : (tag : List ℕ) → look tag new ≡ option_map (λ berth. if is_among tags tag then held_by batch berth else berth) (look tag old)
+  pub held : (tag : List ℕ) →
+      look tag new ≡ option_map (λ berth. if is_among tags tag then held_by batch berth else berth) (look tag old)
 
 -- the batch holds all of its modules, and has a run that has just begun
-pub record Begins (batch : List ℕ) (chart : ChartPlan) (binds : List Bind) (old new : Berths Slot) (runs after : List (List ℕ × PlainRun)) : Type 0 where
+pub record Begins (batch : List ℕ) (chart : ChartPlan) (binds : List Bind) (old new : Berths Slot)
+    (runs after : List (List ℕ × PlainRun)) : Type 0 where
   pub run : PlainRun
   pub is_new : IsNew batch chart binds run
   pub holds : Holds (tags_of binds) batch old new
-  pub runs_are : (other : List ℕ) → lookup (bytes_eq other) after ≡ (if bytes_eq batch other then Some run else lookup (bytes_eq other) runs)
+  pub runs_are : (other : List ℕ) → lookup (bytes_eq other) after
+      ≡ (if bytes_eq batch other then Some run else lookup (bytes_eq other) runs)
   pub count : length after ≡ length runs + 1

@@ -20,7 +20,8 @@ abbrev mutual
 
   pub first_said_in_arms : {A : Type 0} → (StepPlan → Option A) → Arms → Option A
   first_said_in_arms says no_arms = None
-  first_said_in_arms says (more_arms when each others) = option_or (first_said says each) (first_said_in_arms says others)
+  first_said_in_arms says (more_arms when each others) =
+      option_or (first_said says each) (first_said_in_arms says others)
 
 -- the settings of a step, where it has this name
 abbrev pub settings_if : List ℕ → StepPlan → Option (List Setting)

@@ -1,13 +1,13 @@
 //! What an event is answered by the tables, and what it changes in them.
 ghost use Rattle.std.specs.Prelude.{◌≡◌, IsTrue, IsOk, IfOk, OnErr, false};
 ghost use Rattle.pol_events.specs.Events.{event_view};
-ghost use Rattle.pol_history.specs.Looking.{History};
-ghost use Rattle.pol_history.specs.Answers.{is_full};
 ghost use Rattle.pol_events.specs.Orderly.{is_orderly};
-ghost use Rattle.pol_core.specs.Recipes.{AreValid};
+ghost use Rattle.pol_history.specs.Answers.{is_full};
+ghost use Rattle.pol_history.specs.Looking.{History};
 ghost use Rattle.pol_core.specs.Exchanges.{HaveBegunFew};
 ghost use Rattle.pol_core.specs.Mirrors.{Mirrors, Answers};
 ghost use Rattle.pol_core.specs.Plants.{is_spared};
+ghost use Rattle.pol_core.specs.Recipes.{AreValid};
 
 use crate::batches::{abandon, advance, freeze, stop, thaw};
 use crate::exchanges::{exchange_begin, exchange_cancel, exchange_end};
@@ -24,8 +24,15 @@ use pol_table::Table;
 use std::alloc::{AllocError, Global};
 use std::sync::Arc;
 
-/// Answers an event by the tables, and changes them as the event does. AllocError where memory is wanting; then they are
-/// as they were.
+/// Answers an event by the tables, and changes them as the event does. AllocError where memory is wanting; then what
+/// they keep is as it was. What each kind of event costs:
+///
+/// - Report, Variable, Desk, ExchangeCancel: the tag and the service or variable are found by their hashes.
+/// - Plug, Unplug: the tag by its hash; a plug makes a place for each service and variable.
+/// - ExchangeBegin, ExchangeEnd: besides, each service of the module, or each step and read of the holder's chart.
+/// - Advance: the batch by its hash, at most three walks over its chart, and what is seen at the open nodes.
+/// - Freeze, Thaw, StopBatch: the batch by its hash. Abandon, and an advance that closes: each module besides.
+/// - Recipe: its name by its hash. Start: one walk over the chart for each role, and the batch's run, which is made.
 pub fn answer_event(
     alloc: Global,
     modules: &mut Table<Slot>,
@@ -36,7 +43,8 @@ pub fn answer_event(
     requires orderly { IsTrue (is_orderly (event_view event.now)) }
     requires valid { AreValid recipes.old.entries }
     requires few { HaveBegunFew modules.old }
-    ensures answered { IfOk result (λ answer. (history : History) → Mirrors modules.old runs.old.entries recipes.old.entries history → is_full history ≡ false
+    ensures answered { IfOk result (λ answer. (history : History)
+        → Mirrors modules.old runs.old.entries recipes.old.entries history → is_full history ≡ false
         → Answers history (event_view event.now) answer modules.new runs.new.entries recipes.new.entries) }
     ensures kept { OnErr result ((history : History) → Mirrors modules.old runs.old.entries recipes.old.entries history
         → Mirrors modules.new runs.new.entries recipes.new.entries history) }

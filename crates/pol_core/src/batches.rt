@@ -1,23 +1,22 @@
 //! What events of a batch are answered, and what they change in the tables.
-ghost use Rattle.std.specs.Prelude.{◌≡◌, ℕ, ◌∷◌, List, Some, IfOk, IfErr, false, true, not, length};
+ghost use Rattle.std.specs.Prelude.{◌≡◌, ℕ, ◌∷◌, List, Some, IfOk, IfErr, false, true, not, length, option_copied};
 ghost use Rattle.std.specs.Map.{lookup};
 ghost use Rattle.std.specs.Str.{bytes_eq};
 ghost use Rattle.mtp_codes.specs.Faults.{done_unless, when};
+ghost use Rattle.chart_core.specs.declared.next.Outcome.TheVariants.{Abandoned};
 ghost use Rattle.chart_cursor.specs.Sights.{Sights};
 ghost use Rattle.pol_events.specs.Events.{advance, freeze, thaw, stop_batch, abandon};
-ghost use Rattle.chart_core.specs.declared.next.Outcome.TheVariants.{Abandoned};
 ghost use Rattle.pol_events.specs.declared.answer.Rule.TheVariants.{AlreadyFrozen, NotFrozen};
-ghost use Rattle.pol_history.specs.Looking.{History};
 ghost use Rattle.pol_history.specs.Answers.{advanced, is_full};
-ghost use Rattle.pol_runs.specs.Runs.{PlainRun};
-ghost use Rattle.pol_runs.specs.Logs.{closing_in};
+ghost use Rattle.pol_history.specs.Looking.{History};
 ghost use Rattle.pol_slots.specs.declared.slot.Slot.{Slot as slot_type};
 ghost use Rattle.pol_table.specs.Berths.{Berths, look};
-ghost use Rattle.pol_core.specs.Seats.{IsCounted, SeatsMirror, done_or_refused};
+ghost use Rattle.pol_runs.specs.Logs.{closing_in};
+ghost use Rattle.pol_runs.specs.Runs.{PlainRun};
 ghost use Rattle.pol_core.specs.Batches.{AnswersBatch, ChangesRun, ComesNext, IsOpenRun, RunsMirror, SettlesOne, StopsOne, freed_if, not_open};
 ghost use Rattle.pol_core.specs.Calls.{open_next, settings_of};
+ghost use Rattle.pol_core.specs.Seats.{IsCounted, SeatsMirror, done_or_refused};
 ghost use Rattle.pol_core.specs.Seen.{table_sights};
-ghost use Rattle.std.specs.Prelude.{option_copied};
 
 use crate::modules::done_or_refused;
 use crate::seen::TableSights;
@@ -101,7 +100,8 @@ fn settle(runs: &mut IndexMap<Name, Run>, batch: Name, next: &Next)
 
 // Frees the modules of a batch that is closed.
 fn release_closed(modules: &mut Table<Slot>, batch: Name, next: &Next)
-    ensures looks { (tag : List ℕ) → look tag modules.new ≡ freed_if (closing_in next.now) batch (look tag modules.old) }
+    ensures looks { (tag : List ℕ)
+        → look tag modules.new ≡ freed_if (closing_in next.now) batch (look tag modules.old) }
     ensures count { length modules.new ≡ length modules.old }
 {
     if let Next::Closed(_) = next {

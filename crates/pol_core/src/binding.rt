@@ -1,14 +1,14 @@
 //! What the tables say against a start: its binds against the roles of the recipe, then its modules one after another.
 ghost use Rattle.std.specs.Prelude.{◌≡◌, [], option_map};
-ghost use Rattle.mtp_procs.specs.Covers.{cover_fault};
-ghost use Rattle.pol_events.specs.Refusals.{cover_rule};
-ghost use Rattle.pol_slots.specs.Slots.{slot_description};
 ghost use Rattle.mtp_codes.specs.Names.{is_among};
+ghost use Rattle.mtp_procs.specs.Covers.{cover_fault};
 ghost use Rattle.chart_core.specs.Charts.{plan};
 ghost use Rattle.chart_core.specs.Roles.{role_names};
 ghost use Rattle.chart_core.specs.Trees.{arms, tree, trees, step_plan};
 ghost use Rattle.pol_events.specs.Bound.{bound_tag};
+ghost use Rattle.pol_events.specs.Refusals.{cover_rule};
 ghost use Rattle.pol_history.specs.Rules.{is_bound_before, role_unbound, role_unknown, twice};
+ghost use Rattle.pol_slots.specs.Slots.{slot_description};
 ghost use Rattle.pol_core.specs.Judging.{names_in, twice_from, sight_unready, step_unready, slot_rule, role_rule, table_unfit, tag_busy, table_busy, bind_rule};
 ghost use Rattle.pol_core.specs.Walks.{first_said, first_said_among, first_said_in_arms};
 

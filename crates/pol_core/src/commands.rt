@@ -112,8 +112,8 @@ fn sent_to(tag: Name, entry: &Entry) -> Option<Sent>
     }
 }
 
-/// The first command to the module among the entries from a place on, with the place after it; or None with the number of
-/// the entries. Looks at no entry before the place.
+/// The first command to the module among the entries from a place on, with the place after it; or None with the number
+/// of the entries. Looks at no entry before the place.
 pub fn next_command(history: &[Entry], tag: Name, place: u32) -> (Option<Sent>, u32)
     requires place { place ≤ length history.now }
     requires few { length history.now ≤ 200000 }

@@ -1,22 +1,22 @@
 //! Modules that are exchanged.
 ghost use Rattle.std.specs.Prelude.{◌≡◌, ℕ, List, Some, None, IsSome, IfOk, OnOk, OnErr, false, option_map, option_and_then};
-ghost use Rattle.chart_core.specs.Charts.{plan};
-ghost use Rattle.mtp_desc.specs.DescriptionView.{description_view};
-ghost use Rattle.pol_events.specs.Events.{exchange_begin, exchange_end, exchange_cancel};
 ghost use Rattle.mtp_codes.specs.Faults.{first_of, done_unless};
-ghost use Rattle.pol_history.specs.Looking.{History};
+ghost use Rattle.mtp_desc.specs.DescriptionView.{description_view};
+ghost use Rattle.mtp_procs.specs.Covers.{cover_fault, missing_by};
+ghost use Rattle.chart_core.specs.Charts.{plan};
 ghost use Rattle.chart_cursor.specs.Logs.{active};
 ghost use Rattle.pol_events.specs.Bound.{bound_role, step_on, ArePaired};
-ghost use Rattle.pol_history.specs.Rules.{active_step, held_back};
-ghost use Rattle.mtp_procs.specs.Covers.{cover_fault, missing_by};
+ghost use Rattle.pol_events.specs.Events.{exchange_begin, exchange_end, exchange_cancel};
 ghost use Rattle.pol_history.specs.Answers.{is_full, rules};
-ghost use Rattle.pol_runs.specs.Logs.{Follows};
+ghost use Rattle.pol_history.specs.Looking.{History};
+ghost use Rattle.pol_history.specs.Rules.{active_step, held_back};
 ghost use Rattle.pol_slots.specs.Slots.{slot_description, slot_ticket, IsDocked, IsUnchanged};
 ghost use Rattle.pol_slots.specs.declared.slot.Slot.{Slot as slot_type};
 ghost use Rattle.pol_table.specs.Berths.{part_of};
-ghost use Rattle.pol_core.specs.Seats.{IsCounted, SeatsMirror, AnswersModule};
+ghost use Rattle.pol_runs.specs.Logs.{Follows};
 ghost use Rattle.pol_core.specs.Batches.{RunsMirror};
 ghost use Rattle.pol_core.specs.Exchanges.{HaveBegunFew, IsDockedAt, SendsAway, DocksAgain, StaysAway, ticket_rule};
+ghost use Rattle.pol_core.specs.Seats.{IsCounted, SeatsMirror, AnswersModule};
 
 use crate::modules::done_or_refused;
 use indexmap::IndexMap;
@@ -32,18 +32,13 @@ use std::sync::Arc;
 
 // The batch that holds the module has an active step on it.
 fn active_step(modules: &Table<Slot>, runs: &IndexMap<Name, Run>, tag: Name) -> Option<Rule>
-    ensures { (history : History) → SeatsMirror modules.now history → RunsMirror runs.now.entries history → result ≡ active_step history tag }
+    ensures { (history : History) → SeatsMirror modules.now history → RunsMirror runs.now.entries history
+        → result ≡ active_step history tag }
 {
-    let Some(batch) = modules.holder(tag) else {
-        return None;
-    };
-    let Some(run) = runs.get(&batch) else {
-        return None;
-    };
-    match run.active_on(tag) {
-        None => None,
-        Some(step) => Some(Rule::ActiveStep { batch, step }),
-    }
+    let batch = modules.holder(tag)?;
+    let run = runs.get(&batch)?;
+    let step = run.active_on(tag)?;
+    Some(Rule::ActiveStep { batch, step })
 }
 
 /// The rule that the begin of an exchange would be refused by, while the history has room. Takes no memory.
@@ -68,7 +63,8 @@ pub fn begin_rule(modules: &Table<Slot>, runs: &IndexMap<Name, Run>, tag: Name) 
 fn send_away(modules: &mut Table<Slot>, tag: Name) -> u32
     requires docked { IsDockedAt tag modules.old }
     requires few { HaveBegunFew modules.old }
-    ensures { (slot : slot_type) → part_of tag modules.old ≡ Some slot → SendsAway tag result slot modules.old modules.new }
+    ensures { (slot : slot_type) → part_of tag modules.old ≡ Some slot
+        → SendsAway tag result slot modules.old modules.new }
 {
     match modules.get_mut(tag) {
         Some(slot) => slot.begin(),
@@ -108,7 +104,8 @@ fn ticket_rule(slot: &Slot, ticket: u32) -> Option<Rule>
     }
 }
 
-// Docks another module in place of the one that is away. AllocError where memory is wanting; then nothing that is seen changes.
+// Docks another module in place of the one that is away. AllocError where memory is wanting; then nothing that is seen
+// changes.
 fn dock_again(
     modules: &mut Table<Slot>,
     tag: Name,
@@ -119,7 +116,8 @@ fn dock_again(
     requires away { (slot : slot_type) → part_of tag modules.old ≡ Some slot → slot_ticket slot ≡ Some ticket }
     ensures docked { OnOk result ((slot : slot_type) → part_of tag modules.old ≡ Some slot
         → DocksAgain tag (description_view desc.value) slot modules.old modules.new) }
-    ensures kept { OnErr result ((slot : slot_type) → part_of tag modules.old ≡ Some slot → StaysAway tag slot modules.old modules.new) }
+    ensures kept { OnErr result ((slot : slot_type) → part_of tag modules.old ≡ Some slot
+        → StaysAway tag slot modules.old modules.new) }
 {
     match modules.get_mut(tag) {
         Some(slot) => match slot.finish(ticket, desc) {
@@ -133,13 +131,12 @@ fn dock_again(
 
 // What of the batch's chart the description doesn't cover, for the role that the tag plays.
 fn missing_of(run: &Run, tag: Name, desc: &Description) -> Option<Name>
-    ensures { result ≡ option_and_then (λ role. option_map (missing_by role) (cover_fault (plan run.now.chart) role (description_view desc.now)))
+    ensures { result ≡ option_and_then
+        (λ role. option_map (missing_by role) (cover_fault (plan run.now.chart) role (description_view desc.now)))
         (bound_role run.now.binds tag) }
 {
-    match bound_role(run.binds(), tag) {
-        None => None,
-        Some(role) => held_back_by(run.chart(), role, desc),
-    }
+    let role = bound_role(run.binds(), tag)?;
+    held_back_by(run.chart(), role, desc)
 }
 
 // The new module doesn't cover its role in the batch that holds the tag.
@@ -152,16 +149,10 @@ fn held_back(
     ensures { (history : History) → SeatsMirror modules.now history → RunsMirror runs.now.entries history
         → result ≡ held_back history tag (description_view desc.now) }
 {
-    let Some(batch) = modules.holder(tag) else {
-        return None;
-    };
-    let Some(run) = runs.get(&batch) else {
-        return None;
-    };
-    match missing_of(run, tag, desc) {
-        None => None,
-        Some(missing) => Some(Rule::HeldBack { batch, missing }),
-    }
+    let batch = modules.holder(tag)?;
+    let run = runs.get(&batch)?;
+    let missing = missing_of(run, tag, desc)?;
+    Some(Rule::HeldBack { batch, missing })
 }
 
 /// Another module comes in place of the one that is away. AllocError where memory is wanting; then nothing that is seen

@@ -1,7 +1,7 @@
 //! The plant: everything that happened, what each event is answered, and tables of what that comes to.
 //!
 //! Contracts see a `Plant` as its entries and the number of further entries that it takes without memory
-//! (`specs/Mirrors.antt`). `Plant::apply` answers what `pol_history` defines, and appends the event with its answer; it
+//! (`specs/Plants.antt`). `Plant::apply` answers what `pol_history` defines, and appends the event with its answer; it
 //! never searches the history. It knows nothing of lines, texts, threads or clocks.
 #![tactic(auto)]
 
@@ -21,3 +21,6 @@ mod starting;
 pub use commands::Sent;
 pub use docking::Docking;
 pub use plant::Plant;
+
+#[cfg(test)]
+mod tests;

@@ -2,10 +2,10 @@
 ghost use Rattle.std.specs.Prelude.{◌≡◌, ℕ, IfOk, OnErr, false};
 ghost use Rattle.mtp_desc.specs.DescriptionView.{description_view};
 ghost use Rattle.pol_events.specs.Events.{plug, unplug, report, variable, desk};
-ghost use Rattle.pol_history.specs.Looking.{History};
 ghost use Rattle.pol_history.specs.Answers.{is_full};
-ghost use Rattle.pol_history.specs.Modules.{docking_of};
 ghost use Rattle.pol_history.specs.Batches.{holder_of};
+ghost use Rattle.pol_history.specs.Looking.{History};
+ghost use Rattle.pol_history.specs.Modules.{docking_of};
 ghost use Rattle.pol_core.specs.Calls.{plain_docking};
 ghost use Rattle.pol_core.specs.Exchanges.{HaveBegunFew};
 ghost use Rattle.pol_core.specs.Seats.{AnswersModule, IsCounted, SeatsMirror, asked_answer, done_or_refused, slot_asked};

@@ -120,13 +120,15 @@ impl Plant {
     /// Answers an event as `pol_history` defines it, and appends the event with its answer to the history. HistoryFull,
     /// where the history has 200,000 entries, is the one answer that isn't appended.
     ///
-    /// The chart of a recipe is valid, and the binds of a start are at most 64 and rise by role, as those of every line do.
+    /// The chart of a recipe is valid, and the binds of a start are at most 64 and rise by role, as those of every line
+    /// do.
     /// Where `spare` is above 0, all kinds of events but Plug, Recipe, Start and ExchangeEnd take no memory, and lower
     /// `spare` by at most 1.
     ///
     /// # Errors
     ///
-    /// Where memory is wanting the event is handed back with AllocError, the plant is as it was, and `spare` isn't lower.
+    /// Where memory is wanting the event is handed back with AllocError, the plant is as it was, and `spare` isn't
+    /// lower.
     pub fn apply(&mut self, event: Event) -> Result<Answer, (Event, AllocError)>
         requires orderly { IsTrue (is_orderly (event_view event)) }
         ensures answer { IfOk result (λ answer. answer ≡ answer_of (plant_history self.old) (event_view event)) }
@@ -157,8 +159,8 @@ impl Plant {
         Ok(answer)
     }
 
-    /// What an advance of the batch would answer while the history isn't full; None exactly where the batch isn't started
-    /// or is closed. Takes no memory.
+    /// What an advance of the batch would answer while the history isn't full; None exactly where the batch isn't
+    /// started or is closed. Takes no memory.
     pub fn would(&self, batch: Name) -> Option<Next>
         ensures { result ≡ open_next (plant_history self.now) batch }
     {
@@ -187,8 +189,8 @@ impl Plant {
         unless_refused(&self.history, begin_rule(&self.modules, &self.runs, tag))
     }
 
-    /// The first command to the module in the history from a place on, with the place after it; or None with the history's
-    /// length. The places of entries are counted from 0. Looks at no entry before the place, and takes no memory.
+    /// The first command to the module in the history from a place on, with the place after it; or None with the
+    /// history's length. Places are counted from 0. Looks at no entry before the place, and takes no memory.
     pub fn next_command(&self, tag: Name, place: u32) -> (Option<Sent>, u32)
         requires { place ≤ length self.now.entries }
         ensures { result ≡ next_sent tag place (map entry_view (drop place self.now.entries)) }
@@ -203,7 +205,8 @@ impl Plant {
         batches::settings(&self.runs, batch, step)
     }
 
-    /// Whether the tag is docked: if so, how often it was since the last plug, that plug included; or away, with its ticket.
+    /// Whether the tag is docked: if so, how often it was since the last plug, that plug included; or away, with its
+    /// ticket.
     pub fn docking(&self, tag: Name) -> Docking
         ensures { plain_docking result ≡ docking_of (plant_history self.now) tag }
     {

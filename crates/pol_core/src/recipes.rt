@@ -5,8 +5,8 @@ ghost use Rattle.std.specs.Str.{bytes_eq};
 ghost use Rattle.chart_core.specs.Charts.{plan};
 ghost use Rattle.pol_events.specs.Events.{recipe};
 ghost use Rattle.pol_events.specs.Orderly.{is_valid};
-ghost use Rattle.pol_history.specs.Looking.{History};
 ghost use Rattle.pol_history.specs.Answers.{is_full};
+ghost use Rattle.pol_history.specs.Looking.{History};
 ghost use Rattle.pol_core.specs.Recipes.{RecipesMirror, AnswersRecipe};
 
 use chart_core::Chart;
@@ -15,6 +15,9 @@ use mtp_codes::Name;
 use pol_events::{Answer, Rule};
 use std::alloc::AllocError;
 use std::sync::Arc;
+
+/// How many recipes may be known.
+const MOST_RECIPES: usize = 64;
 
 // Keeps the chart of a new name.
 fn keep(
@@ -41,14 +44,15 @@ pub fn recipe(
     chart: &Arc<Chart>,
 ) -> Result<Answer, AllocError>
     requires { is_valid (plan chart.now.value) ≡ true }
-    ensures answered { IfOk result (λ answer. (history : History) (at : ℕ) → RecipesMirror recipes.old.entries history → is_full history ≡ false
+    ensures answered { IfOk result (λ answer. (history : History) (at : ℕ)
+        → RecipesMirror recipes.old.entries history → is_full history ≡ false
         → AnswersRecipe history (recipe at name (plan chart.now.value)) answer recipes.new.entries) }
     ensures unchanged { OnErr result (recipes.new.entries ≡ recipes.old.entries) }
 {
     if recipes.contains_key(&name) {
         return Ok(Answer::Refused(Rule::RecipeKnown));
     }
-    if recipes.len() >= 64 {
+    if recipes.len() >= MOST_RECIPES {
         return Ok(Answer::Refused(Rule::RecipesFull));
     }
     let chart = chart.clone()?;

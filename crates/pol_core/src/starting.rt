@@ -1,22 +1,22 @@
 //! A batch that is started: its modules are held, and its run is kept.
 ghost use Rattle.std.specs.Prelude.{◌≡◌, ℕ, ◌+◌, length, List, None, Some, Ok, true, false, IfOk, OnOk, OnErr, ◌<◌, if◌then◌else◌};
+ghost use Rattle.std.specs.Map.{lookup};
+ghost use Rattle.std.specs.Str.{bytes_eq};
+ghost use Rattle.mtp_codes.specs.Faults.{first_of};
 ghost use Rattle.mtp_codes.specs.Names.{is_among};
 ghost use Rattle.chart_core.specs.Charts.{plan};
 ghost use Rattle.chart_core.specs.Valid.{IsValid};
 ghost use Rattle.pol_events.specs.Bound.{ArePaired, tags_of};
-ghost use Rattle.pol_core.specs.Starting.{Begins, Holds, IsNew};
-ghost use Rattle.pol_core.specs.Recipes.{AreValid};
-ghost use Rattle.pol_core.specs.Mirrors.{Mirrors, Answers};
-ghost use Rattle.pol_events.specs.Orderly.{roles_once};
 ghost use Rattle.pol_events.specs.Events.{start};
-ghost use Rattle.pol_history.specs.Looking.{History};
+ghost use Rattle.pol_events.specs.Orderly.{roles_once};
 ghost use Rattle.pol_history.specs.Answers.{is_full, rules};
-ghost use Rattle.mtp_codes.specs.Faults.{first_of};
-ghost use Rattle.pol_core.specs.Judging.{chart_rule};
-ghost use Rattle.pol_table.specs.Answers.{holding};
-ghost use Rattle.std.specs.Map.{lookup};
-ghost use Rattle.std.specs.Str.{bytes_eq};
+ghost use Rattle.pol_history.specs.Looking.{History};
 ghost use Rattle.indexmap.specs.IndexMap.{spare};
+ghost use Rattle.pol_table.specs.Answers.{holding};
+ghost use Rattle.pol_core.specs.Judging.{chart_rule};
+ghost use Rattle.pol_core.specs.Mirrors.{Mirrors, Answers};
+ghost use Rattle.pol_core.specs.Recipes.{AreValid};
+ghost use Rattle.pol_core.specs.Starting.{Begins, Holds, IsNew};
 
 use crate::binding::bind_rule;
 use chart_core::Chart;
@@ -108,7 +108,8 @@ fn begin(
     requires paired { ArePaired binds.now }
     requires free { holding (tags_of binds.now) modules.old ≡ Ok tt }
     requires new { lookup (bytes_eq batch) runs.old.entries ≡ None }
-    ensures begun { OnOk result (Begins batch (plan chart.now.value) binds.now modules.old modules.new runs.old.entries runs.new.entries) }
+    ensures begun { OnOk result (Begins batch (plan chart.now.value) binds.now
+        modules.old modules.new runs.old.entries runs.new.entries) }
     ensures count { length modules.new ≡ length modules.old }
     ensures modules { OnErr result (modules.new ≡ modules.old) }
     ensures runs { OnErr result (runs.new.entries ≡ runs.old.entries) }

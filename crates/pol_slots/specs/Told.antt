@@ -6,7 +6,7 @@ use Rattle.mtp_codes.specs.declared.value.Value.{Value}
 use Rattle.mtp_assembly.specs.declared.control.ServiceControl.{ServiceControl}
 use Rattle.mtp_desc.specs.Plain.{DescriptionForm}
 use Rattle.mtp_desc.specs.Lookup.{service_named, variable_named}
-use Rattle.pol_slots.specs.Lasts.{last_in, Puts, Forgets}
+use Rattle.pol_slots.specs.Lasts.{last_in, Puts, Forgets, SameLasts}
 use Rattle.pol_slots.specs.declared.told.Told.{Told}
 
 -- there is a place for each service of the description, and for no other
@@ -27,6 +27,11 @@ pub record ToldNothing (told : Told) : Type 0 where
 -- a service reported this, and nothing else was told
 pub record TellsControl (service : List ℕ) (control : ServiceControl) (old new : Told) : Type 0 where
   pub controls : Puts service control old.controls new.controls
+  pub values : new.values ≡ old.values
+
+-- all that was told is told still
+pub record TellsSame (old new : Told) : Type 0 where
+  pub controls : SameLasts old.controls new.controls
   pub values : new.values ≡ old.values
 
 -- a variable was reported with this value, and nothing else was told

@@ -4,8 +4,9 @@ ghost use Rattle.std.specs.Map.{lookup};
 ghost use Rattle.std.specs.Str.{bytes_eq};
 ghost use Rattle.mtp_codes.specs.Faults.{done_unless};
 ghost use Rattle.pol_events.specs.Refusals.{wrong_ticket};
+ghost use Rattle.pol_slots.specs.Lasts.{report_rule};
 ghost use Rattle.pol_slots.specs.Berths.{ticket_in, told_in, docked_in, IsBack};
-ghost use Rattle.pol_slots.specs.Told.{TellsControl, TellsValue};
+ghost use Rattle.pol_slots.specs.Told.{TellsControl, TellsSame, TellsValue};
 
 use super::told::Told;
 use mtp_assembly::ServiceControl;
@@ -73,14 +74,19 @@ impl Berth {
         }
     }
 
-    /// Keeps what a service of the docked module reports.
-    pub(crate) fn tell_control(&mut self, service: Name, control: ServiceControl)
+    /// Keeps what a service of the docked module reports, where its state may follow the one before.
+    ///
+    /// `NoService` where the module has no such service, `NotAnEdge` where the state may not follow; then all stays.
+    pub(crate) fn report(&mut self, service: Name, control: ServiceControl) -> Result<(), Rule>
         requires { ticket_in self.old ≡ None }
+        ensures answer { result ≡ done_unless (report_rule control.state
+            (lookup (bytes_eq service) (told_in self.old).controls)) }
         ensures docked { ticket_in self.new ≡ None }
-        ensures told { TellsControl service control (told_in self.old) (told_in self.new) }
+        ensures told { OnOk result (TellsControl service control (told_in self.old) (told_in self.new)) }
+        ensures unchanged { OnErr result (TellsSame (told_in self.old) (told_in self.new)) }
     {
         match self {
-            Berth::Docked(docked) => docked.part_mut().controls.put(service, control),
+            Berth::Docked(docked) => docked.part_mut().controls.report(service, control),
             Berth::Away(_) => unreachable!(),
         }
     }

@@ -1,13 +1,38 @@
 //! The last values of named things.
-ghost use Rattle.std.specs.Prelude.{◌≡◌, ℕ, List, [], Some, None, OnOk, if◌then◌else◌};
+ghost use Rattle.std.specs.Prelude.{◌≡◌, ℕ, List, [], Some, None, OnOk, OnErr, if◌then◌else◌};
 ghost use Rattle.std.specs.Map.{lookup};
 ghost use Rattle.std.specs.Str.{bytes_eq};
-ghost use Rattle.pol_slots.specs.Lasts.{Puts, Forgets};
+ghost use Rattle.mtp_codes.specs.Faults.{done_unless};
+ghost use Rattle.pol_events.specs.Refusals.{may_follow, not_an_edge};
+ghost use Rattle.pol_slots.specs.Lasts.{Puts, Forgets, SameLasts, report_rule};
 
 use indexmap::IndexMap;
-use mtp_codes::Name;
+use mtp_assembly::ServiceControl;
+use mtp_codes::{Name, State};
+use mtp_machine::edge;
+use pol_events::Rule;
 use std::alloc::{AllocError, Global};
 use std::marker::Model;
+
+// A state may follow the one reported last: it is the same, or an edge leads to it.
+fn may_follow(from: State, to: State) -> bool
+    ensures { result ≡ may_follow from to }
+{
+    from == to || edge(from, to)
+}
+
+// The state may follow what was reported last, if anything was.
+fn follows(last: Option<ServiceControl>, state: State) -> Result<(), Rule>
+    ensures { result ≡ done_unless (not_an_edge state last) }
+{
+    match last {
+        Some(last) if !may_follow(last.state, state) => Err(Rule::NotAnEdge {
+            from: last.state,
+            to: state,
+        }),
+        _ => Ok(()),
+    }
+}
 
 /// The last value of each of some names, in the order in which the names were added; none at first.
 #[derive(Drop)]
@@ -65,6 +90,26 @@ impl<T: Copy + Drop> Lasts<T> {
         for place in 0..self.values.len() {
             let (_, last) = self.values.pair_mut(place);
             *last = None;
+        }
+    }
+}
+
+impl Lasts<ServiceControl> {
+    /// Puts what a service reports as its last control, where its state may follow the one before.
+    ///
+    /// `NoService` where the service isn't one of these, `NotAnEdge` where the state may not follow; then all stays.
+    pub(crate) fn report(&mut self, service: Name, control: ServiceControl) -> Result<(), Rule>
+        ensures answer { result ≡ done_unless (report_rule control.state (lookup (bytes_eq service) self.old)) }
+        ensures reported { OnOk result (Puts service control self.old self.new) }
+        ensures unchanged { OnErr result (SameLasts self.old self.new) }
+    {
+        match self.values.get_mut(&service) {
+            None => Err(Rule::NoService),
+            Some(last) => {
+                follows(*last, control.state)?;
+                *last = Some(control);
+                Ok(())
+            }
         }
     }
 }

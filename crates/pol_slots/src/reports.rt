@@ -4,35 +4,14 @@ ghost use Rattle.std.specs.Option.{option_or};
 ghost use Rattle.std.specs.Str.{bytes_eq};
 ghost use Rattle.mtp_codes.specs.Faults.{done_unless};
 ghost use Rattle.mtp_desc.specs.DescriptionView.{description_view};
-ghost use Rattle.pol_events.specs.Refusals.{may_follow, not_an_edge, report_fault, variable_fault, in_exchange};
+ghost use Rattle.pol_events.specs.Refusals.{report_fault, variable_fault, in_exchange};
 ghost use Rattle.pol_slots.specs.Slots.{slot_tag, slot_description, slot_ticket, last_control, last_value, SameModule, SameControls, SameValues};
 
 use super::slot::Slot;
 use mtp_assembly::{ServiceControl, check_view};
-use mtp_codes::{Name, State, Value};
+use mtp_codes::{Name, Value};
 use mtp_desc::Description;
-use mtp_machine::edge;
 use pol_events::Rule;
-
-// A state may follow the one reported last: it is the same, or an edge leads to it.
-fn may_follow(from: State, to: State) -> bool
-    ensures { result ≡ may_follow from to }
-{
-    from == to || edge(from, to)
-}
-
-// The state may follow what was reported last, if anything was.
-fn follows(last: Option<ServiceControl>, state: State) -> Result<(), Rule>
-    ensures { result ≡ done_unless (not_an_edge state last) }
-{
-    match last {
-        Some(last) if !may_follow(last.state, state) => Err(Rule::NotAnEdge {
-            from: last.state,
-            to: state,
-        }),
-        _ => Ok(()),
-    }
-}
 
 // The description has the variable, and it may have the value.
 fn fits(description: &Description, name: Name, value: &Value) -> Result<(), Rule>
@@ -56,20 +35,6 @@ impl Slot {
             }),
             None => Ok(()),
         }
-    }
-
-    // The service may report the state.
-    #[tactic(auto, unfolding(crate::specs::Slots::last_control))]
-    fn check_report(&self, service: Name, state: State) -> Result<(), Rule>
-        ensures { result ≡ done_unless (option_or
-            (in_exchange (slot_tag self.now) (slot_ticket self.now))
-            (report_fault service state (slot_description self.now) (last_control self.now service))) }
-    {
-        self.docked()?;
-        let Some(last) = self.berth.control(service) else {
-            return Err(Rule::NoService);
-        };
-        follows(last, state)
     }
 
     // The variable may have the value.
@@ -98,9 +63,8 @@ impl Slot {
         ensures values { SameValues self.old self.new }
         ensures unchanged { OnErr result (SameControls self.old self.new) }
     {
-        self.check_report(service, control.state)?;
-        self.berth.tell_control(service, control);
-        Ok(())
+        self.docked()?;
+        self.berth.report(service, control)
     }
 
     /// Takes the value that a variable is reported with.

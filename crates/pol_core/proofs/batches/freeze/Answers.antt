@@ -11,7 +11,8 @@ use Rattle.pol_core.proofs.batches.freeze.Goals as goal
 pub returns-in-Err-clause-answered : goal.returns-in-Err-clause-answered
 returns-in-Err-clause-answered c =
     λ history at modules seats counted batches room.
-    not-open-answered history (freeze at c.args.batch) c.args.batch (already_frozen (past_of_batch c.args.batch history) ∷ []) c.in-Err.rule modules
+    not-open-answered history (freeze at c.args.batch) c.args.batch
+    (already_frozen (past_of_batch c.args.batch history) ∷ []) c.in-Err.rule modules
     c.args.runs.now.entries refl room seats counted batches c.in-Err.ensures.rule
 
 pub returns-clause-answered : goal.returns-clause-answered
@@ -19,6 +20,8 @@ returns-clause-answered c =
     λ history at modules seats counted batches room.
     let open' = c.in_default.ensures.run in
     subst (λ answer. AnswersBatch history (freeze at c.args.batch) answer modules c.freeze_run.new.runs.entries)
-    (sym (c.done_or_refused.ensures ∙ ap done_or_refused (c.freeze_run.ensures.answer c.in_default.field-0.now open'.found)))
-    (freeze-answered history at c.args.batch c.in_default.field-0.now modules c.args.runs.now.entries c.freeze_run.new.runs.entries room open'
+    (sym (c.done_or_refused.ensures
+    ∙ ap done_or_refused (c.freeze_run.ensures.answer c.in_default.field-0.now open'.found)))
+    (freeze-answered history at c.args.batch c.in_default.field-0.now modules c.args.runs.now.entries
+    c.freeze_run.new.runs.entries room open'
     (c.freeze_run.ensures.changed c.in_default.field-0.now open'.found) seats counted batches)

@@ -1,7 +1,7 @@
 -- The run of the batch is changed in its place.
 use Rattle.std.proofs.Common.{◌≡◌, ◌∙◌, sym, ap, Some, cond, true}
-use Rattle.std.specs.Option.{option_copied_mut}
 use Rattle.std.specs.Map.{lookup}
+use Rattle.std.specs.Option.{option_copied_mut}
 use Rattle.std.specs.Str.{bytes_eq}
 use Rattle.pol_runs.specs.Runs.{PlainRun}
 use Rattle.pol_core.proofs.Runs.{written, inner-same}
@@ -10,8 +10,10 @@ use Rattle.pol_core.proofs.batches.freeze_run.Goals as goal
 pub returns-in-Some-clause-changed : goal.returns-in-Some-clause-changed
 returns-in-Some-clause-changed c =
     λ run found other.
-    let is : c.in-Some.run'.now ≡ run = inner-same c.in-Some.run'.now run (sym (ap option_copied_mut c.in-Some.is) ∙ c.get_mut.ensures.value ∙ found) in
+    let is : c.in-Some.run'.now ≡ run = inner-same c.in-Some.run'.now run (sym (ap option_copied_mut c.in-Some.is)
+    ∙ c.get_mut.ensures.value ∙ found) in
     ap (lookup (bytes_eq other)) (c.get_mut.follows.holds c.freeze.new.self).0
     ∙ written c.args.batch other c.args.runs.now.entries run c.freeze.new.self found
-    ∙ ap (λ (run : PlainRun). cond (bytes_eq c.args.batch other) (Some run) (lookup (bytes_eq other) c.args.runs.now.entries))
+    ∙ ap (λ (run : PlainRun). cond (bytes_eq c.args.batch other) (Some run)
+    (lookup (bytes_eq other) c.args.runs.now.entries))
     (c.freeze.ensures.frozen ∙ ap (λ (run : PlainRun). record run { frozen = true }) is)

@@ -11,6 +11,8 @@ pub returns : goal.returns
 returns c =
     λ history batches.
     c.settings_in.ensures
-    ∙ ap (λ (chart : Chart). first_said (settings_if c.args.step) (tree chart.root)) (c.deref.ensures ∙ c.chart.ensures.chart)
+    ∙ ap (λ (chart : Chart). first_said (settings_if c.args.step) (tree chart.root)) (c.deref.ensures
+    ∙ c.chart.ensures.chart)
     ∙ settings-found c.args.step (tree c.in_ok-run.run'.now.chart.root)
-    ∙ run-settings history c.args.batch c.args.step c.in_ok-run.run'.now c.args.runs.now.entries batches (sym c.in_ok-run.ensures.value)
+    ∙ run-settings history c.args.batch c.args.step c.in_ok-run.run'.now c.args.runs.now.entries batches
+    (sym c.in_ok-run.ensures.value)

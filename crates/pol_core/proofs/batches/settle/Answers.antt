@@ -1,6 +1,7 @@
+-- The run of the batch does what comes next.
 use Rattle.std.proofs.Common.{◌≡◌, ◌∙◌, sym, ap, subst}
-use Rattle.std.specs.Option.{option_copied_mut}
 use Rattle.std.specs.Map.{lookup}
+use Rattle.std.specs.Option.{option_copied_mut}
 use Rattle.std.specs.Str.{bytes_eq}
 use Rattle.pol_runs.specs.Runs.{PlainRun}
 use Rattle.pol_core.specs.Batches.{Settles}
@@ -10,11 +11,17 @@ use Rattle.pol_core.proofs.batches.settle.Goals as goal
 pub returns-in-Some-clause-settled : goal.returns-in-Some-clause-settled
 returns-in-Some-clause-settled c =
     λ run found.
-    let is : c.in-Some.run'.now ≡ run = inner-same c.in-Some.run'.now run (sym (ap option_copied_mut c.in-Some.is) ∙ c.get_mut.ensures.value ∙ found) in
+    let is : c.in-Some.run'.now ≡ run = inner-same c.in-Some.run'.now run (sym (ap option_copied_mut c.in-Some.is)
+    ∙ c.get_mut.ensures.value ∙ found) in
     record {
       after = c.settle.new.self;
       settles = subst (λ (run : PlainRun). Settles c.args.next.now run c.settle.new.self) is
-          (record { log = c.settle.ensures.log; same_batch = c.settle.ensures.same_batch; frozen_is = c.settle.ensures.frozen; outcome_is = c.settle.ensures.outcome });
+          (record {
+            log = c.settle.ensures.log;
+            same_batch = c.settle.ensures.same_batch;
+            frozen_is = c.settle.ensures.frozen;
+            outcome_is = c.settle.ensures.outcome;
+          });
       runs = λ other. ap (lookup (bytes_eq other)) (c.get_mut.follows.holds c.settle.new.self).0
           ∙ written c.args.batch other c.args.runs.now.entries run c.settle.new.self found;
     }

@@ -18,14 +18,18 @@ pub returns-then-stop_run-clause-answered : goal.returns-then-stop_run-clause-an
 returns-then-stop_run-clause-answered c =
     λ history at modules seats counted batches room.
     let open' = c.in_default.ensures.run in
-    subst (λ is_new. AnswersBatch history (stop_batch at c.args.batch) (if is_new then Did StopAsked else Done) modules c.stop_run.new.runs.entries) c.if-stop_run.true
-    (stop-answered history at c.args.batch c.stop_run.result c.in_default.field-0.now modules c.args.runs.now.entries c.stop_run.new.runs.entries room open'
+    subst (λ is_new. AnswersBatch history (stop_batch at c.args.batch)
+    (if is_new then Did StopAsked else Done) modules c.stop_run.new.runs.entries) c.if-stop_run.true
+    (stop-answered history at c.args.batch c.stop_run.result c.in_default.field-0.now modules
+    c.args.runs.now.entries c.stop_run.new.runs.entries room open'
     (c.stop_run.ensures.stopped c.in_default.field-0.now open'.found) seats counted batches)
 
 pub returns-else-stop_run-clause-answered : goal.returns-else-stop_run-clause-answered
 returns-else-stop_run-clause-answered c =
     λ history at modules seats counted batches room.
     let open' = c.in_default.ensures.run in
-    subst (λ is_new. AnswersBatch history (stop_batch at c.args.batch) (if is_new then Did StopAsked else Done) modules c.stop_run.new.runs.entries) c.if-stop_run.false
-    (stop-answered history at c.args.batch c.stop_run.result c.in_default.field-0.now modules c.args.runs.now.entries c.stop_run.new.runs.entries room open'
+    subst (λ is_new. AnswersBatch history (stop_batch at c.args.batch)
+    (if is_new then Did StopAsked else Done) modules c.stop_run.new.runs.entries) c.if-stop_run.false
+    (stop-answered history at c.args.batch c.stop_run.result c.in_default.field-0.now modules
+    c.args.runs.now.entries c.stop_run.new.runs.entries room open'
     (c.stop_run.ensures.stopped c.in_default.field-0.now open'.found) seats counted batches)

@@ -1,7 +1,7 @@
 -- The run of the batch is to be stopped.
 use Rattle.std.proofs.Common.{◌≡◌, ◌∙◌, sym, ap, subst}
-use Rattle.std.specs.Option.{option_copied_mut}
 use Rattle.std.specs.Map.{lookup}
+use Rattle.std.specs.Option.{option_copied_mut}
 use Rattle.std.specs.Str.{bytes_eq}
 use Rattle.pol_runs.specs.Runs.{PlainRun}
 use Rattle.pol_core.specs.Batches.{Stops}
@@ -11,7 +11,8 @@ use Rattle.pol_core.proofs.batches.stop_run.Goals as goal
 pub returns-in-Some-clause-stopped : goal.returns-in-Some-clause-stopped
 returns-in-Some-clause-stopped c =
     λ run found.
-    let is : c.in-Some.run'.now ≡ run = inner-same c.in-Some.run'.now run (sym (ap option_copied_mut c.in-Some.is) ∙ c.get_mut.ensures.value ∙ found) in
+    let is : c.in-Some.run'.now ≡ run = inner-same c.in-Some.run'.now run (sym (ap option_copied_mut c.in-Some.is)
+    ∙ c.get_mut.ensures.value ∙ found) in
     record {
       after = c.stop.new.self;
       stops = subst (λ (run : PlainRun). Stops c.stop.result run c.stop.new.self) is

@@ -1,7 +1,8 @@
+-- What a module doesn't cover, as a rule.
 use Rattle.std.proofs.Common.{◌∙◌, sym, ap, option_map}
-use Rattle.chart_core.specs.Charts.{plan}
 use Rattle.mtp_desc.specs.DescriptionView.{description_view}
 use Rattle.mtp_procs.specs.Covers.{cover_fault}
+use Rattle.chart_core.specs.Charts.{plan}
 use Rattle.pol_events.specs.Refusals.{cover_rule}
 use Rattle.pol_core.proofs.Found.{err-is}
 use Rattle.pol_core.proofs.binding.not_covered.Goals as goal
@@ -9,5 +10,6 @@ use Rattle.pol_core.proofs.binding.not_covered.Goals as goal
 pub returns-in-Err : goal.returns-in-Err
 returns-in-Err c =
     sym (err-is _ c.in-Err.rule (sym c.covers.ensures ∙ c.in-Err.is))
-    ∙ ap (λ description. option_map (cover_rule c.args.role) (cover_fault (plan c.args.chart.now) c.args.role description))
+    ∙ ap (λ description. option_map (cover_rule c.args.role)
+    (cover_fault (plan c.args.chart.now) c.args.role description))
     (ap description_view c.deref.ensures ∙ c.description.ensures)

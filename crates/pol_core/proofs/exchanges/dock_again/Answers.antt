@@ -1,3 +1,4 @@
+-- Another module is docked, or all that is seen stays.
 use Rattle.std.proofs.Common.{◌≡◌, ◌∙◌, sym, ap, subst, refl}
 use Rattle.std.specs.Option.{option_copied_mut}
 use Rattle.mtp_desc.specs.DescriptionView.{description_view}
@@ -9,17 +10,20 @@ use Rattle.pol_core.proofs.exchanges.dock_again.Goals as goal
 pub returns-in-Ok-clause-docked : goal.returns-in-Ok-clause-docked
 returns-in-Ok-clause-docked c =
     λ slot found.
-    let is : c.in-Some.slot.now ≡ slot = inner-same c.in-Some.slot.now slot (sym (ap option_copied_mut c.in-Some.is) ∙ c.get_mut.ensures.value ∙ found) in
+    let is : c.in-Some.slot.now ≡ slot = inner-same c.in-Some.slot.now slot (sym (ap option_copied_mut c.in-Some.is)
+    ∙ c.get_mut.ensures.value ∙ found) in
     record {
       after = c.finish.new.self;
-      docks = subst (λ (slot : Slot). IsDocked slot c.finish.new.self (description_view c.args.desc.value)) is c.in-Ok.ensures.docked;
+      docks = subst (λ (slot : Slot). IsDocked slot c.finish.new.self (description_view c.args.desc.value))
+          is c.in-Ok.ensures.docked;
       table = refl;
     }
 
 pub returns-in-Err-Memory-clause-kept : goal.returns-in-Err-Memory-clause-kept
 returns-in-Err-Memory-clause-kept c =
     λ slot found.
-    let is : c.in-Some.slot.now ≡ slot = inner-same c.in-Some.slot.now slot (sym (ap option_copied_mut c.in-Some.is) ∙ c.get_mut.ensures.value ∙ found) in
+    let is : c.in-Some.slot.now ≡ slot = inner-same c.in-Some.slot.now slot (sym (ap option_copied_mut c.in-Some.is)
+    ∙ c.get_mut.ensures.value ∙ found) in
     record {
       after = c.finish.new.self;
       same = subst (λ (slot : Slot). IsUnchanged slot c.finish.new.self) is c.in-Err-Memory.ensures.unchanged;

@@ -12,9 +12,11 @@ returns-in-Some c = record {
 
 pub returns : goal.returns
 returns c = record {
-  answered = λ history at seats counted batches room.
+  answered =
+      λ history at seats counted batches room.
       let docked = c.begin_rule.ensures.docked c.in_default.is in
-      begin-answered history at c.args.tag c.send_away.result docked.slot c.args.modules.now c.send_away.new.modules seats counted room
+      begin-answered history at c.args.tag c.send_away.result docked.slot c.args.modules.now
+      c.send_away.new.modules seats counted room
       docked.found docked.docked (sym (c.begin_rule.ensures.rule history at seats batches) ∙ c.in_default.is)
       (c.send_away.ensures docked.slot docked.found);
 }

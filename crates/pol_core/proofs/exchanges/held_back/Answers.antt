@@ -1,19 +1,23 @@
-use Rattle.std.proofs.Common.{◌∙◌, sym, ap, option_map}
+-- The new module doesn't cover its role, or does.
+use Rattle.std.proofs.Common.{◌≡◌, ◌∙◌, sym, ap, option_map}
 use Rattle.mtp_desc.specs.DescriptionView.{description_view}
 use Rattle.pol_events.specs.declared.answer.Rule.TheVariants.{HeldBack}
 use Rattle.pol_core.proofs.Again.{run-holds-back}
 use Rattle.pol_core.proofs.exchanges.held_back.Goals as goal
 
-pub returns-in-Some-missing_of : goal.returns-in-Some-missing_of
-returns-in-Some-missing_of c =
+pub returns : goal.returns
+returns c =
     λ history mirror batches.
-    ap (option_map (HeldBack c.in-Some.batch)) (sym c.in-Some-missing_of.is)
-    ∙ run-holds-back history c.args.tag c.in-Some.batch (description_view c.args.desc.now) c.args.modules.now c.args.runs.now.entries c.in-Some-get.run'.now
-    c.missing_of.result mirror batches (sym c.holder.ensures ∙ c.in-Some.is) (sym c.in-Some-get.ensures.value) c.missing_of.ensures
+    ap (option_map (HeldBack c.in_ok-batch.batch)) (sym c.in_ok-missing.was)
+    ∙ run-holds-back history c.args.tag c.in_ok-batch.batch (description_view c.args.desc.now) c.args.modules.now
+    c.args.runs.now.entries c.in_ok-run.run'.now c.missing_of.result mirror batches
+    (sym c.holder.ensures ∙ c.in_ok-batch.was) (sym c.in_ok-run.ensures.value) c.missing_of.ensures
 
-pub returns-in-None : goal.returns-in-None
-returns-in-None c =
+pub returns-in_err-missing : goal.returns-in_err-missing
+returns-in_err-missing c =
     λ history mirror batches.
-    ap (option_map (HeldBack c.in-Some.batch)) (sym c.in-None.is)
-    ∙ run-holds-back history c.args.tag c.in-Some.batch (description_view c.args.desc.now) c.args.modules.now c.args.runs.now.entries c.in-Some-get.run'.now
-    c.missing_of.result mirror batches (sym c.holder.ensures ∙ c.in-Some.is) (sym c.in-Some-get.ensures.value) c.missing_of.ensures
+    c.from_residual-in_err-missing.ensures
+    ∙ ap (option_map (HeldBack c.in_ok-batch.batch)) (sym c.in_err-missing.was)
+    ∙ run-holds-back history c.args.tag c.in_ok-batch.batch (description_view c.args.desc.now) c.args.modules.now
+    c.args.runs.now.entries c.in_ok-run.run'.now c.missing_of.result mirror batches
+    (sym c.holder.ensures ∙ c.in_ok-batch.was) (sym c.in_ok-run.ensures.value) c.missing_of.ensures

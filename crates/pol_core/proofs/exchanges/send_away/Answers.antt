@@ -10,16 +10,19 @@ use Rattle.pol_core.proofs.exchanges.send_away.Goals as goal
 pub begin-requires : goal.begin-requires
 begin-requires c =
     let at = c.requires.docked in
-    let is : c.in-Some.slot.now ≡ at.slot = inner-same c.in-Some.slot.now at.slot (sym (ap option_copied_mut c.in-Some.is) ∙ c.get_mut.ensures.value ∙ at.found) in
+    let is : c.in-Some.slot.now ≡ at.slot = inner-same c.in-Some.slot.now at.slot
+    (sym (ap option_copied_mut c.in-Some.is) ∙ c.get_mut.ensures.value ∙ at.found) in
     record {
       docked = subst (λ (slot : Slot). slot_ticket slot ≡ None) (sym is) at.docked;
-      few = c.requires.few c.args.tag c.in-Some.slot.now (sym c.get_mut.ensures.value ∙ ap option_copied_mut c.in-Some.is);
+      few = c.requires.few c.args.tag c.in-Some.slot.now (sym c.get_mut.ensures.value
+          ∙ ap option_copied_mut c.in-Some.is);
     }
 
 pub returns : goal.returns
 returns c =
     λ slot found.
-    let is : c.in-Some.slot.now ≡ slot = inner-same c.in-Some.slot.now slot (sym (ap option_copied_mut c.in-Some.is) ∙ c.get_mut.ensures.value ∙ found) in
+    let is : c.in-Some.slot.now ≡ slot = inner-same c.in-Some.slot.now slot (sym (ap option_copied_mut c.in-Some.is)
+    ∙ c.get_mut.ensures.value ∙ found) in
     record {
       after = c.begin.new.self;
       goes = subst (λ (slot : Slot). GoesAway c.begin.result slot c.begin.new.self) is

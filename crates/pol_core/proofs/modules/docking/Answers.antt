@@ -11,5 +11,6 @@ returns-in-None c =
     λ history seats.
     let slot = c.in-Some.slot.now in
     ap (λ n. docked (n + 1)) c.begins.ensures
-    ∙ docked-is c.args.tag slot (past c.args.tag history) (seated-slot history c.args.tag c.args.modules.now slot seats (sym c.in-Some.ensures))
+    ∙ docked-is c.args.tag slot (past c.args.tag history)
+    (seated-slot history c.args.tag c.args.modules.now slot seats (sym c.in-Some.ensures))
     (sym c.ticket.ensures ∙ c.in-None.is)

@@ -11,15 +11,20 @@ use Rattle.pol_core.proofs.modules.report.Goals as goal
 
 pub returns-in-Some : goal.returns-in-Some
 returns-in-Some c = record {
-  answered = λ history at seats counted room.
-      let found : part_of c.args.tag c.args.modules.now ≡ Some c.in-Some.slot.now = sym c.get_mut.ensures.value ∙ ap option_copied_mut c.in-Some.is in
+  answered =
+      λ history at seats counted room.
+      let found : part_of c.args.tag c.args.modules.now ≡ Some c.in-Some.slot.now = sym c.get_mut.ensures.value
+      ∙ ap option_copied_mut c.in-Some.is in
       let keeps = seated-slot history c.args.tag c.args.modules.now c.in-Some.slot.now seats found in
-      slot-answered history _ c.args.tag c.args.modules.now c.in-Some.slot.now c.report.new.self c.report.result _ refl refl
+      slot-answered history _ c.args.tag c.args.modules.now c.in-Some.slot.now c.report.new.self
+      c.report.result _ refl refl
       c.done_or_refused.ensures
-      (ap done_or_refused c.report.ensures.answer ∙ report-judged history at c.args.tag c.args.service c.args.control c.in-Some.slot.now room keeps)
+      (ap done_or_refused c.report.ensures.answer
+      ∙ report-judged history at c.args.tag c.args.service c.args.control c.in-Some.slot.now room keeps)
       seats counted found
       (on-ok c.report.result (λ reported.
-      report-keeps c.args.tag c.in-Some.slot.now c.report.new.self (past c.args.tag history) at c.args.tag c.args.service c.args.control _
+      report-keeps c.args.tag c.in-Some.slot.now c.report.new.self
+      (past c.args.tag history) at c.args.tag c.args.service c.args.control _
       c.report.ensures.same_module c.report.ensures.values reported keeps) c.report.ensures.reported)
       (on-err c.report.result (λ controls.
       unchanged-keeps c.args.tag c.in-Some.slot.now c.report.new.self (past c.args.tag history)

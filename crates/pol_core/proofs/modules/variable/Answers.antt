@@ -11,15 +11,20 @@ use Rattle.pol_core.proofs.modules.variable.Goals as goal
 
 pub returns-in-Some : goal.returns-in-Some
 returns-in-Some c = record {
-  answered = λ history at seats counted room.
-      let found : part_of c.args.tag c.args.modules.now ≡ Some c.in-Some.slot.now = sym c.get_mut.ensures.value ∙ ap option_copied_mut c.in-Some.is in
+  answered =
+      λ history at seats counted room.
+      let found : part_of c.args.tag c.args.modules.now ≡ Some c.in-Some.slot.now = sym c.get_mut.ensures.value
+      ∙ ap option_copied_mut c.in-Some.is in
       let keeps = seated-slot history c.args.tag c.args.modules.now c.in-Some.slot.now seats found in
-      slot-answered history _ c.args.tag c.args.modules.now c.in-Some.slot.now c.variable.new.self c.variable.result _ refl refl
+      slot-answered history _ c.args.tag c.args.modules.now c.in-Some.slot.now c.variable.new.self
+      c.variable.result _ refl refl
       c.done_or_refused.ensures
-      (ap done_or_refused c.variable.ensures.answer ∙ variable-judged history at c.args.tag c.args.name c.args.value c.in-Some.slot.now room keeps)
+      (ap done_or_refused c.variable.ensures.answer
+      ∙ variable-judged history at c.args.tag c.args.name c.args.value c.in-Some.slot.now room keeps)
       seats counted found
       (on-ok c.variable.result (λ reported.
-      variable-keeps c.args.tag c.in-Some.slot.now c.variable.new.self (past c.args.tag history) at c.args.tag c.args.name c.args.value _
+      variable-keeps c.args.tag c.in-Some.slot.now c.variable.new.self
+      (past c.args.tag history) at c.args.tag c.args.name c.args.value _
       c.variable.ensures.same_module c.variable.ensures.controls reported keeps) c.variable.ensures.reported)
       (on-err c.variable.result (λ values.
       unchanged-keeps c.args.tag c.in-Some.slot.now c.variable.new.self (past c.args.tag history)

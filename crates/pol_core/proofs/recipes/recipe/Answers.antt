@@ -1,3 +1,4 @@
+-- A recipe is made known, or a rule is against it.
 use Rattle.std.proofs.Common.{◌<◌, ◌≤◌, ◌∙◌, sym, ap, subst, length, arith}
 use Rattle.std.proofs.lemmas.Bool.{le-leb, lt-leb}
 use Rattle.chart_core.specs.Charts.{plan}
@@ -12,23 +13,29 @@ use Rattle.pol_core.proofs.recipes.recipe.Goals as goal
 pub returns-then-contains_key-clause-answered : goal.returns-then-contains_key-clause-answered
 returns-then-contains_key-clause-answered c =
     λ history at mirror room.
-    known-recipe history at c.args.name (plan c.args.chart.now.value) c.args.recipes.now.entries mirror room (sym c.contains_key.ensures ∙ c.if-contains_key.true)
+    known-recipe history at c.args.name (plan c.args.chart.now.value) c.args.recipes.now.entries mirror room
+    (sym c.contains_key.ensures ∙ c.if-contains_key.true)
 
-pub returns-then-len-ge64-clause-answered : goal.returns-then-len-ge64-clause-answered
-returns-then-len-ge64-clause-answered c =
+pub returns-then-len-ge-MOST_RECIPES-clause-answered : goal.returns-then-len-ge-MOST_RECIPES-clause-answered
+returns-then-len-ge-MOST_RECIPES-clause-answered c =
     λ history at mirror room.
-    no-room-recipe history at c.args.name (plan c.args.chart.now.value) c.args.recipes.now.entries mirror room (sym c.contains_key.ensures ∙ c.if-contains_key.false)
-    (let many = c.if-len-ge64.true in let len = c.len.ensures.len in let above : 64 ≤ length c.args.recipes.now.entries = omega arith in
+    no-room-recipe history at c.args.name (plan c.args.chart.now.value) c.args.recipes.now.entries mirror room
+    (sym c.contains_key.ensures ∙ c.if-contains_key.false)
+    (let many = c.if-len-ge-MOST_RECIPES.true in let len = c.len.ensures.len in
+    let above : 64 ≤ length c.args.recipes.now.entries = omega arith in
     le-leb 64 (length c.args.recipes.now.entries) above)
 
 pub returns-clause-answered : goal.returns-clause-answered
 returns-clause-answered c =
     λ history at mirror room.
     let same = c.in_ok-chart.ensures.cases in
-    subst (λ (chart : Chart). AnswersRecipe history (recipe at c.args.name (plan chart)) Done c.keep.new.recipes.entries) same
-    (new-recipe history at c.args.name c.in_ok-chart.chart c.args.recipes.now.entries c.keep.new.recipes.entries mirror room
+    subst (λ (chart : Chart). AnswersRecipe history (recipe at c.args.name (plan chart)) Done
+    c.keep.new.recipes.entries) same
+    (new-recipe history at c.args.name c.in_ok-chart.chart c.args.recipes.now.entries c.keep.new.recipes.entries
+    mirror room
     (sym c.contains_key.ensures ∙ c.if-contains_key.false)
-    (let few = c.if-len-ge64.false in let len = c.len.ensures.len in let below : length c.args.recipes.now.entries < 64 = omega arith in
+    (let few = c.if-len-ge-MOST_RECIPES.false in let len = c.len.ensures.len in
+    let below : length c.args.recipes.now.entries < 64 = omega arith in
     lt-leb 64 (length c.args.recipes.now.entries) below)
     (ap (λ (chart : Chart). is_valid (plan chart)) same ∙ c.requires)
     c.in_ok-keep.ensures.looks c.in_ok-keep.ensures.count)

@@ -9,8 +9,11 @@ use Rattle.pol_core.proofs.starting.start_rule.Goals as goal
 pub returns-in-Some : goal.returns-in-Some
 returns-in-Some c =
     λ history at mirrors.
-    sym (start-rules history at c.args.batch c.args.name c.args.binds.now (plan c.in-Some.chart.now.value) c.args.modules.now c.args.runs.now.entries
+    sym (start-rules history at c.args.batch c.args.name c.args.binds.now
+    (plan c.in-Some.chart.now.value) c.args.modules.now c.args.runs.now.entries
     c.args.recipes.now.entries mirrors
-    (charted-is history c.args.recipes.now.entries c.args.name c.in-Some.chart.now mirrors.recipes (sym c.in-Some.ensures.value))
-    ∙ ap (λ (chart : Chart). chart_rule c.args.modules.now c.args.runs.now.entries c.args.batch c.args.binds.now (plan chart)) (sym c.deref.ensures)
+    (charted-is history c.args.recipes.now.entries c.args.name c.in-Some.chart.now mirrors.recipes
+    (sym c.in-Some.ensures.value))
+    ∙ ap (λ (chart : Chart). chart_rule c.args.modules.now c.args.runs.now.entries c.args.batch c.args.binds.now
+    (plan chart)) (sym c.deref.ensures)
     ∙ sym c.chart_rule.ensures)

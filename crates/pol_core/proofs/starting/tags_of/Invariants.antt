@@ -1,3 +1,4 @@
+-- The tags so far are listed.
 use Rattle.std.proofs.Common.{◌≡◌, take}
 use Rattle.pol_events.specs.Bound.{tags_of}
 use Rattle.pol_core.proofs.starting.tags_of.Given as goal

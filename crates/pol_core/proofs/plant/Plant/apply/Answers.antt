@@ -1,3 +1,4 @@
+-- The plant with one more entry.
 use Rattle.std.proofs.Common.{◌<◌, ◌∙◌, ◌∷◌, ◌++◌, [], ap, length, arith}
 use Rattle.pol_events.specs.Events.{event_view, history_view}
 use Rattle.pol_history.specs.Runs.{entry_of, recorded}
@@ -11,10 +12,15 @@ invariant_of-self-2 c =
     let room = c.if-len-ge-LONGEST_HISTORY.false in
     let len = c.len.ensures in
     let short : length c.self.inside.history.items < 200000 = omega arith in
-    grown c.self.inside.history.items c.append.new.history.items c.args.event c.in-Ok.answer c.answer_event.new.modules c.answer_event.new.runs.entries c.answer_event.new.recipes.entries
-    (c.append.ensures.items ∙ ap (λ items. items ++ record { event = c.args.event; answer = c.in-Ok.answer } ∷ []) c.in_default.ensures.items)
+    grown c.self.inside.history.items c.append.new.history.items c.args.event c.in-Ok.answer
+    c.answer_event.new.modules c.answer_event.new.runs.entries c.answer_event.new.recipes.entries
+    (c.append.ensures.items ∙ ap (λ items. items ++ record {
+      event = c.args.event;
+      answer = c.in-Ok.answer;
+    } ∷ []) c.in_default.ensures.items)
     short c.requires.orderly c.self.invariant.0
-    (c.in-Ok.ensures.answered (history_view c.self.inside.history.items) c.self.invariant.1 (short-has-room c.self.inside.history.items short))
+    (c.in-Ok.ensures.answered (history_view c.self.inside.history.items) c.self.invariant.1
+    (short-has-room c.self.inside.history.items short))
 
 pub returns-clause-history : goal.returns-clause-history
 returns-clause-history c =
@@ -22,10 +28,16 @@ returns-clause-history c =
     let len = c.len.ensures in
     let short : length c.self.inside.history.items < 200000 = omega arith in
     recorded-is c.self.inside.history.items c.append.new.history.items c.args.event c.in-Ok.answer
-    (c.append.ensures.items ∙ ap (λ items. items ++ record { event = c.args.event; answer = c.in-Ok.answer } ∷ []) c.in_default.ensures.items)
+    (c.append.ensures.items ∙ ap (λ items. items ++ record {
+      event = c.args.event;
+      answer = c.in-Ok.answer;
+    } ∷ []) c.in_default.ensures.items)
     short
-    (c.in-Ok.ensures.answered (history_view c.self.inside.history.items) c.self.invariant.1 (short-has-room c.self.inside.history.items short)).answer_is
-    ∙ ap (λ (plant : PlainPlant). recorded (entry_of (plant_history plant) (event_view c.args.event)) (plant_history plant)) c.self.view_is
+    (c.in-Ok.ensures.answered (history_view c.self.inside.history.items) c.self.invariant.1
+    (short-has-room c.self.inside.history.items short)).answer_is
+    ∙ ap (λ (plant : PlainPlant). recorded (entry_of (plant_history plant) (event_view c.args.event))
+    (plant_history plant)) c.self.view_is
 
 pub answer_event-requires-clause-few : goal.answer_event-requires-clause-few
-answer_event-requires-clause-few c = begun-few c.self.inside.modules (history_view c.self.inside.history.items) c.self.invariant.1.seats c.self.invariant.0.few
+answer_event-requires-clause-few c = begun-few c.self.inside.modules
+    (history_view c.self.inside.history.items) c.self.invariant.1.seats c.self.invariant.0.few

@@ -5,4 +5,5 @@ use Rattle.pol_core.proofs.plant.Plant.docking.Goals as goal
 
 pub docking-requires : goal.docking-requires
 docking-requires c =
-    begun-few c.self.inside.modules (history_view c.self.inside.history.items) c.self.invariant.1.seats c.self.invariant.0.few
+    begun-few c.self.inside.modules (history_view c.self.inside.history.items) c.self.invariant.1.seats
+    c.self.invariant.0.few

@@ -12,9 +12,11 @@ pub returns : goal.returns
 returns c =
     λ at.
     let entries = c.self.inside.history.items in
-    let counted : length c.deref.result.now ≡ length (history_view entries) = ap length c.deref.ensures.value ∙ sym (length-history entries) in
+    let counted : length c.deref.result.now ≡ length (history_view entries) = ap length c.deref.ensures.value
+    ∙ sym (length-history entries) in
     c.unless_refused.ensures
     ∙ ap (λ n. refused_first n c.begin_rule.result) counted
     ∙ refused-by (history_view entries) (exchange_begin at c.args.tag) c.begin_rule.result
     (c.begin_rule.ensures.rule (history_view entries) at c.self.invariant.1.seats c.self.invariant.1.batches) refl
-    ∙ ap (λ (plant : PlainPlant). refusal (answer_of (plant_history plant) (exchange_begin at c.args.tag))) c.self.view_is
+    ∙ ap (λ (plant : PlainPlant). refusal (answer_of (plant_history plant) (exchange_begin at c.args.tag)))
+    c.self.view_is

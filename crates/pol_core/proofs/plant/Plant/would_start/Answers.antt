@@ -12,9 +12,11 @@ pub returns : goal.returns
 returns c =
     λ at.
     let entries = c.self.inside.history.items in
-    let counted : length c.deref.result.now ≡ length (history_view entries) = ap length c.deref.ensures.value ∙ sym (length-history entries) in
+    let counted : length c.deref.result.now ≡ length (history_view entries) = ap length c.deref.ensures.value
+    ∙ sym (length-history entries) in
     c.unless_refused.ensures
     ∙ ap (λ n. refused_first n c.start_rule-rule.result) counted
     ∙ refused-by (history_view entries) (start at c.args.batch c.args.recipe c.args.binds.now) c.start_rule-rule.result
     (c.start_rule-rule.ensures (history_view entries) at c.self.invariant.1) refl
-    ∙ ap (λ (plant : PlainPlant). refusal (answer_of (plant_history plant) (start at c.args.batch c.args.recipe c.args.binds.now))) c.self.view_is
+    ∙ ap (λ (plant : PlainPlant). refusal (answer_of (plant_history plant)
+    (start at c.args.batch c.args.recipe c.args.binds.now))) c.self.view_is
