@@ -69,15 +69,15 @@ follows state (Some control) may = (
     right false b e = e
 
 -- a report of a service comes from a tick that looks at one and reports it
-record FromService (sim : SimForm) (name : List ℕ) (control : ServiceControl) : Type 0 where
-  service : SimService
-  here : slice_get sim.services sim.place ≡ Some service
-  reports : is_reported sim.description (limit_of sim service) service ≡ true
-  name_is : name ≡ (ticked_service sim service).name
-  control_is : control ≡ control_now sim.description (ticked_service sim service)
+pub record FromService (sim : SimForm) (name : List ℕ) (control : ServiceControl) : Type 0 where
+  pub service : SimService
+  pub here : slice_get sim.services sim.place ≡ Some service
+  pub reports : is_reported sim.description (limit_of sim service) service ≡ true
+  pub name_is : name ≡ (ticked_service sim service).name
+  pub control_is : control ≡ control_now sim.description (ticked_service sim service)
 
 -- every report of a service does
-from-service : (sim : SimForm) (name : List ℕ) (control : ServiceControl)
+pub from-service : (sim : SimForm) (name : List ℕ) (control : ServiceControl)
     → tick_report sim ≡ Some (Service name control) → FromService sim name control
 from-service sim name control is = go (service_here sim) refl is
   where

@@ -12,3 +12,4 @@ pub mod Starting
 pub mod Phases
 pub mod Served
 pub mod Together
+pub mod Allowed

@@ -6,3 +6,4 @@ pub mod Starting
 pub mod Phases
 pub mod Served
 pub mod Together
+pub mod Allowed

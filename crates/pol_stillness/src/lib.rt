@@ -1,12 +1,13 @@
 //! What holds of commands in every history that follows its site and whose changes have their commands: a command is
 //! only ever sent to a service that is still and whose earlier commands were all answered by a report; so a simulated
-//! module takes each command that it looks at, and reports what is due. Each is a law over plain data, the contract of
-//! a function with an empty body.
+//! module takes each command that it looks at, and what it reports is allowed by its site. Each is a law over plain
+//! data, the contract of a function with an empty body.
 //!
 //! It knows nothing of threads or of who takes turns. The law itself is in `specs/Law.antt`; how a service stands to
 //! its commands in `specs/Phases.antt` and `specs/Served.antt`.
 #![tactic(auto)]
 
+ghost use Rattle.pol_stillness.specs.Allowed.{ReportsAreAllowed};
 ghost use Rattle.pol_stillness.specs.Apart.{CompleteRunsAreStill, NextStepsAreAlone, OpenStepsAreApart, OwedIsNotSent, ValidChartsAreClear};
 ghost use Rattle.pol_stillness.specs.Law.{CommandsFindServicesStill, UnansweredAreOwed};
 ghost use Rattle.pol_stillness.specs.Phases.{OthersKeepPhases, SendsGive, TakesSettle, TicksKeepPhases};
@@ -127,6 +128,11 @@ pub fn ticks_serve_all()
 /// So does looking at the next command.
 pub fn looks_serve_all()
     ensures { LooksServeAll }
+{}
+
+/// What a docked module in step reports is allowed by its site.
+pub fn reports_are_allowed()
+    ensures { ReportsAreAllowed }
 {}
 
 /// Where a module has told all and nothing is ahead, every command to it was answered.
