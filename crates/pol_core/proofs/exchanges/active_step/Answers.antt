@@ -1,5 +1,5 @@
 -- The holder's run has an active step on the module.
-use Rattle.std.proofs.Common.{◌≡◌, ◌∙◌, sym, ap, option_map}
+use Rattle.std.proofs.Common.{◌∙◌, sym, ap, option_map}
 use Rattle.pol_events.specs.declared.answer.Rule.TheVariants.{ActiveStep}
 use Rattle.pol_core.proofs.Acting.{run-acts}
 use Rattle.pol_core.proofs.exchanges.active_step.Goals as goal

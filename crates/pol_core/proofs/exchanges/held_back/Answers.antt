@@ -1,5 +1,5 @@
 -- The new module doesn't cover its role, or does.
-use Rattle.std.proofs.Common.{◌≡◌, ◌∙◌, sym, ap, option_map}
+use Rattle.std.proofs.Common.{◌∙◌, sym, ap, option_map}
 use Rattle.mtp_desc.specs.DescriptionView.{description_view}
 use Rattle.pol_events.specs.declared.answer.Rule.TheVariants.{HeldBack}
 use Rattle.pol_core.proofs.Again.{run-holds-back}
