@@ -1,5 +1,5 @@
 -- The journal theorem, from the laws of all legal histories.
-use Rattle.std.proofs.Common.{◌≡◌, ◌<◌, ℕ, List, [], ◌∷◌, ◌++◌, length, sym, subst, arith, length-append}
+use Rattle.std.proofs.Common.{◌<◌, ℕ, List, [], ◌∷◌, ◌++◌, length, sym, subst, arith, length-append}
 use Rattle.pol_io.specs.Pieces.{pieces}
 use Rattle.pol_history.specs.Looking.{History}
 use Rattle.pol_history.specs.Lines.{answers_of, closing_text, events_in, history_of, items_of, output_of}

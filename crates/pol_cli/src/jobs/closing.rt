@@ -1,43 +1,61 @@
 //! What ends an output: the line of each batch in the order of the starts, and the end line.
-ghost use Rattle.std.specs.Prelude.{◌≢◌, IfErr, OnOk, OnErr};
+ghost use Rattle.std.specs.Prelude.{◌≢◌, ℕ, List, IfErr, OnOk, OnErr};
 ghost use Rattle.std.specs.Io.KnownBytes.{Appends};
-ghost use Rattle.pol_events.specs.Events.{entry_view, history_view};
+ghost use Rattle.pol_events.specs.Events.{history_view};
 ghost use Rattle.pol_history.specs.Runs.{IsOrderly};
 ghost use Rattle.pol_history.specs.Texts.{batches_text};
 ghost use Rattle.pol_history.specs.Lines.{closing_text};
 ghost use Rattle.pol_io.specs.Causes.{HasCauseOf};
-ghost use Rattle.pol_cli.specs.BatchLines.{start_text};
+ghost use Rattle.pol_record.specs.Gathered.{HasBindsInOrder, known_of};
+ghost use Rattle.pol_cli.specs.BatchLines.{gathered_lines, gathered_text};
 ghost use Rattle.pol_cli.specs.Written.{WritesPart, WritesSome};
 
 use crate::job_fault::{JobFault, put};
+use mtp_codes::Name;
 use pol_events::Entry;
 use pol_io::Sink;
-use pol_record::{batch_line, end_line, started_batch};
+use pol_record::{BatchRecords, end_line, gather, gathered_line};
 use std::alloc::Global;
 
-// Writes the line of the batch that the entry starts, if it starts one.
-#[tactic(auto, using(crate::proofs::Written::nothing_written))]
+// Writes the line of a batch.
+#[tactic(auto, using(crate::proofs::Written::nothing_written, crate::proofs::Written::some_written))]
 fn put_batch<K: Sink>(
     alloc: Global,
-    history: &[Entry],
-    entry: &Entry,
+    gathered: &BatchRecords<'_>,
+    batch: Name,
     sink: &mut K,
 ) -> Result<(), JobFault>
-    requires { IsOrderly (history_view history.now) }
-    ensures line { OnOk result (Appends (K.held sink.old) (K.held sink.new)
-        (start_text (history_view history.now) (entry_view entry.now))) }
-    ensures part { OnErr result (WritesSome (K.held sink.old) (K.held sink.new)
-        (start_text (history_view history.now) (entry_view entry.now))) }
+    requires { HasBindsInOrder (known_of gathered.now.records.entries batch) }
+    ensures line { OnOk result (Appends (K.held sink.old) (K.held sink.new) (gathered_text gathered.now batch)) }
+    ensures part { OnErr result (WritesSome (K.held sink.old) (K.held sink.new) (gathered_text gathered.now batch)) }
     ensures cause { HasCauseOf JobFault.Write (K.faults sink.old) (K.faults sink.new) result }
     ensures only { IfErr result (λ fault. (fault ≢ JobFault.Read) × (fault ≢ JobFault.TooMuch)) }
 {
-    match started_batch(entry) {
-        Some(batch) => put(sink, &batch_line(alloc, history, batch)?),
-        None => Ok(()),
-    }
+    put(sink, &gathered_line(alloc, gathered, batch)?)
 }
 
-// Writes the line of each batch, in the order of the starts.
+// Writes the line of each of these batches.
+fn put_each<K: Sink>(
+    alloc: Global,
+    gathered: &BatchRecords<'_>,
+    batches: &[Name],
+    sink: &mut K,
+) -> Result<(), JobFault>
+    requires { (batch : List ℕ) → HasBindsInOrder (known_of gathered.now.records.entries batch) }
+    ensures text { OnOk result (Appends (K.held sink.old) (K.held sink.new) (gathered_lines gathered.now batches.now)) }
+    ensures part { OnErr result (WritesSome (K.held sink.old) (K.held sink.new)
+        (gathered_lines gathered.now batches.now)) }
+    ensures cause { HasCauseOf JobFault.Write (K.faults sink.old) (K.faults sink.new) result }
+    ensures only { IfErr result (λ fault. (fault ≢ JobFault.Read) × (fault ≢ JobFault.TooMuch)) }
+{
+    for batch in batches {
+        put_batch(alloc, gathered, *batch, sink)?;
+    }
+    Ok(())
+}
+
+// Writes the line of each batch of the history, in the order of the starts. One pass over the history.
+#[tactic(auto, using(crate::proofs::Written::nothing_written))]
 fn put_batches<K: Sink>(alloc: Global, history: &[Entry], sink: &mut K) -> Result<(), JobFault>
     requires { IsOrderly (history_view history.now) }
     ensures text { OnOk result (Appends (K.held sink.old) (K.held sink.new) (batches_text (history_view history.now))) }
@@ -46,10 +64,8 @@ fn put_batches<K: Sink>(alloc: Global, history: &[Entry], sink: &mut K) -> Resul
     ensures cause { HasCauseOf JobFault.Write (K.faults sink.old) (K.faults sink.new) result }
     ensures only { IfErr result (λ fault. (fault ≢ JobFault.Read) × (fault ≢ JobFault.TooMuch)) }
 {
-    for entry in history {
-        put_batch(alloc, history, entry, sink)?;
-    }
-    Ok(())
+    let gathered = gather(alloc, history)?;
+    put_each(alloc, &gathered, &gathered.started, sink)
 }
 
 /// Writes the line of each batch of the history, and the end line.
