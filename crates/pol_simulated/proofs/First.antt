@@ -16,11 +16,11 @@ use Rattle.pol_simulated.specs.Units.{IsTold, IsServiceTold, IsServiceCounted, I
 use Rattle.pol_simulated.specs.Laws.{FirstSimsAreInStep}
 
 -- a service at first
-abbrev first_of : ServiceForm → SimService
+abbrev pub first_of : ServiceForm → SimService
 first_of service = first_service service.name
 
 -- what is found in an image is the image of something
-found-image : {A B : Type 0} (f : A → B) (test : B → Bool) (xs : List A) (y : B) → find test (map f xs) ≡ Some y
+pub found-image : {A B : Type 0} (f : A → B) (test : B → Bool) (xs : List A) (y : B) → find test (map f xs) ≡ Some y
     → (x : A) × (f x ≡ y)
 found-image f test [] y is = cc
 found-image {A} {B} f test (x ∷ xs) y is = go (test (f x)) is (found-image f test xs y)

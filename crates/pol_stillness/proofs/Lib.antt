@@ -13,3 +13,4 @@ pub mod Phases
 pub mod Served
 pub mod Together
 pub mod Allowed
+pub mod KeepingUp

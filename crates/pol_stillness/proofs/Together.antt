@@ -31,7 +31,7 @@ use Rattle.pol_events.proofs.Options.{no-both, some-same}
 use Rattle.pol_events.proofs.Lists.{found-member}
 
 -- a service that is found by a name has it
-name-of : (services : List SimService) (name : List ℕ) (service : SimService)
+pub name-of : (services : List SimService) (name : List ℕ) (service : SimService)
     → service_called name services ≡ Some service → service.name ≡ name
 name-of services name service called = same-true service.name name
     (found-member (λ (s : SimService). bytes_eq s.name name) services service called).1

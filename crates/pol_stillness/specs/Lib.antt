@@ -7,3 +7,4 @@ pub mod Phases
 pub mod Served
 pub mod Together
 pub mod Allowed
+pub mod KeepingUp

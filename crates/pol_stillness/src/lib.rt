@@ -9,6 +9,7 @@
 
 ghost use Rattle.pol_stillness.specs.Allowed.{ReportsAreAllowed};
 ghost use Rattle.pol_stillness.specs.Apart.{CompleteRunsAreStill, NextStepsAreAlone, OpenStepsAreApart, OwedIsNotSent, ValidChartsAreClear};
+ghost use Rattle.pol_stillness.specs.KeepingUp.{FirstsKeepUp, KeptUpIsCommanded, LooksKeepUp, OthersKeepUp, SendsKeepUp, TicksKeepUp};
 ghost use Rattle.pol_stillness.specs.Law.{CommandsFindServicesStill, UnansweredAreOwed};
 ghost use Rattle.pol_stillness.specs.Phases.{OthersKeepPhases, SendsGive, TakesSettle, TicksKeepPhases};
 ghost use Rattle.pol_stillness.specs.Plain.{PlantsArePlain};
@@ -138,4 +139,36 @@ pub fn reports_are_allowed()
 /// Where a module has told all and nothing is ahead, every command to it was answered.
 pub fn rest_is_answered()
     ensures { RestIsAnswered }
+{}
+
+// ---- all in one
+
+/// A new simulator keeps up with the history: it looked at every command, told what it keeps, and will take what comes.
+pub fn firsts_keep_up()
+    ensures { FirstsKeepUp }
+{}
+
+/// So it does after a tick, with what it reports.
+pub fn ticks_keep_up()
+    ensures { TicksKeepUp }
+{}
+
+/// So it does when it looked at the next command.
+pub fn looks_keep_up()
+    ensures { LooksKeepUp }
+{}
+
+/// So it does when a batch sends it a command.
+pub fn sends_keep_up()
+    ensures { SendsKeepUp }
+{}
+
+/// Entries that don't touch its module are nothing to it.
+pub fn others_keep_up()
+    ensures { OthersKeepUp }
+{}
+
+/// Where it keeps up, each change of its services has its command.
+pub fn kept_up_is_commanded()
+    ensures { KeptUpIsCommanded }
 {}
