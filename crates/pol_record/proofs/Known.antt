@@ -112,7 +112,8 @@ all-more history entry batch old new is added known other = go (bytes_eq batch o
     go false apart added = added ∙ known-same history entry other (known_of old other) (known other) (its ∙ apart)
 
 -- another entry is added to none
-all-same : (history : History) (entry : EntryForm) (records : List (List ℕ × BatchRecord)) → accepted_batch entry ≡ None →
+all-same : (history : History) (entry : EntryForm) (records : List (List ℕ × BatchRecord)) →
+    accepted_batch entry ≡ None →
     AreKnown records history → AreKnown records (entry ∷ history)
 all-same history entry records none known other =
     known-same history entry other (known_of records other) (known other)

@@ -21,7 +21,7 @@ mod refusals;
 pub use batches::{batch_line, batch_log, gathered_line};
 pub use gathering::{BatchRecords, gather};
 pub use lines::{answer_line, end_line, fault_line};
-pub use records::{BatchRecord, Start, started_batch};
+pub use records::{BatchRecord, Start};
 
 #[cfg(test)]
 mod tests;

@@ -11,7 +11,8 @@ loop-entry-preserved c =
     subst (IsGathered c.gather_entry.new.gathered)
     (sym (one-more c.args.history.now c.loop-entry.entry-index c.entry-item.result c.loop-entry-test.true
     c.entry-item.is))
-    (c.in_ok-gather_entry.ensures (history_view (take c.loop-entry.entry-index c.args.history.now)) c.loop-entry.invariant)
+    (c.in_ok-gather_entry.ensures (history_view (take c.loop-entry.entry-index c.args.history.now))
+    c.loop-entry.invariant)
 
 pub returns-clause-gathered : goal.returns-clause-gathered
 returns-clause-gathered c =
