@@ -8,3 +8,4 @@ pub mod Served
 pub mod Together
 pub mod Allowed
 pub mod KeepingUp
+pub mod Resting

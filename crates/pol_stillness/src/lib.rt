@@ -14,6 +14,7 @@ ghost use Rattle.pol_stillness.specs.Law.{CommandsFindServicesStill, UnansweredA
 ghost use Rattle.pol_stillness.specs.Phases.{OthersKeepPhases, SendsGive, TakesSettle, TicksKeepPhases};
 ghost use Rattle.pol_stillness.specs.Plain.{PlantsArePlain};
 ghost use Rattle.pol_stillness.specs.Desks.{DesksAreRefused};
+ghost use Rattle.pol_stillness.specs.Resting.{RestsAreSettled};
 ghost use Rattle.pol_stillness.specs.Served.{FirstsAreServed, LooksServe, OthersServe, RestIsAnswered, SendsServe, TicksServe};
 ghost use Rattle.pol_stillness.specs.Starting.{StartsExist};
 ghost use Rattle.pol_stillness.specs.Together.{LooksServeAll, TicksServeAll};
@@ -171,4 +172,9 @@ pub fn others_keep_up()
 /// Where it keeps up, each change of its services has its command.
 pub fn kept_up_is_commanded()
     ensures { KeptUpIsCommanded }
+{}
+
+/// Where it keeps up, no command is left to look at and it is at rest, the module is settled.
+pub fn rests_are_settled()
+    ensures { RestsAreSettled }
 {}
