@@ -30,7 +30,7 @@ use Rattle.pol_stillness.proofs.Served.{rest_answered}
 -- ---- lists
 
 -- what isn't so is false
-not-so : (b : Bool) → not b ≡ true → b ≡ false
+pub not-so : (b : Bool) → not b ≡ true → b ≡ false
 not-so true is = cc
 not-so false is = refl
 
@@ -53,7 +53,7 @@ named-all test (s ∷ services) (form ∷ forms) named each =
     tails = cc
 
 -- a test of names says of these names what another says of the services
-named-any : (test : List ℕ → Bool) (own : SimService → Bool) (services : List SimService) (forms : List ServiceForm) →
+pub named-any : (test : List ℕ → Bool) (own : SimService → Bool) (services : List SimService) (forms : List ServiceForm) →
     map (λ service. service.name) services ≡ map (λ form. form.name) forms →
     ((place : ℕ) (s : SimService) → slice_get services place ≡ Some s → test s.name ≡ own s) →
     list_any (λ form. test form.name) forms ≡ list_any own services
@@ -109,21 +109,21 @@ seen-control site tag past sim place s step here tells =
     last-newest s.name (since_docking past) ∙ told.now tells
 
 -- so it is seen to be still where it doesn't change by itself
-seen-still : (site : SiteForm) (tag : List ℕ) (past : History) (sim : SimForm) (place : ℕ) (s : SimService) →
+pub seen-still : (site : SiteForm) (tag : List ℕ) (past : History) (sim : SimForm) (place : ℕ) (s : SimService) →
     IsInStep site tag past sim → slice_get sim.services place ≡ Some s → is_untold s ≡ false →
     is_still (view_by s.name past) ≡ not (changes sim.description s)
 seen-still site tag past sim place s step here tells =
     rw (seen-control site tag past sim place s step here tells, step.described) refl
 
 -- and to execute where it does
-seen-running : (site : SiteForm) (tag : List ℕ) (past : History) (sim : SimForm) (place : ℕ) (s : SimService) →
+pub seen-running : (site : SiteForm) (tag : List ℕ) (past : History) (sim : SimForm) (place : ℕ) (s : SimService) →
     IsInStep site tag past sim → slice_get sim.services place ≡ Some s → is_untold s ≡ false →
     is_running (view_by s.name past) ≡ is_execute s.state
 seen-running site tag past sim place s step here tells =
     rw (seen-control site tag past sim place s step here tells) refl
 
 -- the value reported last of a drift
-seen-value : (site : SiteForm) (tag : List ℕ) (past : History) (sim : SimForm) (place : ℕ) (drift : SimDrift) →
+pub seen-value : (site : SiteForm) (tag : List ℕ) (past : History) (sim : SimForm) (place : ℕ) (drift : SimDrift) →
     IsInStep site tag past sim → slice_get sim.drifts place ≡ Some drift →
     whole_in (value_by drift.name past) ≡ drift.last
 seen-value site tag past sim place drift step here =

@@ -261,7 +261,7 @@ none-ahead tag name from (entry ∷ older) none =
     go true (Some sent) (Some did) e = cc
 
 -- looking at it takes its entry off the end
-looked : (tag name : List ℕ) (from : ℕ) (history : History) (found : Found) → next_command tag from history ≡ Some found
+pub looked : (tag name : List ℕ) (from : ℕ) (history : History) (found : Found) → next_command tag from history ≡ Some found
     → unlooked tag name from history ≡ unlooked tag name (suc found.place) history
     ++ (if is_for name (if_to tag (sent_by found.did)) then found.did ∷ [] else [])
 looked tag name from [] found is = cc
@@ -312,7 +312,7 @@ looked tag name from (entry ∷ older) found is =
         left ∙ ap (λ l. l ++ End) (sym right)
 
 -- a list of at most one item that ends with an item is that item alone
-one-end : (xs : List LogEntry) (did : LogEntry) (ahead : Option LogEntry) → xs ++ did ∷ [] ≡ list_of ahead
+pub one-end : (xs : List LogEntry) (did : LogEntry) (ahead : Option LogEntry) → xs ++ did ∷ [] ≡ list_of ahead
     → (xs ≡ []) × (ahead ≡ Some did)
 one-end [] did None is = cc
 one-end [] did (Some other) is = let same : did ≡ other = cc in (refl, ap Some (sym same))

@@ -1,4 +1,4 @@
--- A simulated module that rests is settled.
+-- A simulated module rests exactly where it is settled.
 use Rattle.std.specs.Prelude.{ℕ, ◌≡◌, true, List, None}
 use Rattle.mtp_sim.specs.Sims.{SimForm}
 use Rattle.mtp_sim.specs.Ticks.{is_at_rest}
@@ -20,3 +20,11 @@ RestsAreSettled =
     docking_by (past tag history) ≡ docked count → KeepsUp site tag from history sim →
     next_command tag from history ≡ None → is_at_rest sim ≡ true →
     is_settled_module site history tag ≡ true
+
+-- Where it keeps up and is settled, no command is left to look at and it is at rest.
+abbrev pub SettledRest : Type 0
+SettledRest =
+    (site : SiteForm) (tag : List ℕ) (from count : ℕ) (history : History) (sim : SimForm) →
+    IsLegal history → docking_by (past tag history) ≡ docked count → KeepsUp site tag from history sim →
+    is_settled_module site history tag ≡ true →
+    (next_command tag from history ≡ None) × (is_at_rest sim ≡ true)

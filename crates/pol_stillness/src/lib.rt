@@ -14,7 +14,7 @@ ghost use Rattle.pol_stillness.specs.Law.{CommandsFindServicesStill, UnansweredA
 ghost use Rattle.pol_stillness.specs.Phases.{OthersKeepPhases, SendsGive, TakesSettle, TicksKeepPhases};
 ghost use Rattle.pol_stillness.specs.Plain.{PlantsArePlain};
 ghost use Rattle.pol_stillness.specs.Desks.{DesksAreRefused};
-ghost use Rattle.pol_stillness.specs.Resting.{RestsAreSettled};
+ghost use Rattle.pol_stillness.specs.Resting.{RestsAreSettled, SettledRest};
 ghost use Rattle.pol_stillness.specs.Served.{FirstsAreServed, LooksServe, OthersServe, RestIsAnswered, SendsServe, TicksServe};
 ghost use Rattle.pol_stillness.specs.Starting.{StartsExist};
 ghost use Rattle.pol_stillness.specs.Together.{LooksServeAll, TicksServeAll};
@@ -177,4 +177,9 @@ pub fn kept_up_is_commanded()
 /// Where it keeps up, no command is left to look at and it is at rest, the module is settled.
 pub fn rests_are_settled()
     ensures { RestsAreSettled }
+{}
+
+/// Where it keeps up and is settled, no command is left to look at and it is at rest.
+pub fn settled_rest()
+    ensures { SettledRest }
 {}
