@@ -16,3 +16,4 @@ pub mod Allowed
 pub mod KeepingUp
 pub mod Resting
 pub mod Rested
+pub mod Exchanges

@@ -9,3 +9,4 @@ pub mod Together
 pub mod Allowed
 pub mod KeepingUp
 pub mod Resting
+pub mod Exchanges

@@ -9,6 +9,7 @@
 
 ghost use Rattle.pol_stillness.specs.Allowed.{ReportsAreAllowed};
 ghost use Rattle.pol_stillness.specs.Apart.{CompleteRunsAreStill, NextStepsAreAlone, OpenStepsAreApart, OwedIsNotSent, ValidChartsAreClear};
+ghost use Rattle.pol_stillness.specs.Exchanges.{OpenIsAway};
 ghost use Rattle.pol_stillness.specs.KeepingUp.{FirstsKeepUp, KeptUpIsCommanded, LooksKeepUp, OthersKeepUp, SendsKeepUp, TicksKeepUp};
 ghost use Rattle.pol_stillness.specs.Law.{CommandsFindServicesStill, UnansweredAreOwed};
 ghost use Rattle.pol_stillness.specs.Phases.{OthersKeepPhases, SendsGive, TakesSettle, TicksKeepPhases};
@@ -182,4 +183,11 @@ pub fn rests_are_settled()
 /// Where it keeps up and is settled, no command is left to look at and it is at rest.
 pub fn settled_rest()
     ensures { SettledRest }
+{}
+
+// ---- exchanges
+
+/// In a history that follows its site a module is away exactly under the ticket of the exchange that is open.
+pub fn open_is_away()
+    ensures { OpenIsAway }
 {}
