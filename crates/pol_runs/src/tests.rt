@@ -89,12 +89,7 @@ fn dosing(alloc: Global) -> Result<Run, Fail> {
     let chart = parse(alloc, DOSING.as_bytes()).ok().ok_or("no value")?;
     let chart = read_chart(alloc, &roles, &chart).ok().ok_or("no chart")?;
     chart.valid().ok().ok_or("not valid")?;
-    Ok(Run::new(
-        alloc,
-        named("b1")?,
-        Arc::new(alloc, chart)?,
-        binds(alloc)?,
-    )?)
+    Ok(Run::new(alloc, named("b1")?, Arc::new(alloc, chart)?, binds(alloc)?)?)
 }
 
 // What the batch did next, where it is open.
