@@ -5,9 +5,12 @@
 
 use pol_cli::{Status, top};
 use pol_io::{ReaderSource, WriterSink};
-use std::io::ErrorKind;
+use std::io::{BufWriter, ErrorKind, Write};
 use std::process::ExitCode;
 use std::{env, io};
+
+/// How many bytes of output are kept back at most, until they are handed on together.
+const KEPT_BACK: usize = 65_536;
 
 fn words(rt: &HostRuntime) -> io::Result<Vec<String>> {
     let mut words = Vec::new(rt.alloc());
@@ -25,14 +28,24 @@ fn unread(error: &io::Error) -> Status {
     }
 }
 
+// The output goes through a buffer: `top` has it emptied before it waits for input, and the rest goes at the end.
 fn run(rt: &HostRuntime) -> Status {
     let words = match words(rt) {
         Ok(words) => words,
         Err(error) => return unread(&error),
     };
     let mut source = ReaderSource::new(rt.reader());
-    let mut sink = WriterSink::new(io::writer(rt));
-    top(rt.alloc(), &words, &mut source, &mut sink)
+    let Ok(mut out) = BufWriter::with_capacity(rt.alloc(), KEPT_BACK, io::writer(rt)) else {
+        return Status::OutOfMemory;
+    };
+    let status = {
+        let mut sink = WriterSink::new(&mut out);
+        top(rt.alloc(), &words, &mut source, &mut sink)
+    };
+    match out.flush() {
+        Ok(()) => status,
+        Err(_) => Status::WriteFault,
+    }
 }
 
 // Says how the job ended, where not all is good. That standard error takes it is not asked.

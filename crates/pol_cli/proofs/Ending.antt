@@ -1,17 +1,25 @@
 -- How a job ended, by how its lines ended.
 use Rattle.std.proofs.Common.{ℕ, ◌≡◌, ◌≤◌, List, [], refl, inl, inr, arith, length}
-use Rattle.std.specs.Prelude.{Option, Some, None, Result, Ok, Err, IfErr, IfSome, OnOk, ◌⊎◌}
+use Rattle.std.specs.Prelude.{Option, Some, None, Result, Ok, Err, IfErr, IfSome, OnOk, OnErr, ◌⊎◌, ◌≢◌}
 use Rattle.pol_io.specs.Causes.{HasCauseOf}
 use Rattle.pol_io.specs.Edge.{Edge}
 use Rattle.pol_io.specs.Known.{Between}
+use Rattle.pol_io.specs.declared.limits.TheConstants.{LONGEST_INPUT}
 use Rattle.pol_cli.specs.Ends.{Completes, Ends, Fits, IsTooMuch, LeavesPart, Writes}
 use Rattle.pol_cli.specs.LineWork.{Output}
 use Rattle.pol_cli.specs.Moments.{Leaves}
+use Rattle.pol_cli.specs.Statuses.{status_of}
+use Rattle.pol_cli.specs.Tasks.{TaskEnds, demonstrated, no_input}
+use Rattle.pol_cli.specs.Written.{WritesPart}
+use Rattle.pol_words.specs.declared.SerialTask.{SerialTask}
+use Rattle.pol_words.specs.declared.SerialTask.TheVariants.{Replay, Demo}
+use Rattle.pol_demo.specs.Summary.{demo_output}
+use Rattle.std.specs.Io.KnownBytes.{Appends}
 use Rattle.pol_cli.specs.declared.job_fault.JobFault.{JobFault}
 use Rattle.pol_cli.specs.declared.job_fault.JobFault.TheVariants.{Read, Write, Memory, TooMuch}
-use Rattle.pol_cli.specs.declared.status.Status.{Status}
 use Rattle.pol_cli.specs.declared.status.Status.TheVariants as status
-use Rattle.pol_cli.proofs.Serving.{nothing_leaves}
+use Rattle.pol_cli.specs.Replay.{replayed}
+use Rattle.pol_cli.proofs.Serving.{nothing_leaves, part_leaves}
 
 -- it is neither of the two
 neither : {A : Type 0} (one other : Type 0) → (one → ⊥) → (other → ⊥) → one ⊎ other → A
@@ -36,7 +44,7 @@ much-completes : (source source' sink sink' : Edge) → IsTooMuch source.bytes �
 much-completes source source' sink sink' much unread unwritten = too_long source.bytes much
   where
     too_long : (told : Option (List ℕ)) → IsTooMuch told →
-        IfSome told (λ bytes. length bytes ≤ 268435456 → (status.TooMuchInput ≡ status.Good) ⊎
+        IfSome told (λ bytes. length bytes ≤ LONGEST_INPUT → (status.TooMuchInput ≡ status.Good) ⊎
         (status.TooMuchInput ≡ status.OutOfMemory))
     too_long None much = tt
     too_long (Some bytes) much = λ fits. absurd (omega arith)
@@ -81,14 +89,6 @@ pub no_memory_ends : (output : Output) → output.of_lines [] ≡ [] → (source
     Ends output source source sink sink status.OutOfMemory
 no_memory_ends output none source sink =
     memory-ends output source source sink sink (nothing_leaves output none sink.bytes source.bytes) refl refl
-
--- the status of a job whose lines ended so
-abbrev pub status_of : Result (Unit {0}) JobFault → Status
-status_of (Ok value) = status.Good
-status_of (Err Read) = status.ReadFault
-status_of (Err Write) = status.WriteFault
-status_of (Err Memory) = status.OutOfMemory
-status_of (Err TooMuch) = status.TooMuchInput
 
 -- what is known of the lines is known of the job
 pub work_ends : (output : Output) (source source' sink sink' : Edge) (result : Result (Unit {0}) JobFault) →
@@ -151,3 +151,41 @@ work_ends output source source' sink sink' (Err TooMuch) writes leaves fits much
   fits = λ is. cc;
   complete = λ no_words. much-completes source source' sink sink' (much refl);
 }
+
+-- a part of the line of a demo was written
+part-leaves : (seed : ℕ) (held held' : Option (List ℕ)) (fault : JobFault) → WritesPart held held' (demo_output seed) →
+    (fault ≢ Read) × (fault ≢ TooMuch) →
+    Between (Leaves (demonstrated seed) fault held held') (Some []) (Some [])
+part-leaves seed held held' fault part only =
+    part_leaves (demonstrated seed) fault held held' (Some []) (Some []) only.0 only.1
+    (inr (record { read = refl; some = part.some; proper = λ _. part.proper }))
+
+-- a fault of the sink, or want of memory, is none of the source
+no-cause : (result : Result (Unit {0}) JobFault) → IfErr result (λ fault. (fault ≢ Read) × (fault ≢ TooMuch)) →
+    HasCauseOf Read 0 0 result
+no-cause (Ok done) only = record { later = omega arith; failed = tt; done = refl; other = tt }
+no-cause (Err fault) only = record {
+  later = omega arith;
+  failed = λ is. absurd (only.0 is);
+  done = tt;
+  other = λ is. refl;
+}
+
+-- what is known of the line of a demo is known of the demo
+pub demo_ends : (seed : ℕ) (sink sink' : Edge) (result : Result (Unit {0}) JobFault) →
+    OnOk result (Appends sink.bytes sink'.bytes (demo_output seed)) →
+    OnErr result (WritesPart sink.bytes sink'.bytes (demo_output seed)) →
+    IfErr result (λ fault. (fault ≢ Read) × (fault ≢ TooMuch)) → HasCauseOf Write sink.faults sink'.faults result →
+    Ends (demonstrated seed) no_input no_input sink sink' (status_of result)
+demo_ends seed sink sink' (Ok done) writes part only wrote =
+    work_ends (demonstrated seed) no_input no_input sink sink' (Ok done) (record { read = refl; written = writes }) tt
+    (omega arith) tt (no-cause (Ok done) tt) wrote
+demo_ends seed sink sink' (Err fault) writes part only wrote =
+    work_ends (demonstrated seed) no_input no_input sink sink' (Err fault) tt
+    (part-leaves seed sink.bytes sink'.bytes fault part only) tt (λ is. absurd (only.1 is))
+    (no-cause (Err fault) only) wrote
+
+-- there was no memory to begin a task
+pub unbegun_ends : (task : SerialTask) (source sink : Edge) → TaskEnds task source source sink sink status.OutOfMemory
+unbegun_ends Replay source sink = no_memory_ends replayed refl source sink
+unbegun_ends (Demo seed) source sink = no_memory_ends (demonstrated seed) refl no_input sink

@@ -2,9 +2,9 @@
 use Rattle.std.proofs.Common.{◌<◌, ℕ, List, [], ◌∷◌, ◌++◌, length, sym, subst, arith, length-append}
 use Rattle.pol_io.specs.Pieces.{pieces}
 use Rattle.pol_history.specs.Looking.{History}
-use Rattle.pol_history.specs.Lines.{answers_of, closing_text, events_in, history_of, items_of, output_of}
+use Rattle.pol_record.specs.Lines.{answers_of, closing_text, events_in, history_of, items_of, output_of}
 use Rattle.pol_history.specs.Runs.{IsLegal, IsOrderly}
-use Rattle.pol_history.specs.Texts.{batches_text, end_text}
+use Rattle.pol_record.specs.Texts.{batches_text, end_text}
 use Rattle.pol_history.proofs.Legal.{legal-after, orderly-after}
 use Rattle.pol_conduct.specs.Sound.{HistoriesAreSound, EntriesAreRight}
 use Rattle.pol_removal.proofs.Reading.{events-orderly}

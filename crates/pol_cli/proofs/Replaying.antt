@@ -4,10 +4,10 @@ use Rattle.std.specs.Prelude.{map}
 use Rattle.pol_io.specs.Pieces.{pieces, line_of}
 use Rattle.pol_history.specs.Looking.{History}
 use Rattle.pol_history.specs.Answers.{answer_of}
-use Rattle.pol_history.specs.Lines as lines
-use Rattle.pol_history.specs.Lines.{as_item, item_of, events_in, rows_after, rows_text, closing_text, saying_of}
+use Rattle.pol_record.specs.Lines as lines
+use Rattle.pol_record.specs.Lines.{as_item, item_of, events_in, rows_after, rows_text, closing_text, saying_of}
 use Rattle.pol_history.specs.Runs.{entry_of, recorded, history_after}
-use Rattle.pol_history.specs.Texts.{answer_text, fault_text}
+use Rattle.pol_record.specs.Texts.{answer_text, fault_text}
 use Rattle.pol_cli.specs.LineWork.{replies, after_all, output_by}
 use Rattle.pol_cli.specs.Replay.{replay_work, replayed}
 use Rattle.pol_cli.specs.Sayings.{reply_text, after_saying}

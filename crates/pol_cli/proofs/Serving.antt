@@ -7,6 +7,7 @@ use Rattle.pol_io.specs.Faults.{Stops}
 use Rattle.pol_io.specs.Known.{Between, Counts, joined}
 use Rattle.pol_io.specs.Pieces.{pieces, line_of, is_whole, has_no_feed, IsFirstLine, Passes, PassesMore}
 use Rattle.pol_io.specs.Reading.{ahead}
+use Rattle.pol_io.specs.declared.limits.TheConstants.{LONGEST_INPUT}
 use Rattle.pol_io.specs.declared.lines.IoFault.{IoFault}
 use Rattle.pol_io.specs.declared.lines.IoFault.TheVariants as io_fault
 use Rattle.pol_io.proofs.FirstLines.{done_none, done_next, done_whole, pieces_next}
@@ -59,7 +60,7 @@ takes-front (byte ∷ bytes) left =
 
 -- where a byte more than an input may have was taken, as many as it may have stand before the last
 full-length : (bytes taken left : List ℕ) (last : ℕ) → bytes ≡ taken ++ (last ∷ left) → Counts 0 268435457 bytes left →
-    length taken ≡ 268435456
+    length taken ≡ LONGEST_INPUT
 full-length bytes taken left last cut counted = let sum = ap length cut ∙ length-append taken (last ∷ left) in
     omega (arith, sum, counted)
 
@@ -105,7 +106,7 @@ fits_in_limit first last fresh moves ended =
     (left_at_end first last fresh moves ended) moves.limit
   where
     in_limit : (start left : Option (List ℕ)) (taken : ℕ) → Between (Counts 0 taken) start left → IsAtEnd left →
-        taken ≤ 268435456 → Fits start
+        taken ≤ LONGEST_INPUT → Fits start
     in_limit None left taken counted at_end limit = tt
     in_limit (Some bytes) None taken counted at_end limit = absurd counted
     in_limit (Some bytes) (Some left) taken counted at_end limit = let none : length left ≡ 0 = rw at_end refl in

@@ -2,7 +2,7 @@
 use Rattle.std.specs.Prelude.{ℕ, ◌≡◌, ◌<◌, List, ◌∷◌, ◌++◌, length}
 use Rattle.pol_events.specs.Events.{EntryForm}
 use Rattle.pol_history.specs.Looking.{History}
-use Rattle.pol_history.specs.Lines.{answers_of, history_of, output_of}
+use Rattle.pol_record.specs.Lines.{answers_of, history_of, output_of}
 use Rattle.pol_history.specs.Paths.{ReportsArePaths}
 use Rattle.pol_conduct.specs.Charts.{LogsFollowCharts}
 use Rattle.pol_conduct.specs.Permitted.{CommandsArePermitted}

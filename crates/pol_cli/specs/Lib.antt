@@ -5,5 +5,6 @@ pub mod Journal
 pub mod Statuses
 pub mod Sayings
 pub mod Replay
+pub mod Tasks
 pub mod BatchLines
 pub mod Moments

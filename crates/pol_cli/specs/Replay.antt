@@ -1,7 +1,7 @@
 -- The replay of a journal: its plant, its work and its output.
 use Rattle.pol_events.specs.Events.{history_view}
 use Rattle.pol_history.specs.Looking.{History}
-use Rattle.pol_history.specs.Lines.{saying_of, answers_of, output_of, closing_text}
+use Rattle.pol_record.specs.Lines.{saying_of, answers_of, output_of, closing_text}
 use Rattle.pol_core.specs.Plants.{PlainPlant}
 use Rattle.pol_cli.specs.LineWork.{LineWork, Output}
 use Rattle.pol_cli.specs.Sayings.{reply_text, after_saying}

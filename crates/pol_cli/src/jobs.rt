@@ -1,32 +1,36 @@
 //! The jobs that one thread does from beginning to end.
-ghost use Rattle.std.specs.Prelude.{◌≢◌, ℕ, List};
-ghost use Rattle.pol_cli.specs.Ends.{Ends, edge};
+ghost use Rattle.std.specs.Prelude.{◌≡◌, ◌≢◌, ℕ, List};
+ghost use Rattle.pol_cli.specs.Ends.{edge};
 ghost use Rattle.pol_cli.specs.Journal.{JournalTheorem, Laws};
-ghost use Rattle.pol_cli.specs.Replay.{replayed};
+ghost use Rattle.pol_cli.specs.Tasks.{TaskEnds};
 
 mod closing;
+mod demo;
 mod replay;
 mod saying;
 
 use crate::journal::journals_are_sound;
 use crate::lines::work;
 use crate::status::Status;
+use demo::demonstrate;
 use pol_io::{Sink, Source};
 use pol_words::SerialTask;
 use replay::Replay;
 use std::alloc::Global;
 
-/// Does the task. A replay answers each line of the source, and then writes the line of each batch and the end line. It
-/// waits for nobody and always returns.
+/// Does the task. A replay answers each line of the source, and then writes the line of each batch and the end line. A
+/// demo answers a journal of its own, and writes how many answers there were; the source isn't read. It waits for nobody
+/// and always returns.
 pub fn serve<S: Source, K: Sink>(
     alloc: Global,
     task: &SerialTask,
     source: &mut S,
     sink: &mut K,
 ) -> Status
-    ensures ends { Ends replayed
+    ensures ends { TaskEnds task.now
         (edge (S.left source.old) (S.faults source.old)) (edge (S.left source.new) (S.faults source.new))
         (edge (K.held sink.old) (K.faults sink.old)) (edge (K.held sink.new) (K.faults sink.new)) result }
+    ensures unread { (seed : ℕ) → task.now ≡ SerialTask.Demo seed → source.new ≡ source.old }
     ensures theorem { (bytes : List ℕ) → JournalTheorem bytes }
     ensures laws { Laws }
     ensures words { result ≢ Status.BadWords }
@@ -34,5 +38,6 @@ pub fn serve<S: Source, K: Sink>(
     journals_are_sound();
     match task {
         SerialTask::Replay => work(alloc, &mut Replay::new(alloc), source, sink),
+        SerialTask::Demo(seed) => demonstrate(alloc, *seed, sink),
     }
 }

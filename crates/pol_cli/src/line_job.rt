@@ -33,6 +33,10 @@ pub trait LineJob {
         ensures after { OnOk result ((line : List ℕ) → IsTooLong line
             → state self.new ≡ work.after (state self.old) line) };
 
+    /// Takes back a reply that was written, so that its memory serves again.
+    fn take_back(&mut self, reply: Vec<u8>)
+        ensures { state self.new ≡ state self.old };
+
     /// Writes what closes the output.
     fn close<K: Sink>(&mut self, sink: &mut K) -> Result<(), JobFault>
         ensures text { OnOk result (Appends (K.held sink.old) (K.held sink.new) (work.closing (state self.old))) }

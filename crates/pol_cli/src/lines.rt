@@ -10,7 +10,7 @@ ghost use Rattle.pol_cli.specs.Written.{WritesSome};
 ghost use Rattle.pol_cli.specs.Ends.{Ends, Fits, IsTooMuch, Writes, edge};
 ghost use Rattle.pol_cli.specs.Moments.{moment, IsFresh, IsNext, Replied, Leaves};
 
-use crate::job_fault::{JobFault, put};
+use crate::job_fault::{JobFault, hand_on, put, status_of};
 use crate::line_job::LineJob;
 use crate::status::Status;
 use pol_io::{IoFault, Line, Lines, Sink, Source};
@@ -39,9 +39,14 @@ fn next_reply<S: Source, J: LineJob>(
     }
 }
 
-/// Writes a reply, unless there was no memory for it.
+/// Writes a reply, unless there was no memory for it, and gives it back. Where the next line doesn't stand there yet, all
+/// that was written is handed on: the source is only asked when everybody has their answers.
 #[tactic(auto, using(crate::proofs::Written::nothing_written))]
-fn put_reply<K: Sink>(sink: &mut K, made: Result<Vec<u8>, AllocError>) -> Result<(), JobFault>
+fn put_reply<K: Sink>(
+    lines: &Lines,
+    sink: &mut K,
+    made: Result<Vec<u8>, AllocError>,
+) -> Result<Vec<u8>, JobFault>
     ensures text { OnOk result (IfOk made (λ text. Appends (K.held sink.old) (K.held sink.new) text.items)) }
     ensures was_made { OnOk result (IsOk made) }
     ensures part { OnErr result ((reply : List ℕ) → IfOk made (λ text. text.items ≡ reply)
@@ -49,7 +54,12 @@ fn put_reply<K: Sink>(sink: &mut K, made: Result<Vec<u8>, AllocError>) -> Result
     ensures cause { HasCauseOf JobFault.Write (K.faults sink.old) (K.faults sink.new) result }
     ensures only { IfErr result (λ fault. (fault ≢ JobFault.Read) × (fault ≢ JobFault.TooMuch)) }
 {
-    put(sink, &made?)
+    let reply = made?;
+    put(sink, &reply)?;
+    if !lines.has_next() {
+        hand_on(sink)?;
+    }
+    Ok(reply)
 }
 
 /// Replies to each line of the source.
@@ -72,7 +82,7 @@ fn reply_to_all<S: Source, K: Sink, J: LineJob>(
     ensures write_cause { HasCauseOf JobFault.Write (K.faults sink.old) (K.faults sink.new) result }
 {
     while let Some(made) = next_reply(lines, job, source)? {
-        put_reply(sink, made)?;
+        job.take_back(put_reply(lines, sink, made)?);
     }
     Ok(())
 }
@@ -113,11 +123,5 @@ pub fn work<S: Source, K: Sink, J: LineJob>(
         (edge (K.held sink.old) (K.faults sink.old)) (edge (K.held sink.new) (K.faults sink.new)) result }
     ensures words { result ≢ Status.BadWords }
 {
-    match reply_and_close(alloc, job, source, sink) {
-        Ok(()) => Status::Good,
-        Err(JobFault::Read) => Status::ReadFault,
-        Err(JobFault::Write) => Status::WriteFault,
-        Err(JobFault::Memory) => Status::OutOfMemory,
-        Err(JobFault::TooMuch) => Status::TooMuchInput,
-    }
+    status_of(reply_and_close(alloc, job, source, sink))
 }

@@ -1,6 +1,6 @@
 -- An accepted advance is answered as the runs of the chart say.
-use Rattle.std.proofs.Common.{◌≡◌, ℕ, Bool, true, false, List, [], ◌∷◌, Option, Some, None, refl, ap, sym, ◌∙◌, subst}
-use Rattle.std.specs.Prelude.{◌||◌, is_none, option_map, option_and_then, if◌then◌else◌}
+use Rattle.std.proofs.Common.{◌≡◌, ℕ, Bool, true, false, List, Option, Some, None, refl, ap, sym, ◌∙◌}
+use Rattle.std.specs.Prelude.{◌||◌, option_map, option_and_then, if◌then◌else◌}
 use Rattle.chart_core.specs.Roles.{ChartPlan}
 use Rattle.chart_core.specs.declared.entry.LogEntry.{LogEntry}
 use Rattle.chart_cursor.specs.Logs.{chart_entries, active, has_broken, was_stopped}
@@ -8,18 +8,15 @@ use Rattle.chart_cursor.specs.Next.{next_after}
 use Rattle.chart_cursor.specs.NextEntry.{first_broken, stop_next, run_next, broke_or, next_by}
 use Rattle.chart_cursor.specs.Sights.{Sights}
 use Rattle.chart_cursor.proofs.Firsts.{next_follows}
-use Rattle.pol_events.specs.Events.{EventForm, EntryForm, advance}
+use Rattle.pol_events.specs.Events.{advance}
 use Rattle.pol_events.specs.declared.answer.Answer.{Answer}
-use Rattle.chart_core.specs.declared.next.Next.{Next}
-use Rattle.pol_events.specs.declared.answer.Rule.TheVariants.{NoBatch}
 use Rattle.pol_history.specs.Looking.{History, past, past_of_batch, recipes, is_accepted}
 use Rattle.pol_history.specs.Batches.{Started, start_of, chart_named, chart_by, log_of, is_frozen}
 use Rattle.pol_history.specs.Following.{next_of_started, next_of}
 use Rattle.pol_history.specs.Rules.{no_batch}
-use Rattle.pol_history.specs.Answers.{rules, advanced, otherwise, answer_of}
+use Rattle.pol_history.specs.Answers.{advanced, answer_of}
 use Rattle.pol_history.specs.Runs.{IsLegal, IsOrderly}
-use Rattle.pol_history.proofs.Accepted.{NoneHolds, accepted-none, accepted-otherwise}
-use Rattle.pol_conduct.specs.Kept.{IsOpen}
+use Rattle.pol_history.proofs.Accepted.{accepted-none, accepted-otherwise}
 use Rattle.pol_conduct.specs.Known.{StartedHaveCharts}
 use Rattle.pol_conduct.specs.Advances.{seen_by, GoesOn, AnswersNext, IsAdvanced, AdvancesFollowCharts}
 use Rattle.pol_conduct.proofs.Starts.{is-open, sound, charted}

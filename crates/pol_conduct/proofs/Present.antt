@@ -1,7 +1,7 @@
 -- The tags that are counted as present are those that are docked or away, each once; and each has a description.
-use Rattle.std.proofs.Common.{◌≡◌, ℕ, Bool, true, false, cond, List, [], ◌∷◌, Option, Some, None, refl, ap, sym, ◌∙◌, subst}
+use Rattle.std.proofs.Common.{◌≡◌, ℕ, Bool, true, false, cond, List, [], ◌∷◌, None, refl, ap, sym, ◌∙◌, subst}
 use Rattle.std.specs.Prelude.{◌||◌, ◌&&◌, not, filter}
-use Rattle.std.specs.List.{list_any, AllByRecursion, IsDistinct}
+use Rattle.std.specs.List.{AllByRecursion, IsDistinct}
 use Rattle.std.specs.Str.{bytes_eq}
 use Rattle.std.proofs.lemmas.Bool.{and_right, false_from_ne_true}
 use Rattle.std.proofs.lemmas.Map.Views.{any-filter_same}
@@ -11,10 +11,9 @@ use Rattle.pol_history.specs.Looking.{History, subject, is_module, is_accepted, 
 use Rattle.pol_history.specs.Modules.{Docking, absent, docked, away, docking_by, docking_of, tags_without, present_after, present_tags}
 use Rattle.pol_history.specs.Rules.{no_module}
 use Rattle.pol_history.specs.Answers.{rules, answer_of}
-use Rattle.pol_history.specs.Runs.{IsLegal, IsOrderly}
 use Rattle.pol_history.proofs.Accepted.{NoneHolds, accepted-none}
 use Rattle.pol_history.proofs.Names.{same-true, same-refl}
-use Rattle.pol_conduct.specs.Known.{is_there, CountsTags, TagsAreCounted, TagsAreDescribed}
+use Rattle.pol_conduct.specs.Known.{is_there, TagsAreCounted, TagsAreDescribed}
 use Rattle.pol_conduct.proofs.Covering.{described}
 
 -- ---- lists of tags

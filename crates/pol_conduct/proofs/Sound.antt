@@ -1,11 +1,7 @@
 -- All laws of legal histories together.
-use Rattle.std.proofs.Common.{◌≡◌, ℕ, List, ◌∷◌}
-use Rattle.pol_events.specs.Events.{EntryForm}
-use Rattle.pol_history.specs.Looking.{History}
 use Rattle.pol_history.specs.Refused.{RefusedChangesNothing}
-use Rattle.pol_history.specs.Runs.{IsLegal, IsOrderly}
 use Rattle.pol_history.proofs.Paths.{reports_follow_paths}
-use Rattle.pol_conduct.specs.Sound.{IsSound, IsRight, HistoriesAreSound, EntriesAreRight}
+use Rattle.pol_conduct.specs.Sound.{HistoriesAreSound, EntriesAreRight}
 use Rattle.pol_conduct.proofs.Advances.{started_charted, advances_follow}
 use Rattle.pol_conduct.proofs.Courses.{logs_follow}
 use Rattle.pol_conduct.proofs.Holding.{holders_open}

@@ -58,12 +58,12 @@ pub desk-judged : (history : History) (at : ℕ) (tag service : List ℕ) (comma
 desk-judged history at tag service command slot room keeps =
     ap (λ control. asked_answer (asked_by tag service command (sights.view_unless
     (option_or (in_exchange (slot_tag slot) (slot_ticket slot)) (no_service service (slot_description slot)))
-    (NotReported (slot_tag slot) service) (option_map (sights.view_by service (slot_description slot)) control))))
+    (NotReported (slot_tag slot) service) (option_map (seen_with service (Some (slot_description slot))) control))))
     (keeps.controls service)
     ∙ rw (keeps.tag_is, keeps.ticket)
     (asked tag service command (in_exchange tag (ticket_of (docking_by past')))
     (no_service service (slot_description slot))
-    (option_map (sights.view_by service (slot_description slot)) (control_by service past'))
+    (option_map (seen_with service (Some (slot_description slot))) (control_by service past'))
     ∙ sym (with-room history (desk at tag service command) room
     ∙ rw (there-is tag (docking_by past') keeps.is_there)
     (ap (λ description. first_rule (in_exchange tag (ticket_of (docking_by past')) ∷ by_description

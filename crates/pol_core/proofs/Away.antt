@@ -4,6 +4,7 @@ use Rattle.std.specs.Prelude.{if◌then◌else◌}
 use Rattle.std.proofs.Math.Path.{fun_ext}
 use Rattle.std.specs.Option.{option_or}
 use Rattle.mtp_codes.specs.Faults.{first_of}
+use Rattle.mtp_codes.specs.declared.limits.TheConstants.{LONGEST_HISTORY}
 use Rattle.pol_events.specs.Events.{EventForm, EntryForm, exchange_begin}
 use Rattle.pol_events.specs.Refusals.{in_exchange, not_at_rest}
 use Rattle.pol_events.specs.declared.answer.Answer.TheVariants.{Ticket, Refused}
@@ -128,7 +129,7 @@ since-few test (entry ∷ past) = go (test entry) (since-few test past)
     go false rest = omega (arith, rest)
 
 -- a slot has begun at most as many exchanges as the history has entries
-pub begun-few : (berths : Berths Slot) (history : History) → SeatsMirror berths history → length history ≤ 200000 →
+pub begun-few : (berths : Berths Slot) (history : History) → SeatsMirror berths history → length history ≤ LONGEST_HISTORY →
     HaveBegunFew berths
 begun-few berths history seats few tag slot found =
     let keeps = seated-slot history tag berths slot seats found in

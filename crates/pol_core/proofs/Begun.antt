@@ -8,6 +8,7 @@ use Rattle.std.specs.Str.{bytes_eq}
 use Rattle.std.specs.declared.sync.Arc.{Arc}
 use Rattle.mtp_codes.specs.Faults.{when, first_of, done_unless}
 use Rattle.mtp_codes.specs.Names.{is_among}
+use Rattle.mtp_codes.specs.declared.limits.TheConstants.{MOST_BATCHES}
 use Rattle.chart_core.specs.Charts.{plan}
 use Rattle.chart_core.specs.Roles.{ChartPlan, role_names}
 use Rattle.chart_core.specs.declared.chart.Chart.{Chart}
@@ -42,7 +43,7 @@ use Rattle.pol_core.specs.Starting.{Begins}
 use Rattle.pol_core.proofs.Judging.{ruled}
 use Rattle.pol_core.proofs.Starts.{seats-started, runs-started}
 use Rattle.pol_core.proofs.Together.{known-same, refused-all}
-use Rattle.pol_core.proofs.Unfit.{twice-same, defined_rule, bind-rule-same}
+use Rattle.pol_core.proofs.Unfit.{defined_rule, bind-rule-same}
 
 -- ---- the answer, as one rule after another
 
@@ -98,7 +99,7 @@ start-rules history at batch name binds chart berths runs known mirrors charted 
     (option_or rule (batches_full history)))
     (sym (bind-rule-same berths history chart binds mirrors.seats))
     ∙ ap (λ n. option_or (when (is_some (lookup (bytes_eq batch) runs)) BatchKnown)
-    (option_or (bind_rule berths chart binds) (when (nat_le 128 n) BatchesFull)))
+    (option_or (bind_rule berths chart binds) (when (nat_le MOST_BATCHES n) BatchesFull)))
     (sym mirrors.starts)
 
 -- there is no such recipe
@@ -131,7 +132,7 @@ binds-fit berths chart binds once none =
     let b = neither (role_unknown binds (role_names chart)) _ a.1 in
     let c = neither _ (option_or (table_unfit berths chart binds (role_names chart))
     (table_busy berths binds (role_names chart))) b.1 in
-    fitting chart binds once a.0 b.0 (sym (twice-same binds [] [] (role_names chart) (λ tag. refl)) ∙ c.0)
+    fitting chart binds once a.0 b.0 c.0
 
 -- no rule is against a module, nor is one held
 binds-judged : (berths : Berths Slot) (chart : ChartPlan) (binds : List Bind) → bind_rule berths chart binds ≡ None →

@@ -6,6 +6,7 @@ use Rattle.std.specs.Option.{option_map, option_or}
 use Rattle.std.specs.Str.{bytes_eq}
 use Rattle.std.specs.declared.sync.Arc.{Arc}
 use Rattle.mtp_codes.specs.Faults.{when}
+use Rattle.mtp_codes.specs.declared.limits.TheConstants.{MOST_RECIPES}
 use Rattle.chart_core.specs.Charts.{plan}
 use Rattle.chart_core.specs.Roles.{ChartPlan}
 use Rattle.chart_core.specs.Valid.{IsValid, chart_fault}
@@ -55,13 +56,13 @@ module _ {Z : Type 0} where
       (known : List (List ℕ × Arc Chart Z)) → RecipesMirror known history →
       is_full history ≡ false → answer_of history (recipe at name chart)
       ≡ first_rule (when (is_some (lookup (bytes_eq name) known)) RecipeKnown ∷ when
-      (nat_le 64 (length known)) RecipesFull ∷ []) Done
+      (nat_le MOST_RECIPES (length known)) RecipesFull ∷ []) Done
   recipe-answer history at name chart known mirror room =
       with-room history (recipe at name chart) room
       ∙ ap (λ there. first_rule (when there RecipeKnown ∷ recipes_full (recipes history) ∷ []) Done)
       (named-is history known name mirror)
       ∙ ap (λ n. first_rule (when (is_some (lookup (bytes_eq name) known)) RecipeKnown ∷ when
-      (nat_le 64 n) RecipesFull ∷ []) Done) (sym mirror.count)
+      (nat_le MOST_RECIPES n) RecipesFull ∷ []) Done) (sym mirror.count)
 
   -- a refused recipe
   refused-recipe : (history : History) (at : ℕ) (name : List ℕ) (chart : ChartPlan)
@@ -84,22 +85,22 @@ module _ {Z : Type 0} where
   known-recipe history at name chart known mirror room there =
       refused-recipe history at name chart known (Refused RecipeKnown)
       (sym (recipe-answer history at name chart known mirror room
-      ∙ ap (λ there. first_rule (when there RecipeKnown ∷ when (nat_le 64 (length known)) RecipesFull ∷ []) Done)
+      ∙ ap (λ there. first_rule (when there RecipeKnown ∷ when (nat_le MOST_RECIPES (length known)) RecipesFull ∷ []) Done)
       there)) refl mirror
 
   full-recipe : (history : History) (at : ℕ) (name : List ℕ) (chart : ChartPlan)
       (known : List (List ℕ × Arc Chart Z)) → RecipesMirror known history →
       is_full history ≡ false → is_some (lookup (bytes_eq name) known) ≡ false → (full : Bool) →
-      nat_le 64 (length known) ≡ full →
+      nat_le MOST_RECIPES (length known) ≡ full →
       answer_of history (recipe at name chart) ≡ first_rule (when full RecipesFull ∷ []) Done
   full-recipe history at name chart known mirror room new full is =
       recipe-answer history at name chart known mirror room
-      ∙ ap (λ there. first_rule (when there RecipeKnown ∷ when (nat_le 64 (length known)) RecipesFull ∷ []) Done) new
+      ∙ ap (λ there. first_rule (when there RecipeKnown ∷ when (nat_le MOST_RECIPES (length known)) RecipesFull ∷ []) Done) new
       ∙ ap (λ full. first_rule (when full RecipesFull ∷ []) Done) is
 
   pub no-room-recipe : (history : History) (at : ℕ) (name : List ℕ) (chart : ChartPlan)
       (known : List (List ℕ × Arc Chart Z)) → RecipesMirror known history →
-      is_full history ≡ false → is_some (lookup (bytes_eq name) known) ≡ false → nat_le 64 (length known) ≡ true →
+      is_full history ≡ false → is_some (lookup (bytes_eq name) known) ≡ false → nat_le MOST_RECIPES (length known) ≡ true →
       AnswersRecipe history (recipe at name chart) (Refused RecipesFull) known
   no-room-recipe history at name chart known mirror room new full =
       refused-recipe history at name chart known (Refused RecipesFull)
@@ -107,7 +108,7 @@ module _ {Z : Type 0} where
 
   pub new-recipe : (history : History) (at : ℕ) (name : List ℕ) (kept : Arc Chart Z)
       (old new : List (List ℕ × Arc Chart Z)) → RecipesMirror old history →
-      is_full history ≡ false → is_some (lookup (bytes_eq name) old) ≡ false → nat_le 64 (length old) ≡ false →
+      is_full history ≡ false → is_some (lookup (bytes_eq name) old) ≡ false → nat_le MOST_RECIPES (length old) ≡ false →
       is_valid (plan kept.value) ≡ true →
       ((other : List ℕ) → lookup (bytes_eq other) new ≡ cond (bytes_eq name other) (Some kept)
       (lookup (bytes_eq other) old)) → length new ≡ length old + 1 →

@@ -3,6 +3,7 @@ use Rattle.std.proofs.Common.{◌≡◌, ℕ, ◌+◌, true, false, List, [], �
 use Rattle.std.specs.Prelude.{nat_le}
 use Rattle.mtp_codes.specs.Faults.{when}
 use Rattle.mtp_codes.specs.Names.{is_among}
+use Rattle.mtp_codes.specs.declared.limits.TheConstants.{MOST_MODULES}
 use Rattle.mtp_desc.specs.Plain.{DescriptionForm}
 use Rattle.pol_events.specs.Events.{EventForm, EntryForm, plug}
 use Rattle.pol_events.specs.declared.answer.Answer.{Answer}
@@ -80,18 +81,18 @@ tag-taken history at tag description berths (Some berth) is some seats room =
 pub new-tag : (history : History) (at : ℕ) (tag : List ℕ) (description : DescriptionForm) (berths : Berths Slot) →
     look tag berths ≡ None → SeatsMirror berths history →
     IsCounted berths history → is_full history ≡ false →
-    answer_of history (plug at tag description) ≡ first_rule (when (nat_le 64 (length berths)) PlantFull ∷ []) Done
+    answer_of history (plug at tag description) ≡ first_rule (when (nat_le MOST_MODULES (length berths)) PlantFull ∷ []) Done
 new-tag history at tag description berths is seats counted room =
     let empty : IsEmpty (past tag history) (holder_of history tag) =
     subst (λ found. IsSeated tag found (past tag history) (holder_of history tag)) is (seats tag) in
     with-room history (plug at tag description) room
     ∙ ap (λ docking. first_rule (tag_taken docking ∷ plant_full history ∷ []) Done) empty.is_absent
-    ∙ ap (λ n. first_rule (when (nat_le 64 n) PlantFull ∷ []) Done) (sym counted.count)
+    ∙ ap (λ n. first_rule (when (nat_le MOST_MODULES n) PlantFull ∷ []) Done) (sym counted.count)
 
 -- a new tag gets a berth
 pub plug-answered : (history : History) (at : ℕ) (tag : List ℕ) (description : DescriptionForm)
     (slot : Slot) (old new : Berths Slot) → look tag old ≡ None →
-    nat_le 64 (length old) ≡ false → SlotKeeps tag slot (paired (plug at tag description) Done ∷ past tag history) →
+    nat_le MOST_MODULES (length old) ≡ false → SlotKeeps tag slot (paired (plug at tag description) Done ∷ past tag history) →
     Changes tag (Some (record { part = slot; holder = None })) old new → length new ≡ length old + 1 →
     SeatsMirror old history → IsCounted old history → is_full history ≡ false →
     AnswersModule history (plug at tag description) Done new

@@ -2,7 +2,6 @@
 use Rattle.std.proofs.Common.{◌≡◌, ℕ, List, Option, Some, None, refl, ap, sym, ◌∙◌}
 use Rattle.std.specs.Option.{option_map}
 use Rattle.mtp_codes.specs.declared.value.Value.{Value}
-use Rattle.mtp_codes.specs.declared.value.Value.TheVariants as value
 use Rattle.mtp_modes.specs.declared.view.ServiceView.{ServiceView}
 use Rattle.pol_events.specs.Bound.{bound_tag}
 use Rattle.pol_events.specs.declared.event.Bind.{Bind}
@@ -10,7 +9,6 @@ use Rattle.pol_history.specs.Batches.{holder_of}
 use Rattle.pol_history.specs.Following.{sight_in, reading_in, service_sight, variable_sight, sights_by}
 use Rattle.pol_history.specs.Looking.{History, past}
 use Rattle.pol_history.specs.Modules.{Docking, absent, docked, away, docking_by, ticket_of, seen_with, control_by, view_by, value_by}
-use Rattle.pol_slots.specs.Sights as slots
 use Rattle.pol_slots.specs.Sights.{sight_of, reading_of, slot_sight, slot_reading}
 use Rattle.pol_slots.specs.Slots.{slot_ticket, slot_description}
 use Rattle.pol_slots.specs.declared.slot.Slot.{Slot}
@@ -22,27 +20,23 @@ use Rattle.pol_core.specs.Seen.{slot_sees, slot_reads, tag_sees, tag_reads, tabl
 sight-there : (docking : Docking) (view : Option ServiceView) → (docking ≡ absent → ⊥) →
     sight_of (ticket_of docking) view ≡ sight_in docking view
 sight-there absent view there = absurd (there refl)
-sight-there (docked count) None there = refl
-sight-there (docked count) (Some view) there = refl
+sight-there (docked count) view there = refl
 sight-there (away ticket) view there = refl
 
 -- what is seen of a variable, likewise
 reading-there : (docking : Docking) (found : Option Value) → (docking ≡ absent → ⊥) →
     reading_of (ticket_of docking) found ≡ reading_in docking found
 reading-there absent found there = absurd (there refl)
-reading-there (docked count) None there = refl
-reading-there (docked count) (Some (value.Whole number)) there = refl
-reading-there (docked count) (Some (value.Bit bit)) there = refl
-reading-there (docked count) (Some (value.Text text)) there = refl
+reading-there (docked count) found there = refl
 reading-there (away ticket) found there = refl
 
 -- what a slot shows of a service is what its module's past shows
 pub slot-sight : (tag service : List ℕ) (slot : Slot) (past : History) → SlotKeeps tag slot past →
     slot_sight slot service ≡ sight_in (docking_by past) (view_by service past)
 slot-sight tag service slot past keeps =
-    ap (λ last. sight_of (slot_ticket slot) (option_map (slots.view_by service (slot_description slot)) last))
+    ap (λ last. sight_of (slot_ticket slot) (option_map (seen_with service (Some (slot_description slot))) last))
     (keeps.controls service)
-    ∙ ap (λ ticket. sight_of ticket (option_map (slots.view_by service (slot_description slot))
+    ∙ ap (λ ticket. sight_of ticket (option_map (seen_with service (Some (slot_description slot)))
     (control_by service past))) keeps.ticket
     ∙ ap (λ found. sight_of (ticket_of (docking_by past)) (option_map (seen_with service found)
     (control_by service past))) (sym keeps.description)

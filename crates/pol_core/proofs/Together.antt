@@ -6,6 +6,7 @@ use Rattle.std.proofs.lemmas.List.{map-append, reverse-append, length-reverse, l
 use Rattle.std.specs.Map.{lookup}
 use Rattle.std.specs.Str.{bytes_eq}
 use Rattle.std.specs.declared.sync.Arc.{Arc}
+use Rattle.mtp_codes.specs.declared.limits.TheConstants.{LONGEST_HISTORY}
 use Rattle.chart_core.specs.declared.chart.Chart.{Chart}
 use Rattle.pol_events.specs.Events.{event_view, EventForm, EntryForm, entry_view, history_view}
 use Rattle.pol_events.specs.Orderly.{is_orderly}
@@ -87,6 +88,15 @@ module-answered history event tag answer old new runs known is unstarted mirrors
       };
     }
 
+-- so it is where the event is what was told
+pub module-told : {Z : Type 0} {history : History} {told : EventForm} {answer : Answer} {old new : Berths Slot}
+    {runs : List (List ℕ × PlainRun)} {known : List (List ℕ × Arc Chart Z)} (event : EventForm) (tag : List ℕ) →
+    event ≡ told → subject event ≡ of_module tag → starting event ≡ None → Mirrors old runs known history →
+    AnswersModule history event answer new → Answers history told answer new runs known
+module-told {Z} {history} {told} {answer} {old} {new} {runs} {known} event tag same is unstarted mirrors answers =
+    subst (λ told. Answers history told answer new runs known) same
+    (module-answered history event tag answer old new runs known is unstarted mirrors answers)
+
 -- other modules that keep the same history
 pub module-kept : {Z : Type 0} (history : History) (old new : Berths Slot) (runs : List (List ℕ × PlainRun))
     (known : List (List ℕ × Arc Chart Z)) →
@@ -120,6 +130,17 @@ batch-answered history event batch answer old new runs after known is unstarted 
       };
     }
 
+-- so it is where the event is what was told
+pub batch-told : {Z : Type 0} {history : History} {told : EventForm} {answer : Answer} {old new : Berths Slot}
+    {runs after : List (List ℕ × PlainRun)} {known : List (List ℕ × Arc Chart Z)} (event : EventForm) (batch : List ℕ) →
+    event ≡ told → subject event ≡ of_batch batch → starting event ≡ None → Mirrors old runs known history →
+    AnswersBatch history event answer new after → length after ≡ length runs →
+    Answers history told answer new after known
+batch-told {Z} {history} {told} {answer} {old} {new} {runs} {after} {known} event batch same is unstarted mirrors
+    answers count =
+    subst (λ told. Answers history told answer new after known) same
+    (batch-answered history event batch answer old new runs after known is unstarted mirrors answers count)
+
 -- a refused event
 pub refused-all : {Z : Type 0} (history : History) (event : EventForm) (answer : Answer) (berths : Berths Slot)
     (runs : List (List ℕ × PlainRun))
@@ -152,11 +173,11 @@ pub length-history : (entries : List Entry) → length (history_view entries) �
 length-history entries = length-reverse (map entry_view entries) ∙ length-map entries entry_view
 
 -- a history with fewer entries than it may have has room
-pub short-has-room : (entries : List Entry) → length entries < 200000 → is_full (history_view entries) ≡ false
+pub short-has-room : (entries : List Entry) → length entries < LONGEST_HISTORY → is_full (history_view entries) ≡ false
 short-has-room entries short =
     let same : length (history_view entries) ≡ length entries = length-history entries in
-    let below : length (history_view entries) < 200000 = omega arith in
-    lt-leb 200000 (length (history_view entries)) below
+    let below : length (history_view entries) < LONGEST_HISTORY = omega arith in
+    lt-leb LONGEST_HISTORY (length (history_view entries)) below
 
 -- the history with the answered event at its end
 pub appended : (old new : List Entry) (event : Event) (answer : Answer) →
@@ -170,7 +191,7 @@ appended old new event answer is same =
 -- what the plant keeps, it keeps with the answered event
 pub grown : {Z : Type 0} (old new : List Entry) (event : Event) (answer : Answer) (berths : Berths Slot)
     (runs : List (List ℕ × PlainRun)) (known : List (List ℕ × Arc Chart Z)) →
-    new ≡ old ++ record { event = event; answer = answer } ∷ [] → length old < 200000 →
+    new ≡ old ++ record { event = event; answer = answer } ∷ [] → length old < LONGEST_HISTORY →
     is_orderly (event_view event) ≡ true →
     IsPlantHistory (history_view old) → Answers (history_view old) (event_view event) answer berths runs known →
     IsPlantHistory (history_view new) × Mirrors berths runs known (history_view new)
@@ -178,7 +199,7 @@ grown old new event answer berths runs known is short orderly kept takes =
     let room = short-has-room old short in
     let same = appended old new event answer is takes.answer_is in
     let length_is : length (history_view old) ≡ length old = length-history old in
-    let few : length (entry_of (history_view old) (event_view event) ∷ history_view old) ≤ 200000 = omega arith in
+    let few : length (entry_of (history_view old) (event_view event) ∷ history_view old) ≤ LONGEST_HISTORY = omega arith in
     subst (λ history. IsPlantHistory history × Mirrors berths runs known history) (sym same) (
       record {
         legal = (refl, recorded-with-room (history_view old) (event_view event) room, kept.legal);
@@ -190,7 +211,7 @@ grown old new event answer berths runs known is short orderly kept takes =
 
 -- and this is the recorded history
 pub recorded-is : (old new : List Entry) (event : Event) (answer : Answer) →
-    new ≡ old ++ record { event = event; answer = answer } ∷ [] → length old < 200000 →
+    new ≡ old ++ record { event = event; answer = answer } ∷ [] → length old < LONGEST_HISTORY →
     answer ≡ answer_of (history_view old) (event_view event) →
     history_view new ≡ recorded (entry_of (history_view old) (event_view event)) (history_view old)
 recorded-is old new event answer is short same =

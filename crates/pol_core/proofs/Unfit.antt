@@ -1,11 +1,9 @@
 -- What the tables say against a start is what looking back says.
-use Rattle.std.proofs.Common.{◌≡◌, ℕ, Bool, true, false, cond, List, [], ◌∷◌, ◌++◌, map, Option, Some, None, refl, ap, sym, ◌∙◌}
-use Rattle.std.specs.Prelude.{◌||◌, filter, filter_map, option_map, option_and_then}
-use Rattle.std.specs.List.{cons_option}
+use Rattle.std.proofs.Common.{◌≡◌, ℕ, Bool, true, false, cond, List, [], ◌∷◌, map, Option, Some, None, refl, ap, sym, ◌∙◌}
+use Rattle.std.specs.Prelude.{filter, option_map, option_and_then}
 use Rattle.std.specs.Option.{option_or}
-use Rattle.std.specs.Str.{bytes_eq}
-use Rattle.mtp_codes.specs.Faults.{when, first_of}
-use Rattle.mtp_codes.specs.Names.{same_name, is_among}
+use Rattle.mtp_codes.specs.Faults.{first_of}
+use Rattle.mtp_codes.specs.Names.{same_name}
 use Rattle.mtp_modes.specs.declared.view.ServiceView.{ServiceView}
 use Rattle.mtp_procs.specs.Covers.{cover_fault}
 use Rattle.chart_core.specs.Roles.{ChartPlan, role_names}
@@ -13,19 +11,18 @@ use Rattle.chart_core.specs.Trees.{StepPlan, Placed, steps}
 use Rattle.pol_events.specs.Bound.{bound_tag}
 use Rattle.pol_events.specs.Refusals.{in_exchange, cover_rule}
 use Rattle.pol_events.specs.declared.answer.Rule.{Rule}
-use Rattle.pol_events.specs.declared.answer.Rule.TheVariants.{OneModuleTwice}
 use Rattle.pol_events.specs.declared.event.Bind.{Bind}
 use Rattle.pol_history.specs.Batches.{holder_of}
 use Rattle.pol_history.specs.Following.{sight_in}
 use Rattle.pol_history.specs.Looking.{History, past}
 use Rattle.pol_history.specs.Modules.{Docking, absent, docked, away, docking_by, ticket_of, description_by, view_by}
-use Rattle.pol_history.specs.Rules.{no_module, not_covered, not_reported, not_idle, unready, not_ready, services_of, module_rules, module_rule, modules_unfit, busy_module, busy_role, busy, is_bound_before, twice, one_module_twice, role_unbound, role_unknown}
+use Rattle.pol_history.specs.Rules.{no_module, not_covered, not_reported, not_idle, unready, not_ready, services_of, module_rules, module_rule, modules_unfit, busy_module, busy_role, busy, one_module_twice, role_unbound, role_unknown}
 use Rattle.pol_slots.specs.Sights.{slot_sight}
 use Rattle.pol_slots.specs.Slots.{slot_ticket, slot_description}
 use Rattle.pol_slots.specs.declared.slot.Slot.{Slot}
 use Rattle.pol_table.specs.Berths as tables
 use Rattle.pol_table.specs.Berths.{Berth, Berths, look}
-use Rattle.pol_core.specs.Judging.{twice_from, sight_unready, step_unready, slot_rule, part_rule, role_rule, table_unfit, tag_busy, table_busy, bind_rule}
+use Rattle.pol_core.specs.Judging.{sight_unready, step_unready, slot_rule, part_rule, role_rule, table_unfit, tag_busy, table_busy, bind_rule}
 use Rattle.pol_core.specs.Seats.{SlotKeeps, IsSeated, SeatsMirror}
 use Rattle.pol_core.specs.Walks.{first_said}
 use Rattle.pol_core.proofs.Judging.{there-is}
@@ -176,74 +173,6 @@ busy-same berths history binds roles mirror =
     first-same (λ role. tag_busy berths (bound_tag binds role)) (λ role. busy_role history (bound_tag binds role))
     (λ role. busy-one berths history mirror (bound_tag binds role)) roles
 
--- ---- the order of the earlier roles is of no account
-
--- it is the same how two ors are grouped
-or-assoc : (a b c : Bool) → (a || (b || c)) ≡ ((a || b) || c)
-or-assoc true b c = refl
-or-assoc false b c = refl
-
--- or false is as before
-or-false : (a : Bool) → (a || false) ≡ a
-or-false true = refl
-or-false false = refl
-
--- it is the same which of two comes first
-or-swap : (a b : Bool) → (a || (b || false)) ≡ (b || a)
-or-swap true true = refl
-or-swap true false = refl
-or-swap false true = refl
-or-swap false false = refl
-
--- a tag is bound to one of two lists of roles
-before-append : (binds : List Bind) (front : List (List ℕ)) (role tag : List ℕ) →
-    is_bound_before binds (front ++ role ∷ []) tag
-    ≡ (is_bound_before binds front tag || is_bound_before binds (role ∷ []) tag)
-before-append binds [] role tag = refl
-before-append binds (first ∷ front) role tag = go (bound_tag binds first) (before-append binds front role tag)
-  where
-    go : (found : Option (List ℕ)) → is_bound_before binds (front ++ role ∷ []) tag
-        ≡ (is_bound_before binds front tag || is_bound_before binds (role ∷ []) tag) →
-        is_among (cons_option found (filter_map (bound_tag binds) (front ++ role ∷ []))) tag
-        ≡ (is_among (cons_option found (filter_map (bound_tag binds) front)) tag || is_bound_before binds
-        (role ∷ []) tag)
-    go None rest = rest
-    go (Some other) rest =
-        ap (λ later. bytes_eq other tag || later) rest
-        ∙ or-assoc (bytes_eq other tag) (is_bound_before binds front tag) (is_bound_before binds (role ∷ []) tag)
-
--- it is bound to one role
-before-one : (binds : List Bind) (earlier : List (List ℕ)) (role tag : List ℕ) →
-    (is_bound_before binds earlier tag || is_bound_before binds (role ∷ []) tag)
-    ≡ is_bound_before binds (role ∷ earlier) tag
-before-one binds earlier role tag = go (bound_tag binds role)
-  where
-    go : (found : Option (List ℕ)) →
-        (is_bound_before binds earlier tag || is_among (cons_option found []) tag)
-        ≡ is_among (cons_option found (filter_map (bound_tag binds) earlier)) tag
-    go None = or-false (is_bound_before binds earlier tag)
-    go (Some other) = or-swap (is_bound_before binds earlier tag) (bytes_eq other tag)
-
--- a tag is bound twice whatever order the earlier roles have
-twice-as : (binds : List Bind) (front earlier : List (List ℕ)) →
-    ((tag : List ℕ) → is_bound_before binds front tag ≡ is_bound_before binds earlier tag) →
-    (found : Option (List ℕ)) → twice binds front found ≡ twice binds earlier found
-twice-as binds front earlier same None = refl
-twice-as binds front earlier same (Some tag) = ap (λ before. when before (OneModuleTwice tag)) (same tag)
-
--- so the first such tag is the same
-pub twice-same : (binds : List Bind) (front earlier roles : List (List ℕ)) →
-    ((tag : List ℕ) → is_bound_before binds front tag ≡ is_bound_before binds earlier tag) →
-    twice_from binds front roles ≡ one_module_twice binds earlier roles
-twice-same binds front earlier [] same = refl
-twice-same binds front earlier (role ∷ roles) same =
-    ap (λ found. option_or found (twice_from binds (front ++ role ∷ []) roles))
-    (twice-as binds front earlier same (bound_tag binds role))
-    ∙ ap (option_or (twice binds earlier (bound_tag binds role)))
-    (twice-same binds (front ++ role ∷ []) (role ∷ earlier) roles
-    (λ tag. before-append binds front role tag ∙ ap (λ before. before || is_bound_before binds (role ∷ []) tag)
-    (same tag) ∙ before-one binds earlier role tag))
-
 -- ---- all together
 
 -- the rules of the binds and modules of a start, as they are defined
@@ -260,10 +189,6 @@ pub bind-rule-same : (berths : Berths Slot) (history : History) (chart : ChartPl
     bind_rule berths chart binds ≡ defined_rule history chart binds
 bind-rule-same berths history chart binds mirror =
     ap (λ found. option_or (role_unbound binds (role_names chart)) (option_or (role_unknown binds (role_names chart))
-    (option_or found (option_or (table_unfit berths chart binds (role_names chart))
-    (table_busy berths binds (role_names chart))))))
-    (twice-same binds [] [] (role_names chart) (λ tag. refl))
-    ∙ ap (λ found. option_or (role_unbound binds (role_names chart)) (option_or (role_unknown binds (role_names chart))
     (option_or (one_module_twice binds [] (role_names chart))
     (option_or found (table_busy berths binds (role_names chart))))))
     (unfit-same berths history chart binds (role_names chart) mirror)

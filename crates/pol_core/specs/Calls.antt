@@ -4,6 +4,7 @@ use Rattle.std.specs.Option.{option_or}
 use Rattle.std.specs.Str.{bytes_eq}
 use Rattle.mtp_codes.specs.Faults.{when, done_unless}
 use Rattle.mtp_codes.specs.declared.value.Setting.{Setting}
+use Rattle.mtp_codes.specs.declared.limits.TheConstants.{LONGEST_HISTORY}
 use Rattle.chart_core.specs.Roles.{ChartPlan}
 use Rattle.chart_core.specs.Trees.{steps}
 use Rattle.chart_core.specs.declared.next.Next.{Next}
@@ -29,7 +30,7 @@ refusal _ = Ok tt
 
 -- a full history refuses, or else the rule, if there is one
 abbrev pub refused_first : ℕ → Option Rule → Result ⊤ Rule
-refused_first count rule = done_unless (option_or (when (nat_le 200000 count) HistoryFull) rule)
+refused_first count rule = done_unless (option_or (when (nat_le LONGEST_HISTORY count) HistoryFull) rule)
 
 -- the settings of the chart's step of this name
 abbrev pub settings_named : List ℕ → ChartPlan → Option (List Setting)

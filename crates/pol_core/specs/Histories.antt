@@ -1,5 +1,6 @@
 -- What the history of a plant keeps.
 use Rattle.std.specs.Prelude.{◌≤◌, length}
+use Rattle.mtp_codes.specs.declared.limits.TheConstants.{LONGEST_HISTORY}
 use Rattle.pol_history.specs.Looking.{History}
 use Rattle.pol_history.specs.Runs.{IsLegal, IsOrderly}
 
@@ -8,4 +9,4 @@ use Rattle.pol_history.specs.Runs.{IsLegal, IsOrderly}
 pub record IsPlantHistory (history : History) : Type 0 where
   pub legal : IsLegal history
   pub orderly : IsOrderly history
-  pub few : length history ≤ 200000
+  pub few : length history ≤ LONGEST_HISTORY

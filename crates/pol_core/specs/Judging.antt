@@ -1,15 +1,15 @@
 -- What the tables say against a start.
-use Rattle.std.specs.Prelude.{ℕ, not, nat_le, length, is_some, List, [], ◌∷◌, ◌++◌, map, Option, Some, None, option_map, if◌then◌else◌}
+use Rattle.std.specs.Prelude.{ℕ, not, nat_le, length, is_some, List, [], map, Option, Some, None, option_and_then, option_map, if◌then◌else◌}
 use Rattle.std.specs.Map.{lookup}
 use Rattle.std.specs.Option.{option_or}
 use Rattle.std.specs.Str.{bytes_eq}
 use Rattle.mtp_codes.specs.Faults.{when, first_of}
 use Rattle.mtp_codes.specs.Names.{same_name}
+use Rattle.mtp_codes.specs.declared.limits.TheConstants.{MOST_BATCHES}
 use Rattle.mtp_machine.specs.States.{is_idle}
 use Rattle.mtp_procs.specs.Covers.{cover_fault}
-use Rattle.chart_core.specs.Roles.{ChartPlan, role_plan, role_names}
+use Rattle.chart_core.specs.Roles.{ChartPlan, role_names}
 use Rattle.chart_core.specs.Trees.{StepPlan}
-use Rattle.chart_core.specs.declared.role.Role.{Role}
 use Rattle.chart_cursor.specs.declared.sight.Sight.{Sight}
 use Rattle.chart_cursor.specs.declared.sight.Sight.TheVariants as sight
 use Rattle.pol_events.specs.Bound.{bound_tag}
@@ -17,23 +17,13 @@ use Rattle.pol_events.specs.Refusals.{cover_rule, in_exchange}
 use Rattle.pol_events.specs.declared.answer.Rule.{Rule}
 use Rattle.pol_events.specs.declared.answer.Rule.TheVariants.{NoModule, NotReported, NotIdle, BatchKnown, BatchesFull}
 use Rattle.pol_events.specs.declared.event.Bind.{Bind}
-use Rattle.pol_history.specs.Rules.{busy_module, twice, role_unbound, role_unknown}
+use Rattle.pol_history.specs.Rules.{busy_module, one_module_twice, role_unbound, role_unknown}
 use Rattle.pol_slots.specs.Sights.{slot_sight}
 use Rattle.pol_slots.specs.Slots.{slot_ticket, slot_description}
 use Rattle.pol_slots.specs.declared.slot.Slot.{Slot}
 use Rattle.pol_table.specs.Berths.{Berths, part_of, holder_of}
 use Rattle.pol_runs.specs.Runs.{PlainRun}
 use Rattle.pol_core.specs.Walks.{first_said}
-
--- the names of these roles
-abbrev pub names_in : List Role → List (List ℕ)
-names_in roles = map (λ role. role.role) (map role_plan roles)
-
--- the first tag in the order of the roles that an earlier role has, the earlier roles in their order
-abbrev pub twice_from : List Bind → List (List ℕ) → List (List ℕ) → Option Rule
-twice_from binds front [] = None
-twice_from binds front (role ∷ roles) =
-    option_or (twice binds front (bound_tag binds role)) (twice_from binds (front ++ role ∷ []) roles)
 
 -- what is seen of a service of a docked module: it wasn't reported, or isn't idle
 abbrev pub sight_unready : List ℕ → List ℕ → Sight → Option Rule
@@ -61,8 +51,7 @@ part_rule chart role tag (Some slot) = slot_rule chart role tag slot
 
 -- what is wrong with the module of a role, if it has one
 abbrev pub role_rule : Berths Slot → ChartPlan → List ℕ → Option (List ℕ) → Option Rule
-role_rule berths chart role None = None
-role_rule berths chart role (Some tag) = part_rule chart role tag (part_of tag berths)
+role_rule berths chart role tag = option_and_then (λ tag. part_rule chart role tag (part_of tag berths)) tag
 
 -- the first of these over the roles
 abbrev pub table_unfit : Berths Slot → ChartPlan → List Bind → List (List ℕ) → Option Rule
@@ -70,8 +59,7 @@ table_unfit berths chart binds roles = first_of (map (λ role. role_rule berths 
 
 -- the module of a role is held
 abbrev pub tag_busy : Berths Slot → Option (List ℕ) → Option Rule
-tag_busy berths None = None
-tag_busy berths (Some tag) = busy_module tag (holder_of tag berths)
+tag_busy berths tag = option_and_then (λ tag. busy_module tag (holder_of tag berths)) tag
 
 -- the first of these over the roles
 abbrev pub table_busy : Berths Slot → List Bind → List (List ℕ) → Option Rule
@@ -82,11 +70,11 @@ abbrev pub bind_rule : Berths Slot → ChartPlan → List Bind → Option Rule
 bind_rule berths chart binds =
     option_or (role_unbound binds (role_names chart))
     (option_or (role_unknown binds (role_names chart))
-    (option_or (twice_from binds [] (role_names chart))
+    (option_or (one_module_twice binds [] (role_names chart))
     (option_or (table_unfit berths chart binds (role_names chart)) (table_busy berths binds (role_names chart)))))
 
 -- all that the tables say against a start of a recipe with this chart
 abbrev pub chart_rule : Berths Slot → List (List ℕ × PlainRun) → List ℕ → List Bind → ChartPlan → Option Rule
 chart_rule berths runs batch binds chart =
     option_or (when (is_some (lookup (bytes_eq batch) runs)) BatchKnown)
-    (option_or (bind_rule berths chart binds) (when (nat_le 128 (length runs)) BatchesFull))
+    (option_or (bind_rule berths chart binds) (when (nat_le MOST_BATCHES (length runs)) BatchesFull))

@@ -1,94 +1,23 @@
 //! What the tables say against a start: its binds against the roles of the recipe, then its modules one after another.
 ghost use Rattle.std.specs.Prelude.{◌≡◌, [], option_map};
-ghost use Rattle.mtp_codes.specs.Names.{is_among};
 ghost use Rattle.mtp_procs.specs.Covers.{cover_fault};
 ghost use Rattle.chart_core.specs.Charts.{plan};
 ghost use Rattle.chart_core.specs.Roles.{role_names};
 ghost use Rattle.chart_core.specs.Trees.{arms, tree, trees, step_plan};
+ghost use Rattle.pol_bind.specs.Roles.{names_in};
 ghost use Rattle.pol_events.specs.Bound.{bound_tag};
 ghost use Rattle.pol_events.specs.Refusals.{cover_rule};
-ghost use Rattle.pol_history.specs.Rules.{is_bound_before, role_unbound, role_unknown, twice};
 ghost use Rattle.pol_slots.specs.Slots.{slot_description};
-ghost use Rattle.pol_core.specs.Judging.{names_in, twice_from, sight_unready, step_unready, slot_rule, role_rule, table_unfit, tag_busy, table_busy, bind_rule};
+ghost use Rattle.pol_core.specs.Judging.{sight_unready, step_unready, slot_rule, role_rule, table_unfit, tag_busy, table_busy, bind_rule};
 ghost use Rattle.pol_core.specs.Walks.{first_said, first_said_among, first_said_in_arms};
 
 use chart_core::{Arm, Chart, Node, Role};
 use chart_cursor::Sight;
 use mtp_codes::{Name, State};
-use pol_bind::covers;
+use pol_bind::{covers, one_module_twice, role_unbound, role_unknown};
 use pol_events::{Bind, Rule, bound_tag};
 use pol_slots::Slot;
 use pol_table::Table;
-
-// The first role that no bind gives a tag.
-fn role_unbound(binds: &[Bind], roles: &[Role]) -> Option<Rule>
-    ensures { result ≡ role_unbound binds.now (names_in roles.now) }
-{
-    for role in roles {
-        if bound_tag(binds, role.role).is_none() {
-            return Some(Rule::RoleUnbound { role: role.role });
-        }
-    }
-    None
-}
-
-fn has_role(roles: &[Role], name: Name) -> bool
-    ensures { result ≡ is_among (names_in roles.now) name }
-{
-    for role in roles {
-        if role.role == name {
-            return true;
-        }
-    }
-    false
-}
-
-// The first bind whose role the recipe lacks.
-fn role_unknown(binds: &[Bind], roles: &[Role]) -> Option<Rule>
-    ensures { result ≡ role_unknown binds.now (names_in roles.now) }
-{
-    for bind in binds {
-        if !has_role(roles, bind.role) {
-            return Some(Rule::RoleUnknown { role: bind.role });
-        }
-    }
-    None
-}
-
-// Whether the tag is bound to one of these roles.
-fn is_bound_before(binds: &[Bind], earlier: &[Role], tag: Name) -> bool
-    ensures { result ≡ is_bound_before binds.now (names_in earlier.now) tag }
-{
-    for role in earlier {
-        if bound_tag(binds, role.role) == Some(tag) {
-            return true;
-        }
-    }
-    false
-}
-
-fn twice(binds: &[Bind], earlier: &[Role], role: Name) -> Option<Rule>
-    ensures { result ≡ twice binds.now (names_in earlier.now) (bound_tag binds.now role) }
-{
-    let tag = bound_tag(binds, role)?;
-    if is_bound_before(binds, earlier, tag) {
-        Some(Rule::OneModuleTwice { tag })
-    } else {
-        None
-    }
-}
-
-// The first tag in the order of the roles that an earlier role has.
-fn one_module_twice(binds: &[Bind], roles: &[Role]) -> Option<Rule>
-    ensures { result ≡ twice_from binds.now [] (names_in roles.now) }
-{
-    for i in 0..roles.len() {
-        if let Some(rule) = twice(binds, &roles[..i], roles[i].role) {
-            return Some(rule);
-        }
-    }
-    None
-}
 
 // The service of a docked module wasn't reported, or isn't idle.
 fn service_unready(tag: Name, service: Name, sight: &Sight) -> Option<Rule>

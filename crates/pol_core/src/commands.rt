@@ -1,7 +1,8 @@
 //! The commands that were sent to a module.
 ghost use Rattle.std.specs.Prelude.{◌≡◌, ◌≤◌, ◌<◌, drop, length, map};
+ghost use Rattle.mtp_codes.specs.declared.limits.TheConstants.{LONGEST_HISTORY};
 ghost use Rattle.pol_events.specs.Events.{entry_view, event_view};
-ghost use Rattle.pol_core.specs.Commands.{batch_in, entry_command, for_tag, next_sent, sent_to};
+ghost use Rattle.pol_core.specs.Commands.{batch_in, by_operator, by_recipe, entry_command, for_tag, next_sent, sent_to};
 
 use chart_core::LogEntry;
 use mtp_codes::{Command, Name, Speaker};
@@ -24,64 +25,70 @@ pub struct Sent {
     pub procedure: u16,
 }
 
+// A recipe's command.
+fn by_recipe(
+    batch: Option<Name>,
+    step: Name,
+    service: Name,
+    command: Command,
+    procedure: u16,
+) -> Sent
+    ensures { result ≡ by_recipe batch step service command procedure }
+{
+    Sent {
+        speaker: Speaker::Recipe,
+        batch,
+        step: Some(step),
+        service,
+        command,
+        procedure,
+    }
+}
+
+// An operator's command.
+fn by_operator(batch: Option<Name>, service: Name, command: Command) -> Sent
+    ensures { result ≡ by_operator batch service command }
+{
+    Sent {
+        speaker: Speaker::Operator,
+        batch,
+        step: None,
+        service,
+        command,
+        procedure: 0,
+    }
+}
+
 // The command of an entry of a log, with the tag of the module that it goes to; None of an entry that sends none.
 fn entry_command(batch: Option<Name>, entry: &LogEntry) -> Option<(Name, Sent)>
     ensures { result ≡ entry_command batch entry.now }
 {
-    let (speaker, step, tag, service, command, procedure) = match *entry {
+    match *entry {
         LogEntry::Start {
             step,
             tag,
             service,
             procedure,
-        } => (
-            Speaker::Recipe,
-            Some(step),
-            tag,
-            service,
-            Command::Start,
-            procedure,
-        ),
-        LogEntry::Finish { step, tag, service } => (
-            Speaker::Recipe,
-            Some(step),
-            tag,
-            service,
-            Command::Complete,
-            0,
-        ),
-        LogEntry::Reset { step, tag, service } => (
-            Speaker::Recipe,
-            Some(step),
-            tag,
-            service,
-            Command::Reset,
-            0,
-        ),
-        LogEntry::Stop { step, tag, service } => (
-            Speaker::Recipe,
-            Some(step),
-            tag,
-            service,
-            Command::Stop,
-            0,
-        ),
+        } => {
+            let sent = by_recipe(batch, step, service, Command::Start, procedure);
+            Some((tag, sent))
+        }
+        LogEntry::Finish { step, tag, service } => {
+            Some((tag, by_recipe(batch, step, service, Command::Complete, 0)))
+        }
+        LogEntry::Reset { step, tag, service } => {
+            Some((tag, by_recipe(batch, step, service, Command::Reset, 0)))
+        }
+        LogEntry::Stop { step, tag, service } => {
+            Some((tag, by_recipe(batch, step, service, Command::Stop, 0)))
+        }
         LogEntry::Asked {
             tag,
             service,
             command,
-        } => (Speaker::Operator, None, tag, service, command, 0),
-        _ => return None,
-    };
-    let sent = Sent {
-        speaker,
-        batch,
-        step,
-        service,
-        command,
-        procedure,
-    };
-    Some((tag, sent))
+        } => Some((tag, by_operator(batch, service, command))),
+        _ => None,
+    }
 }
 
 // The batch that an event advances.
@@ -116,7 +123,7 @@ fn sent_to(tag: Name, entry: &Entry) -> Option<Sent>
 /// of the entries. Looks at no entry before the place.
 pub fn next_command(history: &[Entry], tag: Name, place: u32) -> (Option<Sent>, u32)
     requires place { place ≤ length history.now }
-    requires few { length history.now ≤ 200000 }
+    requires few { length history.now ≤ LONGEST_HISTORY }
     ensures { result ≡ next_sent tag place (map entry_view (drop place history.now)) }
 {
     for index in place as usize..history.len() {

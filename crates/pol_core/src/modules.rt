@@ -13,16 +13,13 @@ ghost use Rattle.pol_core.specs.Seats.{AnswersModule, IsCounted, SeatsMirror, as
 use crate::docking::Docking;
 use chart_core::LogEntry;
 use mtp_assembly::ServiceControl;
-use mtp_codes::{Command, Name, Value};
+use mtp_codes::{Command, MOST_MODULES, Name, Value};
 use mtp_desc::Description;
 use pol_events::{Answer, Rule};
 use pol_slots::Slot;
 use pol_table::Table;
 use std::alloc::{AllocError, Global};
 use std::sync::Arc;
-
-/// How many modules a plant may have, docked or away.
-const MOST_MODULES: u32 = 64;
 
 /// An event that is done, unless a rule refuses it.
 pub fn done_or_refused(refused: Result<(), Rule>) -> Answer
@@ -49,7 +46,7 @@ pub fn plug(
     if modules.get(tag).is_some() {
         return Ok(Answer::Refused(Rule::TagTaken));
     }
-    if modules.len() >= MOST_MODULES {
+    if modules.len() as usize >= MOST_MODULES {
         return Ok(Answer::Refused(Rule::PlantFull));
     }
     let slot = Slot::new(alloc, description.clone()?, tag)?;

@@ -18,7 +18,7 @@ use crate::starting::start_rule;
 use crate::{batches, modules};
 use chart_core::{Chart, Next};
 use indexmap::IndexMap;
-use mtp_codes::{Name, Setting};
+use mtp_codes::{LONGEST_HISTORY, Name, Setting};
 use pol_events::{Answer, Bind, Entry, Event, Rule};
 use pol_runs::Run;
 use pol_slots::Slot;
@@ -26,9 +26,6 @@ use pol_table::Table;
 use std::alloc::{AllocError, Global};
 use std::marker::Model;
 use std::sync::Arc;
-
-/// How many entries a history may have.
-const LONGEST_HISTORY: usize = 200_000;
 
 /// A plant: everything that happened, each event with its answer, and tables of what that comes to.
 #[derive(Drop)]

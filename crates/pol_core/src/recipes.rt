@@ -11,13 +11,10 @@ ghost use Rattle.pol_core.specs.Recipes.{RecipesMirror, AnswersRecipe};
 
 use chart_core::Chart;
 use indexmap::IndexMap;
-use mtp_codes::Name;
+use mtp_codes::{MOST_RECIPES, Name};
 use pol_events::{Answer, Rule};
 use std::alloc::AllocError;
 use std::sync::Arc;
-
-/// How many recipes may be known.
-const MOST_RECIPES: usize = 64;
 
 // Keeps the chart of a new name.
 fn keep(

@@ -21,16 +21,13 @@ ghost use Rattle.pol_core.specs.Starting.{Begins, Holds, IsNew};
 use crate::binding::bind_rule;
 use chart_core::Chart;
 use indexmap::IndexMap;
-use mtp_codes::Name;
+use mtp_codes::{MOST_BATCHES, Name};
 use pol_events::{Answer, Bind, Rule};
 use pol_runs::Run;
 use pol_slots::Slot;
 use pol_table::Table;
 use std::alloc::{AllocError, Global};
 use std::sync::Arc;
-
-/// How many batches may be started.
-const MOST_BATCHES: usize = 128;
 
 // The tags of the binds.
 fn tags_of(alloc: Global, binds: &[Bind]) -> Result<Vec<Name>, AllocError>

@@ -1,5 +1,5 @@
 -- What is written of an event is read back.
-use Rattle.std.proofs.Common.{◌≡◌, ◌≤◌, ◌&&◌, ℕ, suc, List, [], ◌∷◌, length, Option, Ok, Some, None, true, true≢false, refl, sym, ap, arith}
+use Rattle.std.proofs.Common.{◌≡◌, ◌&&◌, ℕ, suc, List, [], ◌∷◌, length, Option, Ok, Some, None, true, true≢false, refl, sym, ap}
 use Rattle.std.proofs.lemmas.Bool.{and_parts}
 use Rattle.std.specs.List.{list_all}
 use Rattle.std.specs.Prelude.{codes, is_none, nat_le}
@@ -10,6 +10,7 @@ use Rattle.serde_json.specs.Read.{read}
 use Rattle.mtp_codes.specs.Codes.{command_codes, command_number, state_codes, state_number}
 use Rattle.mtp_codes.specs.Names.{is_name}
 use Rattle.mtp_codes.specs.declared.command.Command.{Command}
+use Rattle.mtp_codes.specs.declared.limits.TheConstants.{MOST_BINDS}
 use Rattle.mtp_codes.specs.declared.command.Command.TheVariants as command
 use Rattle.mtp_codes.specs.declared.mode.Mode.{Mode}
 use Rattle.mtp_codes.specs.declared.mode.Mode.TheVariants.{Off, Operator, Automatic}
@@ -189,11 +190,11 @@ each_again (bind ∷ binds) held =
     rw (named.0, named.1, each_again binds parts.1) refl
 
 -- written binds are read back
-binds_again : (binds : List Bind) → (nat_le (length binds) 64 && rise binds) ≡ true → list_all is_held_bind binds ≡ true
+binds_again : (binds : List Bind) → (nat_le (length binds) MOST_BINDS && rise binds) ≡ true → list_all is_held_bind binds ≡ true
     → binds_of (written_binds binds) ≡ Ok binds
 unfolding binds_of written_binds
 binds_again binds orderly held =
-    let parts = and_parts (nat_le (length binds) 64) (rise binds) orderly in
+    let parts = and_parts (nat_le (length binds) MOST_BINDS) (rise binds) orderly in
     rw (texts_again binds, many_again binds, parts.0, each_again binds held, by_role_rising binds parts.1) refl
 
 -- a written start is read back

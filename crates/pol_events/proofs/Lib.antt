@@ -7,3 +7,4 @@ pub mod Orderly
 pub mod Entries
 pub mod Again
 pub mod Depths
+pub mod Places

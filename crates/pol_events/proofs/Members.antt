@@ -15,6 +15,7 @@ use Rattle.serde_json.specs.View.{view, members_view}
 use Rattle.serde_json.specs.declared.value.Value.{Value}
 use Rattle.serde_json.proofs.Views.{Entry, members_len-members_view}
 use Rattle.mtp_codes.specs.Names.{is_name}
+use Rattle.mtp_codes.specs.declared.limits.TheConstants.{MOST_BINDS}
 use Rattle.mtp_json.specs.Gives.{Fails}
 use Rattle.mtp_json.specs.Leaf.{name}
 use Rattle.mtp_json.specs.Reading.{Reading, ◌>>=◌, here}
@@ -121,14 +122,14 @@ length-read (member key value members) =
 
 -- there are at most 64 members
 abbrev AreFew : Members → Type 0
-AreFew members = nat_le (members_len members) 64 ≡ true
+AreFew members = nat_le (members_len members) MOST_BINDS ≡ true
 
-few-by : (are_few : Bool) (members : Members) → nat_le (members_len members) 64 ≡ are_few → IfOk (here (if are_few then Ok members else Err OutOfRange)) AreFew
+few-by : (are_few : Bool) (members : Members) → nat_le (members_len members) MOST_BINDS ≡ are_few → IfOk (here (if are_few then Ok members else Err OutOfRange)) AreFew
 few-by true found is = is
 few-by false found is = tt
 
 few-of : (are_all : Bool) (members : Members) → IfOk (here (if are_all then few members else Err WrongKind)) AreFew
-few-of true found = few-by (nat_le (members_len found) 64) found refl
+few-of true found = few-by (nat_le (members_len found) MOST_BINDS) found refl
 few-of false found = tt
 
 few-found : (found : Option Members) → IfOk (here (few_texts found)) AreFew
@@ -137,7 +138,7 @@ few-found (Some found) = few-of (are_texts found) found
 
 -- the binds are at most 64, and rise
 abbrev pub AreOrderly : List Bind → Type 0
-AreOrderly binds = (nat_le (length binds) 64 && rise binds) ≡ true
+AreOrderly binds = (nat_le (length binds) MOST_BINDS && rise binds) ≡ true
 
 in-order : (members : Members) (binds : List Bind) → AreFew members → AreAsMany members binds → AreOrderly (by_role binds)
 in-order found binds few same =

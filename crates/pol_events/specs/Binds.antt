@@ -5,6 +5,7 @@ use Rattle.std.specs.Ordering.{match_ordering, nat_cmp}
 use Rattle.serde_json.specs.Data.{Data, string, Members, no_members, member}
 use Rattle.serde_json.specs.Events.{members_len}
 use Rattle.serde_json.specs.Find.{as_object, as_str}
+use Rattle.mtp_codes.specs.declared.limits.TheConstants.{MOST_BINDS}
 use Rattle.mtp_json.specs.Leaf.{name}
 use Rattle.mtp_json.specs.Reading.{Finding, Reading, ◌>>=◌, here}
 use Rattle.mtp_json.specs.declared.fault.FaultKind.TheVariants.{WrongKind, OutOfRange}
@@ -17,7 +18,7 @@ are_texts (member role tag rest) = is_some (as_str tag) && are_texts rest
 
 -- there are at most 64 members
 abbrev pub few : Members → Finding Members
-few members = if nat_le (members_len members) 64 then Ok members else Err OutOfRange
+few members = if nat_le (members_len members) MOST_BINDS then Ok members else Err OutOfRange
 
 -- members that were found, or none: each value has to be a text before their number is asked
 abbrev pub few_texts : Option Members → Finding Members

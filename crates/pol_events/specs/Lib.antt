@@ -1,10 +1,16 @@
 pub mod Events
+pub mod Subjects
+pub mod Views
+pub mod Accepted
+pub mod Fields
+pub mod RuleTable
 pub mod Refusals
 pub mod Orderly
 pub mod Words
 pub mod Kinds
 pub mod Binds
 pub mod Bound
+pub mod BindRules
 pub mod Forms
 pub mod Lines
 pub mod Held

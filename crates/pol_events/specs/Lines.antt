@@ -1,5 +1,5 @@
 -- What a line of a journal says: an event, or why it is none.
-use Rattle.std.specs.Prelude.{◌≡◌, ℕ, List, Option, Some, None, Result, Ok, Err}
+use Rattle.std.specs.Prelude.{◌≡◌, ◌||◌, ◌==◌, ℕ, Bool, List, Option, Some, None, Result, Ok, Err}
 use Rattle.chart_core.specs.declared.fault.ChartFault.{ChartFault}
 use Rattle.chart_core.specs.Valid.{chart_fault}
 use Rattle.mtp_json.specs.Parse.{json_of}
@@ -11,6 +11,10 @@ use Rattle.pol_events.specs.declared.fault.LineRefusal.{LineRefusal}
 use Rattle.pol_events.specs.declared.fault.LineRefusal.TheVariants.{Fault, Memory}
 use Rattle.pol_events.specs.Events.{EventForm, recipe, event_view}
 use Rattle.pol_events.specs.Forms.{event_in}
+
+-- the byte is a space, a tab or a carriage return
+abbrev pub is_blank_byte : ℕ → Bool
+is_blank_byte byte = byte == 32 || (byte == 9 || byte == 13)
 
 -- what the bytes of a line are read as
 abbrev pub read_of : List ℕ → Reading EventForm

@@ -4,6 +4,7 @@ use Rattle.std.specs.Ordering.{nat_cmp, is_lt}
 use Rattle.std.specs.Cmp.Lexicographic.{slice_cmp}
 use Rattle.std.specs.List.{list_all}
 use Rattle.std.specs.Str.{bytes_eq}
+use Rattle.mtp_codes.specs.declared.limits.TheConstants.{MOST_BINDS}
 use Rattle.chart_core.specs.Roles.{ChartPlan, is_chart_form}
 use Rattle.chart_core.specs.Valid.{chart_fault}
 use Rattle.pol_events.specs.declared.event.Bind.{Bind}
@@ -31,5 +32,5 @@ is_valid chart = is_none (chart_fault chart)
 -- a recipe's chart is formed and valid; a start has at most 64 binds, and their roles rise in byte order
 abbrev pub is_orderly : EventForm → Bool
 is_orderly (recipe at name chart) = is_chart_form chart && is_valid chart
-is_orderly (start at batch name binds) = nat_le (length binds) 64 && rise binds
+is_orderly (start at batch name binds) = nat_le (length binds) MOST_BINDS && rise binds
 is_orderly _ = true

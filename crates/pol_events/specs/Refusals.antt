@@ -33,8 +33,8 @@ may_follow from to = same_state from to || is_edge from to
 
 -- the state may not follow the one reported last
 abbrev pub not_an_edge : State → Option ServiceControl → Option Rule
-not_an_edge state (Some last) = when (not (may_follow last.state state)) (NotAnEdge last.state state)
-not_an_edge state None = None
+not_an_edge state last =
+    option_and_then (λ last. when (not (may_follow last.state state)) (NotAnEdge last.state state)) last
 
 -- why a report of the service is refused, by the description and what the service reported last
 abbrev pub report_fault : List ℕ → State → DescriptionForm → Option ServiceControl → Option Rule
@@ -71,8 +71,8 @@ forbidden command view = option_map forbid_rule (forbidden_by view Operator comm
 
 -- the service was reported in a state that isn't at rest
 abbrev pub service_not_at_rest : List ℕ → Option ServiceControl → Option Rule
-service_not_at_rest service None = None
-service_not_at_rest service (Some control) = when (not (is_at_rest control.state)) (NotAtRest service control.state)
+service_not_at_rest service control =
+    option_and_then (λ control. when (not (is_at_rest control.state)) (NotAtRest service control.state)) control
 
 -- the first of these services that isn't at rest, by what each reported last
 abbrev pub not_at_rest : (List ℕ → Option ServiceControl) → List ServiceForm → Option Rule
@@ -84,8 +84,7 @@ in_exchange tag ticket = option_map (InExchange tag) ticket
 
 -- the ticket isn't the one under which the module is away
 abbrev pub wrong_ticket : ℕ → Option ℕ → Option Rule
-wrong_ticket given None = None
-wrong_ticket given (Some kept) = when (not (kept == given)) (WrongTicket kept given)
+wrong_ticket given kept = option_and_then (λ kept. when (not (kept == given)) (WrongTicket kept given)) kept
 
 -- why a module can't play the role, as a rule
 abbrev pub cover_rule : List ℕ → CoverFault → Rule

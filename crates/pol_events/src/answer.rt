@@ -136,3 +136,15 @@ pub enum Answer {
     /// The event was refused, and nothing but the history changed.
     Refused(Rule),
 }
+
+impl Answer {
+    ghost use Rattle.std.specs.Prelude.{◌≡◌};
+    ghost use Rattle.pol_events.specs.Accepted.{is_accepted};
+
+    /// Whether the answer is no refusal.
+    pub fn is_accepted(&self) -> bool
+        ensures { result ≡ is_accepted self.now }
+    {
+        !matches!(self, Answer::Refused(_))
+    }
+}

@@ -9,7 +9,7 @@ ghost use Rattle.pol_events.specs.Binds.{are_texts, bind_of, binds_of, each_bind
 ghost use Rattle.pol_events.specs.Orderly.{rise};
 
 use crate::event::Bind;
-use mtp_codes::Name;
+use mtp_codes::{MOST_BINDS, Name};
 use mtp_json::{FaultKind, FromJson, JsonRefusal, here, name_of};
 use serde_json::{Map, Value};
 use std::alloc::Global;
@@ -58,7 +58,7 @@ fn few_texts(value: &Value) -> Result<&Map<String, Value>, FaultKind>
     if !are_texts(members) {
         return Err(FaultKind::WrongKind);
     }
-    if members.len() > 64 {
+    if members.len() > MOST_BINDS {
         return Err(FaultKind::OutOfRange);
     }
     Ok(members)

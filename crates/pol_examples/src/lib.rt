@@ -20,9 +20,13 @@ mod limits;
 #[cfg(test)]
 mod lines;
 #[cfg(test)]
+mod looking_back;
+#[cfg(test)]
 mod modules;
 #[cfg(test)]
 mod runs;
+#[cfg(test)]
+mod serving;
 #[cfg(test)]
 mod starts;
 #[cfg(test)]

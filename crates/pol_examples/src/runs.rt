@@ -1,4 +1,5 @@
 //! Running the program's jobs over memory.
+use super::looking_back::output_of;
 use pol_cli::{Status, top};
 use pol_io::{MemorySink, MemorySource, SureSink, SureSource};
 use std::alloc::{AllocError, Global};
@@ -53,12 +54,18 @@ pub fn run_failing(
     Ok((status, sink.bytes() == output.as_bytes()))
 }
 
-/// Replays each journal: its input gives its output.
+/// Answers each journal twice, by the program and by looking back: its input gives its output.
 pub fn replay_each(rt: &impl Abort, alloc: Global, journals: &[Journal]) -> Result<(), Fail> {
     for journal in journals.iter() {
         let (status, same) = run(alloc, "pol --job replay", journal.input, journal.output)?;
         assert_eq!(rt; status, Status::Good, "{}", journal.title);
         assert!(rt; same, "{}", journal.title);
+        let looked_back = output_of(alloc, journal.input)?;
+        assert!(rt;
+            looked_back.as_slice() == journal.output.as_bytes(),
+            "{}, by looking back",
+            journal.title
+        );
     }
     Ok(())
 }

@@ -5,7 +5,6 @@ pub mod Refused
 pub mod Recording
 pub mod Legal
 pub mod Paths
-pub mod Appending
 pub mod Open
 pub mod Binds
 pub mod Pasts

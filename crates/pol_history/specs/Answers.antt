@@ -1,6 +1,7 @@
 -- The rules of each kind of event in their order, and the answer.
 use Rattle.std.specs.Prelude.{ℕ, Bool, ◌||◌, nat_le, List, [], ◌∷◌, length, Option, Some, None, if◌then◌else◌}
 use Rattle.mtp_codes.specs.Faults.{when}
+use Rattle.mtp_codes.specs.declared.limits.TheConstants.{LONGEST_HISTORY}
 use Rattle.chart_core.specs.Roles.{ChartPlan, role_names}
 use Rattle.chart_core.specs.declared.entry.LogEntry.TheVariants.{StopAsked, Asked}
 use Rattle.chart_core.specs.declared.next.Next.TheVariants as next
@@ -127,7 +128,7 @@ first_rule (None ∷ rules) answer = first_rule rules answer
 
 -- the history has 200,000 entries
 abbrev pub is_full : History → Bool
-is_full history = nat_le 200000 (length history)
+is_full history = nat_le LONGEST_HISTORY (length history)
 
 -- the answer to an event after a history
 abbrev pub answer_of : History → EventForm → Answer

@@ -8,5 +8,3 @@ pub mod Runs
 pub mod Refused
 pub mod Commands
 pub mod Paths
-pub mod Texts
-pub mod Lines

@@ -2,42 +2,13 @@
 use Rattle.std.specs.Prelude.{ℕ, Bool, true, false, ◌&&◌, List, [], ◌∷◌, filter, Option, None, if◌then◌else◌}
 use Rattle.std.specs.Option.{option_or}
 use Rattle.std.specs.Str.{bytes_eq}
-use Rattle.pol_events.specs.Events.{EventForm, plug, unplug, report, variable, recipe, start, advance, freeze, thaw, stop_batch, abandon, desk, exchange_begin, exchange_end, exchange_cancel, EntryForm}
-use Rattle.pol_events.specs.declared.answer.Answer.{Answer}
-use Rattle.pol_events.specs.declared.answer.Answer.TheVariants.{Refused}
+pub use Rattle.pol_events.specs.Accepted.{is_accepted}
+use Rattle.pol_events.specs.Events.{EntryForm}
+pub use Rattle.pol_events.specs.Subjects.{Subject, of_module, of_batch, of_recipe, subject}
 
 -- the events with their answers, the newest first
 abbrev pub History : Type 0
 History = List EntryForm
-
--- whom an event is of
-pub data Subject : Type 0 where
-  of_module : (tag : List ℕ) → Subject
-  of_batch : (batch : List ℕ) → Subject
-  of_recipe : (recipe : List ℕ) → Subject
-
--- the module, batch or recipe that an event is of
-abbrev pub subject : EventForm → Subject
-subject (plug at tag description) = of_module tag
-subject (unplug at tag) = of_module tag
-subject (report at tag service control) = of_module tag
-subject (variable at tag name value) = of_module tag
-subject (recipe at name chart) = of_recipe name
-subject (start at batch name binds) = of_batch batch
-subject (advance at batch) = of_batch batch
-subject (freeze at batch) = of_batch batch
-subject (thaw at batch) = of_batch batch
-subject (stop_batch at batch) = of_batch batch
-subject (abandon at batch) = of_batch batch
-subject (desk at tag service command) = of_module tag
-subject (exchange_begin at tag) = of_module tag
-subject (exchange_end at tag ticket description) = of_module tag
-subject (exchange_cancel at tag ticket) = of_module tag
-
--- the answer is no refusal
-abbrev pub is_accepted : Answer → Bool
-is_accepted (Refused rule) = false
-is_accepted _ = true
 
 -- the subject is this module
 abbrev pub is_module : List ℕ → Subject → Bool

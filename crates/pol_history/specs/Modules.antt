@@ -7,8 +7,8 @@ use Rattle.mtp_codes.specs.declared.value.Value.{Value}
 use Rattle.mtp_assembly.specs.declared.control.ServiceControl.{ServiceControl}
 use Rattle.mtp_modes.specs.declared.view.ServiceView.{ServiceView}
 use Rattle.mtp_desc.specs.Plain.{DescriptionForm}
-use Rattle.mtp_desc.specs.Lookup.{self_completes}
 use Rattle.pol_events.specs.Events.{EventForm, plug, unplug, report, variable, exchange_begin, exchange_end, exchange_cancel}
+pub use Rattle.pol_events.specs.Views.{completes_by, seen_with}
 use Rattle.pol_events.specs.declared.answer.Answer.{Answer}
 use Rattle.pol_events.specs.declared.answer.Answer.TheVariants.{Ticket}
 use Rattle.pol_history.specs.Looking.{History, past, last_of, since, after_last, is_accepted}
@@ -115,16 +115,6 @@ reported service _ = None
 -- the control that the service reported last since docking, by the module's past
 abbrev pub control_by : List ℕ → History → Option ServiceControl
 control_by service past = last_of (λ entry. reported service entry.event) (since_docking past)
-
--- whether the procedure completes by itself, by the module's description; false where there is none
-abbrev pub completes_by : List ℕ → ℕ → Option DescriptionForm → Bool
-completes_by service procedure None = false
-completes_by service procedure (Some description) = self_completes service procedure description
-
--- a control with what the description says of its procedure
-abbrev pub seen_with : List ℕ → Option DescriptionForm → ServiceControl → ServiceView
-seen_with service description control =
-    record { control = control; self_completes = completes_by service control.procedure description }
 
 -- what is seen of the service, by the module's past: its last report since docking
 abbrev pub view_by : List ℕ → History → Option ServiceView

@@ -1,8 +1,9 @@
 -- The rules that can refuse an event.
-use Rattle.std.specs.Prelude.{ℕ, Bool, not, nat_le, List, [], ◌∷◌, length, map, filter, filter_map, find, Option, Some, None, is_some, is_none, option_and_then, option_map}
+use Rattle.std.specs.Prelude.{ℕ, not, nat_le, List, [], ◌∷◌, length, map, filter, Option, Some, None, is_some, is_none, option_and_then, option_map}
 use Rattle.std.specs.Option.{option_or}
-use Rattle.mtp_codes.specs.Names.{same_name, is_among}
+use Rattle.mtp_codes.specs.Names.{same_name}
 use Rattle.mtp_codes.specs.Faults.{when, first_of}
+use Rattle.mtp_codes.specs.declared.limits.TheConstants.{MOST_BATCHES, MOST_MODULES, MOST_RECIPES}
 use Rattle.mtp_machine.specs.States.{is_idle}
 use Rattle.mtp_modes.specs.declared.view.ServiceView.{ServiceView}
 use Rattle.mtp_desc.specs.Plain.{DescriptionForm}
@@ -10,9 +11,10 @@ use Rattle.chart_core.specs.Roles.{ChartPlan}
 use Rattle.chart_core.specs.Trees.{steps}
 use Rattle.mtp_procs.specs.Covers.{cover_fault, missing_by}
 use Rattle.chart_cursor.specs.Logs.{active}
+pub use Rattle.pol_events.specs.BindRules.{role_unbound, role_unknown, is_bound_before, twice, one_module_twice}
 use Rattle.pol_events.specs.Refusals.{cover_rule, in_exchange, not_at_rest}
 use Rattle.pol_events.specs.declared.answer.Rule.{Rule}
-use Rattle.pol_events.specs.declared.answer.Rule.TheVariants.{TagTaken, NoModule, PlantFull, NotInExchange, RecipeKnown, NoRecipe, BatchKnown, NoBatch, BatchClosed, RoleUnbound, RoleUnknown, OneModuleTwice, NotReported, NotIdle, Busy, BatchesFull, ActiveStep, HeldBack, NotFrozen, AlreadyFrozen, RecipesFull}
+use Rattle.pol_events.specs.declared.answer.Rule.TheVariants.{TagTaken, NoModule, PlantFull, NotInExchange, RecipeKnown, NoRecipe, BatchKnown, NoBatch, BatchClosed, NotReported, NotIdle, Busy, BatchesFull, ActiveStep, HeldBack, NotFrozen, AlreadyFrozen, RecipesFull}
 use Rattle.pol_events.specs.declared.event.Bind.{Bind}
 use Rattle.pol_events.specs.Bound.{bound_tag, bound_role, step_on}
 use Rattle.pol_history.specs.Looking.{History, past, past_of_batch, recipes}
@@ -41,19 +43,17 @@ not_in_exchange (away ticket) = None
 
 -- 64 tags are docked or away
 abbrev pub plant_full : History → Option Rule
-plant_full history = when (nat_le 64 (length (present_tags history))) PlantFull
+plant_full history = when (nat_le MOST_MODULES (length (present_tags history))) PlantFull
 
 -- ---- what a module is and has reported
 
 -- a rule of the module's description
 abbrev pub by_description : (DescriptionForm → Option Rule) → Option DescriptionForm → Option Rule
-by_description rule None = None
-by_description rule (Some description) = rule description
+by_description rule description = option_and_then rule description
 
 -- a rule of what the service reported last
 abbrev pub by_view : (ServiceView → Option Rule) → Option ServiceView → Option Rule
-by_view rule None = None
-by_view rule (Some view) = rule view
+by_view rule view = option_and_then rule view
 
 -- the service wasn't reported since the module was docked
 abbrev pub not_reported : List ℕ → List ℕ → Option ServiceView → Option Rule
@@ -62,8 +62,10 @@ not_reported tag service (Some view) = None
 
 -- the service is in another state than Idle
 abbrev pub not_idle : List ℕ → List ℕ → Option ServiceView → Option Rule
-not_idle tag service None = None
-not_idle tag service (Some view) = when (not (is_idle view.control.state)) (NotIdle tag service view.control.state)
+not_idle tag service view =
+    option_and_then
+    (λ view. when (not (is_idle view.control.state)) (NotIdle tag service view.control.state))
+    view
 
 -- the first service of the module that reported last that it isn't at rest
 abbrev pub module_not_at_rest : History → DescriptionForm → Option Rule
@@ -77,7 +79,7 @@ recipe_known name recipes = when (is_some (chart_named name recipes)) RecipeKnow
 
 -- 64 recipes are known
 abbrev pub recipes_full : History → Option Rule
-recipes_full recipes = when (nat_le 64 (length recipes)) RecipesFull
+recipes_full recipes = when (nat_le MOST_RECIPES (length recipes)) RecipesFull
 
 -- no recipe of this name is known
 abbrev pub no_recipe : Option ChartPlan → Option Rule
@@ -107,37 +109,16 @@ not_frozen past = when (not (is_frozen_by past)) NotFrozen
 
 -- 128 batches were started
 abbrev pub batches_full : History → Option Rule
-batches_full history = when (nat_le 128 (length (filter is_start history))) BatchesFull
+batches_full history = when (nat_le MOST_BATCHES (length (filter is_start history))) BatchesFull
 
 -- ---- the binds of a start, against the roles of the recipe
 
--- the first of these roles that no bind gives a tag
-abbrev pub role_unbound : List Bind → List (List ℕ) → Option Rule
-role_unbound binds roles = option_map RoleUnbound (find (λ role. is_none (bound_tag binds role)) roles)
-
--- the first bind whose role the recipe lacks
-abbrev pub role_unknown : List Bind → List (List ℕ) → Option Rule
-role_unknown binds roles = option_map (λ bind. RoleUnknown bind.role) (find (λ bind. not (is_among roles bind.role)) binds)
-
--- the tag is bound to one of these roles
-abbrev pub is_bound_before : List Bind → List (List ℕ) → List ℕ → Bool
-is_bound_before binds earlier tag = is_among (filter_map (bound_tag binds) earlier) tag
-
--- the role's tag, where an earlier role has it
-abbrev pub twice : List Bind → List (List ℕ) → Option (List ℕ) → Option Rule
-twice binds earlier None = None
-twice binds earlier (Some tag) = when (is_bound_before binds earlier tag) (OneModuleTwice tag)
-
--- the first tag in the order of the roles that an earlier role has
-abbrev pub one_module_twice : List Bind → List (List ℕ) → List (List ℕ) → Option Rule
-one_module_twice binds earlier [] = None
-one_module_twice binds earlier (role ∷ roles) =
-    option_or (twice binds earlier (bound_tag binds role)) (one_module_twice binds (role ∷ earlier) roles)
-
 -- the module can't play the role
 abbrev pub not_covered : ChartPlan → List ℕ → Option DescriptionForm → Option Rule
-not_covered chart role None = None
-not_covered chart role (Some description) = option_map (cover_rule role) (cover_fault chart role description)
+not_covered chart role description =
+    option_and_then
+    (λ description. option_map (cover_rule role) (cover_fault chart role description))
+    description
 
 -- the services of the steps of a role, in chart order
 abbrev pub services_of : ChartPlan → List ℕ → List (List ℕ)
@@ -163,8 +144,8 @@ module_rules chart role tag past =
 
 -- the first thing that is wrong with the module of a role, if it has one
 abbrev pub module_rule : History → ChartPlan → List ℕ → Option (List ℕ) → Option Rule
-module_rule history chart role None = None
-module_rule history chart role (Some tag) = first_of (module_rules chart role tag (past tag history))
+module_rule history chart role tag =
+    option_and_then (λ tag. first_of (module_rules chart role tag (past tag history))) tag
 
 -- the first thing that is wrong with a module, over these roles
 abbrev pub modules_unfit : History → ChartPlan → List Bind → List (List ℕ) → Option Rule
@@ -172,13 +153,11 @@ modules_unfit history chart binds roles = first_of (map (λ role. module_rule hi
 
 -- the module is held by a batch
 abbrev pub busy_module : List ℕ → Option (List ℕ) → Option Rule
-busy_module tag None = None
-busy_module tag (Some batch) = Some (Busy tag batch)
+busy_module tag holder = option_map (Busy tag) holder
 
 -- the module of a role is held by a batch
 abbrev pub busy_role : History → Option (List ℕ) → Option Rule
-busy_role history None = None
-busy_role history (Some tag) = busy_module tag (holder_of history tag)
+busy_role history tag = option_and_then (λ tag. busy_module tag (holder_of history tag)) tag
 
 -- the first module over these roles that is held
 abbrev pub busy : History → List Bind → List (List ℕ) → Option Rule
@@ -188,8 +167,7 @@ busy history binds roles = first_of (map (λ role. busy_role history (bound_tag 
 
 -- a rule of the batch that holds the module
 abbrev pub by_holder : (List ℕ → Option Rule) → Option (List ℕ) → Option Rule
-by_holder rule None = None
-by_holder rule (Some batch) = rule batch
+by_holder rule holder = option_and_then rule holder
 
 -- the first active step of a batch, by its past, on the module
 abbrev pub active_step_on : History → List ℕ → List ℕ → History → Option Rule

@@ -1,8 +1,12 @@
 -- Where line feeds stand.
-use Rattle.std.proofs.Common.{ℕ, ◌+◌, ◌≡◌, List, [], ◌∷◌, ◌++◌, take, drop, slice_range, Bool, true, false, ◌&&◌, ◌||◌, ◌==◌, not, IsTrue, length-drop, arith, ap, ◌∙◌, sym, refl, take-append-drop}
+use Rattle.std.proofs.Common.{ℕ, zero, suc, ◌+◌, ◌<◌, ◌≡◌, List, [], ◌∷◌, ◌++◌, length, take, drop, slice_index, slice_range, Bool, true, false, ◌&&◌, ◌||◌, ◌==◌, not, IsTrue, Option, None, Some, MatchOption, length-drop, arith, ap, ◌∙◌, sym, refl, take-append-drop}
 use Rattle.std.proofs.Math.Seq.{take-add}
 use Rattle.std.proofs.lemmas.List.{get_or-drop, drop_more}
 use Rattle.std.proofs.lemmas.Bool.{not-true}
+use Rattle.std.proofs.lemmas.Grind.{common_steps}
+use Rattle.std.proofs.lemmas.List.Folds.{list_all_at}
+use Rattle.std.specs.Option.{is_some}
+use Rattle.memchr.specs.Find.{IsFirstByte, is_byte}
 use Rattle.pol_io.specs.Pieces.{has_no_feed}
 use Rattle.pol_io.specs.Cuts.{FeedAt}
 use Rattle.pol_io.proofs.Ranges.{range_drop}
@@ -14,6 +18,36 @@ both_true false b h = absurd (cc)
 -- the first byte is no line feed, and none of the others is
 pub head_no_feed : (x : ℕ) (xs : List ℕ) → IsTrue (has_no_feed (x ∷ xs)) → ((x == 10) ≡ false) × IsTrue (has_no_feed xs)
 head_no_feed x xs h = let both = both_true (not (x == 10)) (has_no_feed xs) h in (not-true (x == 10) both.0, both.1)
+
+-- bytes among which no place holds a line feed have none
+pub no_feed-before : (bytes : List ℕ) (size : ℕ)
+    → ((place : ℕ) → place < size → (slice_index bytes place == 10) ≡ true → ⊥) → IsTrue (has_no_feed (take size bytes))
+no_feed-before [] size none = grind (arith, common_steps)
+no_feed-before (x ∷ xs) zero none = grind (arith, common_steps)
+no_feed-before (x ∷ xs) (suc size) none =
+    let first : ((x == 10) ≡ true → ⊥) = none 0 (omega arith) in
+    let others = no_feed-before xs size (λ place low is. none (suc place) (omega (arith, low)) is) in
+    grind (arith, common_steps, first, others)
+
+-- the first byte that is a line feed is the first line feed
+pub first_feed : (bytes : List ℕ) (found : Option ℕ) → IsFirstByte (is_byte 10) bytes found
+    → MatchOption found (IsTrue (has_no_feed bytes)) (λ place. FeedAt bytes place)
+first_feed bytes None none =
+    let all = no_feed-before bytes (length bytes) (λ place low is. none place (omega arith) low is) in
+    grind (arith, common_steps, all)
+first_feed bytes (Some place) first = record {
+  within = first.0.high;
+  before = no_feed-before bytes place (λ early low is. first.0.before early (omega arith) low is);
+  feed = grind (arith, common_steps, first.1);
+}
+
+-- a line feed that was found is one
+pub feed_found : (bytes : List ℕ) (found : Option ℕ)
+    → MatchOption found (IsTrue (has_no_feed bytes)) (λ place. FeedAt bytes place) → is_some found ≡ not (has_no_feed bytes)
+feed_found bytes None none = rw none
+feed_found bytes (Some place) at =
+    let feed : not (slice_index bytes place == 10) ≡ false = rw at.feed in
+    rw (list_all_at (λ b. not (b == 10)) bytes place 0 at.within feed)
 
 -- neither part has a line feed
 pub no_feed-append : (xs ys : List ℕ) → IsTrue (has_no_feed xs) → IsTrue (has_no_feed ys) → IsTrue (has_no_feed (xs ++ ys))

@@ -1,6 +1,7 @@
 pub mod Causes
 pub mod Clocks
 pub mod Cuts
+pub mod Dripping
 pub mod Edge
 pub mod Faults
 pub mod Known

@@ -9,6 +9,7 @@
 #![tactic(auto)]
 
 mod clock;
+mod drip;
 mod fill;
 mod limits;
 mod lines;
@@ -25,6 +26,7 @@ mod tests;
 mod window;
 
 pub use clock::Clock;
+pub use drip::{DripSink, DripSource};
 pub use limits::{LONGEST_INPUT, LONGEST_LINE};
 pub use lines::{IoFault, Line, Lines};
 pub use memory::{MemorySink, MemorySource};

@@ -7,7 +7,7 @@ ghost use Rattle.pol_io.specs.Faults.{Stops};
 ghost use Rattle.pol_io.specs.Reading.{ahead, needs_no_source, Reads};
 ghost use Rattle.pol_io.specs.contracts.lines.Lines.{the_row};
 
-use crate::seek::cut_line;
+use crate::seek::{cut_line, has_feed};
 use crate::source::Source;
 use crate::window::{Cut, Window};
 use std::alloc::{AllocError, Global};
@@ -75,6 +75,14 @@ impl Lines {
         ensures { result ≡ self.now.sound }
     {
         !self.failed
+    }
+
+    /// Whether the next line stands here, or the end of input was seen: then `next_line` asks no source.
+    pub fn has_next(&self) -> bool
+        ensures { result ≡ needs_no_source self.now }
+    {
+        let window = &self.window;
+        window.ended || has_feed(&window.buffer[window.start..window.end])
     }
 
     /// The next line of the bytes that wait here, followed by those that the source has left. It is lent from the

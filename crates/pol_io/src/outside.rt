@@ -1,7 +1,7 @@
 //! Readers and writers of std as sources and sinks: the edge to the outside.
 ghost use Rattle.std.specs.Prelude.{◌≡◌, ◌<◌, length, IfOk, IfErr};
 ghost use Rattle.std.specs.Io.{ReadsAtMost, WritesAtMost};
-ghost use Rattle.std.specs.Io.KnownBytes.{ReadConsumes, WriteAppends};
+ghost use Rattle.std.specs.Io.KnownBytes.{Keeps, ReadConsumes, WriteAppends};
 ghost use Rattle.pol_io.specs.Causes.{HasCauseOf};
 ghost use Rattle.pol_io.specs.Edge.{Edge};
 
@@ -35,6 +35,23 @@ fn write_again<W: Write>(writer: &mut W, piece: &[u8]) -> io::Result<usize>
     for _ in 0..u64::MAX {
         match writer.write(piece) {
             Ok(count) => return Ok(count),
+            Err(error) => {
+                if error.kind() != ErrorKind::Interrupted {
+                    return Err(error);
+                }
+            }
+        }
+    }
+    Err(io::Error::from(ErrorKind::Interrupted))
+}
+
+// One flush, done again where it is interrupted.
+fn flush_again<W: Write>(writer: &mut W) -> io::Result<()>
+    ensures { Keeps (W.contents writer.old) (W.contents writer.new) }
+{
+    for _ in 0..u64::MAX {
+        match writer.flush() {
+            Ok(()) => return Ok(()),
             Err(error) => {
                 if error.kind() != ErrorKind::Interrupted {
                     return Err(error);
@@ -85,8 +102,8 @@ impl<R: Read> Source for ReaderSource<R> {
 }
 
 /// A writer as a sink. Each error of the writer is a fault, but an interruption: then it is written again. A piece of
-/// which it takes nothing is a fault too. It tells of its bytes what the writer tells, which is nothing for a file or a
-/// terminal.
+/// which it takes nothing is a fault too. A flush is the writer's. It tells of its bytes what the writer tells, which is
+/// nothing for a file or a terminal.
 #[derive(Drop)]
 pub struct WriterSink<W: Write> {
     inner: W,
@@ -124,6 +141,21 @@ impl<W: Write> Sink for WriterSink<W> {
         match write_again(&mut self.inner, piece) {
             Ok(count) if count > 0 || piece.is_empty() => Ok(count),
             _ => {
+                self.faults = self.faults.saturating_add(1);
+                Err(SinkFault::Failed)
+            }
+        }
+    }
+
+    // It never answers `Memory`.
+    fn flush(&mut self) -> Result<(), SinkFault>
+        ensures bytes { Keeps self.old.bytes self.new.bytes }
+        ensures cause { HasCauseOf SinkFault.Failed self.old.faults self.new.faults result }
+        ensures failed { IfErr result (λ fault. fault ≡ SinkFault.Failed) }
+    {
+        match flush_again(&mut self.inner) {
+            Ok(()) => Ok(()),
+            Err(_) => {
                 self.faults = self.faults.saturating_add(1);
                 Err(SinkFault::Failed)
             }

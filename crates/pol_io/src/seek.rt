@@ -13,17 +13,21 @@ use crate::limits::LONGEST_LINE;
 use crate::lines::IoFault;
 use crate::source::Source;
 use crate::window::{Cut, Found, Window};
+use memchr::memchr;
 
 // The place of the first line feed.
 fn find_feed(bytes: &[u8]) -> Option<usize>
     ensures { MatchOption result (IsTrue (has_no_feed bytes.now)) (λ i. FeedAt bytes.now i) }
 {
-    for (i, b) in bytes.iter().enumerate() {
-        if *b == b'\n' {
-            return Some(i);
-        }
-    }
-    None
+    memchr(b'\n', bytes)
+}
+
+/// Whether a line feed stands among these bytes.
+#[tactic(auto, using(crate::proofs::Feeds::feed_found))]
+pub fn has_feed(bytes: &[u8]) -> bool
+    ensures { result ≡ not (has_no_feed bytes.now) }
+{
+    find_feed(bytes).is_some()
 }
 
 /// Takes bytes until a line feed waits, too many bytes wait, or the input is at its end.

@@ -2,10 +2,10 @@
 ghost use Rattle.std.specs.Prelude.{◌≡◌, ◌<◌, List, ℕ, [], length, take, IsOk, IfOk, OnOk, OnErr};
 ghost use Rattle.std.specs.declared.option.Option.{Option};
 ghost use Rattle.std.specs.Io.{WritesAtMost};
-ghost use Rattle.std.specs.Io.KnownBytes.{Appends, WriteAppends};
+ghost use Rattle.std.specs.Io.KnownBytes.{Appends, Keeps, WriteAppends};
 ghost use Rattle.pol_io.specs.Causes.{HasCauseOf};
 
-/// Why a sink took nothing.
+/// Why a sink took nothing, or handed nothing on.
 #[derive(Clone, Copy, Debug, PartialEq, Eq)]
 pub enum SinkFault {
     /// The sink failed.
@@ -29,6 +29,15 @@ pub trait Sink {
         ensures progress { 0 < length piece.now → IfOk result (λ n. 0 < n) }
         ensures bytes { WriteAppends (held self.old) (held self.new) result piece.now }
         ensures cause { HasCauseOf SinkFault.Failed (faults self.old) (faults self.new) result };
+
+    /// Hands on what it took and still keeps to itself, where it does so: a sink that keeps nothing to itself has nothing
+    /// to do. It holds what it held. The count of faults rises in this call exactly where it answers `Failed`.
+    fn flush(&mut self) -> Result<(), SinkFault>
+        ensures bytes { Keeps (held self.old) (held self.new) }
+        ensures cause { HasCauseOf SinkFault.Failed (faults self.old) (faults self.new) result }
+    {
+        Ok(())
+    }
 }
 
 /// Writes the whole piece, with further calls for its rest where the sink takes less. An empty piece makes no call.

@@ -1,11 +1,12 @@
 //! Lines of small and of long inputs, calls that fail, what readers and writers of std are as sources and sinks, and
 //! clocks.
 use crate::{
-    Clock, IoFault, LONGEST_LINE, Line, Lines, MemoryClock, MemorySink, MemorySource, ReaderSource,
-    Sink, SinkFault, Source, SureSink, SureSource, SystemClock, WriterSink, write_all,
+    Clock, DripSink, DripSource, IoFault, LONGEST_LINE, Line, Lines, MemoryClock, MemorySink,
+    MemorySource, ReaderSource, Sink, SinkFault, Source, SureSink, SureSource, SystemClock,
+    WriterSink, write_all,
 };
 use std::alloc::Global;
-use std::io;
+use std::io::{self, BufWriter, ErrorKind, Read, Write};
 use std::test::Fail;
 use std::time::Duration;
 
@@ -44,6 +45,38 @@ fn lines_end_at_a_line_feed_or_at_the_end(rt: HostRuntime) -> Result<(), Fail> {
         let mut reader = ReaderSource::new(input.as_bytes());
         let lines = shown(rt.alloc(), &mut reader)?;
         assert_eq!(rt; lines.as_slice(), want.as_bytes(), "read of {input}");
+    }
+    Ok(())
+}
+
+#[test]
+fn lines_come_whole_from_a_source_that_drips(rt: HostRuntime) -> Result<(), Fail> {
+    for at_most in [1, 2, 7] {
+        let bytes = Vec::from_slice(rt.alloc(), b"ab\n\ncdefgh\ni")?;
+        let lines = shown(rt.alloc(), &mut DripSource::new(bytes, at_most))?;
+        assert_eq!(rt;
+            lines.as_slice(),
+            b"ab||cdefgh|i|".as_slice(),
+            "by {at_most}"
+        );
+    }
+    Ok(())
+}
+
+#[test]
+fn a_source_is_needed_where_no_line_waits(rt: HostRuntime) -> Result<(), Fail> {
+    let mut lines = Lines::new(rt.alloc())?;
+    let mut source = DripSource::new(Vec::from_slice(rt.alloc(), b"a\nb\nc")?, 4);
+    for (line, next) in [
+        (Line::Text(b"a"), true),
+        (Line::Text(b"b"), false),
+        (Line::Text(b"c"), true),
+        (Line::End, true),
+    ] {
+        if lines.sound() {
+            assert_eq!(rt; lines.next_line(&mut source), Ok(line));
+        }
+        assert_eq!(rt; lines.has_next(), next, "behind {line:?}");
     }
     Ok(())
 }
@@ -102,6 +135,100 @@ fn whole_pieces_are_written_until_the_sink_fails(rt: HostRuntime) -> Result<(), 
     assert_eq!(rt; write_all(&mut sink, b"c"), Err(SinkFault::Failed));
     assert_eq!(rt; sink.write(b"d"), Ok(1));
     assert_eq!(rt; sink.bytes(), b"abd".as_slice());
+    Ok(())
+}
+
+#[test]
+fn a_sink_that_drips_takes_whole_pieces(rt: HostRuntime) -> Result<(), Fail> {
+    for at_most in [1, 2, 7] {
+        let mut sink = DripSink::new(rt.alloc(), at_most);
+        assert_eq!(rt; write_all(&mut sink, b"abcde"), Ok(()));
+        assert_eq!(rt; write_all(&mut sink, b""), Ok(()));
+        assert_eq!(rt; write_all(&mut sink, b"fgh"), Ok(()));
+        assert_eq!(rt; sink.flush(), Ok(()));
+        assert_eq!(rt; sink.bytes(), b"abcdefgh".as_slice(), "by {at_most}");
+    }
+    Ok(())
+}
+
+// A reader and a writer of one byte a call, of which each other call is interrupted.
+#[derive(Drop)]
+struct Interrupted {
+    bytes: Vec<u8>,
+    at: usize,
+    calls: u32,
+}
+
+impl Interrupted {
+    fn new(bytes: Vec<u8>) -> Interrupted {
+        Interrupted {
+            bytes,
+            at: 0,
+            calls: 0,
+        }
+    }
+
+    fn call(&mut self) -> io::Result<()> {
+        self.calls = self.calls.wrapping_add(1);
+        if self.calls % 2 == 1 {
+            return Err(io::Error::from(ErrorKind::Interrupted));
+        }
+        Ok(())
+    }
+}
+
+impl Read for Interrupted {
+    fn read(&mut self, into: &mut [u8]) -> io::Result<usize> {
+        self.call()?;
+        let (Some(byte), Some(place)) = (self.bytes.get(self.at), into.first_mut()) else {
+            return Ok(0);
+        };
+        *place = *byte;
+        self.at = self.at.saturating_add(1);
+        Ok(1)
+    }
+}
+
+impl Write for Interrupted {
+    fn write(&mut self, piece: &[u8]) -> io::Result<usize> {
+        self.call()?;
+        match piece.first() {
+            Some(byte) => match self.bytes.push(*byte) {
+                Ok(()) => Ok(1),
+                Err(_) => Err(io::Error::from(ErrorKind::OutOfMemory)),
+            },
+            None => Ok(0),
+        }
+    }
+
+    fn flush(&mut self) -> io::Result<()> {
+        self.call()
+    }
+}
+
+#[test]
+fn interrupted_calls_are_made_again(rt: HostRuntime) -> Result<(), Fail> {
+    let bytes = Vec::from_slice(rt.alloc(), b"ab\nc")?;
+    let mut source = ReaderSource::new(Interrupted::new(bytes));
+    let lines = shown(rt.alloc(), &mut source)?;
+    assert_eq!(rt; lines.as_slice(), b"ab|c|".as_slice());
+    let mut writer = Interrupted::new(Vec::new(rt.alloc()));
+    let mut sink = WriterSink::new(&mut writer);
+    assert_eq!(rt; write_all(&mut sink, b"abc"), Ok(()));
+    assert_eq!(rt; sink.flush(), Ok(()));
+    assert_eq!(rt; writer.bytes.as_slice(), b"abc".as_slice());
+    Ok(())
+}
+
+#[test]
+fn a_flush_hands_on_what_a_writer_keeps(rt: HostRuntime) -> Result<(), Fail> {
+    let mut out = BufWriter::with_capacity(rt.alloc(), 8, Vec::new(rt.alloc()))?;
+    let mut sink = WriterSink::new(&mut out);
+    assert_eq!(rt; write_all(&mut sink, b"abc"), Ok(()));
+    assert_eq!(rt; out.get_ref().as_slice(), b"".as_slice());
+    let mut sink = WriterSink::new(&mut out);
+    assert_eq!(rt; sink.flush(), Ok(()));
+    assert_eq!(rt; out.get_ref().as_slice(), b"abc".as_slice());
     Ok(())
 }
 

@@ -4,6 +4,7 @@ use Rattle.std.specs.Prelude.{nat_le}
 use Rattle.std.proofs.lemmas.Bool.{false_from_ne_true, leb-true}
 use Rattle.std.proofs.lemmas.List.{length-reverse}
 use Rattle.mtp_codes.specs.Faults.{when, first_of}
+use Rattle.mtp_codes.specs.declared.limits.TheConstants.{LONGEST_HISTORY}
 use Rattle.pol_events.specs.Events.{EventForm, entry_view, history_view}
 use Rattle.pol_events.specs.declared.answer.Answer.{Answer}
 use Rattle.pol_events.specs.declared.answer.Answer.TheVariants.{Refused}
@@ -32,11 +33,11 @@ history_length : (entries : List Entry) → length (history_view entries) ≡ le
 history_length entries = length-reverse (map entry_view entries) ∙ length-map entry_view entries
 
 -- a history that has room is not full
-not-full : (history : History) → length history < 200000 → is_full history ≡ false
-not-full history room = false_from_ne_true (nat_le 200000 (length history)) (λ full. let over = leb-true 200000 (length history) full in absurd (omega arith))
+not-full : (history : History) → length history < LONGEST_HISTORY → is_full history ≡ false
+not-full history room = false_from_ne_true (nat_le LONGEST_HISTORY (length history)) (λ full. let over = leb-true LONGEST_HISTORY (length history) full in absurd (omega arith))
 
 -- the answer where the history has room: the first rule that holds, else what is answered otherwise
-pub answered : (entries : List Entry) (event : EventForm) → length entries < 200000 →
+pub answered : (entries : List Entry) (event : EventForm) → length entries < LONGEST_HISTORY →
     answer_of (history_view entries) event ≡ refused_or (first_of (rules (history_view entries) event)) (otherwise (history_view entries) event)
 answered entries event room =
     ap (λ full. first_rule (when full HistoryFull ∷ rules (history_view entries) event) (otherwise (history_view entries) event))

@@ -1,19 +1,14 @@
--- Words for rules: that a module is held, the names of roles, and the services of a role's steps.
+-- Words for rules: that a module is held, and the services of a role's steps.
 use Rattle.std.specs.Prelude.{ℕ, List, map, filter, Option, Some}
 use Rattle.mtp_codes.specs.Names.{same_name}
-use Rattle.chart_core.specs.Roles.{ChartPlan, role_plan}
+use Rattle.chart_core.specs.Roles.{ChartPlan}
 use Rattle.chart_core.specs.Trees.{StepPlan, steps}
-use Rattle.chart_core.specs.declared.role.Role.{Role}
 use Rattle.pol_events.specs.declared.answer.Rule.{Rule}
 use Rattle.pol_events.specs.declared.answer.Rule.TheVariants.{Held}
 
 -- the module is held by this batch
 abbrev pub held_by : List ℕ → Option Rule
 held_by batch = Some (Held batch)
-
--- the names of these roles
-abbrev pub names_in : List Role → List (List ℕ)
-names_in roles = map (λ role. role.role) (map role_plan roles)
 
 -- the steps of a chart, in chart order
 abbrev pub steps_of : ChartPlan → List StepPlan

@@ -1,6 +1,7 @@
 //! The answer to an event: the first rule of its kind that holds, else what is answered otherwise.
 ghost use Rattle.std.specs.Prelude.{◌≡◌, ◌≤◌, ◌∷◌, [], length, IfOk};
 ghost use Rattle.mtp_codes.specs.Faults.{first_of};
+ghost use Rattle.mtp_codes.specs.declared.limits.TheConstants.{LONGEST_HISTORY};
 ghost use Rattle.mtp_desc.specs.DescriptionView.{description_view};
 ghost use Rattle.chart_core.specs.Charts.{plan};
 ghost use Rattle.chart_core.specs.Roles.{role_names};
@@ -11,7 +12,7 @@ ghost use Rattle.pol_history.specs.Batches.{start_by};
 ghost use Rattle.pol_history.specs.Rules.{batch_closed, no_batch, plant_full, recipe_known, recipes_full, tag_taken};
 ghost use Rattle.pol_history.specs.Answers.{advanced, answer_of, otherwise, rules, stopped};
 ghost use Rattle.pol_history.specs.Runs.{IsOrderly};
-ghost use Rattle.pol_lookback.specs.Holding.{names_in};
+ghost use Rattle.pol_bind.specs.Roles.{names_in};
 
 use crate::batch_rules::{
     active_step, already_frozen, batch_closed, batch_known, batches_full, held_back, no_batch,
@@ -24,18 +25,14 @@ use crate::module_rules::{
     not_at_rest, not_in_exchange, not_reported, plant_full, tag_taken, wrong_ticket,
 };
 use crate::modules::next_ticket;
-use crate::start_rules::{
-    busy, first_of, modules_unfit, one_module_twice, role_unbound, role_unknown,
-};
+use crate::start_rules::{busy, first_of, modules_unfit};
 use chart_core::{Chart, LogEntry, Role};
 use mtp_assembly::ServiceControl;
-use mtp_codes::{Command, Name, Value};
+use mtp_codes::{Command, LONGEST_HISTORY, Name, Value};
 use mtp_desc::Description;
+use pol_bind::{one_module_twice, role_unbound, role_unknown};
 use pol_events::{Answer, Bind, Entry, Event, Next, Outcome, Rule};
 use std::alloc::{AllocError, Global};
-
-/// How many entries a history may have.
-const LONGEST_HISTORY: usize = 200_000;
 
 fn plug_rule(alloc: Global, history: &[Entry], tag: Name) -> Result<Option<Rule>, AllocError>
     ensures { IfOk result (λ rule. rule ≡ first_of
@@ -113,7 +110,7 @@ fn start_rule(
         batch_known(history, batch),
         role_unbound(binds, roles),
         role_unknown(binds, roles),
-        one_module_twice(alloc, binds, roles)?,
+        one_module_twice(binds, roles),
         modules_unfit(alloc, history, chart, binds)?,
         busy(history, binds, roles),
         batches_full(history),
@@ -269,7 +266,7 @@ fn stopped(alloc: Global, history: &[Entry], batch: Name) -> Result<Answer, Allo
 // The answer to an event that no rule refuses.
 fn otherwise(alloc: Global, history: &[Entry], event: &Event) -> Result<Answer, AllocError>
     requires orderly { IsOrderly (history_view history.now) }
-    requires few { length history.now ≤ 200000 }
+    requires few { length history.now ≤ LONGEST_HISTORY }
     ensures { IfOk result (λ answer. answer ≡ otherwise (history_view history.now) (event_view event.now)) }
 {
     match event {

@@ -15,17 +15,11 @@ use crate::batches::{
 };
 use crate::following::{chart_steps, is_active_step};
 use chart_core::{LogEntry, Step};
-use mtp_codes::Name;
+use mtp_codes::{MOST_BATCHES, MOST_RECIPES, Name};
 use mtp_desc::Description;
 use pol_bind::held_back_by;
 use pol_events::{Bind, Entry, Rule, bound_role, bound_tag};
 use std::alloc::{AllocError, Global};
-
-/// How many recipes a plant may know.
-const MOST_RECIPES: usize = 64;
-
-/// How many batches may be started in a plant.
-const MOST_BATCHES: usize = 128;
 
 /// A recipe of this name is known.
 pub fn recipe_known(history: &[Entry], name: Name) -> Option<Rule>

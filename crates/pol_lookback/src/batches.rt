@@ -9,7 +9,7 @@ ghost use Rattle.pol_history.specs.Looking.{past_of_batch, recipes, last_of};
 ghost use Rattle.pol_history.specs.Batches.{starting, start_by, charted, chart_named, closing, outcome_by, freezing, is_frozen_by, taken, log_by, takes, holder_of, is_start};
 ghost use Rattle.pol_lookback.specs.Starts.{started};
 
-use crate::entries::{is_accepted, is_of_batch, is_of_recipe, newest};
+use crate::entries::{is_of_batch, is_of_recipe, newest};
 use chart_core::{Chart, LogEntry};
 use mtp_codes::Name;
 use pol_events::{Answer, Bind, Entry, Event, Outcome};
@@ -184,7 +184,7 @@ fn takes(entry: &Entry, tag: Name) -> Option<Name>
     ensures { result ≡ takes tag (entry_view entry.now) }
 {
     match &entry.event {
-        Event::Start { batch, bind, .. } if is_accepted(&entry.answer) && binds(bind, tag) => {
+        Event::Start { batch, bind, .. } if entry.answer.is_accepted() && binds(bind, tag) => {
             Some(*batch)
         }
         _ => None,
@@ -219,7 +219,7 @@ pub fn holder_of(history: &[Entry], tag: Name) -> Option<Name>
 fn is_start(entry: &Entry) -> bool
     ensures { result ≡ is_start (entry_view entry.now) }
 {
-    matches!(entry.event, Event::Start { .. }) && is_accepted(&entry.answer)
+    matches!(entry.event, Event::Start { .. }) && entry.answer.is_accepted()
 }
 
 /// How many batches were started.

@@ -6,7 +6,7 @@ ghost use Rattle.chart_core.specs.Order.{plans_seen};
 ghost use Rattle.chart_core.specs.declared.entry.LogEntry.{LogEntry};
 ghost use Rattle.chart_core.specs.Valid.{IsValid};
 ghost use Rattle.chart_cursor.specs.Logs.{has_broken, was_stopped, chart_entries, active};
-ghost use Rattle.chart_cursor.specs.NextEntry.{is_broken_state, broken_step, first_broken, stop_step, stop_next, run_next, next_by};
+ghost use Rattle.chart_cursor.specs.NextEntry.{is_broken_state, broken_step, first_broken, stop_next, run_next, next_by};
 ghost use Rattle.pol_events.specs.Events.{history_view};
 ghost use Rattle.pol_history.specs.Looking.{past, past_of_batch};
 ghost use Rattle.pol_history.specs.Batches.{is_frozen_by, log_by};
@@ -18,9 +18,9 @@ use crate::batches::{Start, chart_named, is_frozen, log_of, start_of};
 use crate::sights::Sights;
 use chart_core::{Chart, LogEntry, Step, Why, is_active, steps_in_order};
 use chart_cursor::{CursorNext, Seen, Sight, next_of_log};
-use mtp_codes::{Command, Name, Speaker, State};
-use mtp_modes::permitted;
+use mtp_codes::{Name, State};
 use pol_events::{Entry, Next, Outcome};
+use pol_runs::stop_step;
 use std::alloc::{AllocError, Global};
 
 /// Whether the batch broke.
@@ -67,33 +67,6 @@ fn chart_entries(alloc: Global, log: &[LogEntry]) -> Result<Vec<LogEntry>, Alloc
     Ok(entries)
 }
 
-// What an active step of a batch that is stopped comes to.
-fn stop_step(step: &Step, tag: Name, sight: Sight) -> Next
-    ensures { result ≡ stop_step step.now.name step.now.service tag sight }
-{
-    match sight {
-        Sight::Away => Next::Waiting(Why::Away { tag }),
-        Sight::Unreported => Next::Waiting(Why::NotReported {
-            tag,
-            name: step.service,
-        }),
-        Sight::Is(view) => {
-            if permitted(&view, Speaker::Recipe, Command::Stop).is_ok() {
-                Next::Did(LogEntry::Stop {
-                    step: step.name,
-                    tag,
-                    service: step.service,
-                })
-            } else {
-                Next::Did(LogEntry::Left {
-                    step: step.name,
-                    state: view.control.state,
-                })
-            }
-        }
-    }
-}
-
 // An active step of a batch that is stopped, by what is seen of its service.
 #[tactic(auto, using(crate::proofs::Steps::role_or_itself))]
 fn stop_seen(seen: &Sights, step: &Step) -> Next
@@ -103,7 +76,12 @@ fn stop_seen(seen: &Sights, step: &Step) -> Next
         broken (step_plan step.now ∷ others) }
 {
     let tag = seen.tag(step.role).unwrap_or(step.role);
-    stop_step(step, tag, seen.view(step.role, step.service))
+    stop_step(
+        step.name,
+        step.service,
+        tag,
+        seen.view(step.role, step.service),
+    )
 }
 
 // A batch that is stopped: its first active step, and when there is none it is closed.

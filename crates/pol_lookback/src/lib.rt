@@ -1,5 +1,7 @@
 //! The answer to an event, worked out by looking back in a history: plain and slow.
 //!
+//! No job uses it: the worked journals are answered by it a second time, beside the program (`pol_examples`).
+//!
 //! Its main contract is that of `answer_of`: the answer is the one that `pol_history` defines. It keeps nothing, as each
 //! value is searched in the history that it is lent; and it knows nothing of lines, texts, threads or clocks.
 //!
@@ -20,7 +22,6 @@ mod start_rules;
 
 pub use answers::answer_of;
 pub use batches::{Start, log_of, outcome_of, start_of};
-pub use entries::is_accepted;
 
 #[cfg(test)]
 mod tests;

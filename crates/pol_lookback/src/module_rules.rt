@@ -12,16 +12,13 @@ ghost use Rattle.pol_lookback.specs.Holding.{held_by};
 use crate::batches::holder_of;
 use crate::modules::{Docking, control_of, description_of, docking_of, present_tags, view_of};
 use mtp_assembly::check_view;
-use mtp_codes::{Command, Name, State, Value};
+use mtp_codes::{Command, MOST_MODULES, Name, State, Value};
 use mtp_desc::Service;
 use mtp_machine::{edge, is_at_rest};
 use mtp_modes::ServiceView;
 use pol_desk::desk;
 use pol_events::{Entry, Rule};
 use std::alloc::{AllocError, Global};
-
-/// How many modules a plant may have.
-const MOST_MODULES: usize = 64;
 
 /// The tag is there already.
 #[tactic(auto, using(crate::proofs::Ruled::taken_is))]

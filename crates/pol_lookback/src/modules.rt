@@ -1,13 +1,14 @@
 //! Looking back at a module.
 ghost use Rattle.std.specs.Prelude.{◌≡◌, ◌≤◌, IfOk, length};
 ghost use Rattle.std.specs.Option.{option_map};
+ghost use Rattle.mtp_codes.specs.declared.limits.TheConstants.{LONGEST_HISTORY};
 ghost use Rattle.mtp_desc.specs.DescriptionView.{description_view};
 ghost use Rattle.pol_events.specs.Events.{entry_view, event_view, history_view};
 ghost use Rattle.pol_history.specs.Looking.{past, is_accepted};
 ghost use Rattle.pol_history.specs.Modules.{is_moving, docking_by, described, description_by, completes_by, reported, control_by, view_by, reported_value, value_by, next_ticket, tags_without, present_after, present_tags};
 ghost use Rattle.pol_lookback.specs.Dockings.{docking_left, docking_seen};
 
-use crate::entries::{is_accepted, is_of_module, newest};
+use crate::entries::{is_of_module, newest};
 use mtp_assembly::ServiceControl;
 use mtp_codes::{Name, Value};
 use mtp_desc::Description;
@@ -188,7 +189,7 @@ pub fn view_of(history: &[Entry], tag: Name, service: Name) -> Option<ServiceVie
 
 /// The ticket of the tag's next exchange: one more than its exchanges since its last plug.
 pub fn next_ticket(history: &[Entry], tag: Name) -> u32
-    requires { length history.now ≤ 200000 }
+    requires { length history.now ≤ LONGEST_HISTORY }
     ensures { result ≡ next_ticket (past tag (history_view history.now)) }
 {
     let mut ticket = 1;
@@ -222,12 +223,12 @@ fn tags_after(alloc: Global, tags: Vec<Name>, entry: &Entry) -> Result<Vec<Name>
         (λ after. after.items ≡ present_after (event_view entry.now.event) (is_accepted entry.now.answer) tags.items) }
 {
     match &entry.event {
-        Event::Plug { tag, .. } if is_accepted(&entry.answer) => {
+        Event::Plug { tag, .. } if entry.answer.is_accepted() => {
             let mut others = tags_without(alloc, *tag, &tags)?;
             others.insert(0, *tag)?;
             Ok(others)
         }
-        Event::Unplug { tag, .. } if is_accepted(&entry.answer) => tags_without(alloc, *tag, &tags),
+        Event::Unplug { tag, .. } if entry.answer.is_accepted() => tags_without(alloc, *tag, &tags),
         _ => Ok(tags),
     }
 }

@@ -1,6 +1,6 @@
 //! The rules of a start: its binds against the roles of the recipe, then its modules one after another.
 ghost use Rattle.std.specs.Prelude.{◌≡◌, [], IfOk};
-ghost use Rattle.mtp_codes.specs.Names.{same_name, is_among};
+ghost use Rattle.mtp_codes.specs.Names.{same_name};
 ghost use Rattle.mtp_codes.specs.Faults.{first_of};
 ghost use Rattle.chart_core.specs.Charts.{plan};
 ghost use Rattle.chart_core.specs.Roles.{role_names};
@@ -9,8 +9,9 @@ ghost use Rattle.pol_events.specs.Events.{history_view};
 ghost use Rattle.pol_events.specs.Bound.{bound_tag};
 ghost use Rattle.pol_history.specs.Looking.{past};
 ghost use Rattle.pol_history.specs.Modules.{description_by};
-ghost use Rattle.pol_history.specs.Rules.{busy, busy_role, is_bound_before, module_rule, modules_unfit, not_covered, not_ready, one_module_twice, role_unbound, role_unknown, twice, unready};
-ghost use Rattle.pol_lookback.specs.Holding.{names_in, services_in, steps_of};
+ghost use Rattle.pol_history.specs.Rules.{busy, busy_role, module_rule, modules_unfit, not_covered, not_ready, unready};
+ghost use Rattle.pol_bind.specs.Roles.{names_in};
+ghost use Rattle.pol_lookback.specs.Holding.{services_in, steps_of};
 
 use crate::batches::holder_of;
 use crate::module_rules::{in_exchange, no_module, not_idle, not_reported};
@@ -20,82 +21,6 @@ use mtp_codes::Name;
 use pol_bind::covers;
 use pol_events::{Bind, Entry, Rule, bound_tag};
 use std::alloc::{AllocError, Global};
-
-/// The first role that no bind gives a tag.
-pub fn role_unbound(binds: &[Bind], roles: &[Role]) -> Option<Rule>
-    ensures { result ≡ role_unbound binds.now (names_in roles.now) }
-{
-    for role in roles {
-        if bound_tag(binds, role.role).is_none() {
-            return Some(Rule::RoleUnbound { role: role.role });
-        }
-    }
-    None
-}
-
-fn has_role(roles: &[Role], name: Name) -> bool
-    ensures { result ≡ is_among (names_in roles.now) name }
-{
-    for role in roles {
-        if role.role == name {
-            return true;
-        }
-    }
-    false
-}
-
-/// The first bind whose role the recipe lacks.
-pub fn role_unknown(binds: &[Bind], roles: &[Role]) -> Option<Rule>
-    ensures { result ≡ role_unknown binds.now (names_in roles.now) }
-{
-    for bind in binds {
-        if !has_role(roles, bind.role) {
-            return Some(Rule::RoleUnknown { role: bind.role });
-        }
-    }
-    None
-}
-
-// Whether the tag is bound to one of these roles.
-fn is_bound_before(binds: &[Bind], earlier: &[Name], tag: Name) -> bool
-    ensures { result ≡ is_bound_before binds.now earlier.now tag }
-{
-    for role in earlier {
-        if bound_tag(binds, *role) == Some(tag) {
-            return true;
-        }
-    }
-    false
-}
-
-fn twice(binds: &[Bind], earlier: &[Name], role: Name) -> Option<Rule>
-    ensures { result ≡ twice binds.now earlier.now (bound_tag binds.now role) }
-{
-    let tag = bound_tag(binds, role)?;
-    if is_bound_before(binds, earlier, tag) {
-        Some(Rule::OneModuleTwice { tag })
-    } else {
-        None
-    }
-}
-
-/// The first tag in the order of the roles that an earlier role has.
-pub fn one_module_twice(
-    alloc: Global,
-    binds: &[Bind],
-    roles: &[Role],
-) -> Result<Option<Rule>, AllocError>
-    ensures { IfOk result (λ rule. rule ≡ one_module_twice binds.now [] (names_in roles.now)) }
-{
-    let mut earlier = Vec::new(alloc);
-    for role in roles {
-        if let Some(rule) = twice(binds, &earlier, role.role) {
-            return Ok(Some(rule));
-        }
-        earlier.insert(0, role.role)?;
-    }
-    Ok(None)
-}
 
 // The module can't play the role.
 fn not_covered(history: &[Entry], chart: &Chart, role: Name, tag: Name) -> Option<Rule>

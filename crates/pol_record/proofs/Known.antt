@@ -7,7 +7,8 @@ use Rattle.std.specs.Str.{bytes_eq}
 use Rattle.std.proofs.lemmas.List.{map-append, reverse-append, take_more}
 use Rattle.pol_events.specs.Events.{EntryForm, entry_view, history_view}
 use Rattle.pol_events.specs.declared.event.Entry.{Entry}
-use Rattle.pol_history.specs.Looking.{History, Subject, of_module, of_batch, of_recipe, subject, is_batch, is_accepted, is_accepted_of_batch, past_of_batch}
+use Rattle.pol_events.specs.Subjects.{Subject, of_module, of_batch, of_recipe, subject}
+use Rattle.pol_history.specs.Looking.{History, is_batch, is_accepted, is_accepted_of_batch, past_of_batch}
 use Rattle.pol_history.specs.Batches.{starting, start_by, batches, taken, closing, outcome_by}
 use Rattle.pol_record.specs.Gathered.{PlainRecord, record_by, with_entry, batch_in, accepted_batch, newly_started, known_of, IsGathered}
 use Rattle.pol_record.specs.declared.gathering.BatchRecords.{BatchRecords}

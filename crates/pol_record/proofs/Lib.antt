@@ -1,5 +1,5 @@
-pub mod Mapped
-pub mod Floats
-pub mod Rising
+pub mod Tokens
 pub mod Known
 pub mod Written
+pub mod Appending
+pub mod Pieces

@@ -1,5 +1,5 @@
 -- What one pass over a history gathers of its batches: the starts in their order, and of each batch what its past says.
-use Rattle.std.specs.Prelude.{ℕ, ◌≡◌, true, List, [], ◌++◌, Option, None, Some, if◌then◌else◌}
+use Rattle.std.specs.Prelude.{ℕ, ◌≡◌, List, [], ◌++◌, Option, None, Some, if◌then◌else◌}
 use Rattle.std.specs.List.{cons_option}
 use Rattle.std.specs.Map.{lookup}
 use Rattle.std.specs.Option.{option_map, option_map_or, option_or}
@@ -7,10 +7,10 @@ use Rattle.std.specs.Str.{bytes_eq}
 use Rattle.chart_core.specs.declared.entry.LogEntry.{LogEntry}
 use Rattle.chart_core.specs.declared.next.Outcome.{Outcome}
 use Rattle.pol_events.specs.Events.{EntryForm}
-use Rattle.pol_events.specs.Orderly.{rise}
+use Rattle.pol_events.specs.Subjects.{Subject, of_module, of_batch, of_recipe, subject}
 use Rattle.pol_history.specs.Batches.{Started, starting, start_by, started_batch, taken, log_by, closing, outcome_by, batches}
-use Rattle.pol_history.specs.Looking.{History, Subject, of_module, of_batch, of_recipe, subject, is_accepted, past_of_batch}
-use Rattle.pol_history.specs.Texts.{started_text}
+use Rattle.pol_history.specs.Looking.{History, is_accepted, past_of_batch}
+use Rattle.pol_record.specs.Texts.{started_text}
 use Rattle.pol_record.specs.declared.gathering.BatchRecords.{BatchRecords}
 use Rattle.pol_record.specs.declared.records.BatchRecord.{BatchRecord}
 use Rattle.pol_record.specs.declared.records.Start.{Start}
@@ -38,10 +38,6 @@ with_entry entry known = record {
 -- the line of a batch of which so much is known
 abbrev pub record_text : List ℕ → PlainRecord → List ℕ
 record_text batch known = started_text batch known.start known.log known.outcome
-
--- the binds of its start stand in order
-abbrev pub HasBindsInOrder : PlainRecord → Type 0
-HasBindsInOrder known = (started : Started) → known.start ≡ Some started → rise started.binds ≡ true
 
 -- what contracts see of a start
 abbrev pub plain_start : Start → Started

@@ -1,1 +1,5 @@
+pub mod Objects
+pub mod Rows
+pub mod Texts
+pub mod Lines
 pub mod Gathered

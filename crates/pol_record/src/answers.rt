@@ -1,18 +1,16 @@
-//! Answers as JSON values.
-ghost use Rattle.std.specs.Prelude.{◌≡◌, IfOk, codes, false, true};
-ghost use Rattle.serde_json.specs.Data.{boolean, string};
-ghost use Rattle.serde_json.specs.View.{view};
-ghost use Rattle.serde_json.specs.Written.{has_float};
-ghost use Rattle.pol_events.specs.Written.{whole};
-ghost use Rattle.pol_history.specs.Texts.{answer_data, entry_data, outcome_name, under_key};
+//! Answers, written token by token.
+ghost use Rattle.std.specs.Prelude.{◌≡◌, ◌++◌, OnOk, codes, true};
+ghost use Rattle.serde_json.specs.Data.{boolean};
+ghost use Rattle.pol_events.specs.Fields.{fields_of};
+ghost use Rattle.pol_record.specs.Objects.{data_tokens};
+ghost use Rattle.pol_record.specs.Texts.{answer_data, entry_data, entry_fields, obstacle_fields, outcome_name, refusal_fields, under_key};
 
-use crate::entries::entry_value;
-use crate::obstacles::obstacle_value;
-use crate::refusals::refusal_value;
-use chart_core::LogEntry;
-use pol_events::{Answer, Outcome};
-use serde_json::{Value, json};
-use std::alloc::{AllocError, Global};
+use crate::objects::write_fields;
+use crate::rows::{entry_row, obstacle_row};
+use chart_core::{LogEntry, Outcome, Why};
+use json::Writer;
+use pol_events::{Answer, Fields, Rule};
+use std::alloc::AllocError;
 
 /// The name of an outcome.
 pub fn outcome_name(outcome: Outcome) -> &'static str
@@ -26,60 +24,77 @@ pub fn outcome_name(outcome: Outcome) -> &'static str
     }
 }
 
-#[tactic(auto, unfolding(pol_history::specs::Texts::under_key))]
-fn done(alloc: Global) -> Result<Value, AllocError>
-    ensures value { IfOk result (λ value. view value ≡ under_key (codes "done") (boolean true)) }
-    ensures whole { IfOk result (λ value. has_float (view value) ≡ false) }
+// The fields of a refusal: the rule's, its name and its number.
+#[tactic(auto, using(crate::proofs::Tokens::two_behind))]
+fn refusal_fields(rule: &Rule) -> Fields<'_>
+    ensures { fields_of result ≡ refusal_fields rule.now }
 {
-    json!(in alloc; {"done": true})
+    let row = rule.row();
+    row.fields
+        .text("rule", row.name)
+        .number("refused", row.number)
 }
 
-#[tactic(auto, unfolding(pol_history::specs::Texts::under_key))]
-fn ticket(alloc: Global, number: u32) -> Result<Value, AllocError>
-    ensures value { IfOk result (λ value. view value ≡ under_key (codes "ticket") (whole number)) }
-    ensures whole { IfOk result (λ value. has_float (view value) ≡ false) }
+// The fields of a log entry: its own, and what was done.
+fn entry_fields(entry: &LogEntry) -> Fields<'_>
+    ensures { fields_of result ≡ entry_fields entry.now }
 {
-    json!(in alloc; {"ticket": number})
+    entry_row(entry).named_fields("do")
 }
 
-#[tactic(auto, unfolding(pol_history::specs::Texts::under_key))]
-fn under_did(alloc: Global, entry: Value) -> Result<Value, AllocError>
-    requires { has_float (view entry) ≡ false }
-    ensures value { IfOk result (λ value. view value ≡ under_key (codes "did") (view entry)) }
-    ensures whole { IfOk result (λ value. has_float (view value) ≡ false) }
+// The fields of an obstacle: its own, and what is waited for.
+fn obstacle_fields(obstacle: &Why) -> Fields<'_>
+    ensures { fields_of result ≡ obstacle_fields obstacle.now }
 {
-    json!(in alloc; {"did": entry})
+    obstacle_row(obstacle).named_fields("wait")
 }
 
-#[tactic(auto, using(crate::proofs::Floats::entry_whole))]
-fn did(alloc: Global, entry: &LogEntry) -> Result<Value, AllocError>
-    ensures value { IfOk result (λ value. view value ≡ under_key (codes "did") (entry_data entry.now)) }
-    ensures whole { IfOk result (λ value. has_float (view value) ≡ false) }
+#[tactic(auto, unfolding(crate::specs::Texts::under_key))]
+fn write_done(writer: &mut Writer) -> Result<(), AllocError>
+    ensures tokens { OnOk result (writer.new.tokens
+        ≡ writer.old.tokens ++ data_tokens (under_key (codes "done") (boolean true))) }
+    ensures before { writer.new.before ≡ writer.old.before }
 {
-    let entry = entry_value(alloc, entry)?;
-    under_did(alloc, entry)
+    writer.begin_object()?;
+    writer.key("done")?;
+    writer.boolean(true)?;
+    writer.end_object()
 }
 
-#[tactic(auto, unfolding(pol_history::specs::Texts::under_key))]
-fn closed(alloc: Global, outcome: Outcome) -> Result<Value, AllocError>
-    ensures value { IfOk result (λ value. view value ≡ under_key (codes "closed") (string (outcome_name outcome))) }
-    ensures whole { IfOk result (λ value. has_float (view value) ≡ false) }
+/// Writes an entry of a log.
+pub fn write_entry(writer: &mut Writer, entry: &LogEntry) -> Result<(), AllocError>
+    ensures tokens { OnOk result (writer.new.tokens ≡ writer.old.tokens ++ data_tokens (entry_data entry.now)) }
+    ensures before { writer.new.before ≡ writer.old.before }
 {
-    let outcome = outcome_name(outcome);
-    json!(in alloc; {"closed": outcome})
+    write_fields(writer, &entry_fields(entry))
 }
 
-/// An answer: what was done, what is waited for, or the refusal.
-pub fn answer_value(alloc: Global, answer: &Answer) -> Result<Value, AllocError>
-    ensures value { IfOk result (λ value. view value ≡ answer_data answer.now) }
-    ensures whole { IfOk result (λ value. has_float (view value) ≡ false) }
+#[tactic(auto, unfolding(crate::specs::Texts::under_key))]
+fn write_did(writer: &mut Writer, entry: &LogEntry) -> Result<(), AllocError>
+    ensures tokens { OnOk result (writer.new.tokens
+        ≡ writer.old.tokens ++ data_tokens (under_key (codes "did") (entry_data entry.now))) }
+    ensures before { writer.new.before ≡ writer.old.before }
 {
-    match *answer {
-        Answer::Done => done(alloc),
-        Answer::Ticket(number) => ticket(alloc, number),
-        Answer::Did(entry) => did(alloc, &entry),
-        Answer::Waiting(why) => obstacle_value(alloc, why),
-        Answer::Closed(outcome) => closed(alloc, outcome),
-        Answer::Refused(rule) => refusal_value(alloc, rule),
+    writer.begin_object()?;
+    writer.key("did")?;
+    write_entry(writer, entry)?;
+    writer.end_object()
+}
+
+/// Writes an answer: what was done, what is waited for, or the refusal.
+pub fn write_answer(writer: &mut Writer, answer: &Answer) -> Result<(), AllocError>
+    ensures tokens { OnOk result (writer.new.tokens ≡ writer.old.tokens ++ data_tokens (answer_data answer.now)) }
+    ensures before { writer.new.before ≡ writer.old.before }
+{
+    match answer {
+        Answer::Done => write_done(writer),
+        Answer::Ticket(ticket) => write_fields(writer, &Fields::none().number("ticket", *ticket)),
+        Answer::Did(entry) => write_did(writer, entry),
+        Answer::Waiting(obstacle) => write_fields(writer, &obstacle_fields(obstacle)),
+        Answer::Closed(outcome) => write_fields(
+            writer,
+            &Fields::none().text("closed", outcome_name(*outcome)),
+        ),
+        Answer::Refused(rule) => write_fields(writer, &refusal_fields(rule)),
     }
 }

@@ -1,23 +1,21 @@
 //! Lines of batches: what a batch was started with, its log and its outcome.
-ghost use Rattle.std.specs.Prelude.{◌≡◌, IfOk, IsTrue, false};
-ghost use Rattle.serde_json.specs.View.{view};
-ghost use Rattle.serde_json.specs.Written.{has_float};
+ghost use Rattle.std.specs.Prelude.{◌≡◌, ◌++◌, ◌∷◌, [], IfOk, OnOk};
+ghost use Rattle.json.specs.Token as token;
 ghost use Rattle.pol_events.specs.Events.{history_view};
-ghost use Rattle.pol_events.specs.Orderly.{rise};
+ghost use Rattle.pol_events.specs.Written.{written_binds};
 ghost use Rattle.pol_history.specs.Batches.{log_of};
-ghost use Rattle.pol_history.specs.Runs.{IsOrderly};
-ghost use Rattle.pol_history.specs.Texts.{batch_data, batch_object, batch_text, outcome_text};
-ghost use Rattle.pol_record.specs.Gathered.{HasBindsInOrder, known_of, plain_record, plain_start, record_text};
+ghost use Rattle.pol_record.specs.Gathered.{known_of, plain_record, plain_start, record_text};
+ghost use Rattle.pol_record.specs.Objects.{data_tokens};
+ghost use Rattle.pol_record.specs.Texts.{batch_data, batch_text, course_tokens, log_data, outcome_text, start_tokens};
 
-use crate::answers::outcome_name;
-use crate::entries::log_value;
+use crate::answers::{outcome_name, write_entry};
 use crate::gathering::BatchRecords;
-use crate::lines::line_of;
+use crate::lines::ended_line;
 use crate::records::{BatchRecord, Start, record_of};
-use chart_core::LogEntry;
+use chart_core::{LogEntry, Outcome};
+use json::Writer;
 use mtp_codes::Name;
-use pol_events::{Entry, Outcome, write_binds};
-use serde_json::{Value, json};
+use pol_events::{Bind, Entry};
 use std::alloc::{AllocError, Global};
 
 fn outcome_text(outcome: Option<Outcome>) -> &'static str
@@ -29,53 +27,91 @@ fn outcome_text(outcome: Option<Outcome>) -> &'static str
     }
 }
 
-#[tactic(auto, unfolding(pol_history::specs::Texts::batch_object))]
-fn batch_object(
-    alloc: Global,
-    batch: Name,
-    binds: Value,
-    log: Value,
-    outcome: &str,
-    recipe: Name,
-) -> Result<Value, AllocError>
-    ensures { IfOk result (λ value. view value ≡ batch_object batch (view binds) (view log) outcome.now recipe) }
+fn write_text(writer: &mut Writer, key: &str, text: &str) -> Result<(), AllocError>
+    ensures tokens { OnOk result (writer.new.tokens
+        ≡ writer.old.tokens ++ token.key key.now ∷ token.string text.now ∷ []) }
+    ensures before { writer.new.before ≡ writer.old.before }
 {
-    let batch = batch.as_str();
-    let recipe = recipe.as_str();
-    json!(in alloc; {"batch": batch, "bind": binds, "log": log, "outcome": outcome, "recipe": recipe})
+    writer.key(key)?;
+    writer.string(text)
 }
 
-fn batch_value(
-    alloc: Global,
-    batch: Name,
-    start: &Start,
+#[tactic(auto, unfolding(pol_events::specs::Written::written_binds))]
+fn write_binds(writer: &mut Writer, binds: &[Bind]) -> Result<(), AllocError>
+    ensures tokens { OnOk result (writer.new.tokens ≡ writer.old.tokens ++ data_tokens (written_binds binds.now)) }
+    ensures before { writer.new.before ≡ writer.old.before }
+{
+    writer.begin_object()?;
+    for bind in binds {
+        write_text(writer, bind.role.as_str(), bind.tag.as_str())?;
+    }
+    writer.end_object()
+}
+
+fn write_log(writer: &mut Writer, log: &[LogEntry]) -> Result<(), AllocError>
+    ensures tokens { OnOk result (writer.new.tokens ≡ writer.old.tokens ++ data_tokens (log_data log.now)) }
+    ensures before { writer.new.before ≡ writer.old.before }
+{
+    writer.begin_array()?;
+    for entry in log {
+        write_entry(writer, entry)?;
+    }
+    writer.end_array()
+}
+
+// Writes what a batch was started on.
+fn write_start(writer: &mut Writer, batch: Name, binds: &[Bind]) -> Result<(), AllocError>
+    ensures tokens { OnOk result (writer.new.tokens ≡ writer.old.tokens ++ start_tokens batch binds.now) }
+    ensures before { writer.new.before ≡ writer.old.before }
+{
+    write_text(writer, "batch", batch.as_str())?;
+    writer.key("bind")?;
+    write_binds(writer, binds)
+}
+
+// Writes what became of a batch, and its recipe.
+fn write_course(
+    writer: &mut Writer,
     log: &[LogEntry],
     outcome: Option<Outcome>,
-) -> Result<Value, AllocError>
-    requires { IsTrue (rise start.now.binds.now) }
-    ensures { IfOk result (λ value. view value ≡ batch_data batch (plain_start start.now) log.now outcome) }
+    recipe: Name,
+) -> Result<(), AllocError>
+    ensures tokens { OnOk result (writer.new.tokens ≡ writer.old.tokens ++ course_tokens log.now outcome recipe) }
+    ensures before { writer.new.before ≡ writer.old.before }
 {
-    let binds = write_binds(alloc, start.binds)?;
-    let log = log_value(alloc, log)?;
-    batch_object(
-        alloc,
-        batch,
-        binds,
-        log,
-        outcome_text(outcome),
-        start.recipe,
-    )
+    writer.key("log")?;
+    write_log(writer, log)?;
+    write_text(writer, "outcome", outcome_text(outcome))?;
+    write_text(writer, "recipe", recipe.as_str())
 }
 
-fn record_line(alloc: Global, batch: Name, known: &BatchRecord) -> Result<Vec<u8>, AllocError>
-    requires { HasBindsInOrder (plain_record known.now) }
+fn write_batch(
+    writer: &mut Writer,
+    batch: Name,
+    start: &Start<'_>,
+    log: &[LogEntry],
+    outcome: Option<Outcome>,
+) -> Result<(), AllocError>
+    ensures tokens { OnOk result (writer.new.tokens
+        ≡ writer.old.tokens ++ data_tokens (batch_data batch (plain_start start.now) log.now outcome)) }
+    ensures before { writer.new.before ≡ writer.old.before }
+{
+    writer.begin_object()?;
+    write_start(writer, batch, start.binds)?;
+    write_course(writer, log, outcome, start.recipe)?;
+    writer.end_object()
+}
+
+#[tactic(auto, using(crate::proofs::Tokens::line_of_tokens))]
+fn record_line(alloc: Global, batch: Name, known: &BatchRecord<'_>) -> Result<Vec<u8>, AllocError>
     ensures { IfOk result (λ line. line.items ≡ record_text batch (plain_record known.now)) }
 {
     let Some(start) = &known.start else {
         return Ok(Vec::new(alloc));
     };
-    let value = batch_value(alloc, batch, start, &known.log, known.outcome)?;
-    line_of(alloc, &value)
+    let mut writer = Writer::new(Vec::new(alloc));
+    write_batch(&mut writer, batch, start, &known.log, known.outcome)?;
+    ended_line(writer)
 }
 
 /// The line of a batch that was gathered: the same line as [`batch_line`]'s. No bytes for a batch that wasn't started.
@@ -84,7 +120,6 @@ pub fn gathered_line(
     gathered: &BatchRecords,
     batch: Name,
 ) -> Result<Vec<u8>, AllocError>
-    requires { HasBindsInOrder (known_of gathered.now.records.entries batch) }
     ensures { IfOk result (λ line. line.items ≡ record_text batch (known_of gathered.now.records.entries batch)) }
 {
     match gathered.records.get(&batch) {
@@ -103,7 +138,6 @@ pub fn batch_log(alloc: Global, history: &[Entry], batch: Name) -> Result<Vec<Lo
 /// The line of a batch: its name, what plays each role, its log, its outcome (Running while it is open) and its recipe.
 /// No bytes for a batch that wasn't started.
 pub fn batch_line(alloc: Global, history: &[Entry], batch: Name) -> Result<Vec<u8>, AllocError>
-    requires { IsOrderly (history_view history.now) }
     ensures { IfOk result (λ line. line.items ≡ batch_text (history_view history.now) batch) }
 {
     record_line(alloc, batch, &record_of(alloc, history, batch)?)

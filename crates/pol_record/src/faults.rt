@@ -1,14 +1,15 @@
-//! Faults of lines as JSON values.
-ghost use Rattle.std.specs.Prelude.{◌≡◌, IfOk, false};
-ghost use Rattle.serde_json.specs.View.{view};
-ghost use Rattle.serde_json.specs.Written.{has_float};
+//! Faults of lines, written token by token.
+ghost use Rattle.std.specs.Prelude.{◌≡◌, ◌++◌, OnOk};
 ghost use Rattle.mtp_json.specs.PathText.{path_text};
-ghost use Rattle.pol_history.specs.Texts.{bad_chart, bad_data, chart_fault_data, fault_data, kind_name};
+ghost use Rattle.pol_events.specs.Fields.{fields_of};
+ghost use Rattle.pol_record.specs.Objects.{data_tokens, fields_data};
+ghost use Rattle.pol_record.specs.Texts.{chart_fault_fields, fault_data, kind_name, node_fields, path_fields};
 
+use crate::objects::write_fields;
 use chart_core::ChartFault;
+use json::Writer;
 use mtp_json::{FaultKind, JsonFault};
-use pol_events::LineFault;
-use serde_json::{Value, json};
+use pol_events::{Fields, LineFault};
 use std::alloc::{AllocError, Global};
 
 fn kind_name(kind: FaultKind) -> &'static str
@@ -27,53 +28,52 @@ fn kind_name(kind: FaultKind) -> &'static str
     }
 }
 
-#[tactic(auto, unfolding(pol_history::specs::Texts::bad_data))]
-fn bad(alloc: Global, kind: &str, path: &str) -> Result<Value, AllocError>
-    ensures value { IfOk result (λ value. view value ≡ bad_data kind.now path.now) }
-    ensures whole { IfOk result (λ value. has_float (view value) ≡ false) }
+fn path_fields<'a>(kind: &'a str, path: &'a str) -> Fields<'a>
+    ensures { fields_of result ≡ path_fields kind.now path.now }
 {
-    json!(in alloc; {"bad": kind, "path": path})
+    Fields::none().text("bad", kind).text("path", path)
 }
 
-fn json_fault(alloc: Global, fault: &JsonFault) -> Result<Value, AllocError>
-    ensures value { IfOk result (λ value. view value ≡ bad_data (kind_name fault.now.kind) (path_text fault.now.path)) }
-    ensures whole { IfOk result (λ value. has_float (view value) ≡ false) }
+fn write_json_fault(alloc: Global, writer: &mut Writer, fault: &JsonFault) -> Result<(), AllocError>
+    ensures tokens { OnOk result (writer.new.tokens ≡ writer.old.tokens
+        ++ data_tokens (fields_data (path_fields (kind_name fault.now.kind) (path_text fault.now.path)))) }
+    ensures before { writer.new.before ≡ writer.old.before }
 {
     let path = fault.path.text(alloc)?;
     let path = unsafe { std::str::from_utf8_unchecked(&path) };
-    bad(alloc, kind_name(fault.kind), path)
+    write_fields(writer, &path_fields(kind_name(fault.kind), path))
 }
 
-#[tactic(auto, unfolding(pol_history::specs::Texts::bad_chart))]
-fn with_node(alloc: Global, fault: &str, node: u32) -> Result<Value, AllocError>
-    ensures value { IfOk result (λ value. view value ≡ bad_chart fault.now node) }
-    ensures whole { IfOk result (λ value. has_float (view value) ≡ false) }
+fn node_fields(fault: &'static str, node: u32) -> Fields<'static>
+    ensures { fields_of result ≡ node_fields fault.now node }
 {
-    json!(in alloc; {"bad": "BadChart", "fault": fault, "node": node})
+    Fields::none()
+        .text("bad", "BadChart")
+        .text("fault", fault)
+        .number("node", node)
 }
 
-fn chart_fault(alloc: Global, fault: ChartFault) -> Result<Value, AllocError>
-    ensures value { IfOk result (λ value. view value ≡ chart_fault_data fault) }
-    ensures whole { IfOk result (λ value. has_float (view value) ≡ false) }
+fn chart_fault_fields(fault: ChartFault) -> Fields<'static>
+    ensures { fields_of result ≡ chart_fault_fields fault }
 {
     match fault {
-        ChartFault::TooDeep { node } => with_node(alloc, "TooDeep", node),
-        ChartFault::TooManySteps { node } => with_node(alloc, "TooManySteps", node),
-        ChartFault::StepTwice { node } => with_node(alloc, "StepTwice", node),
-        ChartFault::UnknownRole { node } => with_node(alloc, "UnknownRole", node),
-        ChartFault::SameService { node } => with_node(alloc, "SameService", node),
-        ChartFault::TooManyReads { node } => with_node(alloc, "TooManyReads", node),
+        ChartFault::TooDeep { node } => node_fields("TooDeep", node),
+        ChartFault::TooManySteps { node } => node_fields("TooManySteps", node),
+        ChartFault::StepTwice { node } => node_fields("StepTwice", node),
+        ChartFault::UnknownRole { node } => node_fields("UnknownRole", node),
+        ChartFault::SameService { node } => node_fields("SameService", node),
+        ChartFault::TooManyReads { node } => node_fields("TooManyReads", node),
     }
 }
 
-/// A fault: its kind, and the text of its path; or what is wrong with a chart, and the number of its node.
-pub fn fault_value(alloc: Global, fault: &LineFault) -> Result<Value, AllocError>
-    ensures value { IfOk result (λ value. view value ≡ fault_data fault.now) }
-    ensures whole { IfOk result (λ value. has_float (view value) ≡ false) }
+/// Writes a fault: its kind, and the text of its path; or what is wrong with a chart, and the number of its node.
+pub fn write_fault(alloc: Global, writer: &mut Writer, fault: &LineFault) -> Result<(), AllocError>
+    ensures tokens { OnOk result (writer.new.tokens ≡ writer.old.tokens ++ data_tokens (fault_data fault.now)) }
+    ensures before { writer.new.before ≡ writer.old.before }
 {
     match fault {
-        LineFault::Json(fault) => json_fault(alloc, fault),
-        LineFault::Chart(fault) => chart_fault(alloc, *fault),
-        LineFault::TooLong => bad(alloc, "TooLong", ""),
+        LineFault::Json(fault) => write_json_fault(alloc, writer, fault),
+        LineFault::Chart(fault) => write_fields(writer, &chart_fault_fields(*fault)),
+        LineFault::TooLong => write_fields(writer, &path_fields("TooLong", "")),
     }
 }

@@ -4,8 +4,7 @@ ghost use Rattle.std.specs.List.{cons_option};
 ghost use Rattle.std.specs.Str.{bytes_eq};
 ghost use Rattle.pol_events.specs.Events.{entry_view, history_view};
 ghost use Rattle.pol_history.specs.Looking.{History};
-ghost use Rattle.pol_history.specs.Runs.{IsOrderly};
-ghost use Rattle.pol_record.specs.Gathered.{HasBindsInOrder, IsGathered, known_of, newly_started, with_entry};
+ghost use Rattle.pol_record.specs.Gathered.{IsGathered, known_of, newly_started, with_entry};
 
 use crate::records::{BatchRecord, accepted_batch, started_batch};
 use indexmap::IndexMap;
@@ -71,10 +70,7 @@ fn gather_entry<'a>(
 
 /// What the history says of its batches. One pass; as much memory as the logs of all batches.
 pub fn gather(alloc: Global, history: &[Entry]) -> Result<BatchRecords<'_>, AllocError>
-    requires { IsOrderly (history_view history.now) }
-    ensures gathered { IfOk result (λ gathered. IsGathered gathered (history_view history.now)) }
-    ensures in_order { IfOk result (λ gathered. (batch : List ℕ)
-        → HasBindsInOrder (known_of gathered.records.entries batch)) }
+    ensures { IfOk result (λ gathered. IsGathered gathered (history_view history.now)) }
 {
     let mut gathered = BatchRecords {
         started: Vec::new(alloc),

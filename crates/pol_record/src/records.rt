@@ -3,12 +3,12 @@ ghost use Rattle.std.specs.Prelude.{◌≡◌, IfOk, OnOk, []};
 ghost use Rattle.std.specs.Option.{option_map};
 ghost use Rattle.pol_events.specs.Events.{entry_view, event_view, history_view};
 ghost use Rattle.pol_history.specs.Batches.{starting, closing, taken};
-ghost use Rattle.pol_history.specs.Looking.{is_accepted, past_of_batch};
+ghost use Rattle.pol_history.specs.Looking.{past_of_batch};
 ghost use Rattle.pol_record.specs.Gathered.{accepted_batch, newly_started, plain_record, plain_start, record_by, with_entry};
 
 use chart_core::LogEntry;
 use mtp_codes::Name;
-use pol_events::{Answer, Bind, Entry, Event, Outcome};
+use pol_events::{Answer, Bind, Entry, Event, Outcome, Subject};
 use std::alloc::{AllocError, Global};
 
 /// What a batch was started with.
@@ -31,18 +31,12 @@ pub struct BatchRecord<'a> {
     pub outcome: Option<Outcome>,
 }
 
-fn is_accepted(answer: &Answer) -> bool
-    ensures { result ≡ is_accepted answer.now }
-{
-    !matches!(answer, Answer::Refused(_))
-}
-
 /// The batch that an accepted start starts; None for any other entry.
 pub fn started_batch(entry: &Entry) -> Option<Name>
     ensures { result ≡ newly_started (entry_view entry.now) }
 {
     match entry.event {
-        Event::Start { batch, .. } if is_accepted(&entry.answer) => Some(batch),
+        Event::Start { batch, .. } if entry.answer.is_accepted() => Some(batch),
         _ => None,
     }
 }
@@ -51,14 +45,8 @@ pub fn started_batch(entry: &Entry) -> Option<Name>
 pub fn accepted_batch(entry: &Entry) -> Option<Name>
     ensures { result ≡ accepted_batch (entry_view entry.now) }
 {
-    match entry.event {
-        Event::Start { batch, .. }
-        | Event::Advance { batch, .. }
-        | Event::Freeze { batch, .. }
-        | Event::Thaw { batch, .. }
-        | Event::StopBatch { batch, .. }
-        | Event::Abandon { batch, .. }
-            if is_accepted(&entry.answer) => { Some(batch) }
+    match entry.event.subject() {
+        Subject::Batch(batch) if entry.answer.is_accepted() => Some(batch),
         _ => None,
     }
 }

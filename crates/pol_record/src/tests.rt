@@ -1,11 +1,9 @@
 //! Output lines, byte for byte.
 
-ghost use Rattle.std.specs.Prelude.{◌≡◌, IfOk, true};
-ghost use Rattle.pol_events.specs.Events.{event_view, history_view};
-ghost use Rattle.pol_events.specs.Orderly.{is_orderly};
-ghost use Rattle.pol_history.specs.Runs.{IsOrderly};
-
-use crate::{answer_line, batch_line, batch_log, end_line, fault_line, gather, gathered_line};
+use crate::{
+    answer_line, batch_line, batch_log, end_line, entry_line, fault_line, gather, gathered_line,
+    put_answer_line, put_fault_line,
+};
 use chart_core::{ChartFault, LogEntry, Readings, Why};
 use mtp_codes::{Command, Forbid, Name, Reading, State};
 use mtp_json::{FaultKind, JsonFault, Path, PathPart};
@@ -398,10 +396,40 @@ fn a_whole_line_at_fault_and_the_last_line(rt: HostRuntime) -> Result<(), Fail> 
     Ok(())
 }
 
+#[test]
+fn lines_stand_one_behind_the_other_in_a_kept_buffer(rt: HostRuntime) -> Result<(), Fail> {
+    let alloc = rt.alloc();
+    let buffer = put_answer_line(Vec::new(alloc), &Answer::Done)?;
+    let buffer = put_answer_line(buffer, &Answer::Ticket(3))?;
+    let buffer = put_fault_line(alloc, buffer, &LineFault::TooLong)?;
+    let lines = br#"{"done":true}
+{"ticket":3}
+{"bad":"TooLong","path":""}
+"#;
+    assert_eq!(rt; buffer.as_slice(), lines.as_slice());
+    Ok(())
+}
+
+#[test]
+fn an_entry_of_a_history_has_its_answer_and_its_event(rt: HostRuntime) -> Result<(), Fail> {
+    let entry = Entry {
+        event: Event::ExchangeBegin {
+            at: 5,
+            tag: named("M")?,
+        },
+        answer: Answer::Ticket(1),
+    };
+    assert_eq!(rt;
+        entry_line(rt.alloc(), &entry)?.as_slice(),
+        br#"{"answer":{"ticket":1},"event":{"at":5,"ev":"exchange_begin","tag":"M"}}
+"#
+            .as_slice()
+    );
+    Ok(())
+}
+
 /// An accepted start of the batch with the module in the role A.
-fn started(alloc: Global, batch: Name, tag: Name) -> Result<Entry, Fail>
-    ensures { IfOk result (λ entry. is_orderly (event_view entry.event) ≡ true) }
-{
+fn started(alloc: Global, batch: Name, tag: Name) -> Result<Entry, Fail> {
     let mut bind = Vec::new(alloc);
     bind.push(Bind {
         role: named("A")?,
@@ -419,22 +447,11 @@ fn started(alloc: Global, batch: Name, tag: Name) -> Result<Entry, Fail>
     })
 }
 
-fn advanced(batch: Name, answer: Answer) -> Entry
-    ensures { is_orderly (event_view result.event) ≡ true }
-{
+fn advanced(batch: Name, answer: Answer) -> Entry {
     Entry {
         event: Event::Advance { at: 8, batch },
         answer,
     }
-}
-
-fn history_of(first: Entry, second: Entry, third: Entry) -> [Entry; 3]
-    requires first { is_orderly (event_view first.event) ≡ true }
-    requires second { is_orderly (event_view second.event) ≡ true }
-    requires third { is_orderly (event_view third.event) ≡ true }
-    ensures { IsOrderly (history_view result) }
-{
-    [first, second, third]
 }
 
 #[test]
@@ -444,11 +461,11 @@ fn a_batch_that_is_not_closed_is_running(rt: HostRuntime) -> Result<(), Fail> {
     let other = named("r3")?;
     let start = started(alloc, batch, named("N")?)?;
     let next = started(alloc, other, named("M")?)?;
-    let history = history_of(
+    let history = [
         start,
         next,
         advanced(other, Answer::Closed(Outcome::Stopped)),
-    );
+    ];
     assert_eq!(rt;
         batch_line(alloc, &history, batch)?.as_slice(),
         br#"{"batch":"r1","bind":{"A":"N"},"log":[],"outcome":"Running","recipe":"one"}
@@ -466,11 +483,11 @@ fn each_batch_that_was_started_has_its_line_in_the_order_of_the_starts(
     let alloc = rt.alloc();
     let first = named("r3")?;
     let second = named("r1")?;
-    let history = history_of(
+    let history = [
         started(alloc, first, named("M")?)?,
         started(alloc, second, named("N")?)?,
         advanced(first, Answer::Closed(Outcome::Stopped)),
-    );
+    ];
     let gathered = gather(alloc, &history)?;
     assert!(rt; gathered.started.as_slice() == [first, second].as_slice());
     let mut lines = Vec::new(alloc);
@@ -493,11 +510,11 @@ fn a_batch_that_is_closed_has_its_log_and_its_outcome(rt: HostRuntime) -> Result
     let batch = named("r3")?;
     let entry = LogEntry::End { step: named("s1")? };
     let start = started(alloc, batch, named("M")?)?;
-    let history = history_of(
+    let history = [
         start,
         advanced(batch, Answer::Did(entry)),
         advanced(batch, Answer::Closed(Outcome::Completed)),
-    );
+    ];
     assert_eq!(rt;
         batch_line(alloc, &history, batch)?.as_slice(),
         br#"{"batch":"r3","bind":{"A":"M"},"log":[{"do":"end","step":"s1"}],"outcome":"Completed","recipe":"one"}

@@ -4,6 +4,7 @@ use Rattle.std.specs.Prelude.{nat_le, filter}
 use Rattle.std.proofs.Math.Path.{fun_ext}
 use Rattle.mtp_codes.specs.Faults.{when, first_of}
 use Rattle.mtp_codes.specs.Names.{is_among}
+use Rattle.mtp_codes.specs.declared.limits.TheConstants.{LONGEST_HISTORY, MOST_BATCHES, MOST_MODULES}
 use Rattle.mtp_desc.specs.Plain.{DescriptionForm}
 use Rattle.chart_core.specs.Roles.{ChartPlan, role_names}
 use Rattle.chart_cursor.specs.Sights.{Sights}
@@ -59,12 +60,12 @@ module _ (tags bound : List (List ℕ)) (whole less : History) (alike : Alike ta
       (λ batch out. rw (alike.batch_pasts batch out, alike.same_recipes)) (alike.holders tag)
 
   plant-falls : Falls (plant_full whole) (plant_full less)
-  plant-falls = when-falls PlantFull refl (nat_le 64 (length (present_tags whole))) (nat_le 64 (length (present_tags less)))
-      (fewer-reach 64 (length (present_tags less)) (length (present_tags whole)) alike.fewer_tags)
+  plant-falls = when-falls PlantFull refl (nat_le MOST_MODULES (length (present_tags whole))) (nat_le MOST_MODULES (length (present_tags less)))
+      (fewer-reach MOST_MODULES (length (present_tags less)) (length (present_tags whole)) alike.fewer_tags)
 
   batches-fall : Falls (batches_full whole) (batches_full less)
-  batches-fall = when-falls BatchesFull refl (nat_le 128 (length (filter is_start whole))) (nat_le 128 (length (filter is_start less)))
-      (fewer-reach 128 (length (filter is_start less)) (length (filter is_start whole)) alike.fewer_starts)
+  batches-fall = when-falls BatchesFull refl (nat_le MOST_BATCHES (length (filter is_start whole))) (nat_le MOST_BATCHES (length (filter is_start less)))
+      (fewer-reach MOST_BATCHES (length (filter is_start less)) (length (filter is_start whole)) alike.fewer_starts)
 
   -- ---- starts
 
@@ -175,5 +176,5 @@ module _ (tags bound : List (List ℕ)) (whole less : History) (alike : Alike ta
   answered-alike event out apart own =
       first-falls (when (is_full whole) HistoryFull ∷ rules whole event)
       (when (is_full less) HistoryFull ∷ rules less event) (otherwise whole event) (otherwise less event)
-      (when-falls HistoryFull refl (is_full whole) (is_full less) (fewer-reach 200000 (length less) (length whole) alike.fewer), rules-fall event out apart)
+      (when-falls HistoryFull refl (is_full whole) (is_full less) (fewer-reach LONGEST_HISTORY (length less) (length whole) alike.fewer), rules-fall event out apart)
       (otherwise-same event out) own

@@ -8,7 +8,7 @@ use Rattle.pol_events.specs.Events.{EventForm, start, EntryForm}
 use Rattle.pol_history.specs.Looking.{History, of_batch, subject, is_accepted}
 use Rattle.pol_history.specs.Batches.{start_by, outcome_by, log_by, started_batch, batches}
 use Rattle.pol_history.specs.Runs.{entry_of, recorded, run_after, run_of, history_after, AreOrderly}
-use Rattle.pol_history.specs.Texts.{started_text, batch_text, batch_lines, batches_text}
+use Rattle.pol_record.specs.Texts.{started_text, batch_text, batch_lines, batches_text}
 use Rattle.pol_removal.specs.Removal.{is_of, bound_batches, stays, entries_without}
 use Rattle.pol_removal.proofs.Each.{all-map}
 use Rattle.pol_removal.proofs.Kept.{filter-reverse, filter_map-kept, flat_map-kept}

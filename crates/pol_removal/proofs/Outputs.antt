@@ -4,8 +4,8 @@ use Rattle.std.specs.Prelude.{filter}
 use Rattle.std.specs.List.{AllByRecursion}
 use Rattle.pol_io.specs.Pieces.{pieces}
 use Rattle.pol_history.specs.Runs.{run_of, history_after, AreOrderly}
-use Rattle.pol_history.specs.Texts.{end_text}
-use Rattle.pol_history.specs.Lines.{Item, item_of, items_of, events_in, Row, rows_after, rows_text, closing_text}
+use Rattle.pol_record.specs.Texts.{end_text}
+use Rattle.pol_record.specs.Lines.{Item, item_of, items_of, events_in, Row, rows_after, rows_text, closing_text}
 use Rattle.pol_removal.specs.Removal.{bound_batches, stays, row_stays, piece_of, rows_without, without, RemovalOfLines}
 use Rattle.pol_removal.proofs.Pieces.{AreCut, pieces-cut, filter-cut, pieces-joined}
 use Rattle.pol_removal.proofs.Reading.{events-orderly, item_in, IsReadBack, read-back}

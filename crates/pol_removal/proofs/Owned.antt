@@ -5,12 +5,15 @@ use Rattle.std.specs.List.{AllByRecursion}
 use Rattle.std.specs.Option.{option_or}
 use Rattle.std.proofs.lemmas.Bool.{and_parts}
 use Rattle.mtp_codes.specs.Names.{is_among}
+use Rattle.mtp_codes.specs.declared.limits.TheConstants.{MOST_BINDS}
 use Rattle.chart_core.specs.Roles.{ChartPlan, role_names}
 use Rattle.pol_events.specs.Events.{EventForm, start, EntryForm}
 use Rattle.pol_events.specs.declared.event.Bind.{Bind}
 use Rattle.pol_events.specs.Orderly.{is_orderly, rise, roles_once}
 use Rattle.pol_events.proofs.Rising.{rising_distinct}
 use Rattle.pol_events.specs.Bound.{tags_of, bound_tag}
+use Rattle.pol_events.proofs.Lists.{among-member, member-image, none-first}
+use Rattle.pol_history.proofs.Binds.{binds-known, tags-by-role}
 use Rattle.pol_history.proofs.Open.{open-before, open-some}
 use Rattle.pol_history.specs.Looking.{History, last_of, is_accepted, recipes}
 use Rattle.pol_history.specs.Batches.{outcome_of, chart_named, taking, takes, if_open, holder_of}
@@ -19,7 +22,6 @@ use Rattle.pol_history.specs.Answers.{start_rules, answer_of}
 use Rattle.pol_history.specs.Runs.{entry_of, is_recorded, recorded}
 use Rattle.pol_history.proofs.Accepted.{NoneHolds, accepted-none}
 use Rattle.pol_removal.proofs.Each.{all-map}
-use Rattle.pol_removal.proofs.Roles.{role-of, known-role, none-met}
 
 -- the batch whose accepted start the entry is holds each module that the start binds, while it is open
 abbrev pub Owned : History → EntryForm → Type 0
@@ -40,8 +42,10 @@ not-held tag (Some batch) none = cc
 bound-free : (history : History) (binds : List Bind) (roles : List (List ℕ)) (tag : List ℕ) → roles_once binds ≡ true → is_among (tags_of binds) tag ≡ true →
     role_unknown binds roles ≡ None → busy history binds roles ≡ None → holder_of history tag ≡ None
 bound-free history binds roles tag once inside known free =
-    let (role, is, of_binds) = role-of binds tag once inside in
-    let none = none-met (λ role. busy_role history (bound_tag binds role)) roles role free (known-role roles binds role known of_binds) in
+    let (bind, within, tag_is) = member-image (λ bind. bind.tag) binds tag (among-member (tags_of binds) tag inside) in
+    let is = tags-by-role binds bind once within ∙ ap Some tag_is in
+    let none = none-first (λ role. busy_role history (bound_tag binds role)) roles bind.role free
+    (binds-known binds roles bind known within) in
     not-held tag (holder_of history tag) (ap (busy_role history) (sym is) ∙ none)
 
 started-free : (history : History) (batch : List ℕ) (binds : List Bind) (chart : Option ChartPlan) (tag : List ℕ) → roles_once binds ≡ true →
@@ -58,7 +62,7 @@ pub taken-free : (history : History) (event : EventForm) (tag batch : List ℕ) 
     taking tag event ≡ Some batch → holder_of history tag ≡ None
 taken-free history (start at named recipe binds) tag batch orderly accepted taken =
     started-free history named binds (chart_named recipe (recipes history)) tag
-    (rising_distinct binds (and_parts (nat_le (length binds) 64) (rise binds) orderly).1)
+    (rising_distinct binds (and_parts (nat_le (length binds) MOST_BINDS) (rise binds) orderly).1)
     (bound-by (is_among (tags_of binds) tag) named batch taken) (accepted-none history (start at named recipe binds) accepted)
 taken-free history _ tag batch orderly accepted taken = cc
 

@@ -3,19 +3,20 @@ use Rattle.std.proofs.Common.{◌≡◌, ℕ, Bool, true, false, cond, List, [],
 use Rattle.std.specs.Prelude.{nat_lt}
 use Rattle.std.specs.List.{AllByRecursion, list_all}
 use Rattle.pol_io.specs.Pieces.{line_of}
+use Rattle.pol_io.specs.declared.limits.TheConstants.{LONGEST_LINE}
 use Rattle.pol_events.specs.Events.{EventForm}
-use Rattle.pol_events.specs.Lines.{event_of}
+use Rattle.pol_events.specs.Lines.{event_of, is_blank_byte}
 use Rattle.pol_events.specs.Orderly.{is_orderly}
 use Rattle.pol_events.specs.declared.fault.LineFault.{LineFault}
 use Rattle.pol_events.specs.declared.fault.LineFault.TheVariants.{TooLong}
 use Rattle.pol_events.proofs.Orderly.{line_orderly}
 use Rattle.pol_history.specs.Runs.{AreOrderly}
-use Rattle.pol_history.specs.Lines.{is_blank_byte, Saying, nothing, a_fault, an_event, saying_from, saying_of, Item, blank, faulty, happening, as_item, item_of, events_in, Row, skipped, bad, answered}
+use Rattle.pol_record.specs.Lines.{Saying, nothing, a_fault, an_event, saying_from, saying_of, Item, blank, faulty, happening, as_item, item_of, events_in, Row, skipped, bad, answered}
 use Rattle.pol_removal.specs.Removal.{piece_of}
 
 said-orderly : (line : List ℕ) (event : EventForm) → saying_of line ≡ an_event event → is_orderly event ≡ true
 unfolding saying_of
-said-orderly line event says = go (nat_lt 1048576 (length line)) (list_all is_blank_byte line) (event_of line) refl says
+said-orderly line event says = go (nat_lt LONGEST_LINE (length line)) (list_all is_blank_byte line) (event_of line) refl says
   where
     go : (long empty : Bool) (read : Result EventForm LineFault) → event_of line ≡ read →
         cond long (a_fault TooLong) (cond empty nothing (saying_from read)) ≡ an_event event → is_orderly event ≡ true

@@ -4,7 +4,7 @@ use Rattle.std.specs.Prelude.{filter}
 use Rattle.pol_events.specs.Events.{EntryForm}
 use Rattle.pol_history.specs.Looking.{History}
 use Rattle.pol_history.specs.Runs.{entry_of, recorded, run_after, run_of, AreOrderly}
-use Rattle.pol_history.specs.Lines.{Item, blank, faulty, happening, events_in, Row, skipped, bad, answered, rows, rows_after}
+use Rattle.pol_record.specs.Lines.{Item, blank, faulty, happening, events_in, Row, skipped, bad, answered, rows, rows_after}
 use Rattle.pol_removal.specs.Removal.{bound_batches, stays, entries_without, row_stays}
 use Rattle.pol_removal.proofs.Induction.{events-removed}
 use Rattle.pol_removal.proofs.Reading.{item_in}

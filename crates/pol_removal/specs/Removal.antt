@@ -11,8 +11,8 @@ use Rattle.pol_events.specs.Bound.{tags_of}
 use Rattle.pol_history.specs.Looking.{Subject, of_module, of_batch, of_recipe, subject, is_accepted}
 use Rattle.pol_history.specs.Batches.{binds_in, started_batch, batches}
 use Rattle.pol_history.specs.Runs.{run_of, AreOrderly}
-use Rattle.pol_history.specs.Texts.{batch_lines, end_text}
-use Rattle.pol_history.specs.Lines.{Row, skipped, bad, answered, events_in, items_of, rows_after, rows_text, history_of, output_of}
+use Rattle.pol_record.specs.Texts.{batch_lines, end_text}
+use Rattle.pol_record.specs.Lines.{Row, skipped, bad, answered, events_in, items_of, rows_after, rows_text, history_of, output_of}
 
 -- a rule that refuses an event for the sake of another
 abbrev pub is_for_another : Rule → Bool

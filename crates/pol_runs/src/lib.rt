@@ -12,6 +12,7 @@ mod next;
 mod run;
 
 pub use course::Course;
+pub use next::stop_step;
 pub use run::Run;
 
 #[cfg(test)]

@@ -27,30 +27,20 @@ fn tag_of<S: Seen>(seen: &S, role: Name) -> Name
     }
 }
 
-// What an active step of a batch that is stopped comes to.
-fn stop_step(step: &RunningStep, tag: Name, sight: Sight) -> Next
-    ensures { result ≡ stop_step step.now.name step.now.service tag sight }
+/// What an active step of a batch that is stopped comes to, by what is seen of its service.
+pub fn stop_step(step: Name, service: Name, tag: Name, sight: Sight) -> Next
+    ensures { result ≡ stop_step step service tag sight }
 {
     match sight {
         Sight::Away => Next::Waiting(Why::Away { tag }),
-        Sight::Unreported => Next::Waiting(Why::NotReported {
-            tag,
-            name: step.service,
-        }),
-        Sight::Is(view) => {
-            if permitted(&view, Speaker::Recipe, Command::Stop).is_ok() {
-                Next::Did(LogEntry::Stop {
-                    step: step.name,
-                    tag,
-                    service: step.service,
-                })
-            } else {
-                Next::Did(LogEntry::Left {
-                    step: step.name,
-                    state: view.control.state,
-                })
-            }
+        Sight::Unreported => Next::Waiting(Why::NotReported { tag, name: service }),
+        Sight::Is(view) if permitted(&view, Speaker::Recipe, Command::Stop).is_ok() => {
+            Next::Did(LogEntry::Stop { step, tag, service })
         }
+        Sight::Is(view) => Next::Did(LogEntry::Left {
+            step,
+            state: view.control.state,
+        }),
     }
 }
 
@@ -62,7 +52,8 @@ pub fn stop_found<S: Seen>(step: Option<RunningStep>, seen: &S, broken: bool) ->
         None if broken => Next::Closed(Outcome::Broken),
         None => Next::Closed(Outcome::Stopped),
         Some(step) => stop_step(
-            &step,
+            step.name,
+            step.service,
             tag_of(seen, step.role),
             seen.view(step.role, step.service),
         ),

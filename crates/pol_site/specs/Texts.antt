@@ -6,7 +6,7 @@ use Rattle.mtp_json.specs.Reading.{Reading, ◌>>=◌, here}
 use Rattle.mtp_json.specs.declared.fault.FaultKind.TheVariants.{Missing, Unknown, TooLong}
 use Rattle.pol_io.specs.Pieces.{pieces, line_of}
 use Rattle.pol_io.specs.declared.limits.TheConstants.{LONGEST_LINE}
-use Rattle.pol_history.specs.Lines.{is_blank_byte}
+use Rattle.pol_events.specs.Lines.{is_blank_byte}
 use Rattle.pol_site.specs.Form.{site_in}
 use Rattle.pol_site.specs.Sites.{SiteForm}
 

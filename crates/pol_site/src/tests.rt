@@ -7,16 +7,16 @@ use std::test::*;
 
 /// The site of `examples/site.json`, there on one line.
 const EXAMPLE: &str = r#"{"modules":[
-{"tag":"D1","desc":{"type":"Doser","version":"1.4.0","services":[
+{"tag":"D101","desc":{"type":"Doser","version":"1.4.0","services":[
 {"name":"dose","procedures":[{"number":1,"default":true,"self_completing":true,"params":[{"name":"amount","kind":"AnaServParam","min":0,"max":5000000}]},{"number":2,"self_completing":true}]}],
 "variables":[{"name":"weight","kind":"AnaView"}]},
 "sim":{"ticks":2,"run":5,"drift":[{"name":"weight","from":0,"by":250000,"to":2000000}]}},
-{"tag":"X1","desc":{"type":"Mixer","version":"2.1.3","services":[
+{"tag":"X201","desc":{"type":"Mixer","version":"2.1.3","services":[
 {"name":"stir","procedures":[{"number":1,"default":true,"params":[{"name":"speed","kind":"DIntServParam","min":0,"max":1500}]}]},
 {"name":"drain","procedures":[{"number":1,"default":true,"self_completing":true}]}],
 "variables":[{"name":"viscosity","kind":"DIntView"},{"name":"full","kind":"BinView"}]},
 "sim":{"ticks":1,"run":3,"drift":[{"name":"viscosity","from":10,"by":5,"to":40}]}},
-{"tag":"R1","desc":{"type":"Reactor","version":"0.9.2","services":[
+{"tag":"R301","desc":{"type":"Reactor","version":"0.9.2","services":[
 {"name":"heat","procedures":[{"number":1,"default":true},{"number":2,"self_completing":true}]},
 {"name":"purge","procedures":[{"number":1,"default":true,"self_completing":true}]}],
 "variables":[{"name":"temperature","kind":"AnaView"},{"name":"pressure","kind":"AnaView"}]},
@@ -37,19 +37,19 @@ const EXAMPLE: &str = r#"{"modules":[
 {"when":{"const":true},
 "then":{"seq":[{"step":"rinse","role":"source","service":"dose","procedure":2},{"step":"dry","role":"kettle","service":"heat","procedure":2}]}}]}}],
 "batches":[
-{"batch":"morning","recipe":"charge","bind":{"source":"D1"}},
-{"batch":"noon","recipe":"blend","bind":{"kettle":"R1","mixer":"X1"}},
-{"batch":"evening","recipe":"settle","bind":{"kettle":"R1","source":"D1"}},
-{"batch":"night","recipe":"charge","bind":{"source":"D1"}}],
+{"batch":"morning","recipe":"charge","bind":{"source":"D101"}},
+{"batch":"noon","recipe":"blend","bind":{"kettle":"R301","mixer":"X201"}},
+{"batch":"evening","recipe":"settle","bind":{"kettle":"R301","source":"D101"}},
+{"batch":"night","recipe":"charge","bind":{"source":"D101"}}],
 "exchanges":[
-{"tag":"X1","after":40,"desc":{"type":"Mixer","version":"2.2.0","services":[
+{"tag":"X201","after":40,"desc":{"type":"Mixer","version":"2.2.0","services":[
 {"name":"stir","procedures":[{"number":1,"default":true,"params":[{"name":"speed","kind":"DIntServParam","min":0,"max":1800}]}]}],
 "variables":[{"name":"viscosity","kind":"DIntView"}]},
 "sim":{"ticks":1,"run":2,"drift":[{"name":"viscosity","from":0,"by":20,"to":60}]}}],
 "desk":[
-{"tag":"R1","service":"heat","CommandOp":8,"after":10},
-{"tag":"D1","service":"dose","CommandOp":4,"after":25},
-{"tag":"X1","service":"stir","CommandOp":1024,"after":60}]}"#;
+{"tag":"R301","service":"heat","CommandOp":8,"after":10},
+{"tag":"D101","service":"dose","CommandOp":4,"after":25},
+{"tag":"X201","service":"stir","CommandOp":1024,"after":60}]}"#;
 
 /// A small site.
 const SMALL: &str =
@@ -126,7 +126,7 @@ fn a_whole_site_is_read(rt: HostRuntime) -> Result<(), Fail> {
     assert_eq!(rt; sizes(&site), [3, 3, 4, 1, 3]);
     let exchange = site.exchanges.first().ok_or("no exchange")?;
     assert_eq!(rt; exchange.after, 40);
-    assert_eq!(rt; exchange.tag.as_bytes(), b"X1".as_slice());
+    assert_eq!(rt; exchange.tag.as_bytes(), b"X201".as_slice());
     let batch = site.batches.get(1).ok_or("no batch")?;
     let bind = batch.bind.first().ok_or("no bind")?;
     assert_eq!(rt; bind.role.as_bytes(), b"kettle".as_slice());

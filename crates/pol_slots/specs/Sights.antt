@@ -2,15 +2,12 @@
 use Rattle.std.specs.Prelude.{ℕ, List, Option, Some, None, Result, Ok, Err, option_map}
 use Rattle.std.specs.Option.{option_or}
 use Rattle.pol_events.specs.Refusals.{in_exchange, no_service}
+use Rattle.pol_events.specs.Views.{seen_with}
 use Rattle.pol_events.specs.declared.answer.Rule.{Rule}
 use Rattle.pol_events.specs.declared.answer.Rule.TheVariants.{NotReported}
 use Rattle.mtp_codes.specs.declared.value.Value.{Value}
-use Rattle.mtp_codes.specs.declared.value.Value.TheVariants as value
-use Rattle.mtp_codes.specs.declared.value.Reading.TheVariants as reading
-use Rattle.mtp_assembly.specs.declared.control.ServiceControl.{ServiceControl}
 use Rattle.mtp_modes.specs.declared.view.ServiceView.{ServiceView}
-use Rattle.mtp_desc.specs.Plain.{DescriptionForm}
-use Rattle.mtp_desc.specs.Lookup.{self_completes}
+use Rattle.chart_cursor.specs.Sights.{reading_of_value, sight_of_view}
 use Rattle.chart_cursor.specs.declared.sight.Sight.{Sight}
 use Rattle.chart_cursor.specs.declared.sight.Sight.TheVariants as sight
 use Rattle.chart_cursor.specs.declared.sight.ReadingSight.{ReadingSight}
@@ -18,21 +15,19 @@ use Rattle.chart_cursor.specs.declared.sight.ReadingSight.TheVariants as reading
 use Rattle.pol_slots.specs.Slots.{slot_tag, slot_description, slot_ticket, last_control, last_value}
 use Rattle.pol_slots.specs.declared.slot.Slot.{Slot}
 
--- a report, with what the description says of its procedure
-abbrev pub view_by : List ℕ → DescriptionForm → ServiceControl → ServiceView
-view_by service description control =
-    record { control = control; self_completes = self_completes service control.procedure description }
+-- what the slot's service reported last, with what the description says of its procedure
+abbrev pub slot_view : Slot → List ℕ → Option ServiceView
+slot_view slot service =
+    option_map (seen_with service (Some (slot_description slot))) (last_control slot service)
 
 -- what is seen of a service whose module is away under a ticket, or has this view of it
 abbrev pub sight_of : Option ℕ → Option ServiceView → Sight
 sight_of (Some ticket) view = sight.Away
-sight_of None None = sight.Unreported
-sight_of None (Some view) = sight.Is view
+sight_of None view = sight_of_view view
 
 -- what is seen of the slot's service
 abbrev pub slot_sight : Slot → List ℕ → Sight
-slot_sight slot service =
-    sight_of (slot_ticket slot) (option_map (view_by service (slot_description slot)) (last_control slot service))
+slot_sight slot service = sight_of (slot_ticket slot) (slot_view slot service)
 
 -- a view, unless a rule is against it; none at all is told by another rule
 abbrev pub view_unless : Option Rule → Rule → Option ServiceView → Result ServiceView Rule
@@ -47,15 +42,12 @@ reported_view slot service =
     view_unless
     (option_or (in_exchange (slot_tag slot) (slot_ticket slot)) (no_service service (slot_description slot)))
     (NotReported (slot_tag slot) service)
-    (option_map (view_by service (slot_description slot)) (last_control slot service))
+    (slot_view slot service)
 
--- what is seen of a variable whose module is away under a ticket, or has this value of it; a text is no reading
+-- what is seen of a variable whose module is away under a ticket, or has this value of it
 abbrev pub reading_of : Option ℕ → Option Value → ReadingSight
 reading_of (Some ticket) last = reading_sight.Away
-reading_of None None = reading_sight.Unreported
-reading_of None (Some (value.Whole number)) = reading_sight.Is (reading.Whole number)
-reading_of None (Some (value.Bit bit)) = reading_sight.Is (reading.Bit bit)
-reading_of None (Some (value.Text text)) = reading_sight.Unreported
+reading_of None last = reading_of_value last
 
 -- what is seen of the slot's variable
 abbrev pub slot_reading : Slot → List ℕ → ReadingSight

@@ -2,7 +2,8 @@
 ghost use Rattle.std.specs.Prelude.{◌≡◌};
 ghost use Rattle.mtp_codes.specs.Faults.{done_unless};
 ghost use Rattle.pol_events.specs.Refusals.{not_at_rest};
-ghost use Rattle.pol_slots.specs.Sights.{slot_sight, slot_reading, reported_view, view_by};
+ghost use Rattle.pol_events.specs.Views.{seen_with};
+ghost use Rattle.pol_slots.specs.Sights.{slot_sight, slot_reading, reported_view};
 ghost use Rattle.pol_slots.specs.Slots.{slot_description, last_control, last_value};
 
 use super::slot::Slot;
@@ -32,7 +33,7 @@ impl Slot {
 
     // A report, with what the description says of its procedure.
     fn seen_with(&self, service: Name, control: ServiceControl) -> ServiceView
-        ensures { result ≡ view_by service (slot_description self.now) control }
+        ensures { result ≡ seen_with service (Some (slot_description self.now)) control }
     {
         ServiceView {
             control,

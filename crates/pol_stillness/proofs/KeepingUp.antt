@@ -32,17 +32,17 @@ use Rattle.pol_simulated.specs.Units.{told, IsInStep, IsCounted, IsServiceCounte
 use Rattle.pol_simulated.specs.Places.{before, StaysFrom}
 use Rattle.pol_simulated.specs.Laws.{one_more}
 use Rattle.pol_simulated.specs.Values.{AreDriftsKept}
-use Rattle.pol_simulated.proofs.Counted.{counted_commanded, untouched_kept}
+use Rattle.pol_simulated.proofs.Counted.{counted_commanded, sent-later, untouched_kept}
 use Rattle.pol_simulated.proofs.First.{first_in_step, first_of, found-image}
-use Rattle.pol_simulated.proofs.Places.{before-later, found-within, next_counted}
+use Rattle.pol_simulated.proofs.Places.{before-all, before-later, found-within, next_counted}
 use Rattle.pol_simulated.proofs.Taking.{commands_kept}
 use Rattle.pol_simulated.proofs.Ticking.{ticks_kept}
 use Rattle.pol_simulated.proofs.Values.{drifts_commanded, drifts_ticked, first_drifts_kept, plans_kept}
 use Rattle.pol_stillness.specs.Phases.{asked_in}
-use Rattle.pol_stillness.specs.Served.{IsServed}
+use Rattle.pol_stillness.specs.Served.{IsServed, list_of, unlooked}
 use Rattle.pol_stillness.specs.Together.{AreServed, after_report}
-use Rattle.pol_stillness.specs.KeepingUp.{KeepsUp, FirstsKeepUp, TicksKeepUp, LooksKeepUp, SendsKeepUp, OthersKeepUp, KeptUpIsCommanded}
-use Rattle.pol_stillness.proofs.Served.{firsts_served, others_served, sends_served}
+use Rattle.pol_stillness.specs.KeepingUp.{KeepsUp, FirstsKeepUp, IdlesKeepUp, TicksKeepUp, LooksKeepUp, SendsKeepUp, OthersKeepUp, KeptUpIsCommanded}
+use Rattle.pol_stillness.proofs.Served.{firsts_served, none-ahead, others_served, sends_served, unlooked-none}
 use Rattle.pol_stillness.proofs.Together.{looks_all, name-of, ticks_all}
 
 -- ---- first
@@ -234,6 +234,57 @@ looks_up site tag from history sim ahead sent calm next sends tag_is up =
         + times_sent tag name command (story tag (before from history))) to-tag
         ∙ swap (if is_given name command (Some sent) then 1 else 0)
         (times_sent tag name command (story tag (before from history)))
+
+-- ---- no command is left
+
+-- what is counted against so many commands is counted against more
+counted-more : (d : DescriptionForm) (name : List ℕ) (found : Option SimService) (controls : List ServiceControl)
+    (sent other : Command → ℕ) → ((command : Command) → sent command ≤ other command) →
+    IsServiceCounted d name found controls sent → IsServiceCounted d name found controls other
+counted-more d name None controls sent other more counted = tt
+counted-more d name (Some s) controls sent other more counted =
+    λ command. let one = more command in let less = counted command in omega (arith, one, less)
+
+-- where nothing is ahead from a place on, nothing is from a later one
+nothing-ahead : (xs ys : List LogEntry) (ahead : Option LogEntry) → xs ≡ [] → ys ≡ [] → xs ≡ list_of ahead →
+    ys ≡ list_of ahead
+nothing-ahead xs ys ahead none none' is = none' ∙ sym none ∙ is
+
+-- from the end of the history on
+pub idles_up : IdlesKeepUp
+idles_up site tag from history sim none up =
+    record {
+      step = up.step;
+      kept = up.kept;
+      counted = λ name. counted-more sim.description name (service_called name sim.services)
+          (controls_in name (since_docking (past tag history)))
+          (λ command. times_sent tag name command (story tag (before from history)))
+          (λ command. times_sent tag name command (story tag (before (length history) history)))
+          (λ command. all name command) (up.counted name);
+      served = λ name service called.
+          let served = up.served name service called in
+          record {
+            ahead = served.ahead;
+            is_ahead = nothing-ahead (unlooked tag service.name from history)
+                (unlooked tag service.name (length history) history) served.ahead
+                (none-ahead tag service.name from history none)
+                (unlooked-none tag service.name (length history) history same) served.is_ahead;
+            phase = served.phase;
+          };
+      stays = stays-end tag (length history) history same;
+      within = same;
+    }
+  where
+    same : length history ≤ length history
+    same = omega arith
+
+    all : (name : List ℕ) (command : Command) →
+        times_sent tag name command (story tag (before from history))
+        ≤ times_sent tag name command (story tag (before (length history) history))
+    all name command =
+        let later = sent-later tag from history name command up.stays in
+        let whole = before-all (length history) history same in
+        rw whole later
 
 -- ---- other entries
 

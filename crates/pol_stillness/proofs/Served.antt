@@ -49,7 +49,7 @@ use Rattle.pol_events.proofs.Options.{neither, no-both, some-same}
 -- ---- places
 
 -- nothing stands from a place behind the end
-unlooked-none : (tag name : List ℕ) (from : ℕ) (history : History) → length history ≤ from
+pub unlooked-none : (tag name : List ℕ) (from : ℕ) (history : History) → length history ≤ from
     → unlooked tag name from history ≡ []
 unlooked-none tag name from [] short = refl
 unlooked-none tag name from (entry ∷ older) short =
@@ -237,7 +237,7 @@ sends_served site d service older at batch did sent from legal orderly follows c
 -- ---- a command that is looked at
 
 -- where no command to the module stands from a place on, none to the service does
-none-ahead : (tag name : List ℕ) (from : ℕ) (history : History) → next_command tag from history ≡ None
+pub none-ahead : (tag name : List ℕ) (from : ℕ) (history : History) → next_command tag from history ≡ None
     → unlooked tag name from history ≡ []
 none-ahead tag name from [] none = refl
 none-ahead tag name from (entry ∷ older) none =

@@ -1,5 +1,5 @@
 -- A simulated module keeps up with a history: all that the laws ask of it, in one.
-use Rattle.std.specs.Prelude.{ℕ, suc, ◌≡◌, ◌≤◌, true, false, List, [], ◌∷◌, length, Some}
+use Rattle.std.specs.Prelude.{ℕ, suc, ◌≡◌, ◌≤◌, true, false, List, [], ◌∷◌, length, Some, None}
 use Rattle.mtp_json.specs.Form.{repeats_by}
 use Rattle.mtp_desc.specs.Plain.{DescriptionForm, same_service}
 use Rattle.mtp_sim.specs.Sims.{SimForm, PlanForm, first_sim}
@@ -61,6 +61,13 @@ LooksKeepUp =
     sent.tag ≡ tag → KeepsUp site tag from history sim →
     KeepsUp site tag (suc ahead.place) history
     (after_command sim (took sim sent.service sent.command (asked_in ahead.did)))
+
+-- So it does from the end of the history on, when no command was left to look at.
+abbrev pub IdlesKeepUp : Type 0
+IdlesKeepUp =
+    (site : SiteForm) (tag : List ℕ) (from : ℕ) (history : History) (sim : SimForm) →
+    next_command tag from history ≡ None → KeepsUp site tag from history sim →
+    KeepsUp site tag (length history) history sim
 
 -- So it does when a batch sends it a command, in a history that follows its site.
 abbrev pub SendsKeepUp : Type 0

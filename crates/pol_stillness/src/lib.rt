@@ -10,7 +10,7 @@
 ghost use Rattle.pol_stillness.specs.Allowed.{ReportsAreAllowed};
 ghost use Rattle.pol_stillness.specs.Apart.{CompleteRunsAreStill, NextStepsAreAlone, OpenStepsAreApart, OwedIsNotSent, ValidChartsAreClear};
 ghost use Rattle.pol_stillness.specs.Exchanges.{OpenIsAway};
-ghost use Rattle.pol_stillness.specs.KeepingUp.{FirstsKeepUp, KeptUpIsCommanded, LooksKeepUp, OthersKeepUp, SendsKeepUp, TicksKeepUp};
+ghost use Rattle.pol_stillness.specs.KeepingUp.{FirstsKeepUp, IdlesKeepUp, KeptUpIsCommanded, LooksKeepUp, OthersKeepUp, SendsKeepUp, TicksKeepUp};
 ghost use Rattle.pol_stillness.specs.Law.{CommandsFindServicesStill, UnansweredAreOwed};
 ghost use Rattle.pol_stillness.specs.Phases.{OthersKeepPhases, SendsGive, TakesSettle, TicksKeepPhases};
 ghost use Rattle.pol_stillness.specs.Plain.{PlantsArePlain};
@@ -158,6 +158,11 @@ pub fn ticks_keep_up()
 /// So it does when it looked at the next command.
 pub fn looks_keep_up()
     ensures { LooksKeepUp }
+{}
+
+/// So it does from the end of the history on, when it found none to look at.
+pub fn idles_keep_up()
+    ensures { IdlesKeepUp }
 {}
 
 /// So it does when a batch sends it a command.

@@ -6,6 +6,7 @@ use Rattle.std.specs.List.{IsDistinct}
 use Rattle.std.specs.Map.{lookup, keys_of}
 use Rattle.std.specs.Option.{option_and_then}
 use Rattle.std.specs.Str.{bytes_eq}
+use Rattle.mtp_codes.specs.declared.limits.TheConstants.{MOST_MODULES}
 use Rattle.pol_table.specs.Berths.{look}
 use Rattle.pol_table.specs.Places.{part_at, berth_at, berths_of, IsSound}
 use Rattle.pol_table.specs.declared.seat.Seat.{Seat}
@@ -30,7 +31,7 @@ pub record Docks {T : Type 0} (tag : List ℕ) (seat : Seat) (part : T) (old new
   pub others : (place : ℕ) → place ≢ seat.place → part_at after place ≡ part_at parts place
   pub unique : IsDistinct bytes_eq (keys_of new)
   pub count : length new ≡ length old + 1
-  pub room : length old < 64
+  pub room : length old < MOST_MODULES
 
 module _ {T : Type 0} (tag : List ℕ) (seat : Seat) (part : T) (old new : List (List ℕ × Seat)) (parts after : List (Option T))
     (docks : Docks tag seat part old new parts after) where

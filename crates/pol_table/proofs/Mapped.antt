@@ -5,6 +5,7 @@ use Rattle.std.specs.List.{IsDistinct}
 use Rattle.std.specs.Map.{lookup, keys_of}
 use Rattle.std.specs.Option.{option_map, option_and_then}
 use Rattle.std.specs.Str.{bytes_eq}
+use Rattle.mtp_codes.specs.declared.limits.TheConstants.{MOST_MODULES}
 use Rattle.pol_table.specs.Berths.{Berth, look}
 use Rattle.pol_table.specs.Places.{berth_at, berths_of, IsSound}
 use Rattle.pol_table.specs.declared.seat.Seat.{Seat}
@@ -25,7 +26,7 @@ module _ {T : Type 0} (parts : List (Option T)) (old new : List (List ℕ × Sea
       let back = before (change tag) (lookup (bytes_eq tag) old) seat (sym (changed tag) ∙ found) in
       (back.0, back.1, sym (in_place tag back.0) ∙ ap (λ s. s.place) back.2)
 
-  pub sound-changed : IsSound old parts → IsDistinct bytes_eq (keys_of new) → length new ≤ 64 → IsSound new parts
+  pub sound-changed : IsSound old parts → IsDistinct bytes_eq (keys_of new) → length new ≤ MOST_MODULES → IsSound new parts
   sound-changed sound unique few = record {
     unique = unique;
     occupied = λ tag seat found. let back = was tag seat found in rw (← back.2) (sound.occupied tag back.0 back.1);

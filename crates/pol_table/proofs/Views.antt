@@ -5,6 +5,7 @@ use Rattle.std.specs.List.{AllByRecursion}
 use Rattle.std.specs.Map.{lookup}
 use Rattle.std.specs.Option.{option_map, option_and_then}
 use Rattle.std.specs.Str.{bytes_eq}
+use Rattle.mtp_codes.specs.declared.limits.TheConstants.{MOST_MODULES}
 use Rattle.pol_table.specs.Berths.{Berth, look, part_of, holder_of}
 use Rattle.pol_table.specs.Answers.{dock_fault}
 use Rattle.pol_table.specs.declared.faults.DockFault.TheVariants.{TagTaken, PlantFull}
@@ -84,7 +85,7 @@ module _ {T : Type 0} where
 
     -- why nothing may dock under a tag, by the seats
     pub dock_fault-seats : (tag : List ℕ) → dock_fault tag (berths_of seats parts)
-        ≡ (if is_some (lookup (bytes_eq tag) seats) then Some TagTaken else if nat_le 64 (length seats) then Some PlantFull else None)
+        ≡ (if is_some (lookup (bytes_eq tag) seats) then Some TagTaken else if nat_le MOST_MODULES (length seats) then Some PlantFull else None)
     dock_fault-seats tag = rw (is_some-look tag, length-berths_of) refl
 
     -- a tag has the holder of its seat

@@ -2,6 +2,7 @@
 use Rattle.std.specs.Prelude.{ℕ, List, length, Option, None, Some, Result, Ok, Err, is_some, nat_le, if◌then◌else◌, map}
 use Rattle.std.specs.Option.{option_map, option_or}
 use Rattle.mtp_codes.specs.Faults.{done_unless, first_of}
+use Rattle.mtp_codes.specs.declared.limits.TheConstants.{MOST_MODULES}
 use Rattle.pol_table.specs.Berths.{Berth, Berths, look, holder_of}
 use Rattle.pol_table.specs.declared.faults.DockFault.{DockFault}
 use Rattle.pol_table.specs.declared.faults.DockFault.TheVariants.{TagTaken, PlantFull}
@@ -14,7 +15,7 @@ module _ {T : Type 0} where
   -- why nothing may dock under a tag: the tag is docked, or it is new and 64 are
   abbrev pub dock_fault : List ℕ → Berths T → Option DockFault
   dock_fault tag berths =
-      if is_some (look tag berths) then Some TagTaken else if nat_le 64 (length berths) then Some PlantFull else None
+      if is_some (look tag berths) then Some TagTaken else if nat_le MOST_MODULES (length berths) then Some PlantFull else None
 
   -- a part leaves where no batch holds it
   abbrev pub parting : T → Option (List ℕ) → Result T LeaveFault

@@ -4,6 +4,7 @@ use Rattle.std.specs.List.{IsDistinct}
 use Rattle.std.specs.Map.{lookup, keys_of}
 use Rattle.std.specs.Option.{option_map, option_and_then, option_eq}
 use Rattle.std.specs.Str.{bytes_eq}
+use Rattle.mtp_codes.specs.declared.limits.TheConstants.{MOST_MODULES}
 use Rattle.pol_table.specs.Berths.{Berth, Berths}
 use Rattle.pol_table.specs.declared.faults.HoldFault.{HoldFault}
 use Rattle.pol_table.specs.declared.faults.HoldFault.TheVariants.{Busy, NoModule as Missing}
@@ -30,7 +31,7 @@ module _ {T : Type 0} where
     pub occupied : (tag : List ℕ) (seat : Seat) → lookup (bytes_eq tag) seats ≡ Some seat → IsSome (part_at parts seat.place)
     pub apart : (tag other : List ℕ) (seat next : Seat) → lookup (bytes_eq tag) seats ≡ Some seat
         → lookup (bytes_eq other) seats ≡ Some next → seat.place ≡ next.place → tag ≡ other
-    pub few : length seats ≤ 64
+    pub few : length seats ≤ MOST_MODULES
 
 -- the seat, held by this batch
 abbrev pub seat_held_by : List ℕ → Seat → Seat

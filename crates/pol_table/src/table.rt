@@ -11,7 +11,7 @@ use super::faults::{DockFault, HoldFault, LeaveFault};
 use super::holding::{first_busy, first_missing, free_each, free_seat, hold_each, holder_of_seat};
 use super::seat::Seat;
 use indexmap::IndexMap;
-use mtp_codes::Name;
+use mtp_codes::{MOST_MODULES, Name};
 use slab::Slab;
 use std::alloc::Global;
 use std::marker::Model;
@@ -96,7 +96,7 @@ impl<T: Drop> Table<T> {
         if self.seats.contains_key(&tag) {
             return Err((part, DockFault::TagTaken));
         }
-        if self.seats.len() >= 64 {
+        if self.seats.len() >= MOST_MODULES {
             return Err((part, DockFault::PlantFull));
         }
         if self.seats.reserve(1).is_err() {

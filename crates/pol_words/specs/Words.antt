@@ -1,10 +1,11 @@
 -- What the words of the command line ask for.
-use Rattle.std.specs.Prelude.{◌≡◌, List, [], String, Option, Some, codes, string_bytes, map, true}
+use Rattle.std.specs.Prelude.{◌≡◌, ◌<◌, ◌^◌, ℕ, List, [], String, Option, Some, None, codes, string_bytes, map, true}
+use Rattle.std.specs.Str.Parse.{IsNumeral, digits_value, without_leading_plus}
 use Rattle.std.specs.declared.alloc.Global.{Global}
 use Rattle.clap.specs.Words.{App, Rule, Text, first_of, matches_of, new_app, new_rule, with_rule, fault_of}
 use Rattle.clap.specs.Simple.{on_top}
 use Rattle.clap.specs.declared.builder.action.ArgAction.TheVariants.{Set}
-use Rattle.pol_words.specs.declared.SerialTask.TheVariants.{Replay}
+use Rattle.pol_words.specs.declared.SerialTask.TheVariants.{Replay, Demo}
 use Rattle.pol_words.specs.declared.Task.{Task}
 use Rattle.pol_words.specs.declared.Task.TheVariants.{Serial}
 
@@ -12,20 +13,45 @@ use Rattle.pol_words.specs.declared.Task.TheVariants.{Serial}
 abbrev pub job_rule : Rule
 job_rule = record (new_rule (codes "job")) { long = Some (codes "job"); action = Some Set; required = true }
 
+-- the option `--seed`, which takes one value
+abbrev pub seed_rule : Rule
+seed_rule = record (new_rule (codes "seed")) { long = Some (codes "seed"); action = Some Set }
+
 -- the command `pol`, with neither help nor version
 unfoldable pub pol : App
-pol = with_rule
+pol = with_rule (with_rule
     (on_top (λ settings. record settings { disable_help_flag = true; disable_version_flag = true }) (new_app (codes "pol")))
-    job_rule
+    job_rule) seed_rule
 
--- the value of `--job` asks for a task
-abbrev pub Asks : Option Text → Task → Type 0
-Asks job (Serial Replay) = job ≡ Some (codes "replay")
+-- the values of the options, where they are given
+pub record Options : Type 0 where
+  pub job : Option Text
+  pub seed : Option Text
+
+-- the values that clap finds in some words
+abbrev pub options_of : List Text → Options
+options_of words =
+    record {
+      job = first_of (codes "job") (matches_of pol words);
+      seed = first_of (codes "seed") (matches_of pol words);
+    }
+
+-- a text is this number in decimal, a plus before it allowed, and it is at most 4294967295
+pub record IsSeed (seed : ℕ) (text : Text) : Type 0 where
+  pub numeral : IsNumeral 10 (without_leading_plus text)
+  pub number : seed ≡ digits_value 10 (without_leading_plus text)
+  pub in_range : seed < 2 ^ 32
+
+-- the values ask for a task: a demo has a seed, and no other job has one
+abbrev pub Asks : Options → Task → Type 0
+Asks options (Serial Replay) = (options.job ≡ Some (codes "replay")) × (options.seed ≡ None)
+Asks options (Serial (Demo seed)) =
+    (options.job ≡ Some (codes "demo")) × ((text : Text) × (options.seed ≡ Some text) × IsSeed seed text)
 
 -- the words as texts
 abbrev pub texts_of : List (String Global) → List Text
 texts_of words = map string_bytes words
 
--- clap refuses nothing of the words, and the value that it found asks for the task
+-- clap refuses nothing of the words, and the values that it finds ask for the task
 abbrev pub Means : List Text → Task → Type 0
-Means words task = (fault_of pol words ≡ []) × Asks (first_of (codes "job") (matches_of pol words)) task
+Means words task = (fault_of pol words ≡ []) × Asks (options_of words) task

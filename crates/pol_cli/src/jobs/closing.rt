@@ -3,10 +3,9 @@ ghost use Rattle.std.specs.Prelude.{◌≢◌, ℕ, List, IfErr, OnOk, OnErr};
 ghost use Rattle.std.specs.Io.KnownBytes.{Appends};
 ghost use Rattle.pol_events.specs.Events.{history_view};
 ghost use Rattle.pol_history.specs.Runs.{IsOrderly};
-ghost use Rattle.pol_history.specs.Texts.{batches_text};
-ghost use Rattle.pol_history.specs.Lines.{closing_text};
+ghost use Rattle.pol_record.specs.Texts.{batches_text};
+ghost use Rattle.pol_record.specs.Lines.{closing_text};
 ghost use Rattle.pol_io.specs.Causes.{HasCauseOf};
-ghost use Rattle.pol_record.specs.Gathered.{HasBindsInOrder, known_of};
 ghost use Rattle.pol_cli.specs.BatchLines.{gathered_lines, gathered_text};
 ghost use Rattle.pol_cli.specs.Written.{WritesPart, WritesSome};
 
@@ -25,7 +24,6 @@ fn put_batch<K: Sink>(
     batch: Name,
     sink: &mut K,
 ) -> Result<(), JobFault>
-    requires { HasBindsInOrder (known_of gathered.now.records.entries batch) }
     ensures line { OnOk result (Appends (K.held sink.old) (K.held sink.new) (gathered_text gathered.now batch)) }
     ensures part { OnErr result (WritesSome (K.held sink.old) (K.held sink.new) (gathered_text gathered.now batch)) }
     ensures cause { HasCauseOf JobFault.Write (K.faults sink.old) (K.faults sink.new) result }
@@ -41,7 +39,6 @@ fn put_each<K: Sink>(
     batches: &[Name],
     sink: &mut K,
 ) -> Result<(), JobFault>
-    requires { (batch : List ℕ) → HasBindsInOrder (known_of gathered.now.records.entries batch) }
     ensures text { OnOk result (Appends (K.held sink.old) (K.held sink.new) (gathered_lines gathered.now batches.now)) }
     ensures part { OnErr result (WritesSome (K.held sink.old) (K.held sink.new)
         (gathered_lines gathered.now batches.now)) }

@@ -4,7 +4,7 @@ ghost use Rattle.pol_events.specs.Events.{event_view};
 ghost use Rattle.pol_events.specs.Orderly.{is_orderly};
 ghost use Rattle.pol_history.specs.Answers.{answer_of};
 ghost use Rattle.pol_history.specs.Runs.{entry_of, recorded};
-ghost use Rattle.pol_history.specs.Texts.{answer_text};
+ghost use Rattle.pol_record.specs.Texts.{answer_text};
 ghost use Rattle.pol_cli.specs.Replay.{plant_history};
 ghost use Rattle.pol_cli.specs.Sayings.{IsOrderly, saying_view, reply_text, after_saying};
 
@@ -15,34 +15,42 @@ use crate::line_job::LineJob;
 use pol_core::Plant;
 use pol_events::{Event, LineFault};
 use pol_io::Sink;
-use pol_record::{answer_line, fault_line};
+use pol_record::{put_answer_line, put_fault_line};
 use std::alloc::{AllocError, Global};
+use std::mem;
 
-/// The line of the plant's answer to an event.
-fn answer_event(alloc: Global, plant: &mut Plant, event: Event) -> Result<Vec<u8>, AllocError>
-    requires { IsTrue (is_orderly (event_view event)) }
+/// The line of the plant's answer to an event, in an empty buffer.
+fn answer_event(plant: &mut Plant, buffer: Vec<u8>, event: Event) -> Result<Vec<u8>, AllocError>
+    requires orderly { IsTrue (is_orderly (event_view event)) }
+    requires empty { buffer.items ≡ [] }
     ensures line { IfOk result (λ line.
         line.items ≡ answer_text (answer_of (plant_history plant.old) (event_view event))) }
     ensures history { OnOk result (plant_history plant.new
         ≡ recorded (entry_of (plant_history plant.old) (event_view event)) (plant_history plant.old)) }
 {
     match plant.apply(event) {
-        Ok(answer) => answer_line(alloc, &answer),
+        Ok(answer) => put_answer_line(buffer, &answer),
         Err((_event, error)) => Err(error),
     }
 }
 
-/// The line that answers what a line says; nothing, where it says nothing.
-fn answer(alloc: Global, plant: &mut Plant, saying: Saying) -> Result<Vec<u8>, AllocError>
-    requires { IsOrderly saying }
+/// The line that answers what a line says, in an empty buffer; nothing, where it says nothing.
+fn answer(
+    alloc: Global,
+    plant: &mut Plant,
+    buffer: Vec<u8>,
+    saying: Saying,
+) -> Result<Vec<u8>, AllocError>
+    requires orderly { IsOrderly saying }
+    requires empty { buffer.items ≡ [] }
     ensures line { IfOk result (λ line. line.items ≡ reply_text (plant_history plant.old) (saying_view saying)) }
     ensures history { OnOk result (
         plant_history plant.new ≡ after_saying (plant_history plant.old) (saying_view saying)) }
 {
     match saying {
-        Saying::Nothing => Ok(Vec::new(alloc)),
-        Saying::Fault(fault) => fault_line(alloc, &fault),
-        Saying::Event(event) => answer_event(alloc, plant, event),
+        Saying::Nothing => Ok(buffer),
+        Saying::Fault(fault) => put_fault_line(alloc, buffer, &fault),
+        Saying::Event(event) => answer_event(plant, buffer, event),
     }
 }
 
@@ -51,6 +59,8 @@ fn answer(alloc: Global, plant: &mut Plant, saying: Saying) -> Result<Vec<u8>, A
 pub struct Replay {
     alloc: Global,
     plant: Plant,
+    // The memory of the reply before, which the next one takes.
+    buffer: Vec<u8>,
 }
 
 impl Replay {
@@ -61,7 +71,18 @@ impl Replay {
         Replay {
             alloc,
             plant: Plant::new(alloc),
+            buffer: Vec::new(alloc),
         }
+    }
+
+    // An empty buffer: the one that was taken back, if there is one.
+    fn lend_buffer(&mut self) -> Vec<u8>
+        ensures empty { result.items ≡ [] }
+        ensures plant { plant_history self.new.plant ≡ plant_history self.old.plant }
+    {
+        let mut buffer = mem::replace(&mut self.buffer, Vec::new(self.alloc));
+        buffer.clear();
+        buffer
     }
 }
 
@@ -77,13 +98,23 @@ impl LineJob for Replay {
 
     fn reply(&mut self, line: &[u8]) -> Result<Vec<u8>, AllocError> {
         let saying = read_saying(self.alloc, line)?;
-        answer(self.alloc, &mut self.plant, saying)
+        let buffer = self.lend_buffer();
+        answer(self.alloc, &mut self.plant, buffer, saying)
     }
 
     #[tactic(auto, using(crate::proofs::Spoken::says_too_long))]
     fn reply_too_long(&mut self) -> Result<Vec<u8>, AllocError> {
-        let saying = Saying::Fault(LineFault::TooLong);
-        answer(self.alloc, &mut self.plant, saying)
+        let buffer = self.lend_buffer();
+        answer(
+            self.alloc,
+            &mut self.plant,
+            buffer,
+            Saying::Fault(LineFault::TooLong),
+        )
+    }
+
+    fn take_back(&mut self, reply: Vec<u8>) {
+        self.buffer = reply;
     }
 
     fn close<K: Sink>(&mut self, sink: &mut K) -> Result<(), JobFault> {

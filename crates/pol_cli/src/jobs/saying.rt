@@ -1,11 +1,13 @@
 //! What a line of the journal says.
 ghost use Rattle.std.specs.Prelude.{◌≡◌, IfOk};
 ghost use Rattle.std.specs.List.{list_all};
-ghost use Rattle.pol_history.specs.Lines.{is_blank_byte, saying_of};
+ghost use Rattle.pol_events.specs.Lines.{is_blank_byte};
+ghost use Rattle.pol_record.specs.Lines.{saying_of};
 ghost use Rattle.pol_cli.specs.LineWork.{IsShort};
 ghost use Rattle.pol_cli.specs.Sayings.{IsOrderly, saying_view};
 
-use pol_events::{Event, LineFault, LineRefusal, read_event};
+use pol_events::{Event, LineFault, LineRefusal};
+use pol_lines::read_line;
 use std::alloc::{AllocError, Global};
 
 /// What a line of the journal says.
@@ -36,7 +38,7 @@ pub fn read_saying(alloc: Global, line: &[u8]) -> Result<Saying, AllocError>
     if is_blank(line) {
         return Ok(Saying::Nothing);
     }
-    match read_event(alloc, line) {
+    match read_line(alloc, line) {
         Ok(event) => Ok(Saying::Event(event)),
         Err(LineRefusal::Fault(fault)) => Ok(Saying::Fault(fault)),
         Err(LineRefusal::Memory) => Err(AllocError),

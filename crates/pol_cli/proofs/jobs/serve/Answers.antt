@@ -5,10 +5,11 @@ use Rattle.pol_cli.specs.Replay.{replay_work}
 use Rattle.pol_cli.proofs.Replaying.{replay_output}
 use Rattle.pol_cli.proofs.jobs.serve.Goals as goal
 
-pub returns-clause-ends : goal.returns-clause-ends
-returns-clause-ends g c =
-    subst (λ output. Ends output (edge (g.S.Source.left c.args.source.now) (g.S.Source.faults c.args.source.now))
+pub returns-in-Replay-clause-ends : goal.returns-in-Replay-clause-ends
+returns-in-Replay-clause-ends g c =
+    rw c.in-Replay.is (subst (λ output. Ends output
+    (edge (g.S.Source.left c.args.source.now) (g.S.Source.faults c.args.source.now))
     (edge (g.S.Source.left c.work.new.source) (g.S.Source.faults c.work.new.source))
     (edge (g.K.Sink.held c.args.sink.now) (g.K.Sink.faults c.args.sink.now))
     (edge (g.K.Sink.held c.work.new.sink) (g.K.Sink.faults c.work.new.sink)) c.work.result)
-    (ap (output_by replay_work) c.new.ensures ∙ replay_output) c.work.ensures.ends
+    (ap (output_by replay_work) c.new.ensures ∙ replay_output) c.work.ensures.ends)

@@ -18,10 +18,10 @@ pub loop-made-preserved : goal.loop-made-preserved
 loop-made-preserved g c =
     let invariant = c.loop-made.invariant in
     record {
-      served = served_on g.J.LineJob.work _ _ _ _ _ _ c.in-Some.made invariant.served
+      served = rw c.take_back.ensures (served_on g.J.LineJob.work _ _ _ _ _ _ c.in-Some.made invariant.served
           (rw c.in-Some.is at c.in_ok-made.ensures.next)
-          c.in_ok-put_reply.ensures.was_made c.in_ok-put_reply.ensures.text;
-      moves = moves_on _ _ _ invariant.moves c.in_ok-made.ensures.next.moves;
+          c.in_ok-put_reply.ensures.was_made c.in_ok-put_reply.ensures.text);
+      moves = rw c.take_back.ensures (moves_on _ _ _ invariant.moves c.in_ok-made.ensures.next.moves);
       source_sound = c.in_ok-made.ensures.cause.done ∙ invariant.source_sound;
       sink_sound = c.in_ok-put_reply.ensures.cause.done ∙ invariant.sink_sound;
     }

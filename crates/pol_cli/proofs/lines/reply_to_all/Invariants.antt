@@ -1,5 +1,6 @@
 use Rattle.std.proofs.Common.{◌≡◌, ◌-◌}
 use Rattle.pol_io.specs.Reading.{given}
+use Rattle.pol_io.specs.declared.limits.TheConstants.{LONGEST_INPUT}
 use Rattle.pol_cli.specs.Moments.{moment, Moves, IsServed}
 use Rattle.pol_cli.proofs.lines.reply_to_all.Given as goal
 
@@ -15,4 +16,4 @@ invariant-loop-made g l =
     }
 
 abbrev pub decreases-loop-made : goal.decreases-loop-made
-decreases-loop-made g l = 268435456 - given l.lines
+decreases-loop-made g l = LONGEST_INPUT - given l.lines

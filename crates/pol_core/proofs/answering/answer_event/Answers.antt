@@ -2,6 +2,7 @@
 use Rattle.std.proofs.Common.{◌≡◌, ◌∙◌, sym, ap, subst, refl, length, true}
 use Rattle.std.specs.Prelude.{nat_le}
 use Rattle.std.proofs.lemmas.Bool.{and_parts}
+use Rattle.mtp_codes.specs.declared.limits.TheConstants.{MOST_BINDS}
 use Rattle.mtp_desc.specs.DescriptionView.{description_view}
 use Rattle.chart_core.specs.Charts.{plan}
 use Rattle.chart_core.specs.Roles.{is_chart_form}
@@ -11,52 +12,32 @@ use Rattle.pol_events.proofs.Rising.{rising_distinct}
 use Rattle.pol_core.specs.Mirrors.{Answers}
 use Rattle.pol_core.proofs.Learned.{recipe-answered}
 use Rattle.pol_core.proofs.Telling.{if-ok, on-err}
-use Rattle.pol_core.proofs.Together.{module-answered, batch-answered, module-kept}
+use Rattle.pol_core.proofs.Together.{module-told, batch-told, module-kept}
 use Rattle.pol_core.proofs.answering.answer_event.Goals as goal
 
 pub returns-in-Plug-clause-answered : goal.returns-in-Plug-clause-answered
 returns-in-Plug-clause-answered c =
-    let event = plug c.in-Plug.at c.in-Plug.tag (description_view c.in-Plug.desc.value) in
-    let same : event ≡ event_view c.args.event.now = ap event_view (sym c.in-Plug.is) in
     if-ok c.plug.result _ _ (λ answer answered history mirrors room.
-    subst (λ event. Answers history event answer c.plug.new.modules c.args.runs.now.entries
-    c.args.recipes.now.entries) same
-    (module-answered history event c.in-Plug.tag answer c.args.modules.now c.plug.new.modules
-    c.args.runs.now.entries c.args.recipes.now.entries refl refl mirrors
-    (answered history c.in-Plug.at mirrors.seats mirrors.counted room))) c.plug.ensures.answered
+    module-told (plug c.in-Plug.at c.in-Plug.tag (description_view c.in-Plug.desc.value)) c.in-Plug.tag (ap event_view (sym c.in-Plug.is)) refl refl mirrors
+    (answered history c.in-Plug.at mirrors.seats mirrors.counted room)) c.plug.ensures.answered
 
 pub returns-in-Unplug-clause-answered : goal.returns-in-Unplug-clause-answered
 returns-in-Unplug-clause-answered c =
     λ history mirrors room.
-    let event = unplug c.in-Unplug.at c.in-Unplug.tag in
-    let same : event ≡ event_view c.args.event.now = ap event_view (sym c.in-Unplug.is) in
-    subst (λ event. Answers history event c.unplug.result c.unplug.new.modules c.args.runs.now.entries
-    c.args.recipes.now.entries) same
-    (module-answered history event c.in-Unplug.tag c.unplug.result c.args.modules.now c.unplug.new.modules
-    c.args.runs.now.entries c.args.recipes.now.entries refl refl mirrors
-    (c.unplug.ensures.answered history c.in-Unplug.at mirrors.seats mirrors.counted room))
+    module-told (unplug c.in-Unplug.at c.in-Unplug.tag) c.in-Unplug.tag (ap event_view (sym c.in-Unplug.is)) refl refl mirrors
+    (c.unplug.ensures.answered history c.in-Unplug.at mirrors.seats mirrors.counted room)
 
 pub returns-in-Report-clause-answered : goal.returns-in-Report-clause-answered
 returns-in-Report-clause-answered c =
     λ history mirrors room.
-    let event = report c.in-Report.at c.in-Report.tag c.in-Report.service c.in-Report.control in
-    let same : event ≡ event_view c.args.event.now = ap event_view (sym c.in-Report.is) in
-    subst (λ event. Answers history event c.report.result c.report.new.modules c.args.runs.now.entries
-    c.args.recipes.now.entries) same
-    (module-answered history event c.in-Report.tag c.report.result c.args.modules.now c.report.new.modules
-    c.args.runs.now.entries c.args.recipes.now.entries refl refl mirrors
-    (c.report.ensures.answered history c.in-Report.at mirrors.seats mirrors.counted room))
+    module-told (report c.in-Report.at c.in-Report.tag c.in-Report.service c.in-Report.control) c.in-Report.tag (ap event_view (sym c.in-Report.is)) refl refl mirrors
+    (c.report.ensures.answered history c.in-Report.at mirrors.seats mirrors.counted room)
 
 pub returns-in-Variable-clause-answered : goal.returns-in-Variable-clause-answered
 returns-in-Variable-clause-answered c =
     λ history mirrors room.
-    let event = variable c.in-Variable.at c.in-Variable.tag c.in-Variable.name c.in-Variable.value in
-    let same : event ≡ event_view c.args.event.now = ap event_view (sym c.in-Variable.is) in
-    subst (λ event. Answers history event c.variable.result c.variable.new.modules c.args.runs.now.entries
-    c.args.recipes.now.entries) same
-    (module-answered history event c.in-Variable.tag c.variable.result c.args.modules.now c.variable.new.modules
-    c.args.runs.now.entries c.args.recipes.now.entries refl refl mirrors
-    (c.variable.ensures.answered history c.in-Variable.at mirrors.seats mirrors.counted room))
+    module-told (variable c.in-Variable.at c.in-Variable.tag c.in-Variable.name c.in-Variable.value) c.in-Variable.tag (ap event_view (sym c.in-Variable.is)) refl refl mirrors
+    (c.variable.ensures.answered history c.in-Variable.at mirrors.seats mirrors.counted room)
 
 pub returns-in-Recipe-clause-answered : goal.returns-in-Recipe-clause-answered
 returns-in-Recipe-clause-answered c =
@@ -91,109 +72,67 @@ start-requires-clause-once c =
     let orderly : is_orderly (start c.in-Start.at c.in-Start.batch c.in-Start.name c.in-Start.bind.items)
     ≡ true = ap (λ event. is_orderly (event_view event)) (sym c.in-Start.is) ∙ c.requires.orderly in
     ap roles_once c.deref.ensures.value
-    ∙ rising_distinct c.in-Start.bind.items (and_parts (nat_le (length c.in-Start.bind.items) 64)
+    ∙ rising_distinct c.in-Start.bind.items (and_parts (nat_le (length c.in-Start.bind.items) MOST_BINDS)
     (rise c.in-Start.bind.items) orderly).1
 
 pub returns-in-Advance-clause-answered : goal.returns-in-Advance-clause-answered
 returns-in-Advance-clause-answered c =
     λ history mirrors room.
-    let event = advance c.in-Advance.at c.in-Advance.batch in
-    let same : event ≡ event_view c.args.event.now = ap event_view (sym c.in-Advance.is) in
-    subst (λ event. Answers history event c.advance.result c.advance.new.modules c.advance.new.runs.entries
-    c.args.recipes.now.entries) same
-    (batch-answered history event c.in-Advance.batch c.advance.result c.args.modules.now c.advance.new.modules
-    c.args.runs.now.entries c.advance.new.runs.entries
-    c.args.recipes.now.entries refl refl mirrors
+    batch-told (advance c.in-Advance.at c.in-Advance.batch) c.in-Advance.batch (ap event_view (sym c.in-Advance.is)) refl refl
+    mirrors
     (c.advance.ensures.answered history c.in-Advance.at mirrors.seats mirrors.counted mirrors.batches room)
-    c.advance.ensures.count)
+    c.advance.ensures.count
 
 pub returns-in-Freeze-clause-answered : goal.returns-in-Freeze-clause-answered
 returns-in-Freeze-clause-answered c =
     λ history mirrors room.
-    let event = freeze c.in-Freeze.at c.in-Freeze.batch in
-    let same : event ≡ event_view c.args.event.now = ap event_view (sym c.in-Freeze.is) in
-    subst (λ event. Answers history event c.freeze.result c.args.modules.now c.freeze.new.runs.entries
-    c.args.recipes.now.entries) same
-    (batch-answered history event c.in-Freeze.batch c.freeze.result c.args.modules.now c.args.modules.now
-    c.args.runs.now.entries c.freeze.new.runs.entries
-    c.args.recipes.now.entries refl refl mirrors
-    (c.freeze.ensures.answered history c.in-Freeze.at c.args.modules.now mirrors.seats mirrors.counted
-    mirrors.batches room) c.freeze.ensures.count)
+    batch-told (freeze c.in-Freeze.at c.in-Freeze.batch) c.in-Freeze.batch (ap event_view (sym c.in-Freeze.is)) refl refl
+    mirrors
+    (c.freeze.ensures.answered history c.in-Freeze.at c.args.modules.now mirrors.seats mirrors.counted mirrors.batches room)
+    c.freeze.ensures.count
 
 pub returns-in-Thaw-clause-answered : goal.returns-in-Thaw-clause-answered
 returns-in-Thaw-clause-answered c =
     λ history mirrors room.
-    let event = thaw c.in-Thaw.at c.in-Thaw.batch in
-    let same : event ≡ event_view c.args.event.now = ap event_view (sym c.in-Thaw.is) in
-    subst (λ event. Answers history event c.thaw.result c.args.modules.now c.thaw.new.runs.entries
-    c.args.recipes.now.entries) same
-    (batch-answered history event c.in-Thaw.batch c.thaw.result c.args.modules.now c.args.modules.now
-    c.args.runs.now.entries c.thaw.new.runs.entries
-    c.args.recipes.now.entries refl refl mirrors
-    (c.thaw.ensures.answered history c.in-Thaw.at c.args.modules.now mirrors.seats mirrors.counted
-    mirrors.batches room) c.thaw.ensures.count)
+    batch-told (thaw c.in-Thaw.at c.in-Thaw.batch) c.in-Thaw.batch (ap event_view (sym c.in-Thaw.is)) refl refl
+    mirrors
+    (c.thaw.ensures.answered history c.in-Thaw.at c.args.modules.now mirrors.seats mirrors.counted mirrors.batches room)
+    c.thaw.ensures.count
 
 pub returns-in-StopBatch-clause-answered : goal.returns-in-StopBatch-clause-answered
 returns-in-StopBatch-clause-answered c =
     λ history mirrors room.
-    let event = stop_batch c.in-StopBatch.at c.in-StopBatch.batch in
-    let same : event ≡ event_view c.args.event.now = ap event_view (sym c.in-StopBatch.is) in
-    subst (λ event. Answers history event c.stop.result c.args.modules.now c.stop.new.runs.entries
-    c.args.recipes.now.entries) same
-    (batch-answered history event c.in-StopBatch.batch c.stop.result c.args.modules.now c.args.modules.now
-    c.args.runs.now.entries c.stop.new.runs.entries
-    c.args.recipes.now.entries refl refl mirrors
-    (c.stop.ensures.answered history c.in-StopBatch.at c.args.modules.now mirrors.seats mirrors.counted
-    mirrors.batches room) c.stop.ensures.count)
+    batch-told (stop_batch c.in-StopBatch.at c.in-StopBatch.batch) c.in-StopBatch.batch (ap event_view (sym c.in-StopBatch.is)) refl refl
+    mirrors
+    (c.stop.ensures.answered history c.in-StopBatch.at c.args.modules.now mirrors.seats mirrors.counted mirrors.batches room)
+    c.stop.ensures.count
 
 pub returns-in-Abandon-clause-answered : goal.returns-in-Abandon-clause-answered
 returns-in-Abandon-clause-answered c =
     λ history mirrors room.
-    let event = abandon c.in-Abandon.at c.in-Abandon.batch in
-    let same : event ≡ event_view c.args.event.now = ap event_view (sym c.in-Abandon.is) in
-    subst (λ event. Answers history event c.abandon.result c.abandon.new.modules c.abandon.new.runs.entries
-    c.args.recipes.now.entries) same
-    (batch-answered history event c.in-Abandon.batch c.abandon.result c.args.modules.now c.abandon.new.modules
-    c.args.runs.now.entries c.abandon.new.runs.entries
-    c.args.recipes.now.entries refl refl mirrors
+    batch-told (abandon c.in-Abandon.at c.in-Abandon.batch) c.in-Abandon.batch (ap event_view (sym c.in-Abandon.is)) refl refl
+    mirrors
     (c.abandon.ensures.answered history c.in-Abandon.at mirrors.seats mirrors.counted mirrors.batches room)
-    c.abandon.ensures.count)
+    c.abandon.ensures.count
 
 pub returns-in-Desk-clause-answered : goal.returns-in-Desk-clause-answered
 returns-in-Desk-clause-answered c =
     λ history mirrors room.
-    let event = desk c.in-Desk.at c.in-Desk.tag c.in-Desk.service c.in-Desk.command in
-    let same : event ≡ event_view c.args.event.now = ap event_view (sym c.in-Desk.is) in
-    subst (λ event. Answers history event c.desk.result c.args.modules.now c.args.runs.now.entries
-    c.args.recipes.now.entries) same
-    (module-answered history event c.in-Desk.tag c.desk.result c.args.modules.now c.args.modules.now
-    c.args.runs.now.entries c.args.recipes.now.entries refl refl mirrors
-    (c.desk.ensures.answered history c.in-Desk.at mirrors.seats mirrors.counted room))
+    module-told (desk c.in-Desk.at c.in-Desk.tag c.in-Desk.service c.in-Desk.command) c.in-Desk.tag (ap event_view (sym c.in-Desk.is)) refl refl mirrors
+    (c.desk.ensures.answered history c.in-Desk.at mirrors.seats mirrors.counted room)
 
 pub returns-in-ExchangeBegin-clause-answered : goal.returns-in-ExchangeBegin-clause-answered
 returns-in-ExchangeBegin-clause-answered c =
     λ history mirrors room.
-    let event = exchange_begin c.in-ExchangeBegin.at c.in-ExchangeBegin.tag in
-    let same : event ≡ event_view c.args.event.now = ap event_view (sym c.in-ExchangeBegin.is) in
-    subst (λ event. Answers history event c.exchange_begin.result c.exchange_begin.new.modules
-    c.args.runs.now.entries c.args.recipes.now.entries) same
-    (module-answered history event c.in-ExchangeBegin.tag c.exchange_begin.result c.args.modules.now
-    c.exchange_begin.new.modules c.args.runs.now.entries c.args.recipes.now.entries refl refl mirrors
-    (c.exchange_begin.ensures.answered history c.in-ExchangeBegin.at mirrors.seats mirrors.counted
-    mirrors.batches room))
+    module-told (exchange_begin c.in-ExchangeBegin.at c.in-ExchangeBegin.tag) c.in-ExchangeBegin.tag (ap event_view (sym c.in-ExchangeBegin.is)) refl refl mirrors
+    (c.exchange_begin.ensures.answered history c.in-ExchangeBegin.at mirrors.seats mirrors.counted mirrors.batches room)
 
 pub returns-in-ExchangeEnd-clause-answered : goal.returns-in-ExchangeEnd-clause-answered
 returns-in-ExchangeEnd-clause-answered c =
-    let event = exchange_end c.in-ExchangeEnd.at c.in-ExchangeEnd.tag c.in-ExchangeEnd.ticket
-    (description_view c.in-ExchangeEnd.desc.value) in
-    let same : event ≡ event_view c.args.event.now = ap event_view (sym c.in-ExchangeEnd.is) in
     if-ok c.exchange_end.result _ _ (λ answer answered history mirrors room.
-    subst (λ event. Answers history event answer c.exchange_end.new.modules c.args.runs.now.entries
-    c.args.recipes.now.entries) same
-    (module-answered history event c.in-ExchangeEnd.tag answer c.args.modules.now c.exchange_end.new.modules
-    c.args.runs.now.entries c.args.recipes.now.entries refl refl mirrors
-    (answered history c.in-ExchangeEnd.at mirrors.seats mirrors.counted mirrors.batches room)))
-    c.exchange_end.ensures.answered
+    module-told (exchange_end c.in-ExchangeEnd.at c.in-ExchangeEnd.tag c.in-ExchangeEnd.ticket
+    (description_view c.in-ExchangeEnd.desc.value)) c.in-ExchangeEnd.tag (ap event_view (sym c.in-ExchangeEnd.is)) refl refl mirrors
+    (answered history c.in-ExchangeEnd.at mirrors.seats mirrors.counted mirrors.batches room)) c.exchange_end.ensures.answered
 
 pub returns-in-ExchangeEnd-clause-kept : goal.returns-in-ExchangeEnd-clause-kept
 returns-in-ExchangeEnd-clause-kept c =
@@ -205,10 +144,5 @@ returns-in-ExchangeEnd-clause-kept c =
 pub returns-in-ExchangeCancel-clause-answered : goal.returns-in-ExchangeCancel-clause-answered
 returns-in-ExchangeCancel-clause-answered c =
     λ history mirrors room.
-    let event = exchange_cancel c.in-ExchangeCancel.at c.in-ExchangeCancel.tag c.in-ExchangeCancel.ticket in
-    let same : event ≡ event_view c.args.event.now = ap event_view (sym c.in-ExchangeCancel.is) in
-    subst (λ event. Answers history event c.exchange_cancel.result c.exchange_cancel.new.modules
-    c.args.runs.now.entries c.args.recipes.now.entries) same
-    (module-answered history event c.in-ExchangeCancel.tag c.exchange_cancel.result c.args.modules.now
-    c.exchange_cancel.new.modules c.args.runs.now.entries c.args.recipes.now.entries refl refl mirrors
-    (c.exchange_cancel.ensures.answered history c.in-ExchangeCancel.at mirrors.seats mirrors.counted room))
+    module-told (exchange_cancel c.in-ExchangeCancel.at c.in-ExchangeCancel.tag c.in-ExchangeCancel.ticket) c.in-ExchangeCancel.tag (ap event_view (sym c.in-ExchangeCancel.is)) refl refl mirrors
+    (c.exchange_cancel.ensures.answered history c.in-ExchangeCancel.at mirrors.seats mirrors.counted room)

@@ -5,7 +5,8 @@ use Rattle.std.specs.Option.{option_copied_mut}
 use Rattle.std.specs.Str.{bytes_eq}
 use Rattle.pol_runs.specs.Runs.{PlainRun}
 use Rattle.pol_core.specs.Batches.{Stops}
-use Rattle.pol_core.proofs.Runs.{written, inner-same}
+use Rattle.pol_history.proofs.Names.{written}
+use Rattle.pol_core.proofs.Runs.{inner-same}
 use Rattle.pol_core.proofs.batches.stop_run.Goals as goal
 
 pub returns-in-Some-clause-stopped : goal.returns-in-Some-clause-stopped

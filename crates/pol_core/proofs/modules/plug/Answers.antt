@@ -1,6 +1,7 @@
 -- A module is plugged, or a rule is against it.
 use Rattle.std.proofs.Common.{◌∙◌, sym, ap, is_some, refl, length, ◌<◌, arith}
 use Rattle.std.proofs.lemmas.Bool.{lt-leb}
+use Rattle.mtp_codes.specs.declared.limits.TheConstants.{MOST_MODULES}
 use Rattle.mtp_desc.specs.DescriptionView.{description_view}
 use Rattle.pol_events.specs.declared.answer.Answer.TheVariants.{Done}
 use Rattle.pol_history.specs.Looking.{past}
@@ -29,7 +30,7 @@ returns-in-Ok-clause-answered c =
     (sym (part-some (look c.args.tag c.args.modules.now)) ∙ ap is_some (sym c.get.ensures)
     ∙ copied-some c.get.result ∙ sym c.is_some.ensures ∙ c.if-is_some.false))
     (let few = c.if-len-ge-MOST_MODULES.false in let len = c.len.ensures in
-    let below : length c.args.modules.now < 64 = omega arith in lt-leb 64 (length c.args.modules.now) below)
+    let below : length c.args.modules.now < MOST_MODULES = omega arith in lt-leb MOST_MODULES (length c.args.modules.now) below)
     (plug-keeps c.args.tag c.args.tag c.in_ok-slot.slot (past c.args.tag history) at
     (description_view c.args.description.now.value) Done
     c.in_ok-slot.ensures.tag (c.in_ok-slot.ensures.description

@@ -1,6 +1,7 @@
 -- A recipe is made known, or a rule is against it.
 use Rattle.std.proofs.Common.{◌<◌, ◌≤◌, ◌∙◌, sym, ap, subst, length, arith}
 use Rattle.std.proofs.lemmas.Bool.{le-leb, lt-leb}
+use Rattle.mtp_codes.specs.declared.limits.TheConstants.{MOST_RECIPES}
 use Rattle.chart_core.specs.Charts.{plan}
 use Rattle.chart_core.specs.declared.chart.Chart.{Chart}
 use Rattle.pol_events.specs.Events.{recipe}
@@ -22,8 +23,8 @@ returns-then-len-ge-MOST_RECIPES-clause-answered c =
     no-room-recipe history at c.args.name (plan c.args.chart.now.value) c.args.recipes.now.entries mirror room
     (sym c.contains_key.ensures ∙ c.if-contains_key.false)
     (let many = c.if-len-ge-MOST_RECIPES.true in let len = c.len.ensures.len in
-    let above : 64 ≤ length c.args.recipes.now.entries = omega arith in
-    le-leb 64 (length c.args.recipes.now.entries) above)
+    let above : MOST_RECIPES ≤ length c.args.recipes.now.entries = omega arith in
+    le-leb MOST_RECIPES (length c.args.recipes.now.entries) above)
 
 pub returns-clause-answered : goal.returns-clause-answered
 returns-clause-answered c =
@@ -35,7 +36,7 @@ returns-clause-answered c =
     mirror room
     (sym c.contains_key.ensures ∙ c.if-contains_key.false)
     (let few = c.if-len-ge-MOST_RECIPES.false in let len = c.len.ensures.len in
-    let below : length c.args.recipes.now.entries < 64 = omega arith in
-    lt-leb 64 (length c.args.recipes.now.entries) below)
+    let below : length c.args.recipes.now.entries < MOST_RECIPES = omega arith in
+    lt-leb MOST_RECIPES (length c.args.recipes.now.entries) below)
     (ap (λ (chart : Chart). is_valid (plan chart)) same ∙ c.requires)
     c.in_ok-keep.ensures.looks c.in_ok-keep.ensures.count)

@@ -2,7 +2,7 @@ use Rattle.std.proofs.Common.{◌≡◌, drop}
 use Rattle.chart_core.specs.Charts.{plan}
 use Rattle.pol_events.specs.Events.{history_view}
 use Rattle.pol_history.specs.Rules.{modules_unfit}
-use Rattle.pol_lookback.specs.Holding.{names_in}
+use Rattle.pol_bind.specs.Roles.{names_in}
 use Rattle.pol_lookback.proofs.start_rules.first_unfit.Given as goal
 
 abbrev pub invariant-loop-role : goal.invariant-loop-role

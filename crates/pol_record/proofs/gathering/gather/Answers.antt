@@ -3,7 +3,6 @@ use Rattle.std.proofs.Common.{sym, subst, take, take_all}
 use Rattle.pol_events.specs.Events.{history_view}
 use Rattle.pol_record.specs.Gathered.{IsGathered}
 use Rattle.pol_record.proofs.Known.{one-more}
-use Rattle.pol_record.proofs.Rising.{gathered-in-order}
 use Rattle.pol_record.proofs.gathering.gather.Goals as goal
 
 pub loop-entry-preserved : goal.loop-entry-preserved
@@ -14,11 +13,7 @@ loop-entry-preserved c =
     (c.in_ok-gather_entry.ensures (history_view (take c.loop-entry.entry-index c.args.history.now))
     c.loop-entry.invariant)
 
-pub returns-clause-gathered : goal.returns-clause-gathered
-returns-clause-gathered c =
+pub returns : goal.returns
+returns c =
     subst (λ entries. IsGathered c.loop-entry.gathered (history_view entries))
     (take_all c.loop-entry.entry-index c.args.history.now c.loop-entry-test.false) c.loop-entry.invariant
-
-pub returns-clause-in_order : goal.returns-clause-in_order
-returns-clause-in_order c =
-    gathered-in-order c.loop-entry.gathered (history_view c.args.history.now) c.requires (returns-clause-gathered c)

@@ -12,7 +12,7 @@ returns-clause-text g c =
     subst (λ text. OnOk c.put_each.result
     (Appends (g.K.Sink.held c.args.sink.now) (g.K.Sink.held c.put_each.new.sink) text))
     (ap (gathered_lines c.in_ok-gathered.gathered) c.deref.ensures.value
-    ∙ lines_of_all c.in_ok-gathered.gathered (history_view c.args.history.now) c.in_ok-gathered.ensures.gathered)
+    ∙ lines_of_all c.in_ok-gathered.gathered (history_view c.args.history.now) c.in_ok-gathered.ensures)
     c.put_each.ensures.text
 
 pub returns-clause-part : goal.returns-clause-part
@@ -20,5 +20,5 @@ returns-clause-part g c =
     subst (λ text. OnErr c.put_each.result
     (WritesSome (g.K.Sink.held c.args.sink.now) (g.K.Sink.held c.put_each.new.sink) text))
     (ap (gathered_lines c.in_ok-gathered.gathered) c.deref.ensures.value
-    ∙ lines_of_all c.in_ok-gathered.gathered (history_view c.args.history.now) c.in_ok-gathered.ensures.gathered)
+    ∙ lines_of_all c.in_ok-gathered.gathered (history_view c.args.history.now) c.in_ok-gathered.ensures)
     c.put_each.ensures.part

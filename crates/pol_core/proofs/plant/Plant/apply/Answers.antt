@@ -1,5 +1,6 @@
 -- The plant with one more entry.
 use Rattle.std.proofs.Common.{◌<◌, ◌∙◌, ◌∷◌, ◌++◌, [], ap, length, arith}
+use Rattle.mtp_codes.specs.declared.limits.TheConstants.{LONGEST_HISTORY}
 use Rattle.pol_events.specs.Events.{event_view, history_view}
 use Rattle.pol_history.specs.Runs.{entry_of, recorded}
 use Rattle.pol_core.specs.Plants.{PlainPlant, plant_history}
@@ -11,7 +12,7 @@ pub invariant_of-self-2 : goal.invariant_of-self-2
 invariant_of-self-2 c =
     let room = c.if-len-ge-LONGEST_HISTORY.false in
     let len = c.len.ensures in
-    let short : length c.self.inside.history.items < 200000 = omega arith in
+    let short : length c.self.inside.history.items < LONGEST_HISTORY = omega arith in
     grown c.self.inside.history.items c.append.new.history.items c.args.event c.in-Ok.answer
     c.answer_event.new.modules c.answer_event.new.runs.entries c.answer_event.new.recipes.entries
     (c.append.ensures.items ∙ ap (λ items. items ++ record {
@@ -26,7 +27,7 @@ pub returns-clause-history : goal.returns-clause-history
 returns-clause-history c =
     let room = c.if-len-ge-LONGEST_HISTORY.false in
     let len = c.len.ensures in
-    let short : length c.self.inside.history.items < 200000 = omega arith in
+    let short : length c.self.inside.history.items < LONGEST_HISTORY = omega arith in
     recorded-is c.self.inside.history.items c.append.new.history.items c.args.event c.in-Ok.answer
     (c.append.ensures.items ∙ ap (λ items. items ++ record {
       event = c.args.event;

@@ -1,0 +1,10 @@
+use Rattle.std.proofs.Common.{◌≡◌, ◌+◌}
+use Rattle.pol_demo.specs.Journal.{idle, each}
+use Rattle.pol_demo.specs.Telling.{lines_told, told_by}
+use Rattle.pol_demo.proofs.journal.report_idle.Given as goal
+
+abbrev pub invariant-loop-place : goal.invariant-loop-place
+invariant-loop-place l = record {
+  told : told_by l.teller ≡ lines_told (each idle l.place) (told_by l.fn.teller);
+  at : l.teller.at ≡ l.fn.teller.at + l.place;
+}

@@ -1,0 +1,18 @@
+//! The demo journal of a seed: it is made event by event and told to a plant, and the history is summed up in one line.
+//!
+//! Eight modules are docked, and up to 120 batches run on them, one after another, with 1,000 values each. It knows
+//! nothing of lines that are read, of words or of sinks. Its main contract is that of `demo_line`: the line is the
+//! summary of what `pol_history` answers to the journal (`specs/Journal.antt`, `specs/Summary.antt`).
+#![tactic(auto)]
+
+mod doser;
+mod journal;
+mod names;
+mod sequence;
+mod summary;
+mod telling;
+
+pub use summary::demo_line;
+
+#[cfg(test)]
+mod tests;

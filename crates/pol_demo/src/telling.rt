@@ -1,0 +1,44 @@
+//! A plant to which a journal is told.
+ghost use Rattle.std.specs.Prelude.{◌≡◌, ◌+◌, ◌<◌, ◌^◌, [], IfOk, IsTrue, OnOk};
+ghost use Rattle.pol_events.specs.Events.{event_view};
+ghost use Rattle.pol_events.specs.Orderly.{is_orderly};
+ghost use Rattle.pol_demo.specs.Telling.{event_told, told_by};
+
+use pol_core::Plant;
+use pol_events::Event;
+use std::alloc::{AllocError, Global};
+
+/// A plant to which a journal is told.
+#[derive(Drop)]
+pub struct Teller {
+    pub plant: Plant,
+    /// The number of the next line.
+    pub at: u64,
+}
+
+impl Teller {
+    /// Nothing was told yet. There is room for so many lines, unless memory is wanting.
+    pub fn new(alloc: Global, lines: u32) -> Result<Teller, AllocError>
+        ensures { IfOk result (λ teller. told_by teller ≡ record { history = []; at = 1 }) }
+    {
+        let mut plant = Plant::new(alloc);
+        plant.reserve(lines)?;
+        Ok(Teller { plant, at: 1 })
+    }
+
+    /// Tells an event as the next line.
+    pub fn tell(&mut self, event: Event) -> Result<(), AllocError>
+        requires orderly { IsTrue (is_orderly (event_view event)) }
+        requires room { self.old.at + 1 < 2 ^ 64 }
+        ensures told { OnOk result (told_by self.new ≡ event_told (event_view event) (told_by self.old)) }
+        ensures at { OnOk result (self.new.at ≡ self.old.at + 1) }
+    {
+        match self.plant.apply(event) {
+            Ok(_) => {
+                self.at += 1;
+                Ok(())
+            }
+            Err((_event, error)) => Err(error),
+        }
+    }
+}

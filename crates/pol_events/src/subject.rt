@@ -1,0 +1,43 @@
+//! Whom an event is of.
+ghost use Rattle.std.specs.Prelude.{◌≡◌};
+ghost use Rattle.pol_events.specs.Events.{event_view};
+ghost use Rattle.pol_events.specs.Subjects.{subject, subject_view};
+
+use crate::event::Event;
+use mtp_codes::Name;
+
+/// Whom an event is of.
+#[derive(Clone, Copy, Debug, PartialEq, Eq)]
+pub enum Subject {
+    /// The module of this tag.
+    Module(Name),
+    /// The batch of this name.
+    Batch(Name),
+    /// The recipe of this name.
+    Recipe(Name),
+}
+
+impl Event {
+    /// The module, batch or recipe that the event is of.
+    pub fn subject(&self) -> Subject
+        ensures { subject_view result ≡ subject (event_view self.now) }
+    {
+        match self {
+            Event::Plug { tag, .. }
+            | Event::Unplug { tag, .. }
+            | Event::Report { tag, .. }
+            | Event::Variable { tag, .. }
+            | Event::Desk { tag, .. }
+            | Event::ExchangeBegin { tag, .. }
+            | Event::ExchangeEnd { tag, .. }
+            | Event::ExchangeCancel { tag, .. } => Subject::Module(*tag),
+            Event::Recipe { recipe, .. } => Subject::Recipe(*recipe),
+            Event::Start { batch, .. }
+            | Event::Advance { batch, .. }
+            | Event::Freeze { batch, .. }
+            | Event::Thaw { batch, .. }
+            | Event::StopBatch { batch, .. }
+            | Event::Abandon { batch, .. } => Subject::Batch(*batch),
+        }
+    }
+}

@@ -1,0 +1,9 @@
+pub mod Cutting
+pub mod Digits
+pub mod Printed
+pub mod Lookups
+pub mod Members
+pub mod Listing
+pub mod Stepping
+pub mod Noding
+pub mod Making

@@ -1,0 +1,12 @@
+use Rattle.std.proofs.Common.{◌-◌}
+use Rattle.serde_json.specs.Data.{no_members}
+use Rattle.arrayvec.specs.ArrayVec.{array_vec_len}
+use Rattle.pol_lines.specs.Begins.{Opens}
+use Rattle.pol_lines.specs.Flat.{put_all}
+use Rattle.pol_lines.proofs.flat.read_object.Given as goal
+
+abbrev pub invariant-loop-members : goal.invariant-loop-members
+invariant-loop-members l = Opens 0 l.fn.text (put_all l.members.items no_members) l.rest
+
+abbrev pub decreases-loop-members : goal.decreases-loop-members
+decreases-loop-members l = 9 - array_vec_len l.members

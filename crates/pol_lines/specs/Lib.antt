@@ -1,0 +1,4 @@
+pub mod Begins
+pub mod Flat
+pub mod Keys
+pub mod Leaves

@@ -1,0 +1,248 @@
+//! The events that flat lines say.
+ghost use Rattle.std.specs.Prelude.{◌≡◌, ℕ, List, Ok, IfSome, IsTrue, codes};
+ghost use Rattle.std.specs.List.{list_all};
+ghost use Rattle.mtp_json.specs.Form.{is_listed};
+ghost use Rattle.pol_events.specs.Events.{EventForm, event_view};
+ghost use Rattle.pol_events.specs.Forms.{batch_in, control_in, desk_in, event_in, exchange_cancel_in, report_in, tag_in, variable_in};
+ghost use Rattle.pol_events.specs.Orderly.{is_orderly};
+ghost use Rattle.pol_lines.specs.Flat.{flat_data};
+ghost use Rattle.pol_lines.specs.Keys.{key_text};
+
+use crate::fields::{
+    command_at, count_at, kind_at, mode_at, name_at, origin_at, scalar_at, state_at,
+};
+use crate::flat::Member;
+use crate::key::Key;
+use mtp_assembly::ServiceControl;
+use mtp_codes::Name;
+use pol_events::{Event, EventKind};
+
+fn are_of_variable(members: &[Member]) -> bool
+    ensures { result ≡ list_all (λ member. is_listed (codes "ev at tag name value") (key_text member.key)) members.now }
+{
+    members.iter().all(|member| {
+        matches!(
+            member.key,
+            Key::Ev | Key::At | Key::Tag | Key::Name | Key::Value
+        )
+    })
+}
+
+/// A variable's value by its form.
+#[tactic(auto, using(crate::proofs::Lookups::only_listed), unfolding(pol_events::specs::Forms::variable_in))]
+fn read_variable(members: &[Member]) -> Option<Event>
+    ensures says { IfSome result (λ event. variable_in (flat_data members.now) ≡ Ok (event_view event)) }
+    ensures orderly { IfSome result (λ event. IsTrue (is_orderly (event_view event))) }
+{
+    if !are_of_variable(members) {
+        return None;
+    }
+    let at = count_at(members, Key::At, 0, u64::MAX)?;
+    let tag = name_at(members, Key::Tag)?;
+    let name = name_at(members, Key::Name)?;
+    let value = scalar_at(members, Key::Value)?;
+    Some(Event::Variable {
+        at,
+        tag,
+        name,
+        value,
+    })
+}
+
+fn are_of_report(members: &[Member]) -> bool
+    ensures { result ≡ list_all (λ member.
+        is_listed (codes "ev at tag service StateCur CommandEn Mode Src ProcedureCur") (key_text member.key)) members.now }
+{
+    members.iter().all(|member| {
+        matches!(
+            member.key,
+            Key::Ev
+                | Key::At
+                | Key::Tag
+                | Key::Service
+                | Key::StateCur
+                | Key::CommandEn
+                | Key::Mode
+                | Key::Src
+                | Key::ProcedureCur
+        )
+    })
+}
+
+/// The five fields of what a service reports, by their form.
+#[tactic(auto, unfolding(pol_events::specs::Forms::control_in))]
+fn read_control(members: &[Member]) -> Option<ServiceControl>
+    ensures { IfSome result (λ control. control_in (flat_data members.now) ≡ Ok control) }
+{
+    let state = state_at(members, Key::StateCur)?;
+    let mask = count_at(members, Key::CommandEn, 0, u32::MAX as u64)?;
+    let mode = mode_at(members, Key::Mode)?;
+    let origin = origin_at(members, Key::Src)?;
+    let procedure = count_at(members, Key::ProcedureCur, 0, 65535)?;
+    Some(ServiceControl {
+        state,
+        mask: mask as u32,
+        mode,
+        origin,
+        procedure: procedure as u16,
+    })
+}
+
+/// A report by its form.
+#[tactic(auto, using(crate::proofs::Lookups::only_listed), unfolding(pol_events::specs::Forms::report_in))]
+fn read_report(members: &[Member]) -> Option<Event>
+    ensures says { IfSome result (λ event. report_in (flat_data members.now) ≡ Ok (event_view event)) }
+    ensures orderly { IfSome result (λ event. IsTrue (is_orderly (event_view event))) }
+{
+    if !are_of_report(members) {
+        return None;
+    }
+    let at = count_at(members, Key::At, 0, u64::MAX)?;
+    let tag = name_at(members, Key::Tag)?;
+    let service = name_at(members, Key::Service)?;
+    let control = read_control(members)?;
+    Some(Event::Report {
+        at,
+        tag,
+        service,
+        control,
+    })
+}
+
+fn are_of_desk(members: &[Member]) -> bool
+    ensures { result ≡ list_all (λ member. is_listed (codes "ev at tag service CommandOp") (key_text member.key)) members.now }
+{
+    members.iter().all(|member| {
+        matches!(
+            member.key,
+            Key::Ev | Key::At | Key::Tag | Key::Service | Key::CommandOp
+        )
+    })
+}
+
+/// An operator's command by its form.
+#[tactic(auto, using(crate::proofs::Lookups::only_listed), unfolding(pol_events::specs::Forms::desk_in))]
+fn read_desk(members: &[Member]) -> Option<Event>
+    ensures says { IfSome result (λ event. desk_in (flat_data members.now) ≡ Ok (event_view event)) }
+    ensures orderly { IfSome result (λ event. IsTrue (is_orderly (event_view event))) }
+{
+    if !are_of_desk(members) {
+        return None;
+    }
+    let at = count_at(members, Key::At, 0, u64::MAX)?;
+    let tag = name_at(members, Key::Tag)?;
+    let service = name_at(members, Key::Service)?;
+    let command = command_at(members, Key::CommandOp)?;
+    Some(Event::Desk {
+        at,
+        tag,
+        service,
+        command,
+    })
+}
+
+fn are_of_cancel(members: &[Member]) -> bool
+    ensures { result ≡ list_all (λ member. is_listed (codes "ev at tag ticket") (key_text member.key)) members.now }
+{
+    members.iter().all(|member| matches!(member.key, Key::Ev | Key::At | Key::Tag | Key::Ticket))
+}
+
+/// The cancelling of an exchange by its form.
+#[tactic(auto, using(crate::proofs::Lookups::only_listed), unfolding(pol_events::specs::Forms::exchange_cancel_in))]
+fn read_cancel(members: &[Member]) -> Option<Event>
+    ensures says { IfSome result (λ event. exchange_cancel_in (flat_data members.now) ≡ Ok (event_view event)) }
+    ensures orderly { IfSome result (λ event. IsTrue (is_orderly (event_view event))) }
+{
+    if !are_of_cancel(members) {
+        return None;
+    }
+    let at = count_at(members, Key::At, 0, u64::MAX)?;
+    let tag = name_at(members, Key::Tag)?;
+    let ticket = count_at(members, Key::Ticket, 0, u32::MAX as u64)?;
+    Some(Event::ExchangeCancel {
+        at,
+        tag,
+        ticket: ticket as u32,
+    })
+}
+
+fn are_of_tag(members: &[Member]) -> bool
+    ensures { result ≡ list_all (λ member. is_listed (codes "ev at tag") (key_text member.key)) members.now }
+{
+    members.iter().all(|member| matches!(member.key, Key::Ev | Key::At | Key::Tag))
+}
+
+/// The stamp and the tag of an event that names nothing more.
+#[tactic(auto, using(crate::proofs::Lookups::only_listed), unfolding(pol_events::specs::Forms::tag_in))]
+fn read_of_tag(members: &[Member]) -> Option<(u64, Name)>
+    ensures { IfSome result (λ read. (event : ℕ → List ℕ → EventForm) → tag_in event (flat_data members.now) ≡ Ok (event read.0 read.1)) }
+{
+    if !are_of_tag(members) {
+        return None;
+    }
+    let at = count_at(members, Key::At, 0, u64::MAX)?;
+    let tag = name_at(members, Key::Tag)?;
+    Some((at, tag))
+}
+
+fn are_of_batch(members: &[Member]) -> bool
+    ensures { result ≡ list_all (λ member. is_listed (codes "ev at batch") (key_text member.key)) members.now }
+{
+    members.iter().all(|member| matches!(member.key, Key::Ev | Key::At | Key::Batch))
+}
+
+/// The stamp and the batch of an event that names nothing more.
+#[tactic(auto, using(crate::proofs::Lookups::only_listed), unfolding(pol_events::specs::Forms::batch_in))]
+fn read_of_batch(members: &[Member]) -> Option<(u64, Name)>
+    ensures { IfSome result (λ read. (event : ℕ → List ℕ → EventForm) → batch_in event (flat_data members.now) ≡ Ok (event read.0 read.1)) }
+{
+    if !are_of_batch(members) {
+        return None;
+    }
+    let at = count_at(members, Key::At, 0, u64::MAX)?;
+    let batch = name_at(members, Key::Batch)?;
+    Some((at, batch))
+}
+
+/// The event that the members of a flat line say; None for some lines that say one, and for each that says none.
+#[tactic(auto, unfolding(pol_events::specs::Forms::event_in))]
+pub fn read_members(members: &[Member]) -> Option<Event>
+    ensures says { IfSome result (λ event. event_in (flat_data members.now) ≡ Ok (event_view event)) }
+    ensures orderly { IfSome result (λ event. IsTrue (is_orderly (event_view event))) }
+{
+    match kind_at(members, Key::Ev)? {
+        EventKind::Variable => read_variable(members),
+        EventKind::Report => read_report(members),
+        EventKind::Desk => read_desk(members),
+        EventKind::ExchangeCancel => read_cancel(members),
+        EventKind::Unplug => {
+            let (at, tag) = read_of_tag(members)?;
+            Some(Event::Unplug { at, tag })
+        }
+        EventKind::ExchangeBegin => {
+            let (at, tag) = read_of_tag(members)?;
+            Some(Event::ExchangeBegin { at, tag })
+        }
+        EventKind::Advance => {
+            let (at, batch) = read_of_batch(members)?;
+            Some(Event::Advance { at, batch })
+        }
+        EventKind::Freeze => {
+            let (at, batch) = read_of_batch(members)?;
+            Some(Event::Freeze { at, batch })
+        }
+        EventKind::Thaw => {
+            let (at, batch) = read_of_batch(members)?;
+            Some(Event::Thaw { at, batch })
+        }
+        EventKind::Stop => {
+            let (at, batch) = read_of_batch(members)?;
+            Some(Event::StopBatch { at, batch })
+        }
+        EventKind::Abandon => {
+            let (at, batch) = read_of_batch(members)?;
+            Some(Event::Abandon { at, batch })
+        }
+        _ => None,
+    }
+}

@@ -1,0 +1,186 @@
+//! What stands at the keys of a flat line.
+ghost use Rattle.std.specs.Prelude.{◌≡◌, ◌≤◌, Ok, Some, IfSome, option_map};
+ghost use Rattle.serde_json.specs.Data.{string};
+ghost use Rattle.serde_json.specs.Find.{get};
+ghost use Rattle.mtp_codes.specs.Codes.{command_codes, state_codes};
+ghost use Rattle.mtp_codes.specs.Numbers.{greatest_u32, greatest_u64};
+ghost use Rattle.mtp_json.specs.Form.{field};
+ghost use Rattle.mtp_json.specs.Leaf.{code, count, meaning_of, name, scalar, word};
+ghost use Rattle.pol_events.specs.Words.{kind_words, mode_words, origin_words};
+ghost use Rattle.pol_lines.specs.Flat.{flat_data};
+ghost use Rattle.pol_lines.specs.Keys.{key_text};
+ghost use Rattle.pol_lines.specs.Leaves.{leaf_data};
+
+use crate::flat::Member;
+use crate::key::Key;
+use crate::leaf::Leaf;
+use mtp_codes::{Command, Mode, Name, Origin, Short, State, Value};
+use pol_events::EventKind;
+
+/// The value at a key: the last one, where the key stands more than once.
+#[inline(always)]
+fn leaf_at<'a>(members: &[Member<'a>], key: Key) -> Option<Leaf<'a>>
+    ensures { option_map leaf_data result ≡ get (key_text key) (flat_data members.now) }
+{
+    let mut found = None;
+    for member in members {
+        if member.key == key {
+            found = Some(member.leaf);
+        }
+    }
+    found
+}
+
+/// The text at a key.
+#[inline(always)]
+pub fn text_at<'a>(members: &[Member<'a>], key: Key) -> Option<&'a [u8]>
+    ensures { IfSome result (λ bytes. get (key_text key) (flat_data members.now) ≡ Some (string bytes.now)) }
+{
+    match leaf_at(members, key)? {
+        Leaf::Text(bytes) => Some(bytes),
+        _ => None,
+    }
+}
+
+/// The name at a key.
+#[inline(always)]
+pub fn name_at(members: &[Member], key: Key) -> Option<Name>
+    ensures { IfSome result (λ found. field (key_text key) name (flat_data members.now) ≡ Ok found) }
+{
+    Name::of_bytes(text_at(members, key)?)
+}
+
+/// The whole number from `least` to `most` at a key.
+#[inline(always)]
+pub fn count_at(members: &[Member], key: Key, least: u64, most: u64) -> Option<u64>
+    ensures value { IfSome result (λ found. field (key_text key) (count least most) (flat_data members.now) ≡ Ok found) }
+    ensures most { IfSome result (λ found. found ≤ most) }
+{
+    match leaf_at(members, key)? {
+        Leaf::Whole(number) if number >= 0 && least <= number as u64 && number as u64 <= most =>
+            Some(number as u64),
+        _ => None,
+    }
+}
+
+/// The state whose code stands at a key.
+#[inline(always)]
+pub fn state_at(members: &[Member], key: Key) -> Option<State>
+    ensures { IfSome result (λ found. field (key_text key) (code state_codes) (flat_data members.now) ≡ Ok found) }
+{
+    State::of_code(count_at(members, key, 0, u32::MAX as u64)? as u32)
+}
+
+/// The command whose code stands at a key.
+#[inline(always)]
+pub fn command_at(members: &[Member], key: Key) -> Option<Command>
+    ensures { IfSome result (λ found. field (key_text key) (code command_codes) (flat_data members.now) ≡ Ok found) }
+{
+    Command::of_code(count_at(members, key, 0, u32::MAX as u64)? as u32)
+}
+
+fn mode_of(bytes: &[u8]) -> Option<Mode>
+    ensures { result ≡ meaning_of bytes.now mode_words }
+{
+    if bytes == b"Off".as_slice() {
+        Some(Mode::Off)
+    } else if bytes == b"Operator".as_slice() {
+        Some(Mode::Operator)
+    } else if bytes == b"Automatic".as_slice() {
+        Some(Mode::Automatic)
+    } else {
+        None
+    }
+}
+
+/// The mode whose word stands at a key.
+#[inline(always)]
+pub fn mode_at(members: &[Member], key: Key) -> Option<Mode>
+    ensures { IfSome result (λ found. field (key_text key) (word mode_words) (flat_data members.now) ≡ Ok found) }
+{
+    mode_of(text_at(members, key)?)
+}
+
+fn origin_of(bytes: &[u8]) -> Option<Origin>
+    ensures { result ≡ meaning_of bytes.now origin_words }
+{
+    if bytes == b"Internal".as_slice() {
+        Some(Origin::Internal)
+    } else if bytes == b"External".as_slice() {
+        Some(Origin::External)
+    } else {
+        None
+    }
+}
+
+/// The source of commands whose word stands at a key.
+#[inline(always)]
+pub fn origin_at(members: &[Member], key: Key) -> Option<Origin>
+    ensures { IfSome result (λ found. field (key_text key) (word origin_words) (flat_data members.now) ≡ Ok found) }
+{
+    origin_of(text_at(members, key)?)
+}
+
+/// The kind of a line that is read without a tree; None for the others.
+fn kind_of(bytes: &[u8]) -> Option<EventKind>
+    ensures { IfSome result (λ kind. meaning_of bytes.now kind_words ≡ Some kind) }
+{
+    if bytes == b"variable".as_slice() {
+        Some(EventKind::Variable)
+    } else if bytes == b"report".as_slice() {
+        Some(EventKind::Report)
+    } else if bytes == b"advance".as_slice() {
+        Some(EventKind::Advance)
+    } else if bytes == b"desk".as_slice() {
+        Some(EventKind::Desk)
+    } else if bytes == b"unplug".as_slice() {
+        Some(EventKind::Unplug)
+    } else if bytes == b"freeze".as_slice() {
+        Some(EventKind::Freeze)
+    } else if bytes == b"thaw".as_slice() {
+        Some(EventKind::Thaw)
+    } else if bytes == b"stop".as_slice() {
+        Some(EventKind::Stop)
+    } else if bytes == b"abandon".as_slice() {
+        Some(EventKind::Abandon)
+    } else if bytes == b"exchange_begin".as_slice() {
+        Some(EventKind::ExchangeBegin)
+    } else if bytes == b"exchange_cancel".as_slice() {
+        Some(EventKind::ExchangeCancel)
+    } else if bytes == b"recipe".as_slice() {
+        Some(EventKind::Recipe)
+    } else {
+        None
+    }
+}
+
+/// The kind whose word stands at a key; None for a kind whose lines are never read so.
+#[inline(always)]
+pub fn kind_at(members: &[Member], key: Key) -> Option<EventKind>
+    ensures { IfSome result (λ found. field (key_text key) (word kind_words) (flat_data members.now) ≡ Ok found) }
+{
+    kind_of(text_at(members, key)?)
+}
+
+/// The text as a value of a variable.
+#[inline(never)]
+fn text_value(bytes: &[u8]) -> Option<Value>
+    ensures { IfSome result (λ found. scalar (string bytes.now) ≡ Ok found) }
+{
+    match std::str::from_utf8(bytes) {
+        Ok(text) => Some(Value::Text(Short::of_text(text)?)),
+        Err(_) => None,
+    }
+}
+
+/// The value of a variable at a key.
+#[inline(always)]
+pub fn scalar_at(members: &[Member], key: Key) -> Option<Value>
+    ensures { IfSome result (λ found. field (key_text key) scalar (flat_data members.now) ≡ Ok found) }
+{
+    match leaf_at(members, key)? {
+        Leaf::Text(bytes) => text_value(bytes),
+        Leaf::Whole(number) => Some(Value::Whole(number)),
+        Leaf::Bit(bit) => Some(Value::Bit(bit)),
+    }
+}

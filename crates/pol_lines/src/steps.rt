@@ -1,0 +1,119 @@
+//! Steps at the front of a text.
+ghost use Rattle.std.specs.Prelude.{◌≡◌, ◌≤◌, [], IfSome, Ok, codes, length};
+ghost use Rattle.std.specs.List.{list_all};
+ghost use Rattle.mtp_json.specs.Form.{is_listed, repeats_by};
+ghost use Rattle.mtp_codes.specs.declared.value.Setting.{Setting as SettingForm};
+ghost use Rattle.chart_core.specs.Trees.{step_plan};
+ghost use Rattle.chart_json.specs.Form.{same_setting, setting_of, step_of};
+ghost use Rattle.pol_lines.specs.Begins.{Reads, ReadsList, last_of};
+ghost use Rattle.pol_lines.specs.Flat.{flat_data};
+ghost use Rattle.pol_lines.specs.Keys.{key_text};
+
+use crate::fields::{count_at, name_at, scalar_at};
+use crate::flat::{Member, read_front, read_object};
+use crate::key::Key;
+use crate::lists::{Front, read_list};
+use crate::pieces::eat;
+use chart_core::Step;
+use mtp_codes::Setting;
+use mtp_json::{Alike, repeats};
+use std::alloc::Global;
+
+fn are_of_setting(members: &[Member]) -> bool
+    ensures { result ≡ list_all (λ member. is_listed (codes "name value") (key_text member.key)) members.now }
+{
+    members
+        .iter()
+        .all(|member| matches!(member.key, Key::Name | Key::Value))
+}
+
+/// A setting by its form.
+#[tactic(auto, using(crate::proofs::Lookups::only_listed), unfolding(chart_json::specs::Form::setting_of))]
+fn setting_in(members: &[Member]) -> Option<Setting>
+    ensures { IfSome result (λ setting. setting_of (flat_data members.now) ≡ Ok setting) }
+{
+    if !are_of_setting(members) {
+        return None;
+    }
+    let name = name_at(members, Key::Name)?;
+    let value = scalar_at(members, Key::Value)?;
+    Some(Setting { name, value })
+}
+
+struct SettingForms;
+
+impl Front for SettingForms {
+    type Item = Setting;
+
+    ghost Form = { SettingForm };
+
+    ghost plain = { λ setting. setting };
+
+    ghost form = { setting_of };
+
+    ghost deep = { 1 };
+
+    fn read(_alloc: Global, text: &[u8]) -> Option<(Setting, usize)> {
+        let (members, rest) = read_object(text)?;
+        let setting = setting_in(members.as_slice())?;
+        Some((setting, rest.len()))
+    }
+}
+
+impl Alike for SettingForms {
+    type Item = Setting;
+
+    ghost Form = { SettingForm };
+
+    ghost plain = { λ setting. setting };
+
+    ghost same = { same_setting };
+
+    fn is_like(item: &Setting, other: &Setting) -> bool {
+        item.name == other.name
+    }
+}
+
+fn are_of_step(members: &[Member]) -> bool
+    ensures { result ≡ list_all (λ member. is_listed (codes "step role service procedure settings finish") (key_text member.key)) members.now }
+{
+    members.iter().all(|member| {
+        matches!(
+            member.key,
+            Key::Step | Key::Role | Key::Service | Key::Procedure
+        )
+    })
+}
+
+/// The step at the front of a text, with how many bytes follow it: its settings stand last, and it has no condition.
+pub fn read_step(alloc: Global, text: &[u8]) -> Option<(Step, usize)>
+    ensures { IfSome result (λ read. Reads step_of 3 text.now (step_plan read.0) (last_of read.1 text.now)) }
+{
+    let (members, rest) = read_front(text)?;
+    let members = members.as_slice();
+    if !are_of_step(members) {
+        return None;
+    }
+    let name = name_at(members, Key::Step)?;
+    let role = name_at(members, Key::Role)?;
+    let service = name_at(members, Key::Service)?;
+    let procedure = count_at(members, Key::Procedure, 1, 65535)? as u16;
+    let rest = eat(rest, b"\"settings\":")?;
+    let mut settings = Vec::new(alloc);
+    let rest = read_list::<SettingForms>(alloc, rest, 32, &mut settings)?;
+    let rest = eat(rest, b"}")?;
+    if repeats::<SettingForms>(&settings) {
+        return None;
+    }
+    Some((
+        Step {
+            name,
+            role,
+            service,
+            procedure,
+            settings,
+            finish: None,
+        },
+        rest.len(),
+    ))
+}

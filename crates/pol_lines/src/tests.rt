@@ -1,0 +1,149 @@
+//! Lines that are read without a tree, and lines that are not.
+
+ghost use Rattle.std.specs.Prelude.{◌≡◌, IfOk, IsTrue, Ok};
+ghost use Rattle.pol_events.specs.Events.{event_view};
+ghost use Rattle.pol_events.specs.Lines.{event_of};
+ghost use Rattle.pol_events.specs.Orderly.{is_orderly};
+
+use crate::read_line;
+use crate::reading::read_quick;
+use crate::recipes::read_recipe;
+use pol_events::{Event, event_value};
+use std::alloc::{AllocError, Global};
+use std::test::*;
+
+/// The line of an event: its text says the event again.
+fn line_of(alloc: Global, event: &Event) -> Result<Vec<u8>, AllocError>
+    requires { IsTrue (is_orderly (event_view event.now)) }
+    ensures { IfOk result (λ line. event_of line.items ≡ Ok (event_view event.now)) }
+{
+    let value = event_value(alloc, event)?;
+    value.to_vec(alloc)
+}
+
+/// The written form of what a line says, or nothing.
+fn told(alloc: Global, line: &[u8]) -> Result<Vec<u8>, AllocError> {
+    match read_line(alloc, line) {
+        Ok(event) => line_of(alloc, &event),
+        Err(_) => Ok(Vec::new(alloc)),
+    }
+}
+
+/// Flat lines in several orders of keys, each with the event's written form.
+const QUICK: &str = r#"
+{"ev":"variable","at":3,"tag":"M1","name":"level","value":-250} => {"at":3,"ev":"variable","name":"level","tag":"M1","value":-250}
+{"tag":"M1","name":"level","value":1500,"ev":"variable","at":7} => {"at":7,"ev":"variable","name":"level","tag":"M1","value":1500}
+{"at":3,"ev":"variable","name":"open","tag":"M1","value":true} => {"at":3,"ev":"variable","name":"open","tag":"M1","value":true}
+{"value":false,"tag":"M1","name":"open","ev":"variable","at":999999999999999999} => {"at":999999999999999999,"ev":"variable","name":"open","tag":"M1","value":false}
+{"ev":"variable","at":0,"tag":"M1","name":"phase","value":"läuft, 5 °C"} => {"at":0,"ev":"variable","name":"phase","tag":"M1","value":"läuft, 5 °C"}
+{"ev":"variable","at":0,"tag":"M1","name":"phase","value":""} => {"at":0,"ev":"variable","name":"phase","tag":"M1","value":""}
+{"tag":"M-2","service":"stir","StateCur":131072,"CommandEn":4294967295,"Mode":"Operator","Src":"Internal","ProcedureCur":65535,"ev":"report","at":4} => {"CommandEn":4294967295,"Mode":"Operator","ProcedureCur":65535,"Src":"Internal","StateCur":131072,"at":4,"ev":"report","service":"stir","tag":"M-2"}
+{"CommandEn":4,"Mode":"Automatic","ProcedureCur":0,"Src":"External","StateCur":16,"at":2,"ev":"report","service":"dose","tag":"M1"} => {"CommandEn":4,"Mode":"Automatic","ProcedureCur":0,"Src":"External","StateCur":16,"at":2,"ev":"report","service":"dose","tag":"M1"}
+{"ev":"desk","at":9,"tag":"M1","service":"dose","CommandOp":512} => {"CommandOp":512,"at":9,"ev":"desk","service":"dose","tag":"M1"}
+{"tag":"M1","ticket":4294967295,"ev":"exchange_cancel","at":9} => {"at":9,"ev":"exchange_cancel","tag":"M1","ticket":4294967295}
+{"tag":"M1","ev":"exchange_begin","at":9} => {"at":9,"ev":"exchange_begin","tag":"M1"}
+{"ev":"unplug","at":2,"tag":"M1"} => {"at":2,"ev":"unplug","tag":"M1"}
+{"batch":"b1","ev":"advance","at":6} => {"at":6,"batch":"b1","ev":"advance"}
+{"ev":"freeze","at":6,"batch":"b1"} => {"at":6,"batch":"b1","ev":"freeze"}
+{"ev":"thaw","at":6,"batch":"b1"} => {"at":6,"batch":"b1","ev":"thaw"}
+{"ev":"stop","at":6,"batch":"b1"} => {"at":6,"batch":"b1","ev":"stop"}
+{"ev":"abandon","at":6,"batch":"b1"} => {"at":6,"batch":"b1","ev":"abandon"}
+{"tag":"M2","ev":"unplug","at":2,"tag":"M1"} => {"at":2,"ev":"unplug","tag":"M1"}
+"#;
+
+/// Recipes without conditions, each with the event's written form.
+const RECIPES: &str = r#"
+{"ev":"recipe","at":4,"recipe":"mix","roles":[{"role":"A","type":"Doser","version":"^1"}],"chart":{"step":"s1","role":"A","service":"dose","procedure":1,"settings":[]}} => {"at":4,"chart":{"procedure":1,"role":"A","service":"dose","settings":[],"step":"s1"},"ev":"recipe","recipe":"mix","roles":[{"role":"A","type":"Doser","version":"^1"}]}
+{"ev":"recipe","at":4,"recipe":"mix","roles":[{"role":"A","type":"Doser","version":"^1"}],"chart":{"seq":[{"step":"s1","role":"A","service":"dose","procedure":1,"settings":[{"name":"amount","value":-1500},{"name":"note","value":"läuft"},{"name":"fast","value":true}]},{"par":[{"step":"s2","role":"A","service":"dose","procedure":1,"settings":[]},{"step":"s3","role":"A","service":"stir","procedure":1,"settings":[]}]}]}} => {"at":4,"chart":{"seq":[{"procedure":1,"role":"A","service":"dose","settings":[{"name":"amount","value":-1500},{"name":"note","value":"läuft"},{"name":"fast","value":true}],"step":"s1"},{"par":[{"procedure":1,"role":"A","service":"dose","settings":[],"step":"s2"},{"procedure":1,"role":"A","service":"stir","settings":[],"step":"s3"}]}]},"ev":"recipe","recipe":"mix","roles":[{"role":"A","type":"Doser","version":"^1"}]}
+{"recipe":"mix","at":4,"ev":"recipe","roles":[{"version":"^1","type":"Doser","role":"A"}],"chart":{"step":"s1","role":"A","service":"dose","procedure":1,"settings":[]}} => {"at":4,"chart":{"procedure":1,"role":"A","service":"dose","settings":[],"step":"s1"},"ev":"recipe","recipe":"mix","roles":[{"role":"A","type":"Doser","version":"^1"}]}
+"#;
+
+/// Lines that say an event and take the slow way, each with the event's written form.
+const SLOW: &str = r#"
+{"ev": "unplug", "at": 2, "tag": "M1"} => {"at":2,"ev":"unplug","tag":"M1"}
+ {"ev":"unplug","at":2,"tag":"M1"} => {"at":2,"ev":"unplug","tag":"M1"}
+{"ev":"unplug","at":1000000000000000000,"tag":"M1"} => {"at":1000000000000000000,"ev":"unplug","tag":"M1"}
+{"ev":"unplug","at":2,"tag":"\u004d1"} => {"at":2,"ev":"unplug","tag":"M1"}
+{"ev":"variable","at":3,"tag":"M1","name":"note","value":"a \"b\""} => {"at":3,"ev":"variable","name":"note","tag":"M1","value":"a \"b\""}
+{"ev":"start","at":5,"batch":"b1","recipe":"mix","bind":{"B":"M2","A":"M1"}} => {"at":5,"batch":"b1","bind":{"A":"M1","B":"M2"},"ev":"start","recipe":"mix"}
+{"ev":"recipe","at":4,"recipe":"mix","roles":[{"role":"A","type":"Doser","version":"^1"}],"chart":{"step":"s1","role":"A","service":"dose","procedure":1,"settings":[],"finish":{"const":true}}} => {"at":4,"chart":{"finish":{"const":true},"procedure":1,"role":"A","service":"dose","settings":[],"step":"s1"},"ev":"recipe","recipe":"mix","roles":[{"role":"A","type":"Doser","version":"^1"}]}
+{"recipe":"mix","roles":[{"role":"A","type":"Doser","version":"^1"}],"chart":{"step":"s1","role":"A","service":"dose","procedure":1,"settings":[]},"ev":"recipe","at":4} => {"at":4,"chart":{"procedure":1,"role":"A","service":"dose","settings":[],"step":"s1"},"ev":"recipe","recipe":"mix","roles":[{"role":"A","type":"Doser","version":"^1"}]}
+"#;
+
+/// Lines that say no event.
+const NONE: &str = r#"
+{"ev":"unplug","at":2,"tag":"M1"}}
+{"ev":"unplug","at":2,"tag":"M1",}
+{"ev":"unplug","at":2,"tag":"M1"
+{"ev":"unplug","at":02,"tag":"M1"}
+{"ev":"unplug","at":-2,"tag":"M1"}
+{"ev":"unplug","at":2.0,"tag":"M1"}
+{"ev":"unplug","at":2,"tag":"M 1"}
+{"ev":"unplug","at":2}
+{"ev":"unplug","at":2,"tag":"M1","name":"level"}
+{"ev":"jump","at":2,"tag":"M1"}
+{"ev":"variable","at":3,"tag":"M1","name":"level","value":-0}
+{"ev":"report","at":2,"tag":"M1","service":"dose","StateCur":17,"CommandEn":4,"Mode":"Automatic","Src":"External","ProcedureCur":0}
+{"ev":"report","at":2,"tag":"M1","service":"dose","StateCur":16,"CommandEn":4,"Mode":"Auto","Src":"External","ProcedureCur":0}
+{"ev":"report","at":2,"tag":"M1","service":"dose","StateCur":16,"CommandEn":4,"Mode":"Automatic","Src":"External","ProcedureCur":65536}
+{}
+{"ev":"recipe","at":4,"recipe":"mix","roles":[{"role":"A","type":"Doser","version":"^1"}],"chart":{"seq":[{"step":"s1","role":"A","service":"dose","procedure":1,"settings":[]},{"step":"s1","role":"A","service":"dose","procedure":1,"settings":[]}]}}
+{"ev":"recipe","at":4,"recipe":"mix","roles":[{"role":"A","type":"Doser","version":"^1"}],"chart":{"seq":[]}}
+{"ev":"recipe","at":4,"recipe":"mix","roles":[{"role":"A","type":"Doser","version":"^1"}],"chart":{"par":[{"step":"s1","role":"A","service":"dose","procedure":1,"settings":[]}]}}
+{"ev":"recipe","at":4,"recipe":"mix","roles":[{"role":"A","type":"Doser","version":"^1"}],"chart":{"step":"s1","role":"A","service":"dose","procedure":1,"settings":[{"name":"amount","value":1},{"name":"amount","value":2}]}}
+{"ev":"recipe","at":4,"recipe":"mix","roles":[],"chart":{"step":"s1","role":"A","service":"dose","procedure":1,"settings":[]}}
+{"ev":"recipe","at":4,"recipe":"mix","roles":[{"role":"A","type":"Doser","version":"^1"},{"role":"A","type":"Mixer","version":"^1"}],"chart":{"step":"s1","role":"A","service":"dose","procedure":1,"settings":[]}}
+{"ev":"recipe","at":4,"recipe":"mix","roles":[{"role":"A","type":"Doser","version":"1.x.1"}],"chart":{"step":"s1","role":"A","service":"dose","procedure":1,"settings":[]}}
+{"ev":"recipe","at":4,"recipe":"mix","roles":[{"role":"A","type":"Doser","version":"^1"}],"chart":{"step":"s1","role":"A","service":"dose","procedure":1,"settings":[]}}}
+"#;
+
+#[test]
+fn flat_lines_are_read_without_a_tree(rt: HostRuntime) -> Result<(), Fail> {
+    for row in QUICK.trim().lines() {
+        let (line, written) = row.split_once(" => ").ok_or("no row")?;
+        assert!(rt; read_quick(line.as_bytes()).is_some(), "at {line}");
+        let told = told(rt.alloc(), line.as_bytes())?;
+        assert!(rt; told.as_slice() == written.as_bytes(), "at {line}");
+    }
+    Ok(())
+}
+
+#[test]
+fn recipes_without_conditions_are_read_without_a_tree(rt: HostRuntime) -> Result<(), Fail> {
+    for row in RECIPES.trim().lines() {
+        let (line, written) = row.split_once(" => ").ok_or("no row")?;
+        assert!(rt;
+            read_recipe(rt.alloc(), line.as_bytes()).is_some(),
+            "at {line}"
+        );
+        let told = told(rt.alloc(), line.as_bytes())?;
+        assert!(rt; told.as_slice() == written.as_bytes(), "at {line}");
+    }
+    Ok(())
+}
+
+#[test]
+fn other_lines_are_read_by_their_trees(rt: HostRuntime) -> Result<(), Fail> {
+    for row in SLOW.trim().lines() {
+        let (line, written) = row.split_once(" => ").ok_or("no row")?;
+        assert!(rt; read_quick(line.as_bytes()).is_none(), "at {line}");
+        assert!(rt;
+            read_recipe(rt.alloc(), line.as_bytes()).is_none(),
+            "at {line}"
+        );
+        let told = told(rt.alloc(), line.as_bytes())?;
+        assert!(rt; told.as_slice() == written.as_bytes(), "at {line}");
+    }
+    Ok(())
+}
+
+#[test]
+fn lines_that_say_no_event_are_refused(rt: HostRuntime) -> Result<(), Fail> {
+    for line in NONE.trim().lines() {
+        assert!(rt;
+            read_line(rt.alloc(), line.as_bytes()).is_err(),
+            "at {line}"
+        );
+    }
+    Ok(())
+}

@@ -1,0 +1,62 @@
+//! Lines of entries of a history: an answer and its event.
+ghost use Rattle.std.specs.Prelude.{◌≡◌, ◌++◌, IfOk, IsTrue};
+ghost use Rattle.serde_json.specs.Written.{compact_text};
+ghost use Rattle.pol_events.specs.Events.{entry_view, event_view};
+ghost use Rattle.pol_events.specs.Orderly.{is_orderly};
+ghost use Rattle.pol_events.specs.Written.{written_event};
+ghost use Rattle.pol_record.specs.Texts.{answer_data, entry_line_text};
+
+use crate::answers::write_answer;
+use json::Writer;
+use pol_events::{Answer, Entry, Event, event_value};
+use std::alloc::{AllocError, Global};
+
+// The texts before, between and behind the answer and the event.
+const BEFORE: &[u8] = b"{\"answer\":";
+
+const BETWEEN: &[u8] = b",\"event\":";
+
+const BEHIND: &[u8] = b"}\n";
+
+#[tactic(auto, using(crate::proofs::Pieces::printed))]
+fn put_answer(buffer: Vec<u8>, answer: &Answer) -> Result<Vec<u8>, AllocError>
+    ensures { IfOk result (λ text. text.items ≡ buffer.items ++ compact_text (answer_data answer.now)) }
+{
+    let mut writer = Writer::new(buffer);
+    write_answer(&mut writer, answer)?;
+    Ok(writer.into_inner())
+}
+
+fn event_text(alloc: Global, event: &Event) -> Result<Vec<u8>, AllocError>
+    requires { IsTrue (is_orderly (event_view event.now)) }
+    ensures { IfOk result (λ text. text.items ≡ compact_text (written_event (event_view event.now))) }
+{
+    let value = event_value(alloc, event)?;
+    value.to_vec(alloc)
+}
+
+/// The buffer with the line of an entry behind what it holds: the answer and the event. The event has to be one that a
+/// line can say: a recipe's chart is valid, and a start binds at most 64 roles, each once and in byte order. The buffer
+/// is lost where there is no memory.
+#[tactic(auto, using(crate::proofs::Pieces::entry_pieces))]
+pub fn put_entry_line(alloc: Global, buffer: Vec<u8>, entry: &Entry) -> Result<Vec<u8>, AllocError>
+    requires { IsTrue (is_orderly (event_view entry.now.event)) }
+    ensures { IfOk result (λ line. line.items ≡ buffer.items ++ entry_line_text (entry_view entry.now)) }
+{
+    let event = event_text(alloc, &entry.event)?;
+    let mut buffer = buffer;
+    buffer.extend_from_slice(BEFORE)?;
+    let mut line = put_answer(buffer, &entry.answer)?;
+    line.extend_from_slice(BETWEEN)?;
+    line.extend_from_slice(&event)?;
+    line.extend_from_slice(BEHIND)?;
+    Ok(line)
+}
+
+/// The line of an entry of a history. The event has to be one that a line can say.
+pub fn entry_line(alloc: Global, entry: &Entry) -> Result<Vec<u8>, AllocError>
+    requires { IsTrue (is_orderly (event_view entry.now.event)) }
+    ensures { IfOk result (λ line. line.items ≡ entry_line_text (entry_view entry.now)) }
+{
+    put_entry_line(alloc, Vec::new(alloc), entry)
+}
