@@ -1,0 +1,14 @@
+pub mod Numbers
+pub mod Stages
+pub mod Exchanging
+pub mod Owners
+pub mod Found
+pub mod Units
+pub mod Turning
+pub mod Stamped
+pub mod Commanded
+pub mod BatchTurns
+pub mod ModuleTurns
+pub mod ExchangerTurns
+pub mod Lists
+pub mod First

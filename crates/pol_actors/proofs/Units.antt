@@ -1,0 +1,266 @@
+-- What a module keeps of its history, after one more entry.
+use Rattle.std.proofs.Common.{◌≡◌, ◌<◌, ◌≤◌, ◌+◌, ℕ, suc, Bool, true, false, cond, List, [], ◌∷◌, length, Option, Some, None, refl, ap, sym, ◌∙◌, subst, arith}
+use Rattle.std.specs.Prelude.{◌&&◌, ◌||◌, pred, is_some, option_map, slice_get, if◌then◌else◌}
+use Rattle.std.specs.Str.{bytes_eq}
+use Rattle.std.proofs.lemmas.Bool.{and_from, and_right}
+use Rattle.std.proofs.lemmas.Option.{same_Some}
+use Rattle.mtp_json.specs.Form.{repeats_by}
+use Rattle.mtp_modes.specs.declared.view.ServiceView.{ServiceView}
+use Rattle.mtp_assembly.specs.declared.control.ServiceControl.{ServiceControl}
+use Rattle.mtp_desc.specs.Plain.{DescriptionForm}
+use Rattle.mtp_sim.specs.declared.report.SimReport.{SimReport}
+use Rattle.mtp_sim.specs.declared.report.SimReport.TheVariants.{Service, Variable}
+use Rattle.chart_core.specs.declared.entry.LogEntry.{LogEntry}
+use Rattle.chart_cursor.specs.Commands.{Sent, sent_by}
+use Rattle.pol_events.specs.Events.{EntryForm, plug, report, variable, advance, exchange_begin, exchange_end, exchange_cancel}
+use Rattle.pol_events.specs.declared.answer.Answer.{Answer}
+use Rattle.pol_events.specs.declared.answer.Answer.TheVariants.{Done, Ticket, Did, Waiting, Closed, Refused}
+use Rattle.pol_events.specs.declared.answer.Rule.{Rule}
+use Rattle.pol_history.specs.Answers.{answer_of, first_rule, otherwise}
+use Rattle.pol_history.specs.Commands.{sent_command}
+use Rattle.pol_history.specs.Looking.{History, is_accepted, is_accepted_of, is_module, last_of, past, subject, of_module}
+use Rattle.pol_history.specs.Modules.{control_by, description_by, docking_by, docking_of, is_moving, seen_with, reported, since_docking, view_by, view_of}
+use Rattle.pol_history.specs.Runs.{IsLegal, IsOrderly}
+use Rattle.pol_history.proofs.Accepted.{accepted-otherwise, paired}
+use Rattle.pol_history.proofs.Names.{same-refl, same-true}
+use Rattle.pol_conduct.specs.Known.{is_there}
+use Rattle.pol_site.specs.Commanded.{IsCommanded}
+use Rattle.pol_site.specs.Following.{FollowsSite, exchanging, was_begun}
+use Rattle.pol_site.specs.Plans.{begun_in, plan_by}
+use Rattle.pol_site.specs.Rules.{same_tag}
+use Rattle.pol_site.specs.Sites.{SiteForm, SiteModuleForm, SiteExchangeForm}
+use Rattle.pol_site.specs.Stories.{if_to, sent_to, story, touches}
+use Rattle.pol_simulated.specs.Units.{report_event}
+use Rattle.pol_simulated.proofs.Counted.{untouched_kept}
+use Rattle.pol_simulated.proofs.Planned.{ends_bring, plugs_bring}
+use Rattle.pol_stillness.specs.KeepingUp.{KeepsUp}
+use Rattle.pol_stillness.proofs.KeepingUp.{others_up, sends_up}
+use Rattle.pol_stillness.proofs.Still.{sent_still}
+use Rattle.pol_actors.specs.Kept.{IsBrought, IsMadeUp, IsUnit}
+use Rattle.pol_actors.specs.Turning.{Origin, origin_of}
+use Rattle.pol_actors.specs.declared.made.Made.{Made}
+use Rattle.pol_actors.specs.declared.unit.Unit.{Unit as Module}
+
+-- ---- entries of others
+
+-- an entry that doesn't touch it
+pub unit-untouched : (site : SiteForm) (older : History) (entry : EntryForm) (unit : SiteModuleForm) (own : Module) →
+    touches unit.tag entry ≡ false → IsUnit site unit older own → IsUnit site unit (entry ∷ older) own
+unit-untouched site older entry unit own free is =
+    let same = untouched_kept unit.tag older entry free in
+    record {
+      unbrought = λ gone. is.unbrought (ap (λ p. is_there (docking_by p)) (sym same.0) ∙ gone);
+      brought = λ there. subst (λ p. IsBrought site unit.tag p (origin_of site unit own.brought)) (sym same.0)
+          (is.brought (ap (λ p. is_there (docking_by p)) (sym same.0) ∙ there));
+      made = go own.made is.made;
+    }
+  where
+    go : (made : Option Made) → IsMadeUp site unit.tag older made → IsMadeUp site unit.tag (entry ∷ older) made
+    go None fresh =
+        let same = untouched_kept unit.tag older entry free in
+        (ap since_docking same.0 ∙ fresh.0, ap since_docking same.1 ∙ fresh.1)
+    go (Some made) up = others_up site unit.tag made.place older entry made.sim free up
+
+-- what wasn't reported since docking isn't seen
+unseen : (past : History) (service : List ℕ) (view : ServiceView) → since_docking past ≡ [] →
+    view_by service past ≡ Some view → ⊥
+unseen past service view fresh seen =
+    let clash = sym (ap (λ entries. option_map (seen_with service (description_by past))
+    (last_of (λ entry. reported service entry.event) entries)) fresh) ∙ seen in cc
+
+-- a command that a batch sends it
+pub unit-sent : (site : SiteForm) (older : History) (at : ℕ) (batch : List ℕ) (did : LogEntry) (sent : Sent)
+    (unit : SiteModuleForm) (own : Module) → IsLegal (paired (advance at batch) (Did did) ∷ older) →
+    IsOrderly (paired (advance at batch) (Did did) ∷ older) → FollowsSite site (paired (advance at batch) (Did did) ∷ older) →
+    IsCommanded older → sent_by did ≡ Some sent → sent.tag ≡ unit.tag → IsUnit site unit older own →
+    IsUnit site unit (paired (advance at batch) (Did did) ∷ older) own
+unit-sent site older at batch did sent unit own legal orderly follows commanded sends named is =
+    record { unbrought = is.unbrought; brought = is.brought; made = go own.made is.made }
+  where
+    entry : EntryForm
+    entry = paired (advance at batch) (Did did)
+
+    go : (made : Option Made) → IsMadeUp site unit.tag older made → IsMadeUp site unit.tag (entry ∷ older) made
+    go None fresh =
+        let still = sent_still site older entry sent legal orderly follows commanded sends in
+        absurd (unseen (past unit.tag older) sent.service still.view fresh.0
+        (ap (λ tag. view_of older tag sent.service) (sym named) ∙ still.seen))
+    go (Some made) up =
+        subst (λ tag. KeepsUp site tag made.place (entry ∷ older) made.sim) named
+        (sends_up site older at batch did sent made.place made.sim legal orderly follows commanded sends
+        (subst (λ tag. KeepsUp site tag made.place older made.sim) (sym named) up))
+
+-- ---- entries that move it
+
+-- an accepted event of it stands in its past and in its story
+module _ (older : History) (entry : EntryForm) (tag : List ℕ) (mine : is_module tag (subject entry.event) ≡ true)
+    (accepted : is_accepted entry.answer ≡ true) where
+  both : is_accepted_of tag entry ≡ true
+  both = and_from (is_module tag (subject entry.event)) (is_accepted entry.answer) mine accepted
+
+  pub own-past : past tag (entry ∷ older) ≡ entry ∷ past tag older
+  own-past = ap (λ own. cond own (entry ∷ past tag older) (past tag older)) both
+
+  pub own-story : story tag (entry ∷ older) ≡ entry ∷ story tag older
+  own-story =
+      ap (λ own. cond (own || is_some (sent_to tag entry)) (entry ∷ story tag older) (story tag older)) both
+
+  -- where it moves the module, nothing was told of it since
+  pub moved-fresh : is_moving entry.event ≡ true →
+      (since_docking (past tag (entry ∷ older)) ≡ []) × (since_docking (story tag (entry ∷ older)) ≡ [])
+  moved-fresh moving = (
+    ap since_docking own-past ∙ ap (λ b. if b then [] else entry ∷ since_docking (past tag older)) moving,
+    ap since_docking own-story ∙ ap (λ b. if b then [] else entry ∷ since_docking (story tag older)) moving,
+  )
+
+-- a tag is its own
+mine-by : (tag other : List ℕ) → tag ≡ other → bytes_eq tag other ≡ true
+mine-by tag other is = ap (λ name. bytes_eq name other) is ∙ same-refl other
+
+-- the begin of its exchange: its simulation is dropped
+pub unit-begun : (site : SiteForm) (older : History) (at : ℕ) (tag : List ℕ) (answer : Answer) (unit : SiteModuleForm)
+    (own : Module) → is_accepted answer ≡ true → tag ≡ unit.tag → is_there (docking_of older unit.tag) ≡ true →
+    IsUnit site unit older own →
+    IsUnit site unit (paired (exchange_begin at tag) answer ∷ older) (record { made = None; brought = own.brought })
+unit-begun site older at tag answer unit own accepted named there is =
+    let entry : EntryForm = paired (exchange_begin at tag) answer in
+    let same = own-past older entry unit.tag (mine-by tag unit.tag named) accepted in
+    let before = is.brought there in
+    record {
+      unbrought = λ gone. let clash : true ≡ false = ap (λ p. is_there (docking_by p)) (sym same) ∙ gone in cc;
+      brought = λ now. subst (λ p. IsBrought site unit.tag p (origin_of site unit own.brought)) (sym same)
+          (record { described = before.described; planned = before.planned });
+      made = moved-fresh older entry unit.tag (mine-by tag unit.tag named) accepted refl;
+    }
+
+-- the cancelling of its exchange
+pub unit-cancelled : (site : SiteForm) (older : History) (at : ℕ) (tag : List ℕ) (ticket : ℕ) (answer : Answer)
+    (unit : SiteModuleForm) (own : Module) → is_accepted answer ≡ true → tag ≡ unit.tag →
+    is_there (docking_of older unit.tag) ≡ true → IsUnit site unit older own →
+    IsUnit site unit (paired (exchange_cancel at tag ticket) answer ∷ older)
+    (record { made = None; brought = own.brought })
+unit-cancelled site older at tag ticket answer unit own accepted named there is =
+    let entry : EntryForm = paired (exchange_cancel at tag ticket) answer in
+    let same = own-past older entry unit.tag (mine-by tag unit.tag named) accepted in
+    let before = is.brought there in
+    record {
+      unbrought = λ gone. let clash : true ≡ false = ap (λ p. is_there (docking_by p)) (sym same) ∙ gone in cc;
+      brought = λ now. subst (λ p. IsBrought site unit.tag p (origin_of site unit own.brought)) (sym same)
+          (record { described = before.described; planned = before.planned });
+      made = moved-fresh older entry unit.tag (mine-by tag unit.tag named) accepted refl;
+    }
+
+-- the end of its exchange: it is the module that the exchange brings
+pub unit-ended : (site : SiteForm) (older : History) (at : ℕ) (tag : List ℕ) (ticket place : ℕ)
+    (exchange : SiteExchangeForm) (unit : SiteModuleForm) (own : Module) → FollowsSite site older →
+    exchanging older ≡ was_begun tag ticket → place ≡ pred (begun_in older) →
+    slice_get site.exchanges place ≡ Some exchange → tag ≡ unit.tag → IsUnit site unit older own →
+    IsUnit site unit (paired (exchange_end at tag ticket exchange.description) Done ∷ older)
+    (record { made = None; brought = Some place })
+unit-ended site older at tag ticket place exchange unit own follows begun place_is listed named is =
+    let entry : EntryForm = paired (exchange_end at tag ticket exchange.description) Done in
+    let same = own-past older entry unit.tag (mine-by tag unit.tag named) refl in
+    let planned : plan_by site unit.tag (past unit.tag (entry ∷ older)) ≡ Some exchange.plan =
+    ap (λ name. plan_by site name (past name (entry ∷ older))) (sym named)
+    ∙ ends_bring site older at tag ticket exchange.description exchange follows begun
+    (ap (slice_get site.exchanges) (sym place_is) ∙ listed) in
+    record {
+      unbrought = λ gone. let clash : true ≡ false = ap (λ p. is_there (docking_by p)) (sym same) ∙ gone in cc;
+      brought = λ now. rw listed (record {
+        described = ap description_by same;
+        planned = planned;
+      });
+      made = moved-fresh older entry unit.tag (mine-by tag unit.tag named) refl refl;
+    }
+
+-- its plug
+pub unit-plugged : (site : SiteForm) (older : History) (at place : ℕ) (unit : SiteModuleForm) (own : Module) →
+    repeats_by same_tag site.modules ≡ false → slice_get site.modules place ≡ Some unit →
+    is_there (docking_of older unit.tag) ≡ false → IsUnit site unit older own →
+    IsUnit site unit (paired (plug at unit.tag unit.description) Done ∷ older) own
+unit-plugged site older at place unit own unlike listed gone is =
+    let entry : EntryForm = paired (plug at unit.tag unit.description) Done in
+    let same = own-past older entry unit.tag (same-refl unit.tag) refl in
+    let before = is.unbrought gone in
+    record {
+      unbrought = λ gone. let clash : true ≡ false = ap (λ p. is_there (docking_by p)) (sym same) ∙ gone in cc;
+      brought = λ now. subst (λ brought. IsBrought site unit.tag (past unit.tag (entry ∷ older)) (origin_of site unit brought))
+          (sym before.0)
+          (record {
+            described = ap description_by same;
+            planned = plugs_bring site older at unit.tag unit.description place unit unlike listed refl;
+          });
+      made = subst (IsMadeUp site unit.tag (entry ∷ older)) (sym before.1)
+          (moved-fresh older entry unit.tag (same-refl unit.tag) refl refl);
+    }
+
+-- ---- its own reports
+
+-- a report of it, with which its simulation keeps up
+pub unit-reported : (site : SiteForm) (older : History) (at : ℕ) (told : SimReport) (unit : SiteModuleForm)
+    (own : Module) (made : Made) → is_there (docking_of older unit.tag) ≡ true → IsUnit site unit older own →
+    KeepsUp site unit.tag made.place (paired (report_event at unit.tag told) Done ∷ older) made.sim →
+    IsUnit site unit (paired (report_event at unit.tag told) Done ∷ older)
+    (record { made = Some made; brought = own.brought })
+unit-reported site older at (Service name control) unit own made there is up =
+    let entry : EntryForm = paired (report at unit.tag name control) Done in
+    let same = own-past older entry unit.tag (same-refl unit.tag) refl in
+    let before = is.brought there in
+    record {
+      unbrought = λ gone. let clash : true ≡ false = sym there ∙ ap (λ p. is_there (docking_by p)) (sym same) ∙ gone in cc;
+      brought = λ now. subst (λ p. IsBrought site unit.tag p (origin_of site unit own.brought)) (sym same)
+          (record { described = before.described; planned = before.planned });
+      made = up;
+    }
+unit-reported site older at (Variable name value) unit own made there is up =
+    let entry : EntryForm = paired (variable at unit.tag name value) Done in
+    let same = own-past older entry unit.tag (same-refl unit.tag) refl in
+    let before = is.brought there in
+    record {
+      unbrought = λ gone. let clash : true ≡ false = sym there ∙ ap (λ p. is_there (docking_by p)) (sym same) ∙ gone in cc;
+      brought = λ now. subst (λ p. IsBrought site unit.tag p (origin_of site unit own.brought)) (sym same)
+          (record { described = before.described; planned = before.planned });
+      made = up;
+    }
+
+-- its simulation changes, and nothing is told
+pub unit-looked : (site : SiteForm) (history : History) (unit : SiteModuleForm) (own : Module) (made : Made) →
+    is_there (docking_of history unit.tag) ≡ true → IsUnit site unit history own →
+    KeepsUp site unit.tag made.place history made.sim →
+    IsUnit site unit history (record { made = Some made; brought = own.brought })
+unit-looked site history unit own made there is up =
+    record {
+      unbrought = λ gone. let clash : true ≡ false = sym there ∙ gone in cc;
+      brought = is.brought;
+      made = up;
+    }
+
+-- ---- what touches no module
+
+-- the first rule that holds sends nothing
+pub sends-none : (rules : List (Option Rule)) (answer : Answer) → sent_command answer ≡ None →
+    sent_command (first_rule rules answer) ≡ None
+sends-none [] answer none = none
+sends-none (Some rule ∷ rules) answer none = refl
+sends-none (None ∷ rules) answer none = sends-none rules answer none
+
+-- a refusal sends nothing
+pub refused-none : (answer : Answer) → is_accepted answer ≡ false → sent_command answer ≡ None
+refused-none (Refused rule) refused = refl
+refused-none Done refused = cc
+refused-none (Ticket ticket) refused = cc
+refused-none (Did entry) refused = cc
+refused-none (Waiting obstacle) refused = cc
+refused-none (Closed outcome) refused = cc
+
+-- an entry that isn't the module's, or was refused, and sends nothing
+pub touches-none : (tag : List ℕ) (entry : EntryForm) → is_accepted_of tag entry ≡ false →
+    sent_command entry.answer ≡ None → touches tag entry ≡ false
+touches-none tag entry apart none =
+    ap (λ own. own || is_some (sent_to tag entry)) apart ∙ ap (λ sent. is_some (if_to tag sent)) none
+
+-- a refused one
+pub touches-refused : (tag : List ℕ) (entry : EntryForm) → is_accepted entry.answer ≡ false → touches tag entry ≡ false
+touches-refused tag entry refused =
+    touches-none tag entry (and_right (is_module tag (subject entry.event)) (is_accepted entry.answer) refused)
+    (refused-none entry.answer refused)

@@ -1,0 +1,146 @@
+//! A batch: it starts, and then advances wherever it doesn't wait.
+ghost use Rattle.std.specs.Prelude.{◌≡◌, IfOk, option_map};
+ghost use Rattle.pol_events.specs.Events.{event_view, start};
+ghost use Rattle.pol_history.specs.Answers.{answer_of};
+ghost use Rattle.pol_core.specs.Calls.{open_next, refusal};
+ghost use Rattle.pol_core.specs.Plants.{plant_history};
+ghost use Rattle.pol_site.specs.Following.{is_passing};
+ghost use Rattle.pol_site.specs.Views.{batch_view};
+ghost use Rattle.pol_actors.specs.Batches.{advance_event, batch_event, goes_on, is_refusal_passing, stage_after, start_event};
+
+use chart_core::Next;
+use pol_core::Plant;
+use pol_events::{Answer, Bind, Event, Rule};
+use pol_site::SiteBatch;
+use std::alloc::{AllocError, Global};
+
+/// Where a batch stands.
+#[derive(Clone, Copy, Debug, PartialEq, Eq)]
+pub enum Stage {
+    /// Its start wasn't sent yet.
+    Unsent,
+    /// Its start was refused for good.
+    Refused,
+    /// It was started.
+    Started,
+}
+
+// A start waits while this rule holds.
+fn is_passing(rule: &Rule) -> bool
+    ensures { result ≡ is_passing rule.now }
+{
+    matches!(
+        rule,
+        Rule::NoModule { .. }
+            | Rule::InExchange { .. }
+            | Rule::NoRecipe
+            | Rule::NotReported { .. }
+            | Rule::NotIdle { .. }
+            | Rule::Busy { .. }
+    )
+}
+
+// A start that would be answered so waits.
+fn is_refusal_passing(would: &Result<(), Rule>) -> bool
+    ensures { result ≡ is_refusal_passing would.now }
+{
+    match would {
+        Ok(()) => false,
+        Err(rule) => is_passing(rule),
+    }
+}
+
+// The start of the batch waits.
+fn waits(batch: &SiteBatch, plant: &Plant) -> bool
+    ensures { result ≡ is_refusal_passing (refusal (answer_of (plant_history plant.now)
+        (start 0 batch.now.batch batch.now.recipe batch.now.bind.items))) }
+{
+    is_refusal_passing(&plant.would_start(batch.batch, batch.recipe, &batch.bind))
+}
+
+// The binds once more.
+fn copied(alloc: Global, binds: &[Bind]) -> Result<Vec<Bind>, AllocError>
+    ensures { IfOk result (λ all. all.items ≡ binds.now) }
+{
+    let mut all = Vec::new(alloc);
+    for bind in binds {
+        all.push(*bind)?;
+    }
+    Ok(all)
+}
+
+// The start of the batch, unless it waits.
+fn start_event(alloc: Global, batch: &SiteBatch, plant: &Plant) -> Result<Option<Event>, AllocError>
+    ensures { IfOk result (λ event. option_map event_view event
+        ≡ start_event (plant_history plant.now) (batch_view batch.now)) }
+{
+    if waits(batch, plant) {
+        return Ok(None);
+    }
+    let bind = copied(alloc, &batch.bind)?;
+    Ok(Some(Event::Start {
+        at: 0,
+        batch: batch.batch,
+        recipe: batch.recipe,
+        bind,
+    }))
+}
+
+// A batch of which this comes next goes on.
+fn goes_on(next: &Option<Next>) -> bool
+    ensures { result ≡ goes_on next.now }
+{
+    matches!(next, Some(Next::Did(_) | Next::Closed(_)))
+}
+
+// The advance of the batch, unless it waits or is closed.
+fn advance_event(batch: &SiteBatch, plant: &Plant) -> Option<Event>
+    ensures { option_map event_view result
+        ≡ advance_event batch.now.batch (open_next (plant_history plant.now) batch.now.batch) }
+{
+    let next = plant.would(batch.batch);
+    if !goes_on(&next) {
+        return None;
+    }
+    Some(Event::Advance {
+        at: 0,
+        batch: batch.batch,
+    })
+}
+
+impl Stage {
+    /// What the batch does next, as an event with the stamp 0: its start, or else its advance. None where it waits or has
+    /// nothing more to do.
+    ///
+    /// # Errors
+    ///
+    /// Where there is no memory for the binds of the start.
+    pub fn next_event(
+        self,
+        alloc: Global,
+        batch: &SiteBatch,
+        plant: &Plant,
+    ) -> Result<Option<Event>, AllocError>
+        ensures { IfOk result (λ event. option_map event_view event
+            ≡ batch_event (plant_history plant.now) (batch_view batch.now) self) }
+    {
+        match self {
+            Stage::Unsent => start_event(alloc, batch, plant),
+            Stage::Refused => Ok(None),
+            Stage::Started => Ok(advance_event(batch, plant)),
+        }
+    }
+
+    /// Where it stands after its event was answered so.
+    pub fn after(self, answer: &Answer) -> Stage
+        ensures { result ≡ stage_after self answer.now }
+    {
+        match self {
+            Stage::Unsent => match answer {
+                Answer::Refused(_) => Stage::Refused,
+                _ => Stage::Started,
+            },
+            other => other,
+        }
+    }
+}

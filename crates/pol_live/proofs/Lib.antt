@@ -1,0 +1,3 @@
+pub mod Entered
+pub mod Steps
+pub mod Seats

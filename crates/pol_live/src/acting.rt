@@ -1,0 +1,110 @@
+//! The turns of actors in threads.
+ghost use Rattle.std.specs.Prelude.{◌≡◌};
+ghost use Rattle.pol_live.specs.Seats.{actors_of};
+
+use crate::gate::Gate;
+use crate::job::Job;
+use crate::live::LivePlant;
+use crate::seat::ActorSeat;
+use crate::turned::Turned;
+use pol_io::Clock;
+use std::sync::Wait;
+use std::sync::atomic::{AtomicU64, Ordering};
+
+/// What all threads of a run share. `refused` is one more than the number of the actor for which no thread could be made,
+/// and else 0.
+#[derive(Drop)]
+pub(crate) struct Crew<'a, J: Job, C: Clock + Send, G: Gate> {
+    pub(crate) live: &'a LivePlant<J, C>,
+    pub(crate) gate: &'a G,
+    pub(crate) refused: AtomicU64,
+}
+
+// One turn. True where the run is over.
+fn step<J: Job, R: Wait, C: Clock + Send>(
+    rt: &R,
+    live: &LivePlant<J, C>,
+    seat: &mut ActorSeat<J>,
+) -> bool
+    ensures { seat.new.actor ≡ seat.old.actor }
+{
+    match live.turn(rt, seat) {
+        Ok(Turned::Made(_) | Turned::Looked) => false,
+        Ok(Turned::Rested) => live.rest(rt, seat.actor()),
+        Ok(Turned::Full) | Err(_) => {
+            live.end(rt);
+            true
+        },
+    }
+}
+
+/// The turns of one actor, until the run is over.
+pub(crate) fn act<J: Job, R: Wait, C: Clock + Send, G: Gate>(
+    rt: &R,
+    crew: &Crew<'_, J, C, G>,
+    seat: ActorSeat<J>,
+) -> ActorSeat<J>
+    ensures { result.actor ≡ seat.actor }
+{
+    let mut seat = seat;
+    let actor = seat.actor();
+    if crew.refused.load(Ordering::SeqCst) == u64::from(actor) + 1 {
+        return seat;
+    }
+    let mut turn = 0u64;
+    for _ in rt.forever() {
+        crew.gate.pass(actor, turn);
+        turn = turn.wrapping_add(1);
+        if step(rt, crew.live, &mut seat) {
+            break;
+        }
+    }
+    seat
+}
+
+// One turn of each actor that has no thread. True where the run is over.
+fn pass<J: Job, R: Wait, C: Clock + Send, G: Gate>(
+    rt: &R,
+    crew: &Crew<'_, J, C, G>,
+    seats: &mut Vec<ActorSeat<J>>,
+    turn: u64,
+) -> bool
+    ensures { actors_of seats.new.items ≡ actors_of seats.old.items }
+{
+    let mut last = 0;
+    let mut rested = true;
+    for i in 0..seats.len() {
+        let seat = &mut seats[i];
+        last = seat.actor();
+        crew.gate.pass(last, turn);
+        match crew.live.turn(rt, seat) {
+            Ok(Turned::Made(_) | Turned::Looked) => rested = false,
+            Ok(Turned::Rested) => {},
+            Ok(Turned::Full) | Err(_) => {
+                crew.live.end(rt);
+                return true;
+            },
+        }
+    }
+    rested && crew.live.rest(rt, last)
+}
+
+/// The turns of the actors that have no thread, in rotation, until the run is over.
+pub(crate) fn rotate<J: Job, R: Wait, C: Clock + Send, G: Gate>(
+    rt: &R,
+    crew: &Crew<'_, J, C, G>,
+    seats: &mut Vec<ActorSeat<J>>,
+)
+    ensures { actors_of seats.new.items ≡ actors_of seats.old.items }
+{
+    if seats.is_empty() {
+        return;
+    }
+    let mut turn = 0u64;
+    for _ in rt.forever() {
+        if pass(rt, crew, seats, turn) {
+            break;
+        }
+        turn = turn.wrapping_add(1);
+    }
+}

@@ -1,0 +1,30 @@
+//! The running plant: everything that a turn of an actor needs stands in one value, the locked plant, and one turn applies
+//! at most one event, stamped by the clock in that turn.
+//!
+//! Contracts see a locked plant as its history, who made each entry, and its clock (`specs/Turns.antt`). By its type the
+//! history is legal, follows its site, and each change has its command, whatever turns were taken; and a turn that rests
+//! tells that its actor is settled.
+#![tactic(auto)]
+
+mod acting;
+mod entering;
+mod gate;
+mod job;
+mod live;
+mod locked;
+mod role;
+mod rounds;
+mod run;
+mod seat;
+#[cfg(test)]
+mod tests;
+mod turned;
+mod turns;
+
+pub use gate::{Gate, OpenGate};
+pub use job::Job;
+pub use live::LivePlant;
+pub use locked::LockedPlant;
+pub use run::{Ran, run_in_turn};
+pub use seat::ActorSeat;
+pub use turned::{Placed, Turned};
