@@ -17,20 +17,20 @@ fn site(alloc: Global) -> Result<Site, Fail> {
 
 /// How many batches were completed, and how many exchanges were begun and ended.
 fn counts(ran: &Ran) -> [usize; 3] {
-    let mut counts = [0, 0, 0];
+    let mut counts = [0usize, 0, 0];
     for entry in &ran.history {
         if matches!(entry.answer, Answer::Closed(Outcome::Completed)) {
-            counts[0] += 1;
+            counts[0] = counts[0].saturating_add(1);
         }
         if matches!(entry.event, Event::ExchangeBegin { .. })
             && matches!(entry.answer, Answer::Ticket(_))
         {
-            counts[1] += 1;
+            counts[1] = counts[1].saturating_add(1);
         }
         if matches!(entry.event, Event::ExchangeEnd { .. })
             && matches!(entry.answer, Answer::Done)
         {
-            counts[2] += 1;
+            counts[2] = counts[2].saturating_add(1);
         }
     }
     counts
