@@ -118,7 +118,7 @@ fn room_is_taken_again_after_a_plug(rt: HostRuntime) -> Result<(), Fail> {
 }
 
 #[test]
-fn a_full_history_keeps_its_entries(rt: HostRuntime) -> Result<(), Fail> {
+fn history_full_keeps_its_entries(rt: HostRuntime) -> Result<(), Fail> {
     let mut plant = Plant::new(rt.alloc());
     let batch = named("b")?;
     for at in 0..200_000 {

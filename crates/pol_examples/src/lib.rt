@@ -24,6 +24,8 @@ mod looking_back;
 #[cfg(test)]
 mod modules;
 #[cfg(test)]
+mod rules;
+#[cfg(test)]
 mod runs;
 #[cfg(test)]
 mod serving;

@@ -21,7 +21,7 @@ const DOSER_AND_RECIPE: &str =
 "#;
 
 #[test]
-fn a_plant_holds_64_modules(rt: HostRuntime) -> Result<(), Fail> {
+fn plant_full_at_64_modules(rt: HostRuntime) -> Result<(), Fail> {
     let alloc = rt.alloc();
     let mut input = String::new(alloc);
     for n in 1..=65u32 {
@@ -45,7 +45,7 @@ fn a_plant_holds_64_modules(rt: HostRuntime) -> Result<(), Fail> {
 }
 
 #[test]
-fn a_plant_knows_64_recipes(rt: HostRuntime) -> Result<(), Fail> {
+fn recipes_full_at_64_recipes(rt: HostRuntime) -> Result<(), Fail> {
     let alloc = rt.alloc();
     let mut input = String::new(alloc);
     for n in 1..=65u32 {
@@ -65,7 +65,7 @@ fn a_plant_knows_64_recipes(rt: HostRuntime) -> Result<(), Fail> {
 }
 
 #[test]
-fn a_plant_starts_128_batches(rt: HostRuntime) -> Result<(), Fail> {
+fn batches_full_at_128_batches(rt: HostRuntime) -> Result<(), Fail> {
     let alloc = rt.alloc();
     let mut input = String::from_str(alloc, DOSER_AND_RECIPE)?;
     let mut output = DONE.repeat(alloc, 3)?;

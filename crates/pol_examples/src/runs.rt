@@ -37,7 +37,18 @@ pub fn run(
     Ok((status, sink.bytes() == output.as_bytes()))
 }
 
-/// The same with a source whose call `read` fails and a sink whose call `write` fails, both counted from 1; no call has
+/// Whether the replay of a journal begins with this output.
+pub fn begins(alloc: Global, journal: &str, output: &str) -> Result<bool, AllocError> {
+    let words = words_of(alloc, "pol --job replay")?;
+    let mut source = SureSource::new(journal.as_bytes().to_vec(alloc)?);
+    let mut sink = SureSink::new(alloc);
+    Ok(
+        top(alloc, &words, &mut source, &mut sink) == Status::Good
+            && sink.bytes().starts_with(output.as_bytes()),
+    )
+}
+
+/// A replay with a source whose call `read` fails and a sink whose call `write` fails, both counted from 1; no call has
 /// the number 0.
 pub fn run_failing(
     alloc: Global,

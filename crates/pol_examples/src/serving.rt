@@ -2,7 +2,9 @@
 use super::batches::DOSING_AND_MIXING;
 use super::runs::{run, words_of};
 use pol_cli::{Status, top};
-use pol_io::{DripSink, DripSource, Failed, MemorySource, Sink, SinkFault, Source, SureSink};
+use pol_io::{
+    DripSink, DripSource, Failed, LONGEST_INPUT, MemorySource, Sink, SinkFault, Source, SureSink,
+};
 use std::alloc::Global;
 use std::test::Fail;
 
@@ -101,11 +103,11 @@ fn one_byte_more_than_an_input_may_have_is_too_much(rt: HostRuntime) -> Result<(
     let words = words_of(rt.alloc(), "pol --job replay")?;
     for (left, status, output) in [
         (
-            268_435_456,
+            LONGEST_INPUT,
             Status::Good,
             "{\"bad\":\"TooLong\",\"path\":\"\"}\n{\"end\":true}\n",
         ),
-        (268_435_457, Status::TooMuchInput, ""),
+        (LONGEST_INPUT + 1, Status::TooMuchInput, ""),
     ] {
         let mut source = Spaces { left };
         let mut sink = SureSink::new(rt.alloc());
