@@ -6,104 +6,137 @@ use Rattle.pol_io.specs.Pieces.{has_no_feed}
 use Rattle.pol_io.specs.Cuts.{FeedAt, PassesLong, Cuts, CutsLong}
 use Rattle.pol_io.proofs.Feeds.{no_feed-append, feed_parts}
 
-cuts_at_feed : (ended : Bool) (ws : List ℕ) (i : ℕ) (t r : List ℕ) → FeedAt ws i → t ≡ ws ++ r → Cuts ended (take i ws) t (drop (i + 1) ws ++ r)
-cuts_at_feed ended ws i t r at same = record {
+-- what stands before a line feed is the first line, where more follows what waits
+cuts_at_feed : (ended : Bool) (waiting : List ℕ) (place : ℕ) (text rest : List ℕ) → FeedAt waiting place
+    → text ≡ waiting ++ rest → Cuts ended (take place waiting) text (drop (place + 1) waiting ++ rest)
+cuts_at_feed ended waiting place text rest at same = record {
   no_feed = at.before;
-  cut = inl (same ∙ (ap (λ w. w ++ r) (feed_parts ws i at) ∙ append_assoc (take i ws) (10 ∷ drop (i + 1) ws) r));
+  cut = inl (same ∙ (ap (λ w. w ++ rest) (feed_parts waiting place at)
+      ∙ append_assoc (take place waiting) (10 ∷ drop (place + 1) waiting) rest));
 }
 
-cuts_at_last_feed : (ended : Bool) (ws : List ℕ) (i : ℕ) (t : List ℕ) → FeedAt ws i → t ≡ ws → Cuts ended (take i ws) t (drop (i + 1) ws)
-cuts_at_last_feed ended ws i t at same = record { no_feed = at.before; cut = inl (same ∙ feed_parts ws i at) }
+-- the same, where nothing follows
+cuts_at_last_feed : (ended : Bool) (waiting : List ℕ) (place : ℕ) (text : List ℕ) → FeedAt waiting place
+    → text ≡ waiting → Cuts ended (take place waiting) text (drop (place + 1) waiting)
+cuts_at_last_feed ended waiting place text at same = record {
+  no_feed = at.before;
+  cut =
+      inl (same ∙ feed_parts waiting place at);
+}
 
 -- a line up to the first line feed that waits
-pub cuts_at_feed_known : (ended : Bool) (a b : Option (List ℕ)) (ws line : List ℕ) (i : ℕ) → line ≡ take i ws
-    → FeedAt ws i → Keeps a (joined ended ws b) → Between (Cuts ended line) a (joined ended (drop (i + 1) ws) b)
-cuts_at_feed_known true None b ws line i same at kept = tt
-cuts_at_feed_known true (Some t) b ws line i same at kept = rw same (cuts_at_last_feed true ws i t at (sym kept))
-cuts_at_feed_known false None b ws line i same at kept = tt
-cuts_at_feed_known false (Some t) None ws line i same at kept = absurd kept
-cuts_at_feed_known false (Some t) (Some r) ws line i same at kept = rw same (cuts_at_feed false ws i t r at (sym kept))
+pub cuts_at_feed_known : (ended : Bool) (known ahead : Option (List ℕ)) (waiting line : List ℕ) (place : ℕ)
+    → line ≡ take place waiting
+    → FeedAt waiting place → Keeps known (joined ended waiting ahead)
+    → Between (Cuts ended line) known (joined ended (drop (place + 1) waiting) ahead)
+cuts_at_feed_known true None ahead waiting line place same at kept = tt
+cuts_at_feed_known true (Some text) ahead waiting line place same at kept =
+    rw same (cuts_at_last_feed true waiting place text at (sym kept))
+cuts_at_feed_known false None ahead waiting line place same at kept = tt
+cuts_at_feed_known false (Some text) None waiting line place same at kept = absurd kept
+cuts_at_feed_known false (Some text) (Some rest) waiting line place same at kept =
+    rw same (cuts_at_feed false waiting place text rest at (sym kept))
 
 -- a last line without a line feed
-pub cuts_at_end : (a : Option (List ℕ)) (ws rest : List ℕ) → Keeps a (Some ws) → IsTrue (has_no_feed ws) → 0 < length ws
-    → rest ≡ [] → Between (Cuts true ws) a (Some rest)
-cuts_at_end None ws rest kept no_feed some end = tt
-cuts_at_end (Some t) ws rest kept no_feed some end = record { no_feed = no_feed; cut = inr (refl, sym kept, end, some) }
+pub cuts_at_end : (known : Option (List ℕ)) (waiting rest : List ℕ) → Keeps known (Some waiting)
+    → IsTrue (has_no_feed waiting) → 0 < length waiting
+    → rest ≡ [] → Between (Cuts true waiting) known (Some rest)
+cuts_at_end None waiting rest kept no_feed some end = tt
+cuts_at_end (Some text) waiting rest kept no_feed some end =
+    record { no_feed = no_feed; cut = inr (refl, sym kept, end, some) }
 
 -- all that waits is passed over, and it is long
-pub passes_waiting : (n : ℕ) (ended : Bool) (waiting : List ℕ) (left : Option (List ℕ)) → ended ≡ false
-    → IsTrue (has_no_feed waiting) → n < length waiting → Between (PassesLong n) (joined ended waiting left) left
-passes_waiting n true waiting left unended no_feed long = absurd (cc)
-passes_waiting n false waiting None unended no_feed long = tt
-passes_waiting n false waiting (Some xs) unended no_feed long = record { part = waiting; no_feed = no_feed; cut = refl; long = long }
+pub passes_waiting : (most : ℕ) (ended : Bool) (waiting : List ℕ) (left : Option (List ℕ)) → ended ≡ false
+    → IsTrue (has_no_feed waiting) → most < length waiting → Between (PassesLong most) (joined ended waiting left) left
+passes_waiting most true waiting left unended no_feed long = absurd (cc)
+passes_waiting most false waiting None unended no_feed long = tt
+passes_waiting most false waiting (Some rest) unended no_feed long =
+    record { part = waiting; no_feed = no_feed; cut = refl; long = long }
 
 -- more bytes wait, where none did before
-pub nothing_waited : (before now : Bool) (none more : List ℕ) (a b : Option (List ℕ)) → before ≡ false → now ≡ before
-    → none ≡ [] → Keeps (joined before none a) (joined now more b) → Keeps a (prepend_known more b)
-nothing_waited true now none more a b unended same empty kept = absurd (cc)
-nothing_waited false true none more a b unended same empty kept = absurd (cc)
-nothing_waited false false none more None b unended same empty kept = tt
-nothing_waited false false none more (Some xs) None unended same empty kept = absurd kept
-nothing_waited false false none more (Some xs) (Some ys) unended same empty kept = kept ∙ ap (λ zs. zs ++ xs) empty
+pub nothing_waited : (before now : Bool) (none more : List ℕ) (known ahead : Option (List ℕ))
+    → before ≡ false → now ≡ before
+    → none ≡ [] → Keeps (joined before none known) (joined now more ahead) → Keeps known (prepend_known more ahead)
+nothing_waited true now none more known ahead unended same empty kept = absurd (cc)
+nothing_waited false true none more known ahead unended same empty kept = absurd (cc)
+nothing_waited false false none more None ahead unended same empty kept = tt
+nothing_waited false false none more (Some text) None unended same empty kept = absurd kept
+nothing_waited false false none more (Some text) (Some rest) unended same empty kept = kept
+    ∙ ap (λ front. front ++ text) empty
 
-long_to_feed : (n : ℕ) (ended : Bool) (ws : List ℕ) (i : ℕ) → FeedAt ws i → (t r : List ℕ) → PassesLong n t (ws ++ r)
-    → CutsLong n ended t (drop (i + 1) ws ++ r)
-long_to_feed n ended ws i at t r long = record {
-  line = long.part ++ take i ws;
+-- a long line up to a line feed, where more follows what waits
+long_to_feed : (most : ℕ) (ended : Bool) (waiting : List ℕ) (place : ℕ) → FeedAt waiting place → (text rest : List ℕ)
+    → PassesLong most text (waiting ++ rest)
+    → CutsLong most ended text (drop (place + 1) waiting ++ rest)
+long_to_feed most ended waiting place at text rest long = record {
+  line = long.part ++ take place waiting;
   cuts = record {
-    no_feed = no_feed-append long.part (take i ws) long.no_feed at.before;
-    cut = inl (long.cut ∙ (ap (λ w. long.part ++ (w ++ r)) (feed_parts ws i at)
-        ∙ (ap (λ w. long.part ++ w) (append_assoc (take i ws) (10 ∷ drop (i + 1) ws) r)
-        ∙ sym (append_assoc long.part (take i ws) (10 ∷ (drop (i + 1) ws ++ r))))));
+    no_feed = no_feed-append long.part (take place waiting) long.no_feed at.before;
+    cut = inl (long.cut ∙ (ap (λ front. long.part ++ (front ++ rest)) (feed_parts waiting place at)
+        ∙ (ap (λ front. long.part ++ front) (append_assoc (take place waiting) (10 ∷ drop (place + 1) waiting) rest)
+        ∙ sym (append_assoc long.part (take place waiting) (10 ∷ (drop (place + 1) waiting ++ rest))))));
   };
-  long = let l = long.long in rw length-append (omega (arith, l));
+  long = let size = long.long in rw length-append (omega (arith, size));
 }
 
 -- a long line up to a line feed
-pub long_at_feed : (n : ℕ) (ended : Bool) (a b c : Option (List ℕ)) (ws : List ℕ) (i : ℕ) → ended ≡ false → FeedAt ws i
-    → Between (PassesLong n) a b → Keeps b (prepend_known ws c)
-    → Between (CutsLong n ended) a (joined ended (drop (i + 1) ws) c)
-long_at_feed n true a b c ws i unended at long kept = absurd (cc)
-long_at_feed n false None b c ws i unended at long kept = tt
-long_at_feed n false (Some t) None c ws i unended at long kept = absurd long
-long_at_feed n false (Some t) (Some m) None ws i unended at long kept = absurd kept
-long_at_feed n false (Some t) (Some m) (Some r) ws i unended at long kept = long_to_feed n false ws i at t r (rw (← kept) at long)
+pub long_at_feed : (most : ℕ) (ended : Bool) (known middle ahead : Option (List ℕ)) (waiting : List ℕ) (place : ℕ)
+    → ended ≡ false → FeedAt waiting place
+    → Between (PassesLong most) known middle → Keeps middle (prepend_known waiting ahead)
+    → Between (CutsLong most ended) known (joined ended (drop (place + 1) waiting) ahead)
+long_at_feed most true known middle ahead waiting place unended at long kept = absurd (cc)
+long_at_feed most false None middle ahead waiting place unended at long kept = tt
+long_at_feed most false (Some text) None ahead waiting place unended at long kept = absurd long
+long_at_feed most false (Some text) (Some left) None waiting place unended at long kept = absurd kept
+long_at_feed most false (Some text) (Some left) (Some rest) waiting place unended at long kept =
+    long_to_feed most false waiting place at text rest (rw (← kept) at long)
 
-longer : (n : ℕ) (ws : List ℕ) → IsTrue (has_no_feed ws) → (t r : List ℕ) → PassesLong n t (ws ++ r) → PassesLong n t r
-longer n ws no_feed t r long = record {
-  part = long.part ++ ws;
-  no_feed = no_feed-append long.part ws long.no_feed no_feed;
-  cut = long.cut ∙ sym (append_assoc long.part ws r);
-  long = let l = long.long in rw length-append (omega (arith, l));
+-- a long line with more bytes is long
+longer : (most : ℕ) (waiting : List ℕ) → IsTrue (has_no_feed waiting) → (text rest : List ℕ)
+    → PassesLong most text (waiting ++ rest) → PassesLong most text rest
+longer most waiting no_feed text rest long = record {
+  part = long.part ++ waiting;
+  no_feed = no_feed-append long.part waiting long.no_feed no_feed;
+  cut = long.cut ∙ sym (append_assoc long.part waiting rest);
+  long = let before = long.long in rw length-append (omega (arith, before));
 }
 
 -- more bytes of a long line
-pub long_goes_on : (n : ℕ) (a b c : Option (List ℕ)) (ws : List ℕ) → IsTrue (has_no_feed ws)
-    → Between (PassesLong n) a b → Keeps b (prepend_known ws c) → Between (PassesLong n) a c
-long_goes_on n None b c ws no_feed long kept = tt
-long_goes_on n (Some t) None c ws no_feed long kept = absurd long
-long_goes_on n (Some t) (Some m) None ws no_feed long kept = absurd kept
-long_goes_on n (Some t) (Some m) (Some r) ws no_feed long kept = longer n ws no_feed t r (rw (← kept) at long)
+pub long_goes_on : (most : ℕ) (known middle ahead : Option (List ℕ)) (waiting : List ℕ) → IsTrue (has_no_feed waiting)
+    → Between (PassesLong most) known middle → Keeps middle (prepend_known waiting ahead)
+    → Between (PassesLong most) known ahead
+long_goes_on most None middle ahead waiting no_feed long kept = tt
+long_goes_on most (Some text) None ahead waiting no_feed long kept = absurd long
+long_goes_on most (Some text) (Some left) None waiting no_feed long kept = absurd kept
+long_goes_on most (Some text) (Some left) (Some rest) waiting no_feed long kept =
+    longer most waiting no_feed text rest (rw (← kept) at long)
 
 -- a long line up to the end of input
-pub long_at_end : (n : ℕ) (ended : Bool) (a b : Option (List ℕ)) (none waiting rest : List ℕ) → ended ≡ false
-    → none ≡ [] → waiting ≡ none → rest ≡ [] → Between (PassesLong n) a b → Keeps (joined ended none b) (Some waiting)
-    → Between (CutsLong n true) a (Some rest)
-long_at_end n true a b none waiting rest unended empty same end long kept = absurd (cc)
-long_at_end n false None b none waiting rest unended empty same end long kept = tt
-long_at_end n false (Some t) None none waiting rest unended empty same end long kept = absurd long
-long_at_end n false (Some t) (Some m) none waiting rest unended empty same end long kept =
-    let nothing : m ≡ [] = ap (λ zs. zs ++ m) (sym empty) ∙ (sym kept ∙ (same ∙ empty)) in
+pub long_at_end : (most : ℕ) (ended : Bool) (known ahead : Option (List ℕ)) (none waiting rest : List ℕ) → ended ≡ false
+    → none ≡ [] → waiting ≡ none → rest ≡ [] → Between (PassesLong most) known ahead
+    → Keeps (joined ended none ahead) (Some waiting)
+    → Between (CutsLong most true) known (Some rest)
+long_at_end most true known ahead none waiting rest unended empty same end long kept = absurd (cc)
+long_at_end most false None ahead none waiting rest unended empty same end long kept = tt
+long_at_end most false (Some text) None none waiting rest unended empty same end long kept = absurd long
+long_at_end most false (Some text) (Some left) none waiting rest unended empty same end long kept =
+    let nothing : left ≡ [] = ap (λ front. front ++ left) (sym empty) ∙ (sym kept ∙ (same ∙ empty)) in
     record {
       line = long.part;
       cuts = record {
         no_feed = long.no_feed;
-        cut = inr (refl, long.cut ∙ (ap (λ r. long.part ++ r) nothing ∙ append-nil long.part), end, let l = long.long in omega (arith, l));
+        cut = inr (
+          refl,
+          long.cut ∙ (ap (λ behind. long.part ++ behind) nothing ∙ append-nil long.part),
+          end,
+          let size = long.long in omega (arith, size),
+        );
       };
       long = long.long;
     }
 
 -- nothing is ahead and nothing is left
-pub nothing_ahead : (a : Option (List ℕ)) (ws rest : List ℕ) → Keeps a (Some ws) → ws ≡ [] → rest ≡ [] → Between (λ t r. (t ≡ []) × (r ≡ [])) a (Some rest)
-nothing_ahead None ws rest kept none end = tt
-nothing_ahead (Some t) ws rest kept none end = (sym kept ∙ none, end)
+pub nothing_ahead : (known : Option (List ℕ)) (waiting rest : List ℕ) → Keeps known (Some waiting) → waiting ≡ []
+    → rest ≡ [] → Between (λ text left. (text ≡ []) × (left ≡ [])) known (Some rest)
+nothing_ahead None waiting rest kept none end = tt
+nothing_ahead (Some text) waiting rest kept none end = (sym kept ∙ none, end)

@@ -11,22 +11,25 @@ use Rattle.pol_io.specs.Pieces.{has_no_feed}
 use Rattle.pol_io.specs.Cuts.{FeedAt}
 use Rattle.pol_io.proofs.Ranges.{range_drop}
 
-both_true : (a b : Bool) → (a && b) ≡ true → (a ≡ true) × (b ≡ true)
-both_true true b h = (refl, h)
-both_true false b h = absurd (cc)
+-- both of two truths
+both_true : (one other : Bool) → (one && other) ≡ true → (one ≡ true) × (other ≡ true)
+both_true true other both = (refl, both)
+both_true false other both = absurd (cc)
 
 -- the first byte is no line feed, and none of the others is
-pub head_no_feed : (x : ℕ) (xs : List ℕ) → IsTrue (has_no_feed (x ∷ xs)) → ((x == 10) ≡ false) × IsTrue (has_no_feed xs)
-head_no_feed x xs h = let both = both_true (not (x == 10)) (has_no_feed xs) h in (not-true (x == 10) both.0, both.1)
+pub head_no_feed : (byte : ℕ) (bytes : List ℕ) → IsTrue (has_no_feed (byte ∷ bytes))
+    → ((byte == 10) ≡ false) × IsTrue (has_no_feed bytes)
+head_no_feed byte bytes none = let both = both_true (not (byte == 10)) (has_no_feed bytes) none in
+    (not-true (byte == 10) both.0, both.1)
 
 -- bytes among which no place holds a line feed have none
 pub no_feed-before : (bytes : List ℕ) (size : ℕ)
     → ((place : ℕ) → place < size → (slice_index bytes place == 10) ≡ true → ⊥) → IsTrue (has_no_feed (take size bytes))
 no_feed-before [] size none = grind (arith, common_steps)
-no_feed-before (x ∷ xs) zero none = grind (arith, common_steps)
-no_feed-before (x ∷ xs) (suc size) none =
-    let first : ((x == 10) ≡ true → ⊥) = none 0 (omega arith) in
-    let others = no_feed-before xs size (λ place low is. none (suc place) (omega (arith, low)) is) in
+no_feed-before (byte ∷ bytes) zero none = grind (arith, common_steps)
+no_feed-before (byte ∷ bytes) (suc size) none =
+    let first : ((byte == 10) ≡ true → ⊥) = none 0 (omega arith) in
+    let others = no_feed-before bytes size (λ place low is. none (suc place) (omega (arith, low)) is) in
     grind (arith, common_steps, first, others)
 
 -- the first byte that is a line feed is the first line feed
@@ -43,38 +46,50 @@ first_feed bytes (Some place) first = record {
 
 -- a line feed that was found is one
 pub feed_found : (bytes : List ℕ) (found : Option ℕ)
-    → MatchOption found (IsTrue (has_no_feed bytes)) (λ place. FeedAt bytes place) → is_some found ≡ not (has_no_feed bytes)
+    → MatchOption found (IsTrue (has_no_feed bytes)) (λ place. FeedAt bytes place)
+    → is_some found ≡ not (has_no_feed bytes)
 feed_found bytes None none = rw none
 feed_found bytes (Some place) at =
     let feed : not (slice_index bytes place == 10) ≡ false = rw at.feed in
     rw (list_all_at (λ b. not (b == 10)) bytes place 0 at.within feed)
 
 -- neither part has a line feed
-pub no_feed-append : (xs ys : List ℕ) → IsTrue (has_no_feed xs) → IsTrue (has_no_feed ys) → IsTrue (has_no_feed (xs ++ ys))
-no_feed-append [] ys p q = q
-no_feed-append (x ∷ xs) ys p q = let head = head_no_feed x xs p in rw (head.0, no_feed-append xs ys head.1 q)
+pub no_feed-append : (front back : List ℕ) → IsTrue (has_no_feed front) → IsTrue (has_no_feed back)
+    → IsTrue (has_no_feed (front ++ back))
+no_feed-append [] back none others = others
+no_feed-append (byte ∷ front) back none others = let head = head_no_feed byte front none in
+    rw (head.0, no_feed-append front back head.1 others)
 
 -- a scan went through all that waits
-pub no_feed-whole : (xs : List ℕ) (n : ℕ) → IsTrue (has_no_feed (take n xs)) → IsTrue (has_no_feed (drop n xs)) → IsTrue (has_no_feed xs)
-no_feed-whole xs n p q = rw (take-append-drop n xs) at (no_feed-append (take n xs) (drop n xs) p q)
+pub no_feed-whole : (bytes : List ℕ) (size : ℕ) → IsTrue (has_no_feed (take size bytes))
+    → IsTrue (has_no_feed (drop size bytes)) → IsTrue (has_no_feed bytes)
+no_feed-whole bytes size front back = rw (take-append-drop size bytes) at
+    (no_feed-append (take size bytes) (drop size bytes) front back)
 
 -- a line feed found behind what was scanned
-pub FeedAt-scanned : (xs : List ℕ) (n i : ℕ) → IsTrue (has_no_feed (take n xs)) → FeedAt (drop n xs) i → FeedAt xs (n + i)
-FeedAt-scanned xs n i scanned at = record {
-  within = let within = rw (length-drop n xs) at at.within in omega (arith, within);
-  before = rw (take-add n i xs) (no_feed-append (take n xs) (take i (drop n xs)) scanned at.before);
-  feed = sym (get_or-drop n xs i 0) ∙ at.feed;
+pub FeedAt-scanned : (bytes : List ℕ) (size place : ℕ) → IsTrue (has_no_feed (take size bytes))
+    → FeedAt (drop size bytes) place → FeedAt bytes (size + place)
+FeedAt-scanned bytes size place scanned at = record {
+  within = let within = rw (length-drop size bytes) at at.within in omega (arith, within);
+  before = rw (take-add size place bytes) (no_feed-append (take size bytes)
+      (take place (drop size bytes)) scanned at.before);
+  feed = sym (get_or-drop size bytes place 0) ∙ at.feed;
 }
 
 -- a line feed parts the bytes
-pub feed_parts : (bytes : List ℕ) (i : ℕ) → FeedAt bytes i → bytes ≡ take i bytes ++ 10 ∷ drop (i + 1) bytes
-feed_parts bytes i at = sym (take-append-drop i bytes) ∙ ap (λ r. take i bytes ++ r) (drop_more bytes i 0 at.within ∙ ap (λ b. b ∷ drop (i + 1) bytes) at.feed)
+pub feed_parts : (bytes : List ℕ) (place : ℕ) → FeedAt bytes place
+    → bytes ≡ take place bytes ++ 10 ∷ drop (place + 1) bytes
+feed_parts bytes place at = sym (take-append-drop place bytes)
+    ∙ ap (λ back. take place bytes ++ back) (drop_more bytes place 0 at.within
+    ∙ ap (λ byte. byte ∷ drop (place + 1) bytes) at.feed)
 
 -- a scan that found nothing behind what was scanned went through all that waits
-pub scanned_all : (items looked : List ℕ) (i j n : ℕ) → looked ≡ items
-    → IsTrue (has_no_feed (take n (slice_range items i j))) → IsTrue (has_no_feed (slice_range looked (i + n) j))
-    → IsTrue (has_no_feed (slice_range items i j))
-scanned_all items looked i j n same scanned rest = no_feed-whole (slice_range items i j) n scanned (rw (same, range_drop items i j n) at rest)
+pub scanned_all : (items looked : List ℕ) (start end size : ℕ) → looked ≡ items
+    → IsTrue (has_no_feed (take size (slice_range items start end)))
+    → IsTrue (has_no_feed (slice_range looked (start + size) end))
+    → IsTrue (has_no_feed (slice_range items start end))
+scanned_all items looked start end size same scanned rest = no_feed-whole (slice_range items start end) size scanned
+    (rw (same, range_drop items start end size) at rest)
 
 -- the source had to be asked: the end wasn't seen, and no whole line waited
 pub had_to_ask : (before now : Bool) (bytes waiting : List ℕ) → now ≡ before → now ≡ false → waiting ≡ bytes
@@ -84,6 +99,7 @@ had_to_ask before now bytes waiting kept unended same no_feed needless =
     let asked : (before || not (has_no_feed bytes)) ≡ false = rw (← kept, unended, unfed) in
     absurd (cc)
 
-pub either_way : (b : Bool) (P : Type 0) → (b ≡ true → P) → (b ≡ false → P) → P
-either_way true P at_true at_false = at_true refl
-either_way false P at_true at_false = at_false refl
+-- a fact holds either way
+pub either_way : (test : Bool) (Fact : Type 0) → (test ≡ true → Fact) → (test ≡ false → Fact) → Fact
+either_way true Fact at_true at_false = at_true refl
+either_way false Fact at_true at_false = at_false refl

@@ -4,86 +4,106 @@ use Rattle.pol_io.specs.Known.{Between, Counts, joined}
 use Rattle.std.specs.Io.KnownBytes.{Appends, Consumes, Keeps, IsAtEnd}
 
 -- what P says is enough for Q
-pub between_weaker : (P Q : List ℕ → List ℕ → Type 0) (a b : Option (List ℕ)) → ((x y : List ℕ) → P x y → Q x y) → Between P a b → Between Q a b
-between_weaker P Q None b step p = tt
-between_weaker P Q (Some x) None step p = absurd p
-between_weaker P Q (Some x) (Some y) step p = step x y p
+pub between_weaker : (Strong Weak : List ℕ → List ℕ → Type 0) (old new : Option (List ℕ))
+    → ((text rest : List ℕ) → Strong text rest → Weak text rest) → Between Strong old new → Between Weak old new
+between_weaker Strong Weak None new step fact = tt
+between_weaker Strong Weak (Some text) None step fact = absurd fact
+between_weaker Strong Weak (Some text) (Some rest) step fact = step text rest fact
 
 -- two facts at once
-pub between_both : (P Q R : List ℕ → List ℕ → Type 0) (a b : Option (List ℕ)) → ((x y : List ℕ) → P x y → Q x y → R x y)
-    → Between P a b → Between Q a b → Between R a b
-between_both P Q R None b step p q = tt
-between_both P Q R (Some x) None step p q = absurd p
-between_both P Q R (Some x) (Some y) step p q = step x y p q
+pub between_both : (One Other Both : List ℕ → List ℕ → Type 0) (old new : Option (List ℕ))
+    → ((text rest : List ℕ) → One text rest → Other text rest → Both text rest)
+    → Between One old new → Between Other old new → Between Both old new
+between_both One Other Both None new step one other = tt
+between_both One Other Both (Some text) None step one other = absurd one
+between_both One Other Both (Some text) (Some rest) step one other = step text rest one other
 
 -- one call after another
-pub between_trans : (P Q R : List ℕ → List ℕ → Type 0) (a b c : Option (List ℕ))
-    → ((x y z : List ℕ) → P x y → Q y z → R x z) → Between P a b → Between Q b c → Between R a c
-between_trans P Q R None b c step p q = tt
-between_trans P Q R (Some x) None c step p q = absurd p
-between_trans P Q R (Some x) (Some y) None step p q = absurd q
-between_trans P Q R (Some x) (Some y) (Some z) step p q = step x y z p q
+pub between_trans : (First Then Whole : List ℕ → List ℕ → Type 0) (old middle new : Option (List ℕ))
+    → ((text between rest : List ℕ) → First text between → Then between rest → Whole text rest)
+    → Between First old middle → Between Then middle new → Between Whole old new
+between_trans First Then Whole None middle new step first later = tt
+between_trans First Then Whole (Some text) None new step first later = absurd first
+between_trans First Then Whole (Some text) (Some between) None step first later = absurd later
+between_trans First Then Whole (Some text) (Some between) (Some rest) step first later =
+    step text between rest first later
 
 -- P holds of the bytes known before and those known after, of which it says more than that they stayed
-pub between_kept : (P : List ℕ → List ℕ → Type 0) (a b : Option (List ℕ)) → ((x : List ℕ) → P x x) → Keeps a b → Between P a b
-between_kept P None b same p = tt
-between_kept P (Some x) None same p = absurd p
-between_kept P (Some x) (Some y) same p = rw p (same x)
+pub between_kept : (Fact : List ℕ → List ℕ → Type 0) (old new : Option (List ℕ)) → ((text : List ℕ) → Fact text text)
+    → Keeps old new → Between Fact old new
+between_kept Fact None new same fact = tt
+between_kept Fact (Some text) None same fact = absurd fact
+between_kept Fact (Some text) (Some rest) same fact = rw fact (same text)
 
+-- known bytes stay as they are
 pub Keeps-refl : (known : Option (List ℕ)) → Keeps known known
 Keeps-refl None = tt
-Keeps-refl (Some xs) = refl
+Keeps-refl (Some bytes) = refl
 
-pub Keeps-trans : (a b c : Option (List ℕ)) → Keeps a b → Keeps b c → Keeps a c
-Keeps-trans None b c p q = tt
-Keeps-trans (Some x) None c p q = absurd p
-Keeps-trans (Some x) (Some y) None p q = absurd q
-Keeps-trans (Some x) (Some y) (Some z) p q = q ∙ p
+-- known bytes that stay, and stay again
+pub Keeps-trans : (old middle new : Option (List ℕ)) → Keeps old middle → Keeps middle new → Keeps old new
+Keeps-trans None middle new first later = tt
+Keeps-trans (Some text) None new first later = absurd first
+Keeps-trans (Some text) (Some between) None first later = absurd later
+Keeps-trans (Some text) (Some between) (Some rest) first later = later ∙ first
 
 -- bytes that are appended twice
-pub Appends-trans : (a b c : Option (List ℕ)) (xs ys : List ℕ) → Appends a b xs → Appends b c ys → Appends a c (xs ++ ys)
-Appends-trans None b c xs ys p q = tt
-Appends-trans (Some x) None c xs ys p q = absurd p
-Appends-trans (Some x) (Some y) None xs ys p q = absurd q
-Appends-trans (Some x) (Some y) (Some z) xs ys p q = rw (q, p) (append_assoc x xs ys)
+pub Appends-trans : (old middle new : Option (List ℕ)) (more others : List ℕ) → Appends old middle more
+    → Appends middle new others → Appends old new (more ++ others)
+Appends-trans None middle new more others first later = tt
+Appends-trans (Some text) None new more others first later = absurd first
+Appends-trans (Some text) (Some between) None more others first later = absurd later
+Appends-trans (Some text) (Some between) (Some rest) more others first later =
+    rw (later, first) (append_assoc text more others)
 
 -- nothing was appended
-pub Appends-none : (a b : Option (List ℕ)) → Keeps a b → Appends a b []
-Appends-none None b p = tt
-Appends-none (Some x) None p = absurd p
-Appends-none (Some x) (Some y) p = p ∙ sym (append-nil x)
+pub Appends-none : (old new : Option (List ℕ)) → Keeps old new → Appends old new []
+Appends-none None new kept = tt
+Appends-none (Some text) None kept = absurd kept
+Appends-none (Some text) (Some rest) kept = kept ∙ sym (append-nil text)
 
 -- bytes that are consumed twice
-pub Consumes-trans : (a b c : Option (List ℕ)) (xs ys : List ℕ) → Consumes a b xs → Consumes b c ys → Consumes a c (xs ++ ys)
-Consumes-trans None b c xs ys p q = tt
-Consumes-trans (Some x) None c xs ys p q = absurd p
-Consumes-trans (Some x) (Some y) None xs ys p q = absurd q
-Consumes-trans (Some x) (Some y) (Some z) xs ys p q = rw (p, q) (sym (append_assoc xs ys z))
+pub Consumes-trans : (old middle new : Option (List ℕ)) (more others : List ℕ) → Consumes old middle more
+    → Consumes middle new others → Consumes old new (more ++ others)
+Consumes-trans None middle new more others first later = tt
+Consumes-trans (Some text) None new more others first later = absurd first
+Consumes-trans (Some text) (Some between) None more others first later = absurd later
+Consumes-trans (Some text) (Some between) (Some rest) more others first later =
+    rw (first, later) (sym (append_assoc more others rest))
 
 -- what was consumed waits behind what waited
 pub joined-consumed : (ended : Bool) (old new : Option (List ℕ)) (waited more : List ℕ) → ended ≡ false
     → Consumes old new more → Keeps (joined ended waited old) (joined ended (waited ++ more) new)
 joined-consumed true old new waited more unended took = absurd (cc)
 joined-consumed false None new waited more unended took = tt
-joined-consumed false (Some xs) None waited more unended took = absurd took
-joined-consumed false (Some xs) (Some ys) waited more unended took = rw took (append_assoc waited more ys)
+joined-consumed false (Some text) None waited more unended took = absurd took
+joined-consumed false (Some text) (Some rest) waited more unended took = rw took (append_assoc waited more rest)
 
 -- at the end all that is ahead waits
-pub joined-at_end : (ended : Bool) (left left' : Option (List ℕ)) (waiting : List ℕ) → Keeps left left' → IsAtEnd left'
+pub joined-at_end : (ended : Bool) (left after : Option (List ℕ)) (waiting : List ℕ) → Keeps left after → IsAtEnd after
     → Keeps (joined ended waiting left) (Some waiting)
-joined-at_end true left left' waiting kept end = refl
-joined-at_end false None left' waiting kept end = tt
-joined-at_end false (Some xs) None waiting kept end = absurd kept
-joined-at_end false (Some xs) (Some ys) waiting kept end = sym (ap (λ zs. waiting ++ zs) (sym kept ∙ end) ∙ append-nil waiting)
+joined-at_end true left after waiting kept end = refl
+joined-at_end false None after waiting kept end = tt
+joined-at_end false (Some text) None waiting kept end = absurd kept
+joined-at_end false (Some text) (Some rest) waiting kept end =
+    sym (ap (λ behind. waiting ++ behind) (sym kept ∙ end) ∙ append-nil waiting)
 
 -- counts of what was taken
-pub counts_taken : (a b : Option (List ℕ)) (more : List ℕ) (t n : ℕ) → length more ≡ n → Consumes a b more → Between (Counts t (t + n)) a b
-counts_taken None b more t n long took = tt
-counts_taken (Some xs) None more t n long took = absurd took
-counts_taken (Some xs) (Some ys) more t n long took = let sum = ap length took ∙ length-append more ys in omega (arith, sum, long)
+pub counts_taken : (old new : Option (List ℕ)) (more : List ℕ) (taken size : ℕ) → length more ≡ size
+    → Consumes old new more → Between (Counts taken (taken + size)) old new
+counts_taken None new more taken size long took = tt
+counts_taken (Some text) None more taken size long took = absurd took
+counts_taken (Some text) (Some rest) more taken size long took = let sum = ap length took ∙ length-append more rest in
+    omega (arith, sum, long)
 
-pub counts_kept : (a b : Option (List ℕ)) (t : ℕ) → Keeps a b → Between (Counts t t) a b
-counts_kept a b t kept = between_kept (Counts t t) a b (λ x. refl) kept
+-- nothing was taken, and the count stays
+pub counts_kept : (old new : Option (List ℕ)) (taken : ℕ) → Keeps old new → Between (Counts taken taken) old new
+counts_kept old new taken kept = between_kept (Counts taken taken) old new (λ text. refl) kept
 
-pub counts_trans : (a b c : Option (List ℕ)) (t u v : ℕ) → Between (Counts t u) a b → Between (Counts u v) b c → Between (Counts t v) a c
-counts_trans a b c t u v p q = between_trans (Counts t u) (Counts u v) (Counts t v) a b c (λ x y z here there. here ∙ there) p q
+-- counts of what was taken twice
+pub counts_trans : (old middle new : Option (List ℕ)) (before between after : ℕ)
+    → Between (Counts before between) old middle → Between (Counts between after) middle new
+    → Between (Counts before after) old new
+counts_trans old middle new before between after first later =
+    between_trans (Counts before between) (Counts between after) (Counts before after) old middle new
+    (λ one two three here there. here ∙ there) first later

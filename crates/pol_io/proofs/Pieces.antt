@@ -5,91 +5,116 @@ use Rattle.pol_io.specs.Pieces.{pieces, onto_first, line_of, has_no_feed, is_who
 use Rattle.pol_io.proofs.Feeds.{head_no_feed}
 
 -- a line with its line feed is one piece
-pub pieces-feed : (line rest : List ℕ) → IsTrue (has_no_feed line) → pieces (line ++ 10 ∷ rest) ≡ (line ++ 10 ∷ []) ∷ pieces rest
-pieces-feed [] rest h = refl
-pieces-feed (x ∷ xs) rest h = let parts = head_no_feed x xs h in rw (parts.0, pieces-feed xs rest parts.1)
+pub pieces-feed : (line rest : List ℕ) → IsTrue (has_no_feed line)
+    → pieces (line ++ 10 ∷ rest) ≡ (line ++ 10 ∷ []) ∷ pieces rest
+pieces-feed [] rest none = refl
+pieces-feed (byte ∷ bytes) rest none = let parts = head_no_feed byte bytes none in
+    rw (parts.0, pieces-feed bytes rest parts.1)
 
 -- bytes without a line feed are one piece
 pub pieces-no_feed : (line : List ℕ) → IsTrue (has_no_feed line) → 0 < length line → pieces line ≡ line ∷ []
-pieces-no_feed [] h some = absurd (omega arith)
-pieces-no_feed (x ∷ []) h some = let parts = head_no_feed x [] h in rw parts.0
-pieces-no_feed (x ∷ (y ∷ ys)) h some =
-    let parts = head_no_feed x (y ∷ ys) h in
-    let rest : pieces (y ∷ ys) ≡ (y ∷ ys) ∷ [] = pieces-no_feed (y ∷ ys) parts.1 (omega arith) in
-    let F : Bool → List (List ℕ) = λ b. if b then (x ∷ []) ∷ pieces (y ∷ ys) else onto_first x (pieces (y ∷ ys)) in
-    ap F parts.0 ∙ ap (λ ps. onto_first x ps) rest
+pieces-no_feed [] none some = absurd (omega arith)
+pieces-no_feed (byte ∷ []) none some = let parts = head_no_feed byte [] none in rw parts.0
+pieces-no_feed (byte ∷ (second ∷ others)) none some =
+    let parts = head_no_feed byte (second ∷ others) none in
+    let rest : pieces (second ∷ others) ≡ (second ∷ others) ∷ [] =
+    pieces-no_feed (second ∷ others) parts.1 (omega arith) in
+    let cut : Bool → List (List ℕ) = λ is_feed. if is_feed then (byte ∷ []) ∷ pieces
+    (second ∷ others) else onto_first byte (pieces (second ∷ others)) in
+    ap cut parts.0 ∙ ap (λ found. onto_first byte found) rest
 
+-- the line of a piece is what stands before its line feed
 pub line_of-feed : (line : List ℕ) → IsTrue (has_no_feed line) → line ≡ line_of (line ++ 10 ∷ [])
-line_of-feed [] h = refl
-line_of-feed (x ∷ xs) h = let parts = head_no_feed x xs h in rw (parts.0, ← line_of-feed xs parts.1)
+line_of-feed [] none = refl
+line_of-feed (byte ∷ bytes) none = let parts = head_no_feed byte bytes none in
+    rw (parts.0, ← line_of-feed bytes parts.1)
 
+-- and all of it, where it has none
 pub line_of-no_feed : (line : List ℕ) → IsTrue (has_no_feed line) → line ≡ line_of line
-line_of-no_feed [] h = refl
-line_of-no_feed (x ∷ xs) h = let parts = head_no_feed x xs h in rw parts.0 (ap (λ ys. x ∷ ys) (line_of-no_feed xs parts.1))
+line_of-no_feed [] none = refl
+line_of-no_feed (byte ∷ bytes) none = let parts = head_no_feed byte bytes none in
+    rw parts.0 (ap (λ line. byte ∷ line) (line_of-no_feed bytes parts.1))
 
 -- bytes that end in a line feed are whole
 pub whole-feed : (line : List ℕ) → IsTrue (is_whole (line ++ 10 ∷ []))
 whole-feed [] = refl
-whole-feed (x ∷ []) = refl
-whole-feed (x ∷ (y ∷ ys)) = whole-feed (y ∷ ys)
+whole-feed (byte ∷ []) = refl
+whole-feed (byte ∷ (second ∷ others)) = whole-feed (second ∷ others)
 
 -- whole lines followed by whole lines
-pub whole-append : (done more : List ℕ) → IsTrue (is_whole done) → IsTrue (is_whole more) → IsTrue (is_whole (done ++ more))
-whole-append [] more p q = q
-whole-append (x ∷ []) [] p q = p
-whole-append (x ∷ []) (y ∷ ys) p q = q
-whole-append (x ∷ (y ∷ ys)) more p q = whole-append (y ∷ ys) more p q
+pub whole-append : (done more : List ℕ) → IsTrue (is_whole done) → IsTrue (is_whole more)
+    → IsTrue (is_whole (done ++ more))
+whole-append [] more first later = later
+whole-append (byte ∷ []) [] first later = first
+whole-append (byte ∷ []) (second ∷ others) first later = later
+whole-append (byte ∷ (second ∷ others)) more first later = whole-append (second ∷ others) more first later
 
-onto_first-append : (x : ℕ) (ps tail : List (List ℕ)) → 0 < length ps → onto_first x (ps ++ tail) ≡ onto_first x ps ++ tail
-onto_first-append x [] tail some = absurd (omega arith)
-onto_first-append x (p ∷ ps) tail some = refl
+-- a byte in front of the first piece, whatever follows the pieces
+onto_first-append : (byte : ℕ) (found tail : List (List ℕ)) → 0 < length found
+    → onto_first byte (found ++ tail) ≡ onto_first byte found ++ tail
+onto_first-append byte [] tail some = absurd (omega arith)
+onto_first-append byte (first ∷ found) tail some = refl
 
-cut_some : (b : Bool) (x : ℕ) (ps : List (List ℕ)) → 0 < length (if b then (x ∷ []) ∷ ps else onto_first x ps)
-cut_some true x ps = omega arith
-cut_some false x [] = omega arith
-cut_some false x (p ∷ ps) = omega arith
+-- there is a piece where there is a byte
+cut_some : (is_feed : Bool) (byte : ℕ) (found : List (List ℕ))
+    → 0 < length (if is_feed then (byte ∷ []) ∷ found else onto_first byte found)
+cut_some true byte found = omega arith
+cut_some false byte [] = omega arith
+cut_some false byte (first ∷ found) = omega arith
 
-cut_append : (b : Bool) (x : ℕ) (ps qs tail : List (List ℕ)) → qs ≡ ps ++ tail → 0 < length ps
-    → (if b then (x ∷ []) ∷ qs else onto_first x qs) ≡ (if b then (x ∷ []) ∷ ps else onto_first x ps) ++ tail
-cut_append true x ps qs tail parts some = ap (λ zs. (x ∷ []) ∷ zs) parts
-cut_append false x ps qs tail parts some = ap (λ zs. onto_first x zs) parts ∙ onto_first-append x ps tail some
+-- one more byte in front of pieces and of what follows them
+cut_append : (is_feed : Bool) (byte : ℕ) (found more tail : List (List ℕ)) → more ≡ found ++ tail → 0 < length found
+    → (if is_feed then (byte ∷ []) ∷ more else onto_first byte more)
+    ≡ (if is_feed then (byte ∷ []) ∷ found else onto_first byte found) ++ tail
+cut_append true byte found more tail parts some = ap (λ rest. (byte ∷ []) ∷ rest) parts
+cut_append false byte found more tail parts some = ap (λ rest. onto_first byte rest) parts
+    ∙ onto_first-append byte found tail some
 
 -- the pieces of whole lines and of what follows them
 pub pieces-append : (done rest : List ℕ) → IsTrue (is_whole done) → pieces (done ++ rest) ≡ pieces done ++ pieces rest
 pieces-append [] rest whole = refl
-pieces-append (x ∷ []) rest whole = rw whole
-pieces-append (x ∷ (y ∷ ys)) rest whole =
-    cut_append (x == 10) x (pieces (y ∷ ys)) (pieces (y ∷ (ys ++ rest))) (pieces rest)
-    (pieces-append (y ∷ ys) rest whole) (cut_some (y == 10) y (pieces ys))
+pieces-append (byte ∷ []) rest whole = rw whole
+pieces-append (byte ∷ (second ∷ others)) rest whole =
+    cut_append (byte == 10) byte (pieces (second ∷ others)) (pieces (second ∷ (others ++ rest))) (pieces rest)
+    (pieces-append (second ∷ others) rest whole) (cut_some (second == 10) second (pieces others))
 
-cut_joined : (b : Bool) (x : ℕ) (ps : List (List ℕ))
-    → flat_map (λ piece. piece) (if b then (x ∷ []) ∷ ps else onto_first x ps) ≡ x ∷ flat_map (λ piece. piece) ps
-cut_joined true x ps = refl
-cut_joined false x [] = refl
-cut_joined false x (p ∷ ps) = refl
+-- one more byte in front of joined pieces
+cut_joined : (is_feed : Bool) (byte : ℕ) (found : List (List ℕ))
+    → flat_map (λ piece. piece) (if is_feed then (byte ∷ []) ∷ found else onto_first byte found)
+    ≡ byte ∷ flat_map (λ piece. piece) found
+cut_joined true byte found = refl
+cut_joined false byte [] = refl
+cut_joined false byte (first ∷ found) = refl
 
 -- the pieces joined are the bytes
 pub pieces-joined : (bytes : List ℕ) → flat_map (λ piece. piece) (pieces bytes) ≡ bytes
 pieces-joined [] = refl
-pieces-joined (x ∷ xs) = cut_joined (x == 10) x (pieces xs) ∙ ap (λ zs. x ∷ zs) (pieces-joined xs)
+pieces-joined (byte ∷ bytes) = cut_joined (byte == 10) byte (pieces bytes)
+    ∙ ap (λ rest. byte ∷ rest) (pieces-joined bytes)
 
-head_is : (p q : List ℕ) (ps qs : List (List ℕ)) → p ∷ ps ≡ q ∷ qs → p ≡ q
-head_is p q ps qs same = cc
+-- equal lists begin alike
+head_is : (first other : List ℕ) (firsts others : List (List ℕ)) → first ∷ firsts ≡ other ∷ others → first ≡ other
+head_is first other firsts others same = cc
 
-one_piece : (b : Bool) (x : ℕ) → (if b then (x ∷ []) ∷ [] else onto_first x []) ≡ (x ∷ []) ∷ []
-one_piece true x = refl
-one_piece false x = refl
+-- one byte is one piece
+one_piece : (is_feed : Bool) (byte : ℕ) → (if is_feed then (byte ∷ []) ∷ [] else onto_first byte []) ≡ (byte ∷ []) ∷ []
+one_piece true byte = refl
+one_piece false byte = refl
 
-cut_alone : (b : Bool) (x : ℕ) (ps tail : List (List ℕ)) (piece : List ℕ) → (x == 10) ≡ b
-    → ((p : List ℕ) (t : List (List ℕ)) → ps ≡ p ∷ t → pieces p ≡ p ∷ [])
-    → (if b then (x ∷ []) ∷ ps else onto_first x ps) ≡ piece ∷ tail → pieces piece ≡ piece ∷ []
-cut_alone true x ps tail piece test alone same = rw (← head_is (x ∷ []) piece ps tail same) (one_piece (x == 10) x)
-cut_alone false x [] tail piece test alone same = rw (← head_is (x ∷ []) piece [] tail same) (one_piece (x == 10) x)
-cut_alone false x (p ∷ ps) tail piece test alone same =
-    let rest : pieces p ≡ p ∷ [] = alone p ps refl in
-    rw (← head_is (x ∷ p) piece ps tail same, test) (ap (λ zs. onto_first x zs) rest)
+-- the first piece is a piece by itself, with one more byte in front
+cut_alone : (is_feed : Bool) (byte : ℕ) (found tail : List (List ℕ)) (piece : List ℕ) → (byte == 10) ≡ is_feed
+    → ((first : List ℕ) (later : List (List ℕ)) → found ≡ first ∷ later → pieces first ≡ first ∷ [])
+    → (if is_feed then (byte ∷ []) ∷ found else onto_first byte found) ≡ piece ∷ tail → pieces piece ≡ piece ∷ []
+cut_alone true byte found tail piece test alone same = rw (← head_is (byte ∷ []) piece found tail same)
+    (one_piece (byte == 10) byte)
+cut_alone false byte [] tail piece test alone same = rw (← head_is (byte ∷ []) piece [] tail same)
+    (one_piece (byte == 10) byte)
+cut_alone false byte (first ∷ found) tail piece test alone same =
+    let rest : pieces first ≡ first ∷ [] = alone first found refl in
+    rw (← head_is (byte ∷ first) piece found tail same, test) (ap (λ rest. onto_first byte rest) rest)
 
 -- the first piece of a text is a piece by itself
 pub pieces-piece : (text piece : List ℕ) (tail : List (List ℕ)) → pieces text ≡ piece ∷ tail → pieces piece ≡ piece ∷ []
 pieces-piece [] piece tail same = absurd (cc)
-pieces-piece (x ∷ xs) piece tail same = cut_alone (x == 10) x (pieces xs) tail piece refl (λ p t is. pieces-piece xs p t is) same
+pieces-piece (byte ∷ bytes) piece tail same = cut_alone (byte == 10) byte (pieces bytes) tail piece refl
+    (λ first later is. pieces-piece bytes first later is) same

@@ -10,47 +10,60 @@ use Rattle.pol_io.specs.Faults.{Stops}
 use Rattle.pol_io.proofs.Known.{between_weaker, between_trans, between_kept, counts_taken, counts_kept, counts_trans}
 use Rattle.pol_io.proofs.Feeds.{no_feed-append}
 
-Consumes-PassesMore : (a b : Option (List ℕ)) (x : ℕ) → Consumes a b (x ∷ []) → Between PassesMore a b
-Consumes-PassesMore None b x took = tt
-Consumes-PassesMore (Some xs) None x took = absurd took
-Consumes-PassesMore (Some xs) (Some ys) x took = record { last = x; passes = record { part = []; no_feed = refl; cut = took } }
+-- one byte that was consumed was passed over
+Consumes-PassesMore : (old new : Option (List ℕ)) (byte : ℕ) → Consumes old new (byte ∷ []) → Between PassesMore old new
+Consumes-PassesMore None new byte took = tt
+Consumes-PassesMore (Some text) None byte took = absurd took
+Consumes-PassesMore (Some text) (Some rest) byte took = record
+    { last = byte; passes = record { part = []; no_feed = refl; cut = took } }
 
 -- the source failed, and nothing is gone
-pub stops_read : (left left' : Option (List ℕ)) (taken : ℕ) → taken ≤ 268435456 → Keeps left left' → Stops taken left left left' Read
-stops_read left left' taken limit kept = record {
+pub stops_read : (left after : Option (List ℕ)) (taken : ℕ) → taken ≤ 268435456 → Keeps left after
+    → Stops taken left left after Read
+stops_read left after taken limit kept = record {
   reached = taken;
-  counted = counts_kept left left' taken kept;
-  read = λ _. (limit, between_kept Passes left left' (λ x. record { part = []; no_feed = refl; cut = refl }) kept);
+  counted = counts_kept left after taken kept;
+  read = λ _. (limit, between_kept Passes left after (λ text. record { part = []; no_feed = refl; cut = refl }) kept);
   too_much = λ is. absurd (cc);
 }
 
 -- one byte came past the limit
-pub stops_too_much : (left left' : Option (List ℕ)) (x : ℕ) → Consumes left left' (x ∷ []) → Stops 268435456 left left left' TooMuch
-stops_too_much left left' x took = record {
+pub stops_too_much : (left after : Option (List ℕ)) (byte : ℕ) → Consumes left after (byte ∷ [])
+    → Stops 268435456 left left after TooMuch
+stops_too_much left after byte took = record {
   reached = 268435457;
-  counted = counts_taken left left' (x ∷ []) 268435456 1 refl took;
+  counted = counts_taken left after (byte ∷ []) 268435456 1 refl took;
   read = λ is. absurd (cc);
-  too_much = λ _. (refl, Consumes-PassesMore left left' x took);
+  too_much = λ _. (refl, Consumes-PassesMore left after byte took);
 }
 
-Passes-trans : (x y z : List ℕ) → Passes x y → Passes y z → Passes x z
-Passes-trans x y z p q = record {
-  part = p.part ++ q.part;
-  no_feed = no_feed-append p.part q.part p.no_feed q.no_feed;
-  cut = p.cut ∙ (ap (λ r. p.part ++ r) q.cut ∙ sym (append_assoc p.part q.part z));
+-- passed over, and again
+Passes-trans : (text between rest : List ℕ) → Passes text between → Passes between rest → Passes text rest
+Passes-trans text between rest first later = record {
+  part = first.part ++ later.part;
+  no_feed = no_feed-append first.part later.part first.no_feed later.no_feed;
+  cut = first.cut ∙ (ap (λ part. first.part ++ part) later.cut ∙ sym (append_assoc first.part later.part rest));
 }
 
-Passes-PassesMore : (x y z : List ℕ) → Passes x y → PassesMore y z → PassesMore x z
-Passes-PassesMore x y z p q = record { last = q.last; passes = Passes-trans x y (q.last ∷ z) p q.passes }
+-- passed over, and one more byte
+Passes-PassesMore : (text between rest : List ℕ) → Passes text between → PassesMore between rest → PassesMore text rest
+Passes-PassesMore text between rest first later = record {
+  last = later.last;
+  passes =
+      Passes-trans text between (later.last ∷ rest) first later.passes;
+}
 
 -- a fault after some bytes were passed over
-pub stops_after : (text left middle left' : Option (List ℕ)) (t u : ℕ) (fault : IoFault) → Between Passes text middle
-    → Between (Counts t u) left middle → Stops u middle middle left' fault → Stops t text left left' fault
-stops_after text left middle left' t u fault passes counted stops = record {
+pub stops_after : (text left middle after : Option (List ℕ)) (before now : ℕ) (fault : IoFault)
+    → Between Passes text middle
+    → Between (Counts before now) left middle → Stops now middle middle after fault → Stops before text left after fault
+stops_after text left middle after before now fault passes counted stops = record {
   reached = stops.reached;
-  counted = counts_trans left middle left' t u stops.reached counted stops.counted;
-  read = λ is. let at = stops.read is in (at.0, between_trans Passes Passes Passes text middle left' Passes-trans passes at.1);
-  too_much = λ is. let at = stops.too_much is in (at.0, between_trans Passes PassesMore PassesMore text middle left' Passes-PassesMore passes at.1);
+  counted = counts_trans left middle after before now stops.reached counted stops.counted;
+  read = λ is. let at = stops.read is in
+      (at.0, between_trans Passes Passes Passes text middle after Passes-trans passes at.1);
+  too_much = λ is. let at = stops.too_much is in
+      (at.0, between_trans Passes PassesMore PassesMore text middle after Passes-PassesMore passes at.1);
 }
 
 -- all that waited was passed over
@@ -59,7 +72,10 @@ pub passed : (ended : Bool) (text left : Option (List ℕ)) (waiting : List ℕ)
 passed true text left waiting unended no_feed kept = absurd (cc)
 passed false None left waiting unended no_feed kept = tt
 passed false (Some text) None waiting unended no_feed kept = absurd kept
-passed false (Some text) (Some xs) waiting unended no_feed kept = record { part = waiting; no_feed = no_feed; cut = sym kept }
+passed false (Some text) (Some rest) waiting unended no_feed kept =
+    record { part = waiting; no_feed = no_feed; cut = sym kept }
 
-pub passed_long : (n : ℕ) (a b : Option (List ℕ)) → Between (PassesLong n) a b → Between Passes a b
-passed_long n a b p = between_weaker (PassesLong n) Passes a b (λ x y long. record { part = long.part; no_feed = long.no_feed; cut = long.cut }) p
+-- what passes over a long part passes over it
+pub passed_long : (most : ℕ) (old new : Option (List ℕ)) → Between (PassesLong most) old new → Between Passes old new
+passed_long most old new fact = between_weaker (PassesLong most) Passes old new
+    (λ text rest long. record { part = long.part; no_feed = long.no_feed; cut = long.cut }) fact

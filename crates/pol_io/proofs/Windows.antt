@@ -4,20 +4,24 @@ use Rattle.pol_io.specs.declared.window.Window.{Window}
 use Rattle.pol_io.specs.Window.{waiting, given}
 use Rattle.pol_io.proofs.Ranges.{range_none}
 
-pub length-waiting : (w : Window) → length (waiting w) ≡ w.end - w.start
-length-waiting w = simp (length-take, length-drop) (omega arith)
+-- how many bytes wait
+pub length-waiting : (window : Window) → length (waiting window) ≡ window.end - window.start
+length-waiting window = simp (length-take, length-drop) (omega arith)
 
-pub given_is : (w : Window) → w.taken - length (waiting w) ≡ given w
-given_is w = rw (length-waiting w) (omega arith)
+-- how many were given
+pub given_is : (window : Window) → window.taken - length (waiting window) ≡ given window
+given_is window = rw (length-waiting window) (omega arith)
 
 -- at the end all was given
-pub waiting-ended : (w : Window) → w.ended ≡ true → waiting w ≡ []
-waiting-ended w ended = range_none w.buffer.items w.start w.end (w.spent ended)
+pub waiting-ended : (window : Window) → window.ended ≡ true → waiting window ≡ []
+waiting-ended window ended = range_none window.buffer.items window.start window.end (window.spent ended)
 
-either_true : (b : Bool) → (b ≡ true → ⊥) → b ≡ false
+-- what is never true is false
+either_true : (test : Bool) → (test ≡ true → ⊥) → test ≡ false
 either_true true never = absurd (never refl)
 either_true false never = refl
 
 -- where bytes wait the end wasn't seen
-pub still_open : (w : Window) → 0 < length (waiting w) → w.ended ≡ false
-still_open w some = either_true w.ended (λ ended. let none = w.spent ended in let size = length-waiting w in omega (arith, none, size, some))
+pub still_open : (window : Window) → 0 < length (waiting window) → window.ended ≡ false
+still_open window some = either_true window.ended (λ ended. let none = window.spent ended in let size =
+    length-waiting window in omega (arith, none, size, some))

@@ -13,7 +13,8 @@ returns-in-Ok-clause-stops g c =
     let bound = c.in-Ok.ensures.bound.0 in
     let some = c.in-Ok.field-0-test.1 in
     let one : c.in-Ok.field-0 ≡ 1 = omega (arith, bound, some) in
-    stops_too_much _ _ (slice_index c.read.new.into 0) (rw (take_one c.read.new.into c.in-Ok.field-0 long one) at c.in-Ok.ensures.bytes.0)
+    stops_too_much _ _ (slice_index c.read.new.into 0) (rw (take_one c.read.new.into c.in-Ok.field-0 long one) at
+    c.in-Ok.ensures.bytes.0)
 
 pub returns-in-Err-clause-stops : goal.returns-in-Err-clause-stops
 returns-in-Err-clause-stops g c = stops_read _ _ 268435456 (omega arith) c.in-Err.ensures.bytes

@@ -14,7 +14,8 @@ returns-in-Ok-clause-fills g c =
     let fits : c.args.window.now.end + c.in-Ok.count ≤ length c.read_at.new.buffer = omega (arith, bound) in
     record {
       more = slice_range c.read_at.new.buffer c.args.window.now.end (c.args.window.now.end + c.in-Ok.count);
-      waiting = rw items (range_grows c.read_at.new.buffer c.args.window.now.buffer.items c.args.window.now.start c.args.window.now.end c.in-Ok.count (omega arith) front);
+      waiting = rw items (range_grows c.read_at.new.buffer c.args.window.now.buffer.items c.args.window.now.start
+          c.args.window.now.end c.in-Ok.count (omega arith) front);
       taken = rw (length-range c.read_at.new.buffer c.args.window.now.end c.in-Ok.count fits);
     }
 
@@ -23,7 +24,11 @@ returns-in-Ok-clause-bytes g c =
     let same_length : length c.read_at.new.buffer ≡ c.args.window.now.buffer.len = omega arith in
     let items = with_items_is c.args.window.now.buffer c.read_at.new.buffer same_length in
     let front = c.in-Ok.ensures.front ∙ ap (λ xs. take c.args.window.now.end xs) c.deref_mut.ensures.value in
-    rw (items, range_grows c.read_at.new.buffer c.args.window.now.buffer.items c.args.window.now.start c.args.window.now.end c.in-Ok.count (omega arith) front)
+    rw (
+      items,
+      range_grows c.read_at.new.buffer c.args.window.now.buffer.items c.args.window.now.start
+          c.args.window.now.end c.in-Ok.count (omega arith) front,
+    )
     (joined-consumed c.args.window.now.ended _ _ _ _ c.requires.open_end c.in-Ok.ensures.bytes)
 
 pub returns-in-Ok-clause-end : goal.returns-in-Ok-clause-end
@@ -33,7 +38,8 @@ returns-in-Ok-clause-end g c ended =
     let items = with_items_is c.args.window.now.buffer c.read_at.new.buffer same_length in
     let front = c.in-Ok.ensures.front ∙ ap (λ xs. take c.args.window.now.end xs) c.deref_mut.ensures.value in
     let end : c.args.window.now.end + c.in-Ok.count ≡ c.args.window.now.end = omega arith in (
-      rw (items, end) (range_same c.read_at.new.buffer c.args.window.now.buffer.items c.args.window.now.start c.args.window.now.end front),
+      rw (items, end) (range_same c.read_at.new.buffer c.args.window.now.buffer.items c.args.window.now.start
+          c.args.window.now.end front),
       c.in-Ok.ensures.end none (omega arith),
     )
 

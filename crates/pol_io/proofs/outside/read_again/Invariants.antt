@@ -3,4 +3,5 @@ use Rattle.std.specs.Io.KnownBytes.{Keeps}
 use Rattle.pol_io.proofs.outside.read_again.Given as goal
 
 abbrev pub invariant-loop : goal.invariant-loop
-invariant-loop g l = (length l.into ≡ length l.fn.into) × Keeps (g.R.Read.remaining l.fn.reader) (g.R.Read.remaining l.reader)
+invariant-loop g l = (length l.into ≡ length l.fn.into) × Keeps (g.R.Read.remaining l.fn.reader)
+    (g.R.Read.remaining l.reader)

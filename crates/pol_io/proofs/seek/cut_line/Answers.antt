@@ -20,5 +20,7 @@ returns-in-Feed-clause-cut g c =
     let at : FeedAt (waiting window) c.in-Feed.size = rw c.in-Feed.is at c.in_ok-found.ensures.found in
     let within = rw (length-waiting window) at at.within in
     rw (range_drop window.buffer.items window.start window.end (c.in-Feed.size + 1))
-    (cuts_at_feed_known window.ended _ _ (waiting window) (slice_range window.buffer.items window.start (window.start + c.in-Feed.size)) c.in-Feed.size
-    (range_front window.buffer.items window.start window.end c.in-Feed.size (omega (arith, within))) at c.in_ok-found.ensures.bytes)
+    (cuts_at_feed_known window.ended _ _ (waiting window) (slice_range window.buffer.items window.start
+    (window.start + c.in-Feed.size)) c.in-Feed.size
+    (range_front window.buffer.items window.start window.end c.in-Feed.size (omega (arith, within))) at
+    c.in_ok-found.ensures.bytes)

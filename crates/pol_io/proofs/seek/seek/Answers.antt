@@ -11,7 +11,11 @@ use Rattle.pol_io.proofs.seek.seek.Goals as goal
 pub returns-in-Some-clause-found : goal.returns-in-Some-clause-found
 returns-in-Some-clause-found g c =
     FeedAt-scanned (waiting c.scan.window) c.scan.scanned c.in-Some.i c.scan.invariant.no_feed
-    (rw (c.deref.ensures.value, range_drop c.scan.window.buffer.items c.scan.window.start c.scan.window.end c.scan.scanned) at c.in-Some.ensures)
+    (rw (
+      c.deref.ensures.value,
+      range_drop c.scan.window.buffer.items c.scan.window.start c.scan.window.end
+          c.scan.scanned,
+    ) at c.in-Some.ensures)
 
 pub returns-then-scanned-gt-LONGEST_LINE-clause-found :
     goal.returns-then-scanned-gt-LONGEST_LINE-clause-found
@@ -26,12 +30,14 @@ returns-in_err-fill-clause-stops g c =
     let fault = err_from_is_err_and c.from_residual.result c.from_residual.ensures.1 in
     rw (fault.1, fault.2)
     (stops_after _ _ _ _ _ _ _
-    (passed c.scan.window.ended _ _ _ c.in_err-fill.ensures.open_end no_feed c.scan.invariant.bytes) c.scan.invariant.counted c.in_err-fill.ensures.stops)
+    (passed c.scan.window.ended _ _ _ c.in_err-fill.ensures.open_end no_feed c.scan.invariant.bytes)
+    c.scan.invariant.counted c.in_err-fill.ensures.stops)
 
 pub returns-in_err-fill-clause-unasked : goal.returns-in_err-fill-clause-unasked
 returns-in_err-fill-clause-unasked g c needless =
     let no_feed = scanned_all _ _ _ _ _ c.deref.ensures.value c.scan.invariant.no_feed c.in_default.ensures in
-    absurd (had_to_ask _ _ _ _ c.scan.invariant.ended c.in_err-fill.ensures.open_end (c.scan.invariant.unasked needless).1 no_feed needless)
+    absurd (had_to_ask _ _ _ _ c.scan.invariant.ended c.in_err-fill.ensures.open_end
+    (c.scan.invariant.unasked needless).1 no_feed needless)
 
 pub returns-then-not-branch-clause-found : goal.returns-then-not-branch-clause-found
 returns-then-not-branch-clause-found g c =
@@ -43,7 +49,11 @@ returns-then-not-branch-clause-unasked g c needless =
     let no_feed = scanned_all _ _ _ _ _ c.deref.ensures.value c.scan.invariant.no_feed c.in_default.ensures in
     let before = c.scan.invariant.unasked needless in
     either_way c.scan.window.ended _
-    (λ ended. (c.in_ok-fill.ensures.unasked ended ∙ before.0, c.in_ok-fill.ensures.same (ap Ok c.if-not-branch.true) ∙ before.1))
+    (λ ended. (
+      c.in_ok-fill.ensures.unasked ended ∙ before.0,
+      c.in_ok-fill.ensures.same
+          (ap Ok c.if-not-branch.true) ∙ before.1,
+    ))
     (λ unended. absurd (had_to_ask _ _ _ _ c.scan.invariant.ended unended before.1 no_feed needless))
 
 pub scan-preserved : goal.scan-preserved
@@ -51,14 +61,21 @@ scan-preserved g c =
     let no_feed = scanned_all _ _ _ _ _ c.deref.ensures.value c.scan.invariant.no_feed c.in_default.ensures in
     let fills = c.in_ok-fill.ensures.fills in
     let more = c.in_ok-fill.ensures.more c.if-not-branch.false in
-    let wide : c.scan.window.end - c.scan.window.start ≡ length (waiting c.scan.window) = simp (length-take, length-drop) (omega arith) in
+    let wide : c.scan.window.end - c.scan.window.start ≡ length (waiting c.scan.window) =
+    simp (length-take, length-drop) (omega arith) in
     record {
       scanned = rw (wide, fills.waiting, length-append) (omega arith);
-      no_feed = rw (wide, fills.waiting, take_at (waiting c.scan.window) fills.more (length (waiting c.scan.window)) refl) no_feed;
+      no_feed = rw (
+        wide,
+        fills.waiting,
+        take_at (waiting c.scan.window) fills.more
+            (length (waiting c.scan.window)) refl,
+      ) no_feed;
       bytes = Keeps-trans _ _ _ c.scan.invariant.bytes c.in_ok-fill.ensures.bytes;
       given = c.in_ok-fill.ensures.given ∙ c.scan.invariant.given;
       ended = c.in_ok-fill.ensures.ended ∙ c.scan.invariant.ended;
       counted = counts_trans _ _ _ _ _ _ c.scan.invariant.counted c.in_ok-fill.ensures.counted;
-      unasked = λ needless. absurd (had_to_ask _ _ _ _ c.scan.invariant.ended more.1 (c.scan.invariant.unasked needless).1 no_feed needless);
+      unasked = λ needless. absurd (had_to_ask _ _ _ _ c.scan.invariant.ended more.1
+          (c.scan.invariant.unasked needless).1 no_feed needless);
       sound = c.in_ok-fill.ensures.cause.done ∙ c.scan.invariant.sound;
     }

@@ -14,7 +14,8 @@ invariant-scan g l = record {
   given : given l.window ≡ given l.fn.window;
   ended : l.window.ended ≡ l.fn.window.ended;
   counted : Between (Counts l.fn.window.taken l.window.taken) (g.S.Source.left l.fn.source) (g.S.Source.left l.source);
-  unasked : IsTrue (l.fn.window.ended || not (has_no_feed (waiting l.fn.window))) → (l.source ≡ l.fn.source) × (waiting l.window ≡ waiting l.fn.window);
+  unasked : IsTrue (l.fn.window.ended || not (has_no_feed (waiting l.fn.window)))
+      → (l.source ≡ l.fn.source) × (waiting l.window ≡ waiting l.fn.window);
   sound : g.S.Source.faults l.source ≡ g.S.Source.faults l.fn.source;
 }
 

@@ -11,7 +11,8 @@ pub returns-in_err-fill-clause-stops : goal.returns-in_err-fill-clause-stops
 returns-in_err-fill-clause-stops g c =
     let fault = err_from_is_err_and c.from_residual.result c.from_residual.ensures.1 in
     rw (fault.1, fault.2)
-    (stops_after _ _ _ _ _ _ _ (passed_long 1048576 _ _ c.pass.invariant.long) c.pass.invariant.counted c.in_err-fill.ensures.stops)
+    (stops_after _ _ _ _ _ _ _ (passed_long 1048576 _ _ c.pass.invariant.long) c.pass.invariant.counted
+    c.in_err-fill.ensures.stops)
 
 pub returns-in-Some-clause-cut : goal.returns-in-Some-clause-cut
 returns-in-Some-clause-cut g c =

@@ -26,7 +26,8 @@ returns-in-Ok-Text g c =
         refl,
         λ _. tt,
         rw (← c.self.view_is) (record {
-          answers = first_line_known new.ended (slice_range c.deref.result.now from to) _ _ (waiting new) (waiting-ended new) lent;
+          answers = first_line_known new.ended (slice_range c.deref.result.now from to) _ _ (waiting new)
+              (waiting-ended new) lent;
           in_limit = simp (length-take, length-drop) (omega (arith, fits.2));
           gives = rw (given_is old, given_is new) more;
           counted = c.in-Ok-Text.ensures.counted;
@@ -41,7 +42,13 @@ returns-in-Ok-Text g c =
         fault = tt;
         open_end = tt;
         unasked = rw (← c.self.view_is) c.in-Ok-Text.ensures.unasked;
-        cause = record { later = c.in-Ok-Text.ensures.cause.later; failed = tt; done = c.in-Ok-Text.ensures.cause.done; other = tt };
+        cause = record {
+          later = c.in-Ok-Text.ensures.cause.later;
+          failed = tt;
+          done =
+              c.in-Ok-Text.ensures.cause.done;
+          other = tt;
+        };
       },
     )
 
@@ -70,6 +77,12 @@ returns-in-Ok-TooLong g c =
         fault = tt;
         open_end = tt;
         unasked = rw (← c.self.view_is) c.in-Ok-TooLong.ensures.unasked;
-        cause = record { later = c.in-Ok-TooLong.ensures.cause.later; failed = tt; done = c.in-Ok-TooLong.ensures.cause.done; other = tt };
+        cause = record {
+          later = c.in-Ok-TooLong.ensures.cause.later;
+          failed = tt;
+          done =
+              c.in-Ok-TooLong.ensures.cause.done;
+          other = tt;
+        };
       },
     )
