@@ -1,5 +1,5 @@
 //! Flat lines: one object of known keys, each with a number, a text or a truth value.
-ghost use Rattle.std.specs.Prelude.{◌≡◌, ◌++◌, Some, IfSome, IsTrue};
+ghost use Rattle.std.specs.Prelude.{◌≡◌, ◌++◌, [], Some, IfSome, IsTrue};
 ghost use Rattle.serde_json.specs.Data.{no_members};
 ghost use Rattle.serde_json.specs.Read.{read};
 ghost use Rattle.pol_lines.specs.Begins.{Begins, Opens};
@@ -37,53 +37,58 @@ fn read_member(text: &[u8]) -> Option<(Member, &[u8])>
     Some((Member { key, leaf }, rest))
 }
 
-/// The members of the flat object at the front of a text, in their order, with what follows it; None for another text,
-/// and for one with more than nine members.
+/// Reads the members of the flat object at the front of a text, in their order, into a list that is empty; it answers what
+/// follows the object, and None for another text and for one with more than nine members.
 #[inline(always)]
-pub fn read_object(text: &[u8]) -> Option<(ArrayVec<Member, 9>, &[u8])>
-    ensures { IfSome result (λ read. Begins 1 text.now (flat_data read.0.items) read.1.now) }
+pub fn read_object<'a>(text: &'a [u8], members: &mut ArrayVec<Member<'a>, 9>) -> Option<&'a [u8]>
+    requires { members.old.items ≡ [] }
+    ensures { IfSome result (λ rest. Begins 1 text.now (flat_data members.new.items) rest.now) }
 {
-    let mut members = ArrayVec::new();
     let mut rest = eat(text, b"{")?;
     while !members.is_full() {
         let (member, after) = read_member(rest)?;
         members.push(member);
         match after {
             [b',', more @ ..] => rest = more,
-            [b'}', more @ ..] => return Some((members, more)),
+            [b'}', more @ ..] => return Some(more),
             _ => return None,
         }
     }
     None
 }
 
-/// The flat members at the front of an object, in their order, each with its comma, and what follows them.
+/// Reads the flat members at the front of an object, in their order, each with its comma, into a list that is empty; it
+/// answers what follows them.
 #[inline(always)]
-pub fn read_front(text: &[u8]) -> Option<(ArrayVec<Member, 9>, &[u8])>
-    ensures { IfSome result (λ read. Opens 0 text.now (put_all read.0.items no_members) read.1.now) }
+pub fn read_front<'a>(text: &'a [u8], members: &mut ArrayVec<Member<'a>, 9>) -> Option<&'a [u8]>
+    requires { members.old.items ≡ [] }
+    ensures { IfSome result (λ rest. Opens 0 text.now (put_all members.new.items no_members) rest.now) }
 {
-    let mut members = ArrayVec::new();
     let mut rest = eat(text, b"{")?;
     while !members.is_full() {
         let Some((member, after)) = read_member(rest) else {
-            return Some((members, rest));
+            return Some(rest);
         };
         match after {
             [b',', more @ ..] => {
                 members.push(member);
                 rest = more;
             }
-            _ => return Some((members, rest)),
+            _ => return Some(rest),
         }
     }
-    Some((members, rest))
+    Some(rest)
 }
 
-/// The members of a flat line in their order; None for another line, and for one with more than nine members.
+/// Whether a line is flat: then its members are read, in their order, into a list that is empty. A line with more than
+/// nine members counts as another.
 #[tactic(auto, using(crate::proofs::Printed::begins_all))]
-pub fn read_flat(line: &[u8]) -> Option<ArrayVec<Member, 9>>
-    ensures { IfSome result (λ members. read line.now ≡ Some (flat_data members.items)) }
+pub fn read_flat<'a>(line: &'a [u8], members: &mut ArrayVec<Member<'a>, 9>) -> bool
+    requires { members.old.items ≡ [] }
+    ensures { IsTrue result → read line.now ≡ Some (flat_data members.new.items) }
 {
-    let (members, rest) = read_object(line)?;
-    if rest.is_empty() { Some(members) } else { None }
+    match read_object(line, members) {
+        Some(rest) => rest.is_empty(),
+        None => false,
+    }
 }

@@ -8,6 +8,7 @@ use crate::events::read_members;
 use crate::flat::read_flat;
 use crate::pieces::eat;
 use crate::recipes::read_recipe;
+use arrayvec::ArrayVec;
 use pol_events::{Event, LineRefusal, read_event};
 use std::alloc::Global;
 
@@ -18,7 +19,10 @@ pub fn read_quick(line: &[u8]) -> Option<Event>
     ensures says { IfSome result (λ event. event_of line.now ≡ Ok (event_view event)) }
     ensures orderly { IfSome result (λ event. IsTrue (is_orderly (event_view event))) }
 {
-    let members = read_flat(line)?;
+    let mut members = ArrayVec::new();
+    if !read_flat(line, &mut members) {
+        return None;
+    }
     match std::str::from_utf8(line) {
         Ok(_text) => read_members(members.as_slice()),
         Err(_) => None,

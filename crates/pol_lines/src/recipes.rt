@@ -15,6 +15,7 @@ use crate::lists::read_list;
 use crate::nodes::read_node;
 use crate::pieces::{eat, is_text, last};
 use crate::roles::RoleFronts;
+use arrayvec::ArrayVec;
 use chart_core::{Chart, ChartFault};
 use chart_json::make_chart;
 use pol_events::{Event, EventKind};
@@ -38,7 +39,8 @@ fn fault_of(chart: &Chart) -> Option<ChartFault>
 pub fn read_recipe(alloc: Global, line: &[u8]) -> Option<Event>
     ensures { IfSome result (λ event. event_of line.now ≡ Ok (event_view event)) }
 {
-    let (members, rest) = read_front(line)?;
+    let mut members = ArrayVec::new();
+    let rest = read_front(line, &mut members)?;
     let rest = eat(rest, b"\"roles\":")?;
     let members = members.as_slice();
     if !is_text(line) {

@@ -14,6 +14,7 @@ use crate::fields::{name_at, text_at};
 use crate::flat::{Member, read_object};
 use crate::key::Key;
 use crate::lists::Front;
+use arrayvec::ArrayVec;
 use chart_core::Role;
 use mtp_codes::Short;
 use semver::VersionReq;
@@ -77,7 +78,8 @@ impl Front for RoleFronts {
 
     #[tactic(auto, using(crate::proofs::Stepping::reads_last))]
     fn read(alloc: Global, text: &[u8]) -> Option<(Role, usize)> {
-        let (members, rest) = read_object(text)?;
+        let mut members = ArrayVec::new();
+        let rest = read_object(text, &mut members)?;
         let role = role_in(alloc, members.as_slice())?;
         Some((role, rest.len()))
     }

@@ -14,6 +14,7 @@ use crate::flat::{Member, read_front, read_object};
 use crate::key::Key;
 use crate::lists::{Front, read_list};
 use crate::pieces::eat;
+use arrayvec::ArrayVec;
 use chart_core::Step;
 use mtp_codes::Setting;
 use mtp_json::{Alike, repeats};
@@ -54,7 +55,8 @@ impl Front for SettingForms {
     ghost deep = { 1 };
 
     fn read(_alloc: Global, text: &[u8]) -> Option<(Setting, usize)> {
-        let (members, rest) = read_object(text)?;
+        let mut members = ArrayVec::new();
+        let rest = read_object(text, &mut members)?;
         let setting = setting_in(members.as_slice())?;
         Some((setting, rest.len()))
     }
@@ -89,7 +91,8 @@ fn are_of_step(members: &[Member]) -> bool
 pub fn read_step(alloc: Global, text: &[u8]) -> Option<(Step, usize)>
     ensures { IfSome result (λ read. Reads step_of 3 text.now (step_plan read.0) (last_of read.1 text.now)) }
 {
-    let (members, rest) = read_front(text)?;
+    let mut members = ArrayVec::new();
+    let rest = read_front(text, &mut members)?;
     let members = members.as_slice();
     if !are_of_step(members) {
         return None;

@@ -6,7 +6,7 @@ use Rattle.pol_lines.proofs.Printed.{opens_none}
 use Rattle.pol_lines.proofs.flat.read_front.Goals as goal
 
 pub loop-member-init : goal.loop-member-init
-loop-member-init c = rw c.new-members.ensures (opens_none 0 c.args.text.now c.in_ok-rest.rest.now c.in_ok-rest.ensures)
+loop-member-init c = rw c.requires (opens_none 0 c.args.text.now c.in_ok-rest.rest.now c.in_ok-rest.ensures)
 
 pub loop-member-preserved : goal.loop-member-preserved
 loop-member-preserved c =
