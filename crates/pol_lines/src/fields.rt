@@ -22,13 +22,12 @@ use pol_events::EventKind;
 fn leaf_at<'a>(members: &[Member<'a>], key: Key) -> Option<Leaf<'a>>
     ensures { option_map leaf_data result ≡ get (key_text key) (flat_data members.now) }
 {
-    let mut found = None;
-    for member in members {
-        if member.key == key {
-            found = Some(member.leaf);
+    for i in (0..members.len()).rev() {
+        if members[i].key == key {
+            return Some(members[i].leaf);
         }
     }
-    found
+    None
 }
 
 /// The text at a key.
