@@ -31,10 +31,14 @@ run_after history (event ∷ events) = entry_of history event ∷ run_after (rec
 abbrev pub run_of : List EventForm → List EntryForm
 run_of events = run_after [] events
 
--- the history after the events
+-- the history after these entries, of which each is recorded in its turn
+abbrev pub recorded_all : History → List EntryForm → History
+recorded_all history [] = history
+recorded_all history (entry ∷ entries) = recorded_all (recorded entry history) entries
+
+-- the history after the events: their entries are recorded
 abbrev pub history_after : History → List EventForm → History
-history_after history [] = history
-history_after history (event ∷ events) = history_after (recorded (entry_of history event) history) events
+history_after history events = recorded_all history (run_after history events)
 
 -- each answer is the one that the entries before it give
 abbrev pub IsLegal : History → Type 0

@@ -7,7 +7,7 @@ use Rattle.mtp_codes.specs.Names.{is_among}
 use Rattle.pol_events.specs.Events.{EventForm, start, EntryForm}
 use Rattle.pol_history.specs.Looking.{History, of_batch, subject, is_accepted}
 use Rattle.pol_history.specs.Batches.{start_by, outcome_by, log_by, started_batch, batches}
-use Rattle.pol_history.specs.Runs.{entry_of, recorded, run_after, run_of, history_after, AreOrderly}
+use Rattle.pol_history.specs.Runs.{recorded, recorded_all, run_of, history_after, AreOrderly}
 use Rattle.pol_record.specs.Texts.{started_text, batch_text, batch_lines, batches_text}
 use Rattle.pol_removal.specs.Removal.{is_of, bound_batches, stays, entries_without}
 use Rattle.pol_removal.proofs.Each.{all-map}
@@ -18,15 +18,6 @@ use Rattle.pol_removal.proofs.Owned.{takes-parts}
 use Rattle.pol_removal.proofs.Induction.{dropped, grown, events-removed}
 
 -- ---- the history
-
--- the history with each of these entries recorded
-abbrev recorded_all : History → List EntryForm → History
-recorded_all history [] = history
-recorded_all history (entry ∷ entries) = recorded_all (recorded entry history) entries
-
-recorded-run : (events : List EventForm) (history : History) → history_after history events ≡ recorded_all history (run_after history events)
-recorded-run [] history = refl
-recorded-run (event ∷ events) history = recorded-run events (recorded (entry_of history event) history)
 
 recorded-stay : (tags bound : List (List ℕ)) (entries : List EntryForm) (history : History) →
     recorded_all (filter (stays tags bound) history) (filter (stays tags bound) entries) ≡ filter (stays tags bound) (recorded_all history entries)
@@ -46,10 +37,8 @@ pub history-without : (tags : List (List ℕ)) (events : List EventForm) → Are
     history_after [] (map (λ entry. entry.event) (entries_without tags events))
     ≡ filter (stays tags (bound_batches tags (run_of events))) (history_after [] events)
 history-without tags events orderly =
-    recorded-run (map (λ entry. entry.event) (entries_without tags events)) []
-    ∙ ap (recorded_all []) (events-removed tags events orderly)
+    ap (recorded_all []) (events-removed tags events orderly)
     ∙ recorded-stay tags (bound_batches tags (run_of events)) (run_of events) []
-    ∙ ap (filter (stays tags (bound_batches tags (run_of events)))) (sym (recorded-run events []))
 
 covered-all : (tags bound : List (List ℕ)) (entries : List EntryForm) (history : History) → AllByRecursion (Covered tags bound) entries →
     AllByRecursion (Covered tags bound) history → AllByRecursion (Covered tags bound) (recorded_all history entries)
@@ -60,7 +49,7 @@ covered-all tags bound (entry ∷ entries) history covers covered =
 pub covered-after : (tags : List (List ℕ)) (events : List EventForm)
     → AllByRecursion (Covered tags (bound_batches tags (run_of events))) (history_after [] events)
 covered-after tags events =
-    rw (recorded-run events []) (covered-all tags (bound_batches tags (run_of events)) (run_of events) [] (bound-covers tags (run_of events)) tt)
+    covered-all tags (bound_batches tags (run_of events)) (run_of events) [] (bound-covers tags (run_of events)) tt
 
 -- ---- the batches
 
