@@ -27,7 +27,7 @@ use Rattle.pol_history.specs.Answers.{answer_of, first_rule, is_full, rules, oth
 use Rattle.pol_history.specs.Batches.{chart_by, holder_of, log_by, start_by}
 use Rattle.pol_history.specs.Looking.{History, is_accepted, last_of, past, past_of_batch, recipes}
 use Rattle.pol_history.specs.Modules.{Docking, absent, docked, away, control_by, description_by, docking_by, docking_of, next_ticket, present_after, present_tags, tags_without, ticket_of}
-use Rattle.pol_history.specs.Rules.{active_step, by_description, by_holder, module_not_at_rest, no_module, not_in_exchange, plant_full, tag_taken}
+use Rattle.pol_history.specs.Rules.{active_step, module_not_at_rest, no_module, not_in_exchange, plant_full, tag_taken}
 use Rattle.pol_history.specs.Runs.{IsLegal}
 use Rattle.pol_history.proofs.Accepted.{paired, with-room}
 use Rattle.pol_history.proofs.Names.{same-refl, same-true}
@@ -360,23 +360,17 @@ busy-each says busy (x ∷ xs) = go (says x) (busy x) (busy-each says busy xs)
     go None here later = later
     go (Some rule) here later = here
 
--- a rule of the holder
-busy-holder : (rule : List ℕ → Option Rule) → ((batch : List ℕ) → IsBusy (rule batch)) → (holder : Option (List ℕ)) →
-    IsBusy (by_holder rule holder)
-busy-holder rule busy None = tt
-busy-holder rule busy (Some batch) = busy batch
-
 -- an active step
 busy-active : (older : History) (tag : List ℕ) → IsBusy (active_step older tag)
 busy-active older tag =
-    busy-holder _ (λ batch. busy-then _ (λ started. busy-then _
+    busy-then _ (λ batch. busy-then _ (λ started. busy-then _
     (λ chart. busy-mapped (λ (step : StepPlan). ActiveStep batch step.name) (λ step. refl)
     (step_on started.binds tag (active chart (log_by (past_of_batch batch older)))))
     (chart_by (recipes older) (Some started))) (start_by (past_of_batch batch older))) (holder_of older tag)
 
 -- a module that isn't at rest
 busy-rest : (past : History) (description : Option DescriptionForm) →
-    IsBusy (by_description (module_not_at_rest past) description)
+    IsBusy (option_and_then (module_not_at_rest past) description)
 busy-rest past None = tt
 busy-rest past (Some description) =
     busy-each (λ (service : ServiceForm). service_not_at_rest service.name (control_by service.name past))
@@ -402,13 +396,13 @@ begin-accepted : (older : History) (tag : List ℕ) → is_full older ≡ false 
     is_accepted (answer_of older (exchange_begin 0 tag)) ≡ true
 begin-accepted older tag room there docked_now free =
     ap is_accepted answered
-    ∙ go (active_step older tag) (by_description (module_not_at_rest (past tag older)) (description_by (past tag older)))
+    ∙ go (active_step older tag) (option_and_then (module_not_at_rest (past tag older)) (description_by (past tag older)))
     (busy-active older tag) (busy-rest (past tag older) (description_by (past tag older)))
     (ap (λ answer. is_refusal_busy (refusal answer)) (sym answered) ∙ free)
   where
     rest : List (Option Rule)
     rest = active_step older tag
-        ∷ by_description (module_not_at_rest (past tag older)) (description_by (past tag older)) ∷ []
+        ∷ option_and_then (module_not_at_rest (past tag older)) (description_by (past tag older)) ∷ []
 
     skipped : (docking : Docking) → is_there docking ≡ true → ticket_of docking ≡ None →
         first_rule (no_module tag docking ∷ in_exchange tag (ticket_of docking) ∷ rest) (Ticket (next_ticket (past tag older)))

@@ -12,7 +12,7 @@ use Rattle.pol_events.specs.declared.answer.Rule.{Rule}
 use Rattle.pol_events.specs.declared.answer.Rule.TheVariants.{ActiveStep}
 use Rattle.pol_history.specs.Batches.{Started, chart_by, log_by}
 use Rattle.pol_history.specs.Looking.{History, past_of_batch, recipes}
-use Rattle.pol_history.specs.Rules.{active_step_on, active_step, by_holder}
+use Rattle.pol_history.specs.Rules.{active_step_on, active_step}
 use Rattle.pol_slots.specs.declared.slot.Slot.{Slot}
 use Rattle.pol_table.specs.Berths as tables
 use Rattle.pol_table.specs.Berths.{Berths}
@@ -26,7 +26,7 @@ use Rattle.pol_core.proofs.Unfit.{holder-same}
 pub no-holder-acts : (history : History) (tag : List ℕ) (berths : Berths Slot) → SeatsMirror berths history →
     tables.holder_of tag berths ≡ None → None ≡ active_step history tag
 no-holder-acts history tag berths mirror is =
-    sym (ap (by_holder (λ batch. active_step_on (recipes history) tag batch (past_of_batch batch history)))
+    sym (ap (option_and_then (λ batch. active_step_on (recipes history) tag batch (past_of_batch batch history)))
     (sym (holder-same berths history tag mirror) ∙ is))
 
 -- the holder's past decides
@@ -34,7 +34,7 @@ held-acts : (history : History) (tag batch : List ℕ) (berths : Berths Slot) �
     tables.holder_of tag berths ≡ Some batch →
     active_step history tag ≡ active_step_on (recipes history) tag batch (past_of_batch batch history)
 held-acts history tag batch berths mirror is =
-    ap (by_holder (λ batch. active_step_on (recipes history) tag batch (past_of_batch batch history)))
+    ap (option_and_then (λ batch. active_step_on (recipes history) tag batch (past_of_batch batch history)))
     (sym (holder-same berths history tag mirror) ∙ is)
 
 -- a holder without a run

@@ -17,7 +17,7 @@ use Rattle.pol_events.specs.declared.answer.Rule.TheVariants.{HeldBack}
 use Rattle.pol_history.specs.Batches.{Started, chart_by, holder_of}
 use Rattle.pol_history.specs.Looking.{History, past, past_of_batch, recipes}
 use Rattle.pol_history.specs.Modules.{dockings_by}
-use Rattle.pol_history.specs.Rules.{by_holder, uncovered_by, held_back}
+use Rattle.pol_history.specs.Rules.{uncovered_by, held_back}
 use Rattle.pol_history.proofs.Accepted.{paired}
 use Rattle.pol_history.proofs.Names.{same-true}
 use Rattle.pol_slots.specs.Slots.{slot_ticket, slot_begins, IsDocked}
@@ -118,7 +118,7 @@ run-holds-back history tag batch description berths runs run missing mirror batc
     = subst (λ found. IsRun batch found (past_of_batch batch history) (recipes history)) found (batches batch) in
     ap (option_map (HeldBack batch)) says
     ∙ sym (then-held batch (plan run.chart) description (bound_role run.binds tag))
-    ∙ sym (ap (by_holder (λ batch. uncovered_by (recipes history) tag description batch
+    ∙ sym (ap (option_and_then (λ batch. uncovered_by (recipes history) tag description batch
     (past_of_batch batch history))) (sym (holder-same berths history tag mirror) ∙ is)
     ∙ ap (λ found. option_and_then (by_chart found) found) keeps.started
     ∙ ap (option_and_then

@@ -1,6 +1,6 @@
 -- The operator commands a service.
 use Rattle.std.proofs.Common.{◌≡◌, ℕ, Bool, true, false, List, [], ◌∷◌, Option, Some, None, refl, ap, sym, ◌∙◌}
-use Rattle.std.specs.Option.{option_or, option_map}
+use Rattle.std.specs.Option.{option_or, option_map, option_and_then}
 use Rattle.mtp_codes.specs.Faults.{unless}
 use Rattle.mtp_codes.specs.declared.command.Command.{Command}
 use Rattle.mtp_modes.specs.declared.view.ServiceView.{ServiceView}
@@ -14,7 +14,7 @@ use Rattle.pol_events.specs.declared.answer.Rule.TheVariants.{NotReported}
 use Rattle.pol_history.specs.Answers.{first_rule, answer_of, is_full}
 use Rattle.pol_history.specs.Looking.{History, is_accepted, past}
 use Rattle.pol_history.specs.Modules.{docking_by, ticket_of, control_by, seen_with}
-use Rattle.pol_history.specs.Rules.{by_description, by_view, not_reported}
+use Rattle.pol_history.specs.Rules.{not_reported}
 use Rattle.pol_history.specs.Runs.{entry_of}
 use Rattle.pol_history.proofs.Accepted.{paired, with-room}
 use Rattle.pol_slots.specs.Sights as sights
@@ -30,7 +30,7 @@ use Rattle.pol_core.proofs.Telling.{seated-slot, seats-unmoved}
 -- the view of the service, and whether a command may go to it
 viewed : (tag service : List ℕ) (command : Command) (view : Option ServiceView) →
     asked_answer (asked_by tag service command (sights.view_unless None (NotReported tag service) view))
-    ≡ first_rule (not_reported tag service view ∷ by_view (forbidden command) view ∷ [])
+    ≡ first_rule (not_reported tag service view ∷ option_and_then (forbidden command) view ∷ [])
     (Did (Asked tag service command))
 viewed tag service command None = refl
 viewed tag service command (Some view) = go (forbidden command view)
@@ -44,7 +44,7 @@ viewed tag service command (Some view) = go (forbidden command view)
 asked : (tag service : List ℕ) (command : Command) (away lacks : Option Rule) (view : Option ServiceView) →
     asked_answer (asked_by tag service command (sights.view_unless (option_or away lacks)
     (NotReported tag service) view))
-    ≡ first_rule (away ∷ lacks ∷ not_reported tag service view ∷ by_view (forbidden command) view ∷ [])
+    ≡ first_rule (away ∷ lacks ∷ not_reported tag service view ∷ option_and_then (forbidden command) view ∷ [])
     (Did (Asked tag service command))
 asked tag service command (Some rule) lacks view = refl
 asked tag service command None (Some rule) view = refl
@@ -66,10 +66,10 @@ desk-judged history at tag service command slot room keeps =
     (option_map (seen_with service (Some (slot_description slot))) (control_by service past'))
     ∙ sym (with-room history (desk at tag service command) room
     ∙ rw (there-is tag (docking_by past') keeps.is_there)
-    (ap (λ description. first_rule (in_exchange tag (ticket_of (docking_by past')) ∷ by_description
+    (ap (λ description. first_rule (in_exchange tag (ticket_of (docking_by past')) ∷ option_and_then
     (no_service service) description
     ∷ not_reported tag service (option_map (seen_with service description) (control_by service past'))
-    ∷ by_view (forbidden command) (option_map (seen_with service description) (control_by service past')) ∷ [])
+    ∷ option_and_then (forbidden command) (option_map (seen_with service description) (control_by service past')) ∷ [])
     (Did (Asked tag service command))) keeps.description)))
   where
     past' : History

@@ -2,7 +2,7 @@
 use Rattle.std.proofs.Common.{◌≡◌, ℕ, ◌+◌, suc, ◌≤◌, length, Bool, true, false, cond, List, [], ◌∷◌, Option, Some, None, is_some, refl, ap, sym, ◌∙◌, subst, arith}
 use Rattle.std.specs.Prelude.{if◌then◌else◌}
 use Rattle.std.proofs.Math.Path.{fun_ext}
-use Rattle.std.specs.Option.{option_or}
+use Rattle.std.specs.Option.{option_or, option_and_then}
 use Rattle.mtp_codes.specs.Faults.{first_of}
 use Rattle.mtp_codes.specs.declared.limits.TheConstants.{LONGEST_HISTORY}
 use Rattle.pol_events.specs.Events.{EventForm, EntryForm, exchange_begin}
@@ -12,7 +12,7 @@ use Rattle.pol_events.specs.declared.answer.Rule.{Rule}
 use Rattle.pol_history.specs.Answers.{rules, answer_of, is_full}
 use Rattle.pol_history.specs.Looking.{History, is_accepted, is_accepted_of, past, since}
 use Rattle.pol_history.specs.Modules.{docking_by, ticket_of, description_by, begins_by, dockings_by, is_plug, is_begin}
-use Rattle.pol_history.specs.Rules.{active_step, by_description, module_not_at_rest}
+use Rattle.pol_history.specs.Rules.{active_step, module_not_at_rest}
 use Rattle.pol_history.specs.Runs.{entry_of}
 use Rattle.pol_history.proofs.Accepted.{paired}
 use Rattle.pol_history.proofs.Filters.{length-filter}
@@ -40,12 +40,12 @@ pub begin-rules : (history : History) (at : ℕ) (tag : List ℕ) (slot : Slot) 
 begin-rules history at tag slot keeps =
     ap (λ gone. option_or gone (option_or (in_exchange tag (ticket_of (docking_by past')))
     (option_or (active_step history tag)
-    (option_or (by_description (module_not_at_rest past') (description_by past')) None))))
+    (option_or (option_and_then (module_not_at_rest past') (description_by past')) None))))
     (there-is tag (docking_by past') keeps.is_there)
     ∙ ap (λ ticket. option_or (in_exchange tag ticket) (option_or (active_step history tag)
-    (option_or (by_description (module_not_at_rest past') (description_by past')) None))) (sym keeps.ticket)
+    (option_or (option_and_then (module_not_at_rest past') (description_by past')) None))) (sym keeps.ticket)
     ∙ ap (λ description. option_or (in_exchange tag (slot_ticket slot)) (option_or (active_step history tag)
-    (option_or (by_description (module_not_at_rest past') description) None))) keeps.description
+    (option_or (option_and_then (module_not_at_rest past') description) None))) keeps.description
     ∙ ap (λ last. option_or (in_exchange tag (slot_ticket slot)) (option_or (active_step history tag)
     (option_or (not_at_rest last (slot_description slot).services) None))) (sym (fun_ext keeps.controls))
     ∙ ap (λ rule. option_or (in_exchange tag (slot_ticket slot)) (option_or (active_step history tag) rule))

@@ -12,7 +12,6 @@ use Rattle.pol_history.specs.Answers.{first_rule, answer_of, is_full}
 use Rattle.pol_history.specs.Batches.{holder_of}
 use Rattle.pol_history.specs.Looking.{History, past}
 use Rattle.pol_history.specs.Modules.{docking_by, ticket_of, present_tags, tags_without}
-use Rattle.pol_history.specs.Rules.{by_holder}
 use Rattle.pol_history.proofs.Accepted.{paired, with-room}
 use Rattle.pol_history.proofs.Names.{same-true}
 use Rattle.pol_history.proofs.Pasts.{past-own}
@@ -148,18 +147,18 @@ rows None None = refl
 unplug-answer : (history : History) (at : ℕ) (tag : List ℕ) (berth : Berth Slot) → is_full history ≡ false →
     IsTaken tag berth (past tag history) (holder_of history tag) →
     answer_of history (unplug at tag) ≡ refuse (in_exchange tag (slot_ticket berth.part))
-    (refuse (by_holder (λ batch. Some (Held batch)) berth.holder) Done)
+    (refuse (option_and_then (λ batch. Some (Held batch)) berth.holder) Done)
 unplug-answer history at tag berth room taken =
     with-room history (unplug at tag) room
     ∙ ap (λ gone. first_rule (gone ∷ in_exchange tag (ticket_of (docking_by (past tag history)))
-    ∷ by_holder (λ batch. Some (Held batch)) (holder_of history tag) ∷ []) Done)
+    ∷ option_and_then (λ batch. Some (Held batch)) (holder_of history tag) ∷ []) Done)
     (there-is tag (docking_by (past tag history)) taken.slot_keeps.is_there)
     ∙ rows (in_exchange tag (ticket_of (docking_by (past tag history))))
-    (by_holder (λ batch. Some (Held batch)) (holder_of history tag))
+    (option_and_then (λ batch. Some (Held batch)) (holder_of history tag))
     ∙ ap (λ ticket. refuse (in_exchange tag ticket)
-    (refuse (by_holder (λ batch. Some (Held batch)) (holder_of history tag)) Done)) (sym taken.slot_keeps.ticket)
+    (refuse (option_and_then (λ batch. Some (Held batch)) (holder_of history tag)) Done)) (sym taken.slot_keeps.ticket)
     ∙ ap (λ holder. refuse (in_exchange tag (slot_ticket berth.part))
-    (refuse (by_holder (λ batch. Some (Held batch)) holder) Done)) (sym taken.held_by)
+    (refuse (option_and_then (λ batch. Some (Held batch)) holder) Done)) (sym taken.held_by)
 
 -- the berth of a part, and what it keeps
 seated-berth : (history : History) (tag : List ℕ) (berths : Berths Slot) (berth : Berth Slot) →
@@ -179,7 +178,7 @@ unplug-away history at tag slot ticket berths room seats counted found away =
     refused-answered history (unplug at tag) (Refused (InExchange tag ticket)) berths
     (sym (unplug-answer history at tag has.berth room (seated-berth history tag berths has.berth seats has.found)
     ∙ ap (λ ticket. refuse (in_exchange tag ticket)
-    (refuse (by_holder (λ batch. Some (Held batch)) has.berth.holder) Done))
+    (refuse (option_and_then (λ batch. Some (Held batch)) has.berth.holder) Done))
     (ap (λ slot. slot_ticket slot) has.part_is ∙ away)))
     refl seats counted
 
@@ -195,9 +194,9 @@ unplug-held history at tag slot batch berths room seats counted found docked' is
     refused-answered history (unplug at tag) (Refused (Held batch)) berths
     (sym (unplug-answer history at tag has.berth room (seated-berth history tag berths has.berth seats has.found)
     ∙ ap (λ ticket. refuse (in_exchange tag ticket)
-    (refuse (by_holder (λ batch. Some (Held batch)) has.berth.holder) Done))
+    (refuse (option_and_then (λ batch. Some (Held batch)) has.berth.holder) Done))
     (ap (λ slot. slot_ticket slot) has.part_is ∙ docked')
-    ∙ ap (λ holder. refuse (by_holder (λ batch. Some (Held batch)) holder) Done) held))
+    ∙ ap (λ holder. refuse (option_and_then (λ batch. Some (Held batch)) holder) Done) held))
     refl seats counted
 
 -- a part that no batch holds leaves
@@ -232,9 +231,9 @@ unplug-answered history at tag slot old new room seats counted found docked' is 
     let answer : answer_of history (unplug at tag) ≡ Done
     = unplug-answer history at tag has.berth room taken
     ∙ ap (λ ticket. refuse (in_exchange tag ticket)
-    (refuse (by_holder (λ batch. Some (Held batch)) has.berth.holder) Done))
+    (refuse (option_and_then (λ batch. Some (Held batch)) has.berth.holder) Done))
     (ap (λ slot. slot_ticket slot) has.part_is ∙ docked')
-    ∙ ap (λ holder. refuse (by_holder (λ batch. Some (Held batch)) holder) Done) free in
+    ∙ ap (λ holder. refuse (option_and_then (λ batch. Some (Held batch)) holder) Done) free in
     let entry : EntryForm = paired (unplug at tag) Done in
     record {
       answer_is = sym answer;

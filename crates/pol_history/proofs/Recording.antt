@@ -37,7 +37,7 @@ use Rattle.pol_events.specs.declared.event.Bind.{Bind}
 use Rattle.pol_history.specs.Looking.{History, past, past_of_batch, recipes}
 use Rattle.pol_history.specs.Modules.{Docking, absent, docked, away, docking_by, ticket_of, description_by, control_by, view_by}
 use Rattle.pol_history.specs.Batches.{start_by, chart_named, chart_by, log_by, holder_of}
-use Rattle.pol_history.specs.Rules.{tag_taken, no_module, not_in_exchange, by_description, by_view, not_reported, not_idle, module_not_at_rest, not_covered, services_of, unready, not_ready, module_rule, is_bound_before, twice, one_module_twice, busy_module, busy_role, by_holder, active_step, held_back}
+use Rattle.pol_history.specs.Rules.{tag_taken, no_module, not_in_exchange, not_reported, not_idle, module_not_at_rest, not_covered, services_of, unready, not_ready, module_rule, is_bound_before, twice, one_module_twice, busy_module, busy_role, active_step, held_back}
 use Rattle.pol_history.specs.Answers.{start_rules, rules, advanced, otherwise, first_rule, is_full, answer_of}
 use Rattle.pol_history.specs.Runs.{is_recorded}
 use Rattle.pol_history.proofs.Accepted.{with-room}
@@ -113,18 +113,6 @@ exchange-records tag ticket = mapped-records (InExchange tag) (λ ticket. refl) 
 ticket-records : (given : ℕ) (ticket : Option ℕ) → Records (wrong_ticket given ticket)
 ticket-records given None = tt
 ticket-records given (Some kept) = when-records _ (WrongTicket kept given) refl
-
-description-records : (rule : DescriptionForm → Option Rule) →
-    ((description : DescriptionForm) → Records (rule description)) →
-    (description : Option DescriptionForm) → Records (by_description rule description)
-description-records rule keep None = tt
-description-records rule keep (Some description) = keep description
-
-view-records : (rule : ServiceView → Option Rule) → ((view : ServiceView) → Records (rule view)) →
-    (view : Option ServiceView) →
-    Records (by_view rule view)
-view-records rule keep None = tt
-view-records rule keep (Some view) = keep view
 
 edge-records : (state : State) (last : Option ServiceControl) → Records (not_an_edge state last)
 edge-records state None = tt
@@ -227,15 +215,9 @@ start-records history batch binds (Some chart) = (
 
 -- ---- rules of a holder
 
-holder-records : (rule : List ℕ → Option Rule) → ((batch : List ℕ) → Records (rule batch)) →
-    (holder : Option (List ℕ)) →
-    Records (by_holder rule holder)
-holder-records rule keep None = tt
-holder-records rule keep (Some batch) = keep batch
-
 active-records : (history : History) (tag : List ℕ) → Records (active_step history tag)
 active-records history tag =
-    holder-records _ (λ batch. then-records _ (λ started. then-records _
+    then-records _ (λ batch. then-records _ (λ started. then-records _
     (λ chart. mapped-records (λ (step : StepPlan). ActiveStep batch step.name) (λ step. refl)
     (step_on started.binds tag (active chart (log_by (past_of_batch batch history)))))
     (chart_by (recipes history) (Some started))) (start_by (past_of_batch batch history))) (holder_of history tag)
@@ -243,7 +225,7 @@ active-records history tag =
 back-records : (history : History) (tag : List ℕ) (description : DescriptionForm) →
     Records (held_back history tag description)
 back-records history tag description =
-    holder-records _ (λ batch. then-records _ (λ started. then-records _
+    then-records _ (λ batch. then-records _ (λ started. then-records _
     (λ chart. then-records _
     (λ role. mapped-records (λ fault. HeldBack batch (missing_by role fault)) (λ fault. refl) (cover_fault chart role description))
     (bound_role started.binds tag))
@@ -254,13 +236,13 @@ back-records history tag description =
 rules-record : (history : History) (event : EventForm) → AllRecord (rules history event)
 rules-record history (plug at tag description) = (taken-records _, (when-records _ PlantFull refl, tt))
 rules-record history (unplug at tag) =
-    (module-records tag _, (exchange-records tag _, (holder-records _ (λ batch. refl) (holder_of history tag), tt)))
+    (module-records tag _, (exchange-records tag _, (then-records _ (λ batch. refl) (holder_of history tag), tt)))
 rules-record history (report at tag service control) = (
   module-records tag _,
   (
     exchange-records tag _,
     (
-      description-records (no_service service) (λ description. when-records _ NoService refl) _,
+      then-records (no_service service) (λ description. when-records _ NoService refl) _,
       (edge-records control.state _, tt),
     ),
   ),
@@ -270,9 +252,9 @@ rules-record history (variable at tag name value) = (
   (
     exchange-records tag _,
     (
-      description-records (no_variable name) (λ description. when-records _ NoVariable refl) _,
+      then-records (no_variable name) (λ description. when-records _ NoVariable refl) _,
       (
-        description-records (misfit name value) (λ description. then-records _
+        then-records (misfit name value) (λ description. then-records _
             (λ variable. mapped-records value_rule value-recorded (view_fault variable.kind value)) (variable_named name description)) _,
         tt,
       ),
@@ -293,11 +275,11 @@ rules-record history (desk at tag service command) = (
   (
     exchange-records tag _,
     (
-      description-records (no_service service) (λ description. when-records _ NoService refl) _,
+      then-records (no_service service) (λ description. when-records _ NoService refl) _,
       (
         reported-records tag service (view_by service (past tag history)),
         (
-          view-records (forbidden command)
+          then-records (forbidden command)
               (λ view. mapped-records forbid_rule forbid-recorded (forbidden_by view Operator command)) (view_by service (past tag history)),
           tt,
         ),
@@ -312,7 +294,7 @@ rules-record history (exchange_begin at tag) = (
     (
       active-records history tag,
       (
-        description-records (module_not_at_rest (past tag history)) (λ description. each-records
+        then-records (module_not_at_rest (past tag history)) (λ description. each-records
             (λ service. service_not_at_rest service.name (control_by service.name (past tag history)))
             (λ service. rest-records service.name (control_by service.name (past tag history))) description.services) _,
         tt,

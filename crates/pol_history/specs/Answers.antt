@@ -1,5 +1,5 @@
 -- The rules of each kind of event in their order, and the answer.
-use Rattle.std.specs.Prelude.{ℕ, Bool, ◌||◌, nat_le, List, [], ◌∷◌, length, Option, Some, None, if◌then◌else◌}
+use Rattle.std.specs.Prelude.{ℕ, Bool, ◌||◌, nat_le, List, [], ◌∷◌, length, Option, Some, None, if◌then◌else◌, option_and_then}
 use Rattle.mtp_codes.specs.Faults.{when}
 use Rattle.mtp_codes.specs.declared.limits.TheConstants.{LONGEST_HISTORY}
 use Rattle.chart_core.specs.Roles.{ChartPlan, role_names}
@@ -19,7 +19,7 @@ use Rattle.pol_history.specs.Looking.{History, past, past_of_batch, recipes}
 use Rattle.pol_history.specs.Modules.{docking_by, ticket_of, description_by, control_by, view_by, next_ticket}
 use Rattle.pol_history.specs.Batches.{start_by, chart_named, log_by, holder_of}
 use Rattle.pol_history.specs.Following.{next_of}
-use Rattle.pol_history.specs.Rules.{tag_taken, no_module, not_in_exchange, plant_full, module_not_at_rest, by_description, by_view, not_reported, recipe_known, recipes_full, no_recipe, batch_known, no_batch, batch_closed, already_frozen, not_frozen, batches_full, role_unbound, role_unknown, one_module_twice, modules_unfit, busy, by_holder, active_step, held_back}
+use Rattle.pol_history.specs.Rules.{tag_taken, no_module, not_in_exchange, plant_full, module_not_at_rest, not_reported, recipe_known, recipes_full, no_recipe, batch_known, no_batch, batch_closed, already_frozen, not_frozen, batches_full, role_unbound, role_unknown, one_module_twice, modules_unfit, busy, active_step, held_back}
 
 -- the rules of a start, by the chart of its recipe
 abbrev pub start_rules : History → List ℕ → List Bind → Option ChartPlan → List (Option Rule)
@@ -41,19 +41,19 @@ rules history (plug at tag description) =
 rules history (unplug at tag) =
     no_module tag (docking_by (past tag history))
     ∷ in_exchange tag (ticket_of (docking_by (past tag history)))
-    ∷ by_holder (λ batch. Some (Held batch)) (holder_of history tag)
+    ∷ option_and_then (λ batch. Some (Held batch)) (holder_of history tag)
     ∷ []
 rules history (report at tag service control) =
     no_module tag (docking_by (past tag history))
     ∷ in_exchange tag (ticket_of (docking_by (past tag history)))
-    ∷ by_description (no_service service) (description_by (past tag history))
+    ∷ option_and_then (no_service service) (description_by (past tag history))
     ∷ not_an_edge control.state (control_by service (past tag history))
     ∷ []
 rules history (variable at tag name value) =
     no_module tag (docking_by (past tag history))
     ∷ in_exchange tag (ticket_of (docking_by (past tag history)))
-    ∷ by_description (no_variable name) (description_by (past tag history))
-    ∷ by_description (misfit name value) (description_by (past tag history))
+    ∷ option_and_then (no_variable name) (description_by (past tag history))
+    ∷ option_and_then (misfit name value) (description_by (past tag history))
     ∷ []
 rules history (recipe at name chart) =
     recipe_known name (recipes history) ∷ recipes_full (recipes history) ∷ []
@@ -78,15 +78,15 @@ rules history (abandon at batch) =
 rules history (desk at tag service command) =
     no_module tag (docking_by (past tag history))
     ∷ in_exchange tag (ticket_of (docking_by (past tag history)))
-    ∷ by_description (no_service service) (description_by (past tag history))
+    ∷ option_and_then (no_service service) (description_by (past tag history))
     ∷ not_reported tag service (view_by service (past tag history))
-    ∷ by_view (forbidden command) (view_by service (past tag history))
+    ∷ option_and_then (forbidden command) (view_by service (past tag history))
     ∷ []
 rules history (exchange_begin at tag) =
     no_module tag (docking_by (past tag history))
     ∷ in_exchange tag (ticket_of (docking_by (past tag history)))
     ∷ active_step history tag
-    ∷ by_description (module_not_at_rest (past tag history)) (description_by (past tag history))
+    ∷ option_and_then (module_not_at_rest (past tag history)) (description_by (past tag history))
     ∷ []
 rules history (exchange_end at tag ticket description) =
     no_module tag (docking_by (past tag history))

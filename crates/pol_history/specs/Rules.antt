@@ -1,6 +1,7 @@
 -- The rules that can refuse an event.
 use Rattle.std.specs.Prelude.{ℕ, not, nat_le, List, [], ◌∷◌, length, map, filter, Option, Some, None, is_some, is_none, option_and_then, option_map}
 use Rattle.std.specs.Option.{option_or}
+pub use Rattle.std.specs.Option.{option_and_then as by_description, option_and_then as by_view, option_and_then as by_holder}
 use Rattle.mtp_codes.specs.Names.{same_name}
 use Rattle.mtp_codes.specs.Faults.{when, first_of}
 use Rattle.mtp_codes.specs.declared.limits.TheConstants.{MOST_BATCHES, MOST_MODULES, MOST_RECIPES}
@@ -46,14 +47,6 @@ abbrev pub plant_full : History → Option Rule
 plant_full history = when (nat_le MOST_MODULES (length (present_tags history))) PlantFull
 
 -- ---- what a module is and has reported
-
--- a rule of the module's description
-abbrev pub by_description : (DescriptionForm → Option Rule) → Option DescriptionForm → Option Rule
-by_description rule description = option_and_then rule description
-
--- a rule of what the service reported last
-abbrev pub by_view : (ServiceView → Option Rule) → Option ServiceView → Option Rule
-by_view rule view = option_and_then rule view
 
 -- the service wasn't reported since the module was docked
 abbrev pub not_reported : List ℕ → List ℕ → Option ServiceView → Option Rule
@@ -165,10 +158,6 @@ busy history binds roles = first_of (map (λ role. busy_role history (bound_tag 
 
 -- ---- the batch that holds a module
 
--- a rule of the batch that holds the module
-abbrev pub by_holder : (List ℕ → Option Rule) → Option (List ℕ) → Option Rule
-by_holder rule holder = option_and_then rule holder
-
 -- the first active step of a batch, by its past, on the module
 abbrev pub active_step_on : History → List ℕ → List ℕ → History → Option Rule
 active_step_on recipes tag batch past =
@@ -182,7 +171,7 @@ active_step_on recipes tag batch past =
 -- the batch that holds the module has an active step on it
 abbrev pub active_step : History → List ℕ → Option Rule
 active_step history tag =
-    by_holder (λ batch. active_step_on (recipes history) tag batch (past_of_batch batch history)) (holder_of history tag)
+    option_and_then (λ batch. active_step_on (recipes history) tag batch (past_of_batch batch history)) (holder_of history tag)
 
 -- what of the chart the new module doesn't cover, for the role that the tag plays in the batch
 abbrev pub uncovered_by : History → List ℕ → DescriptionForm → List ℕ → History → Option Rule
@@ -200,5 +189,5 @@ uncovered_by recipes tag description batch past =
 -- the new module doesn't cover its role in the batch that holds the tag
 abbrev pub held_back : History → List ℕ → DescriptionForm → Option Rule
 held_back history tag description =
-    by_holder (λ batch. uncovered_by (recipes history) tag description batch (past_of_batch batch history))
+    option_and_then (λ batch. uncovered_by (recipes history) tag description batch (past_of_batch batch history))
     (holder_of history tag)

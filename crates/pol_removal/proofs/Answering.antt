@@ -22,7 +22,7 @@ use Rattle.pol_history.specs.Looking.{History, subject, past, past_of_batch, rec
 use Rattle.pol_history.specs.Modules.{next_ticket, present_tags}
 use Rattle.pol_history.specs.Batches.{Started, start_by, start_of, chart_named, chart_by, is_frozen_by, log_by, holder_of, is_start}
 use Rattle.pol_history.specs.Following.{service_sight, variable_sight, sights_by, next_of_started, next_of}
-use Rattle.pol_history.specs.Rules.{plant_full, batches_full, module_rules, module_rule, modules_unfit, busy_role, busy, by_holder, active_step_on, active_step, uncovered_by, held_back}
+use Rattle.pol_history.specs.Rules.{plant_full, batches_full, module_rules, module_rule, modules_unfit, busy_role, busy, active_step_on, active_step, uncovered_by, held_back}
 use Rattle.pol_history.specs.Answers.{start_rules, rules, advanced, stopped, otherwise, is_full, answer_of}
 use Rattle.pol_removal.specs.Removal.{is_refused_for_another, is_some_among, binds_one, is_of}
 use Rattle.pol_removal.proofs.Alike.{Alike}
@@ -45,8 +45,8 @@ module _ (tags bound : List (List ℕ)) (whole less : History) (alike : Alike ta
   -- ---- rules for another's sake
 
   held-falls : (tag : List ℕ)
-      → Falls (by_holder (λ batch. Some (Held batch)) (holder_of whole tag))
-      (by_holder (λ batch. Some (Held batch)) (holder_of less tag))
+      → Falls (option_and_then (λ batch. Some (Held batch)) (holder_of whole tag))
+      (option_and_then (λ batch. Some (Held batch)) (holder_of less tag))
   held-falls tag = holder-falls bound whole less tag _ _ (λ batch. inl refl) (λ batch out. refl) (alike.holders tag)
 
   active-falls : (tag : List ℕ) → Falls (active_step whole tag) (active_step less tag)

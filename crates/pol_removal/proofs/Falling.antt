@@ -9,7 +9,6 @@ use Rattle.pol_events.specs.declared.answer.Rule.{Rule}
 use Rattle.pol_events.specs.declared.answer.Answer.{Answer}
 use Rattle.pol_history.specs.Looking.{History}
 use Rattle.pol_history.specs.Batches.{holder_of}
-use Rattle.pol_history.specs.Rules.{by_holder}
 use Rattle.pol_history.specs.Answers.{first_rule}
 use Rattle.pol_removal.specs.Removal.{is_for_another, is_refused_for_another}
 use Rattle.pol_removal.proofs.Alike.{HolderAlike}
@@ -85,10 +84,10 @@ none-falls rule (inr none) = inr (sym none)
 
 pub holder-falls : (bound : List (List ℕ)) (whole less : History) (tag : List ℕ) (whole_rule less_rule : List ℕ → Option Rule) →
     ((batch : List ℕ) → IsForAnother (whole_rule batch)) → ((batch : List ℕ) → is_among bound batch ≡ false → less_rule batch ≡ whole_rule batch) →
-    HolderAlike bound whole less tag → Falls (by_holder whole_rule (holder_of whole tag)) (by_holder less_rule (holder_of less tag))
+    HolderAlike bound whole less tag → Falls (option_and_then whole_rule (holder_of whole tag)) (option_and_then less_rule (holder_of less tag))
 holder-falls bound whole less tag whole_rule less_rule another agree (inl none) = rw none (go (holder_of whole tag))
   where
-    go : (holder : Option (List ℕ)) → Falls (by_holder whole_rule holder) None
+    go : (holder : Option (List ℕ)) → Falls (option_and_then whole_rule holder) None
     go None = inr refl
     go (Some batch) = none-falls (whole_rule batch) (another batch)
 holder-falls bound whole less tag whole_rule less_rule another agree (inr (batch, outside, after, before)) = rw (after, before) (inr (agree batch outside))

@@ -1,7 +1,7 @@
 -- What a plant that follows a site never does.
 use Rattle.std.proofs.Common.{◌≡◌, ℕ, Bool, true, false, cond, List, [], ◌∷◌, Option, Some, None, refl, ap, sym, ◌∙◌}
 use Rattle.std.specs.Prelude.{option_map, if◌then◌else◌}
-use Rattle.std.specs.Option.{option_or}
+use Rattle.std.specs.Option.{option_or, option_and_then}
 use Rattle.std.specs.Str.{bytes_eq}
 use Rattle.std.proofs.lemmas.Option.{same_Some}
 use Rattle.mtp_codes.specs.declared.command.Command.{Command}
@@ -15,7 +15,7 @@ use Rattle.pol_events.specs.declared.answer.Answer.{Answer}
 use Rattle.pol_events.specs.Refusals.{forbid_rule, forbidden}
 use Rattle.pol_history.specs.Looking.{History, past, is_accepted, is_accepted_of}
 use Rattle.pol_history.specs.Modules.{control_by, description_by, seen_with, view_of}
-use Rattle.pol_history.specs.Rules.{not_reported, by_view}
+use Rattle.pol_history.specs.Rules.{not_reported}
 use Rattle.pol_history.specs.Answers.{answer_of}
 use Rattle.pol_history.proofs.Accepted.{accepted-none, paired}
 use Rattle.pol_site.specs.Sites.{SiteForm}
@@ -86,7 +86,7 @@ desk-refused history at tag service command all true is =
     absurd (go (view_of history tag service) refl none.1.1.1.0 none.1.1.1.1.0)
   where
     go : (found : Option ServiceView) → view_of history tag service ≡ found → not_reported tag service found ≡ None
-        → by_view (forbidden command) found ≡ None → ⊥
+        → option_and_then (forbidden command) found ≡ None → ⊥
     go None seen told free = cc
     go (Some view) seen told free =
         unspoken view command (all view.control (view-control (control_by service (past tag history)) view

@@ -20,7 +20,7 @@ use Rattle.pol_events.specs.declared.answer.Rule.TheVariants.{HistoryFull, HeldB
 use Rattle.pol_history.specs.Answers.{answer_of, first_rule, is_full}
 use Rattle.pol_history.specs.Looking.{History, is_accepted, last_of, past, past_of_batch, recipes}
 use Rattle.pol_history.specs.Modules.{Docking, absent, docked, away, docking_after, docking_by, next_ticket, ticket_of}
-use Rattle.pol_history.specs.Rules.{by_holder, held_back, no_module, not_in_exchange, uncovered_by}
+use Rattle.pol_history.specs.Rules.{held_back, no_module, not_in_exchange, uncovered_by}
 use Rattle.pol_history.specs.Runs.{is_recorded, IsLegal}
 use Rattle.pol_history.proofs.Accepted.{accepted-otherwise, paired}
 use Rattle.pol_history.proofs.Names.{same-true}
@@ -86,7 +86,7 @@ held-rule history tag ticket description rule is = by (holder_of history tag) is
         ap (λ r. ended_with tag ticket (Refused r)) (sym (same_Some (HeldBack batch (missing_by role fault)) rule e))
 
     by : (holder : Option (List ℕ)) →
-        by_holder (λ batch. uncovered_by (recipes history) tag description batch (past_of_batch batch history)) holder
+        option_and_then (λ batch. uncovered_by (recipes history) tag description batch (past_of_batch batch history)) holder
         ≡ Some rule → ended_with tag ticket (Refused rule) ≡ was_held tag ticket
     by None e = cc
     by (Some batch) e =
