@@ -1,17 +1,16 @@
 -- What the slot answers is what the rules of the event's kind say.
 use Rattle.std.proofs.Common.{◌≡◌, ℕ, false, List, [], ◌∷◌, Option, Some, None, refl, ap, sym, ◌∙◌}
-use Rattle.std.specs.Option.{option_or}
 use Rattle.mtp_codes.specs.Faults.{first_of, done_unless}
 use Rattle.mtp_codes.specs.declared.value.Value.{Value}
 use Rattle.mtp_assembly.specs.declared.control.ServiceControl.{ServiceControl}
 use Rattle.pol_events.specs.Events.{EventForm, report, variable}
-use Rattle.pol_events.specs.Refusals.{no_service, not_an_edge, no_variable, misfit, report_fault, variable_fault, in_exchange}
+use Rattle.pol_events.specs.Refusals.{report_rules, variable_rules}
 use Rattle.pol_events.specs.declared.answer.Answer.{Answer}
 use Rattle.pol_events.specs.declared.answer.Answer.TheVariants.{Done, Refused}
 use Rattle.pol_events.specs.declared.answer.Rule.{Rule}
 use Rattle.pol_history.specs.Answers.{first_rule, rules, otherwise, answer_of, is_full}
 use Rattle.pol_history.specs.Looking.{History, past}
-use Rattle.pol_history.specs.Modules.{Docking, absent, docked, away, docking_by, ticket_of, control_by}
+use Rattle.pol_history.specs.Modules.{Docking, absent, docked, away, docking_by}
 use Rattle.pol_history.specs.Rules.{no_module}
 use Rattle.pol_history.proofs.Accepted.{with-room}
 use Rattle.pol_slots.specs.Slots.{slot_tag, slot_ticket, slot_description, last_control}
@@ -44,50 +43,37 @@ there-is tag absent there = absurd (there refl)
 there-is tag (docked count) there = refl
 there-is tag (away ticket) there = refl
 
--- rules one after another, and the first of them
-pub or-first : (one : Option Rule) (others : Option Rule) (rest : List (Option Rule)) →
-    done_or_refused (done_unless others) ≡ first_rule rest Done →
-    done_or_refused (done_unless (option_or one others)) ≡ first_rule (one ∷ rest) Done
-or-first None others rest is = is
-or-first (Some rule) others rest is = refl
-
--- the last rule
-last-rule : (one : Option Rule) → done_or_refused (done_unless one) ≡ first_rule (one ∷ []) Done
-last-rule None = refl
-last-rule (Some rule) = refl
+-- what the first of the rules leaves of an event that is done
+rules-done : (rules : List (Option Rule)) → done_or_refused (done_unless (first_of rules)) ≡ first_rule rules Done
+rules-done [] = refl
+rules-done (None ∷ rules) = rules-done rules
+rules-done (Some rule ∷ rules) = refl
 
 -- a report
 pub report-judged : (history : History) (at : ℕ) (tag service : List ℕ) (control : ServiceControl) (slot : Slot) →
     is_full history ≡ false
     → SlotKeeps tag slot (past tag history) →
-    done_or_refused (done_unless (option_or (in_exchange (slot_tag slot) (slot_ticket slot))
-    (report_fault service control.state (slot_description slot) (last_control slot service))))
+    done_or_refused (done_unless (first_of (report_rules (slot_tag slot) service control.state (slot_ticket slot)
+    (Some (slot_description slot)) (last_control slot service))))
     ≡ answer_of history (report at tag service control)
 report-judged history at tag service control slot room keeps =
-    ap (λ last. done_or_refused (done_unless (option_or (in_exchange (slot_tag slot) (slot_ticket slot))
-    (report_fault service control.state (slot_description slot) last)))) (keeps.controls service)
+    rules-done (report_rules (slot_tag slot) service control.state (slot_ticket slot) (Some (slot_description slot))
+    (last_control slot service))
+    ∙ ap (λ last. first_rule (report_rules (slot_tag slot) service control.state (slot_ticket slot)
+    (Some (slot_description slot)) last) Done) (keeps.controls service)
     ∙ rw (keeps.tag_is, keeps.ticket)
-    (or-first (in_exchange tag (ticket_of (docking_by (past tag history)))) _
-    (no_service service (slot_description slot) ∷ not_an_edge control.state (control_by service (past tag history))
-    ∷ [])
-    (or-first (no_service service (slot_description slot)) _
-    (not_an_edge control.state (control_by service (past tag history)) ∷ [])
-    (last-rule (not_an_edge control.state (control_by service (past tag history)))))
-    ∙ sym (with-room history (report at tag service control) room
+    (sym (with-room history (report at tag service control) room
     ∙ rw (there-is tag (docking_by (past tag history)) keeps.is_there, keeps.description) refl))
 
 -- a variable
 pub variable-judged : (history : History) (at : ℕ) (tag name : List ℕ) (value : Value) (slot : Slot) →
     is_full history ≡ false
     → SlotKeeps tag slot (past tag history) →
-    done_or_refused (done_unless (option_or (in_exchange (slot_tag slot) (slot_ticket slot))
-    (variable_fault name value (slot_description slot))))
+    done_or_refused (done_unless (first_of (variable_rules (slot_tag slot) name value (slot_ticket slot)
+    (Some (slot_description slot)))))
     ≡ answer_of history (variable at tag name value)
 variable-judged history at tag name value slot room keeps =
-    rw (keeps.tag_is, keeps.ticket)
-    (or-first (in_exchange tag (ticket_of (docking_by (past tag history)))) _
-    (no_variable name (slot_description slot) ∷ misfit name value (slot_description slot) ∷ [])
-    (or-first (no_variable name (slot_description slot)) _ (misfit name value (slot_description slot) ∷ [])
-    (last-rule (misfit name value (slot_description slot))))
-    ∙ sym (with-room history (variable at tag name value) room
+    rules-done (variable_rules (slot_tag slot) name value (slot_ticket slot) (Some (slot_description slot)))
+    ∙ rw (keeps.tag_is, keeps.ticket)
+    (sym (with-room history (variable at tag name value) room
     ∙ rw (there-is tag (docking_by (past tag history)) keeps.is_there, keeps.description) refl))

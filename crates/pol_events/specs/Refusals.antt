@@ -1,6 +1,5 @@
 -- Rules that a module by itself decides: its description, what it told last, and the ticket under which it is away.
-use Rattle.std.specs.Prelude.{ℕ, Bool, not, ◌||◌, ◌==◌, List, map, Option, Some, None, is_none, option_and_then, option_map}
-use Rattle.std.specs.Option.{option_or}
+use Rattle.std.specs.Prelude.{ℕ, Bool, not, ◌||◌, ◌==◌, List, [], ◌∷◌, map, Option, Some, None, is_none, option_and_then, option_map}
 use Rattle.mtp_codes.specs.Faults.{when, first_of}
 use Rattle.mtp_codes.specs.declared.cover.CoverFault.{CoverFault}
 use Rattle.mtp_codes.specs.declared.cover.CoverFault.TheVariants as cover
@@ -36,10 +35,6 @@ abbrev pub not_an_edge : State → Option ServiceControl → Option Rule
 not_an_edge state last =
     option_and_then (λ last. when (not (may_follow last.state state)) (NotAnEdge last.state state)) last
 
--- why a report of the service is refused, by the description and what the service reported last
-abbrev pub report_fault : List ℕ → State → DescriptionForm → Option ServiceControl → Option Rule
-report_fault service state description last = option_or (no_service service description) (not_an_edge state last)
-
 -- the module's description lacks the variable
 abbrev pub no_variable : List ℕ → DescriptionForm → Option Rule
 no_variable name description = when (is_none (variable_named name description)) NoVariable
@@ -53,10 +48,6 @@ value_rule value.OutOfRange = OutOfRange
 abbrev pub misfit : List ℕ → Value → DescriptionForm → Option Rule
 misfit name value description =
     option_and_then (λ variable. option_map value_rule (view_fault variable.kind value)) (variable_named name description)
-
--- why a value of the variable is refused, by the description
-abbrev pub variable_fault : List ℕ → Value → DescriptionForm → Option Rule
-variable_fault name value description = option_or (no_variable name description) (misfit name value description)
 
 -- why a command may not go to a service, as a rule
 abbrev pub forbid_rule : Forbid → Rule
@@ -85,6 +76,19 @@ in_exchange tag ticket = option_map (InExchange tag) ticket
 -- the ticket isn't the one under which the module is away
 abbrev pub wrong_ticket : ℕ → Option ℕ → Option Rule
 wrong_ticket given kept = option_and_then (λ kept. when (not (kept == given)) (WrongTicket kept given)) kept
+
+-- the rules of a report, by the ticket of the module's exchange, its description and what the service reported last
+abbrev pub report_rules : List ℕ → List ℕ → State → Option ℕ → Option DescriptionForm → Option ServiceControl → List (Option Rule)
+report_rules tag service state ticket description last =
+    in_exchange tag ticket ∷ option_and_then (no_service service) description ∷ not_an_edge state last ∷ []
+
+-- the rules of a variable's value, by the ticket of the module's exchange and its description
+abbrev pub variable_rules : List ℕ → List ℕ → Value → Option ℕ → Option DescriptionForm → List (Option Rule)
+variable_rules tag name value ticket description =
+    in_exchange tag ticket
+    ∷ option_and_then (no_variable name) description
+    ∷ option_and_then (misfit name value) description
+    ∷ []
 
 -- why a module can't play the role, as a rule
 abbrev pub cover_rule : List ℕ → CoverFault → Rule

@@ -13,7 +13,7 @@ use Rattle.pol_events.specs.declared.answer.Rule.{Rule}
 use Rattle.pol_events.specs.declared.answer.Rule.TheVariants.{Held, HistoryFull}
 use Rattle.pol_events.specs.declared.answer.Answer.{Answer}
 use Rattle.pol_events.specs.declared.answer.Answer.TheVariants.{Done, Ticket, Did, Waiting, Closed, Refused}
-use Rattle.pol_events.specs.Refusals.{no_service, not_an_edge, no_variable, misfit, forbidden, in_exchange, wrong_ticket}
+use Rattle.pol_events.specs.Refusals.{no_service, forbidden, in_exchange, wrong_ticket, report_rules, variable_rules}
 use Rattle.pol_events.specs.declared.event.Bind.{Bind}
 use Rattle.pol_history.specs.Looking.{History, past, past_of_batch, recipes}
 use Rattle.pol_history.specs.Modules.{docking_by, ticket_of, description_by, control_by, view_by, next_ticket}
@@ -45,16 +45,12 @@ rules history (unplug at tag) =
     ∷ []
 rules history (report at tag service control) =
     no_module tag (docking_by (past tag history))
-    ∷ in_exchange tag (ticket_of (docking_by (past tag history)))
-    ∷ option_and_then (no_service service) (description_by (past tag history))
-    ∷ not_an_edge control.state (control_by service (past tag history))
-    ∷ []
+    ∷ report_rules tag service control.state (ticket_of (docking_by (past tag history)))
+    (description_by (past tag history))
+    (control_by service (past tag history))
 rules history (variable at tag name value) =
     no_module tag (docking_by (past tag history))
-    ∷ in_exchange tag (ticket_of (docking_by (past tag history)))
-    ∷ option_and_then (no_variable name) (description_by (past tag history))
-    ∷ option_and_then (misfit name value) (description_by (past tag history))
-    ∷ []
+    ∷ variable_rules tag name value (ticket_of (docking_by (past tag history))) (description_by (past tag history))
 rules history (recipe at name chart) =
     recipe_known name (recipes history) ∷ recipes_full (recipes history) ∷ []
 rules history (start at batch name binds) =

@@ -1,3 +1,4 @@
 pub mod Forgetting
 pub mod Knowing
 pub mod Docking
+pub mod Ruling

@@ -1,25 +1,20 @@
 //! What a module reports.
-ghost use Rattle.std.specs.Prelude.{◌≡◌, ℕ, List, Some, IfOk, OnOk, OnErr, if◌then◌else◌};
-ghost use Rattle.std.specs.Option.{option_or};
+ghost use Rattle.std.specs.Prelude.{◌≡◌, ℕ, List, Some, IfOk, OnOk, OnErr, if◌then◌else◌, option_map};
 ghost use Rattle.std.specs.Str.{bytes_eq};
-ghost use Rattle.mtp_codes.specs.Faults.{done_unless};
-ghost use Rattle.mtp_desc.specs.DescriptionView.{description_view};
-ghost use Rattle.pol_events.specs.Refusals.{report_fault, variable_fault, in_exchange};
+ghost use Rattle.mtp_codes.specs.Faults.{done_unless, first_of};
+ghost use Rattle.mtp_assembly.specs.Fits.{view_fault};
+ghost use Rattle.pol_events.specs.Refusals.{report_rules, variable_rules, in_exchange, value_rule};
 ghost use Rattle.pol_slots.specs.Slots.{slot_tag, slot_description, slot_ticket, last_control, last_value, SameModule, SameControls, SameValues};
 
 use super::slot::Slot;
-use mtp_assembly::{ServiceControl, check_view};
+use mtp_assembly::{ServiceControl, View, check_view};
 use mtp_codes::{Name, Value};
-use mtp_desc::Description;
 use pol_events::Rule;
 
-// The description has the variable, and it may have the value.
-fn fits(description: &Description, name: Name, value: &Value) -> Result<(), Rule>
-    ensures { result ≡ done_unless (variable_fault name value.now (description_view description.now)) }
+// The variable may have the value.
+fn fits(variable: &View, value: &Value) -> Result<(), Rule>
+    ensures { result ≡ done_unless (option_map value_rule (view_fault variable.now.kind value.now)) }
 {
-    let Some(variable) = description.variable(name) else {
-        return Err(Rule::NoVariable);
-    };
     Ok(check_view(variable, value)?)
 }
 
@@ -37,14 +32,16 @@ impl Slot {
         }
     }
 
-    // The variable may have the value.
+    // The module may report this value.
     fn check_value(&self, name: Name, value: &Value) -> Result<(), Rule>
-        ensures { result ≡ done_unless (option_or
-            (in_exchange (slot_tag self.now) (slot_ticket self.now))
-            (variable_fault name value.now (slot_description self.now))) }
+        ensures { result ≡ done_unless (first_of (variable_rules (slot_tag self.now) name value.now
+            (slot_ticket self.now) (Some (slot_description self.now)))) }
     {
         self.docked()?;
-        fits(&self.description, name, value)
+        let Some(variable) = self.description.variable(name) else {
+            return Err(Rule::NoVariable);
+        };
+        fits(variable, value)
     }
 
     /// Takes what a service reports.
@@ -54,9 +51,8 @@ impl Slot {
     /// from it. After a refusal the slot is unchanged.
     #[tactic(auto, unfolding(crate::specs::Slots::last_control, crate::specs::Slots::last_value))]
     pub fn report(&mut self, service: Name, control: ServiceControl) -> Result<(), Rule>
-        ensures answer { result ≡ done_unless (option_or
-            (in_exchange (slot_tag self.old) (slot_ticket self.old))
-            (report_fault service control.state (slot_description self.old) (last_control self.old service))) }
+        ensures answer { result ≡ done_unless (first_of (report_rules (slot_tag self.old) service control.state
+            (slot_ticket self.old) (Some (slot_description self.old)) (last_control self.old service))) }
         ensures reported { OnOk result ((other : List ℕ) → last_control self.new other
             ≡ (if bytes_eq service other then Some control else last_control self.old other)) }
         ensures same_module { SameModule self.old self.new }
@@ -73,9 +69,8 @@ impl Slot {
     /// variable; `WrongKind` and `OutOfRange` as `check_view` says of the value. After a refusal the slot is unchanged.
     #[tactic(auto, unfolding(crate::specs::Slots::last_control, crate::specs::Slots::last_value))]
     pub fn variable(&mut self, name: Name, value: Value) -> Result<(), Rule>
-        ensures answer { result ≡ done_unless (option_or
-            (in_exchange (slot_tag self.old) (slot_ticket self.old))
-            (variable_fault name value (slot_description self.old))) }
+        ensures answer { result ≡ done_unless (first_of (variable_rules (slot_tag self.old) name value
+            (slot_ticket self.old) (Some (slot_description self.old)))) }
         ensures reported { OnOk result ((other : List ℕ) → last_value self.new other
             ≡ (if bytes_eq name other then Some value else last_value self.old other)) }
         ensures same_module { SameModule self.old self.new }
