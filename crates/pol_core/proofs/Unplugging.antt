@@ -17,7 +17,8 @@ use Rattle.pol_history.proofs.Names.{same-true}
 use Rattle.pol_history.proofs.Pasts.{past-own}
 use Rattle.pol_slots.specs.Slots.{slot_ticket}
 use Rattle.pol_slots.specs.declared.slot.Slot.{Slot}
-use Rattle.pol_table.specs.Answers.{parting, parting_from, leaving}
+use Rattle.pol_table.specs.Answers.{parting_from, leaving}
+use Rattle.pol_table.specs.Reasons.{parting}
 use Rattle.pol_table.specs.Berths as tables
 use Rattle.pol_table.specs.Berths.{Berth, Berths, look, part_of}
 use Rattle.pol_core.specs.Seats.{IsTaken, IsSeated, SeatsMirror, AreOnce, IsCounted, AnswersModule}

@@ -9,8 +9,8 @@ use Rattle.mtp_codes.specs.Faults.{first_of}
 use Rattle.mtp_codes.specs.Names.{is_among}
 use Rattle.pol_table.specs.Answers.{missing_at, busy_at}
 use Rattle.pol_table.specs.Berths.{Berth, look, held_by}
+use Rattle.pol_table.specs.Reasons.{missing_reason, busy_reason}
 use Rattle.pol_table.specs.Places.{part_at, berth_at, berths_of, seat_missing_at, seat_busy_at, seat_held_by, IsSound}
-use Rattle.pol_table.specs.declared.faults.HoldFault.TheVariants.{Busy, NoModule}
 use Rattle.pol_table.specs.declared.seat.Seat.{Seat}
 use Rattle.pol_table.proofs.Mapped.{sound-changed, look-changed}
 use Rattle.pol_table.proofs.Views.{look-berths_of, length-berths_of, holder-berths_of, some_of}
@@ -26,15 +26,15 @@ module _ {T : Type 0} (seats : List (List ℕ × Seat)) (parts : List (Option T)
   missing-alike tag = rw (look-berths_of seats parts sound tag) (go (lookup (bytes_eq tag) seats) refl)
     where
       go : (found : Option Seat) → lookup (bytes_eq tag) seats ≡ found
-          → (if is_some found then None else Some (NoModule tag)) ≡ (if is_some (option_and_then (berth_at parts) found) then None else Some (NoModule tag))
+          → missing_reason tag (is_some found) ≡ missing_reason tag (is_some (option_and_then (berth_at parts) found))
       go None is = refl
       go (Some seat) is = step (some_of (part_at parts seat.place) (sound.occupied tag seat is))
         where
-          step : (part : T) × (part_at parts seat.place ≡ Some part) → None ≡ (if is_some (berth_at parts seat) then None else Some (NoModule tag))
+          step : (part : T) × (part_at parts seat.place ≡ Some part) → None ≡ missing_reason tag (is_some (berth_at parts seat))
           step (part, there) = rw there refl
 
   busy-alike : (tag : List ℕ) → seat_busy_at seats tag ≡ busy_at (berths_of seats parts) tag
-  busy-alike tag = ap (λ holder. option_map (Busy tag) holder) (sym (holder-berths_of seats parts sound tag))
+  busy-alike tag = ap (busy_reason tag) (sym (holder-berths_of seats parts sound tag))
 
   -- the first tag without a seat is the first that is not docked
   pub first-missing : (tags : List (List ℕ)) → first_of (map (seat_missing_at seats) tags) ≡ first_of (map (missing_at (berths_of seats parts)) tags)

@@ -4,8 +4,9 @@ use Rattle.std.specs.Prelude.{if◌then◌else◌, Result, unwrap_or}
 use Rattle.std.specs.Result.{result_ok, result_err}
 use Rattle.std.specs.Map.{lookup}
 use Rattle.std.specs.Str.{bytes_eq}
-use Rattle.pol_table.specs.Answers.{leaving, parting}
-use Rattle.pol_table.specs.Places.{part_at, berths_of, seat_leaving, seat_parting, seat_if_free, IsSound}
+use Rattle.pol_table.specs.Answers.{leaving}
+use Rattle.pol_table.specs.Places.{part_at, berths_of, seat_leaving, seat_parting, IsSound}
+use Rattle.pol_table.specs.Reasons.{parting}
 use Rattle.pol_table.specs.declared.faults.LeaveFault.{LeaveFault}
 use Rattle.pol_table.specs.declared.faults.LeaveFault.TheVariants.{Held, NoModule}
 use Rattle.pol_table.specs.declared.seat.Seat.{Seat}
@@ -25,7 +26,7 @@ pub found_free : (found : Option Seat) (seat : Seat) → seat_parting found ≡ 
 found_free None seat is = absurd (cc)
 found_free (Some other) seat is = go other.holder refl is
   where
-    go : (holder : Option (List ℕ)) → other.holder ≡ holder → seat_if_free other holder ≡ Ok seat → (Some other ≡ Some seat) × (seat.holder ≡ None)
+    go : (holder : Option (List ℕ)) → other.holder ≡ holder → parting other holder ≡ Ok seat → (Some other ≡ Some seat) × (seat.holder ≡ None)
     go None free same = let one : other ≡ seat = ap (λ r. unwrap_or (result_ok r) other) same in (ap Some one, sym (ap (λ s. s.holder) one) ∙ free)
     go (Some batch) free same = absurd (cc)
 
@@ -34,7 +35,7 @@ module _ {T : Type 0} (seats : List (List ℕ × Seat)) (parts : List (Option T)
   pub leaving_refused : (fault : LeaveFault) → seat_leaving tag seats ≡ Err fault → leaving tag (berths_of seats parts) ≡ Err fault
   leaving_refused fault is = go (lookup (bytes_eq tag) seats) refl is
     where
-      held : (seat : Seat) (holder : Option (List ℕ)) (part : T) → seat_if_free seat holder ≡ Err fault → parting part holder ≡ Err fault
+      held : (seat : Seat) (holder : Option (List ℕ)) (part : T) → parting seat holder ≡ Err fault → parting part holder ≡ Err fault
       held seat None part same = absurd (cc)
       held seat (Some batch) part same = same_fault (Held batch) fault same
 

@@ -1,14 +1,13 @@
 -- What the seats of a table say of its berths.
 use Rattle.std.proofs.Common.{◌≡◌, ℕ, suc, Bool, true, false, cond, List, [], ◌∷◌, length, Option, Some, None, is_some, refl, sym, ap, true≢false}
-use Rattle.std.specs.Prelude.{IsSome, nat_le, if◌then◌else◌}
+use Rattle.std.specs.Prelude.{IsSome}
 use Rattle.std.specs.List.{AllByRecursion}
 use Rattle.std.specs.Map.{lookup}
 use Rattle.std.specs.Option.{option_map, option_and_then}
 use Rattle.std.specs.Str.{bytes_eq}
-use Rattle.mtp_codes.specs.declared.limits.TheConstants.{MOST_MODULES}
 use Rattle.pol_table.specs.Berths.{Berth, look, part_of, holder_of}
 use Rattle.pol_table.specs.Answers.{dock_fault}
-use Rattle.pol_table.specs.declared.faults.DockFault.TheVariants.{TagTaken, PlantFull}
+use Rattle.pol_table.specs.Reasons.{dock_reason}
 use Rattle.pol_table.specs.Places.{part_at, berth_at, berths_of, seat_holder, IsSound}
 use Rattle.pol_table.specs.declared.seat.Seat.{Seat}
 use Rattle.pol_table.proofs.Tags.{each_entry}
@@ -85,7 +84,7 @@ module _ {T : Type 0} where
 
     -- why nothing may dock under a tag, by the seats
     pub dock_fault-seats : (tag : List ℕ) → dock_fault tag (berths_of seats parts)
-        ≡ (if is_some (lookup (bytes_eq tag) seats) then Some TagTaken else if nat_le MOST_MODULES (length seats) then Some PlantFull else None)
+        ≡ dock_reason (is_some (lookup (bytes_eq tag) seats)) (length seats)
     dock_fault-seats tag = rw (is_some-look tag, length-berths_of) refl
 
     -- a tag has the holder of its seat

@@ -1,9 +1,10 @@
 -- What contracts see of a table: each docked part under its tag, and the batch that holds it.
 use Rattle.std.specs.Prelude.{ℕ, List, map, Option, None, Some, if◌then◌else◌, refl}
 use Rattle.std.specs.Map.{lookup}
-use Rattle.std.specs.Option.{option_map, option_and_then, option_eq}
+use Rattle.std.specs.Option.{option_map, option_and_then}
 use Rattle.std.specs.Str.{bytes_eq}
 use Rattle.std.specs.Coded.{Coded, code_by, coded×, coded_ℕ, coded_list, coded_option}
+use Rattle.pol_table.specs.Reasons.{let_go}
 
 -- a docked part, and the batch that holds it, if one does
 pub record Berth (T : Type 0) : Type 0 where
@@ -47,8 +48,7 @@ module _ {T : Type 0} where
 
   -- the berth, free where this batch held it
   abbrev pub freed_from : List ℕ → Berth T → Berth T
-  freed_from batch berth =
-      record berth { holder = if option_eq bytes_eq berth.holder (Some batch) then None else berth.holder }
+  freed_from batch berth = record berth { holder = let_go batch berth.holder }
 
   -- the berths with this part under the tag, if it is docked
   abbrev pub with_part : List ℕ → Berths T → T → Berths T

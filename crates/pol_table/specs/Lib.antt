@@ -1,3 +1,4 @@
 pub mod Berths
+pub mod Reasons
 pub mod Answers
 pub mod Places

@@ -1,15 +1,15 @@
 -- How a table keeps its berths: a seat for each tag, whose place finds the part.
-use Rattle.std.specs.Prelude.{◌≡◌, ℕ, ◌≤◌, List, length, Option, None, Some, IsSome, is_some, filter_map, slice_index_or, if◌then◌else◌, Result, Ok, Err}
+use Rattle.std.specs.Prelude.{◌≡◌, ℕ, ◌≤◌, List, length, Option, None, Some, IsSome, is_some, filter_map, slice_index_or, Result, Err}
 use Rattle.std.specs.List.{IsDistinct}
 use Rattle.std.specs.Map.{lookup, keys_of}
-use Rattle.std.specs.Option.{option_map, option_and_then, option_eq}
+use Rattle.std.specs.Option.{option_map, option_and_then}
 use Rattle.std.specs.Str.{bytes_eq}
 use Rattle.mtp_codes.specs.declared.limits.TheConstants.{MOST_MODULES}
 use Rattle.pol_table.specs.Berths.{Berth, Berths}
+use Rattle.pol_table.specs.Reasons.{parting, missing_reason, busy_reason, let_go}
 use Rattle.pol_table.specs.declared.faults.HoldFault.{HoldFault}
-use Rattle.pol_table.specs.declared.faults.HoldFault.TheVariants.{Busy, NoModule as Missing}
 use Rattle.pol_table.specs.declared.faults.LeaveFault.{LeaveFault}
-use Rattle.pol_table.specs.declared.faults.LeaveFault.TheVariants.{Held, NoModule as NotThere}
+use Rattle.pol_table.specs.declared.faults.LeaveFault.TheVariants.{NoModule as NotThere}
 use Rattle.pol_table.specs.declared.seat.Seat.{Seat}
 
 module _ {T : Type 0} where
@@ -39,22 +39,16 @@ seat_held_by batch seat = record seat { holder = Some batch }
 
 -- the seat, free where this batch held it
 abbrev pub seat_freed_from : List ℕ → Seat → Seat
-seat_freed_from batch seat =
-    record seat { holder = if option_eq bytes_eq seat.holder (Some batch) then None else seat.holder }
+seat_freed_from batch seat = record seat { holder = let_go batch seat.holder }
 
 -- the holder of a tag's seat
 abbrev pub seat_holder : List ℕ → List (List ℕ × Seat) → Option (List ℕ)
 seat_holder tag seats = option_and_then (λ seat. seat.holder) (lookup (bytes_eq tag) seats)
 
--- the seat, where this holder of it is none
-abbrev pub seat_if_free : Seat → Option (List ℕ) → Result Seat LeaveFault
-seat_if_free seat None = Ok seat
-seat_if_free seat (Some batch) = Err (Held batch)
-
 -- the seat whose part leaves, or why none does
 abbrev pub seat_parting : Option Seat → Result Seat LeaveFault
 seat_parting None = Err NotThere
-seat_parting (Some seat) = seat_if_free seat seat.holder
+seat_parting (Some seat) = parting seat seat.holder
 
 -- the seat whose part leaves from a tag, or why none does
 abbrev pub seat_leaving : List ℕ → List (List ℕ × Seat) → Result Seat LeaveFault
@@ -62,8 +56,8 @@ seat_leaving tag seats = seat_parting (lookup (bytes_eq tag) seats)
 
 -- why a tag may not be held together with others: it has no seat
 abbrev pub seat_missing_at : List (List ℕ × Seat) → List ℕ → Option HoldFault
-seat_missing_at seats tag = if is_some (lookup (bytes_eq tag) seats) then None else Some (Missing tag)
+seat_missing_at seats tag = missing_reason tag (is_some (lookup (bytes_eq tag) seats))
 
 -- why a tag may not be held: its seat is
 abbrev pub seat_busy_at : List (List ℕ × Seat) → List ℕ → Option HoldFault
-seat_busy_at seats tag = option_map (Busy tag) (seat_holder tag seats)
+seat_busy_at seats tag = busy_reason tag (seat_holder tag seats)
