@@ -8,6 +8,7 @@ use Rattle.std.proofs.lemmas.Bool.{and_right, eqb-true}
 use Rattle.std.proofs.lemmas.Bool.Decides.{nat_tests}
 use Rattle.std.proofs.lemmas.List.{length-map}
 use Rattle.std.proofs.lemmas.Option.{same_Some}
+use Rattle.mtp_codes.specs.declared.limits.TheConstants.{MOST_MODULES}
 use Rattle.mtp_codes.specs.Faults.{when, first_of}
 use Rattle.mtp_codes.specs.Names.{is_among}
 use Rattle.mtp_assembly.specs.declared.control.ServiceControl.{ServiceControl}
@@ -227,13 +228,13 @@ filter-short {A} keeps (x ∷ xs) = go (keeps x) (filter-short keeps xs)
 
 -- a plug of a tag that isn't there is accepted, where the history and the plant have room
 plug-taken : (older : History) (at : ℕ) (tag : List ℕ) (description : DescriptionForm) → is_full older ≡ false →
-    length (present_tags older) < 64 → is_accepted (answer_of older (plug at tag description)) ≡ false →
+    length (present_tags older) < MOST_MODULES → is_accepted (answer_of older (plug at tag description)) ≡ false →
     is_there (docking_of older tag) ≡ true
 plug-taken older at tag description room few refused =
     go (docking_of older tag) (ap is_accepted (sym (with-room older (plug at tag description) room)) ∙ refused)
   where
     unfull : plant_full older ≡ None
-    unfull = ap (λ full. when full PlantFull) (lt-fails 64 (length (present_tags older)) few)
+    unfull = ap (λ full. when full PlantFull) (lt-fails MOST_MODULES (length (present_tags older)) few)
 
     go : (docking : Docking) → is_accepted (first_rule (tag_taken docking ∷ plant_full older ∷ []) Done) ≡ false →
         is_there docking ≡ true
@@ -243,7 +244,7 @@ plug-taken older at tag description room few refused =
 
 -- a module
 plug-errand : (site : SiteForm) (older : History) (exchanger : Exchanger) (place : ℕ) (unit : SiteModuleForm) →
-    is_full older ≡ false → length site.modules ≤ 64 → exchanger.opened ≡ length site.recipes + place →
+    is_full older ≡ false → length site.modules ≤ MOST_MODULES → exchanger.opened ≡ length site.recipes + place →
     slice_get site.modules place ≡ Some unit →
     slice_get (openings site) exchanger.opened ≡ Some (plug_event unit) → IsExchanger site older exchanger →
     IsErrand site older exchanger (task.Open exchanger.opened)
@@ -280,10 +281,10 @@ plug-errand site older exchanger place unit room most is at listed stands =
     inside : place < length site.modules
     inside = within-item site.modules place unit at
 
-    few-before : length (present_tags older) < 64
+    few-before : length (present_tags older) < MOST_MODULES
     few-before = go (length (present_tags older)) stands.few
       where
-        go : (n : ℕ) → (0 < n → n + length site.recipes ≤ opened older) → n < 64
+        go : (n : ℕ) → (0 < n → n + length site.recipes ≤ opened older) → n < MOST_MODULES
         go zero less = omega arith
         go (suc n) less = let most' = less (omega arith) in omega (arith, most', opened_is, is, inside, most)
 
@@ -625,7 +626,7 @@ module _ (site : SiteForm) (older : History) (exchanger : Exchanger) (sound : Is
 
 -- what it does next is an errand
 pub errand-next : (site : SiteForm) (older : History) (count : ℕ) (exchanger : Exchanger) (errand : Errand) →
-    IsSite site → length site.modules ≤ 64 → IsLegal older → FollowsSite site older → is_full older ≡ false →
+    IsSite site → length site.modules ≤ MOST_MODULES → IsLegal older → FollowsSite site older → is_full older ≡ false →
     count ≡ length older → IsExchanger site older exchanger → errand_of site older count exchanger ≡ Some errand →
     IsErrand site older exchanger errand
 errand-next site older count exchanger errand sound most legal follows room counted stands is =

@@ -5,6 +5,7 @@ use Rattle.std.specs.List.{flat_map, range_with_len}
 use Rattle.pol_events.specs.Events.{recipe}
 use Rattle.pol_events.specs.Orderly.{is_orderly}
 use Rattle.pol_history.specs.Runs.{history_after}
+use Rattle.pol_demo.specs.declared.journal.TheConstants.{MODULES, VALUES}
 use Rattle.pol_demo.specs.Journal.{Happening, batch_on, batch_run, batch_runs, batches_of, busy, demo_events, docked, dosed, each, happenings, idle, known, measured, started}
 use Rattle.pol_demo.specs.Doser.{dosing}
 use Rattle.pol_demo.specs.Names.{batch_of, tag_of}
@@ -36,20 +37,20 @@ drawn_on number places (suc more) =
 -- a batch is told: its start, the start of another one where its module is busy then, its values and the run of its
 -- recipe
 pub batch_told : (tag batch : List ℕ) (sequence number : ℕ) (first begun filled last : Told) →
-    tag ≡ tag_of (number % 8) → batch ≡ batch_of number →
+    tag ≡ tag_of (number % MODULES) → batch ≡ batch_of number →
     begun ≡ lines_told (busy number tag) (line_told (started batch tag) first) →
-    filled ≡ lines_told (each (measured tag sequence) 1000) begun → last ≡ lines_told (dosed batch tag) filled →
+    filled ≡ lines_told (each (measured tag sequence) VALUES) begun → last ≡ lines_told (dosed batch tag) filled →
     last ≡ lines_told (batch_run sequence number) first
 unfolding batch_on
 batch_told tag batch sequence number first begun filled last tag_is batch_is starts fills doses =
     let begin = line_told (started batch tag) first in
-    let values = each (measured tag sequence) 1000 in
+    let values = each (measured tag sequence) VALUES in
     let told : last ≡ lines_told (batch_on tag batch sequence number) first =
     doses ∙ (ap (lines_told (dosed batch tag)) (fills ∙ ap (lines_told values) starts)
     ∙ (ap (lines_told (dosed batch tag)) (sym (told_append (busy number tag) values begin))
     ∙ sym (told_append (busy number tag ++ values) (dosed batch tag) begin))) in
     told ∙ (ap (λ tag. lines_told (batch_on tag batch sequence number) first) tag_is
-    ∙ ap (λ batch. lines_told (batch_on (tag_of (number % 8)) batch sequence number) first) batch_is)
+    ∙ ap (λ batch. lines_told (batch_on (tag_of (number % MODULES)) batch sequence number) first) batch_is)
 
 -- no batch yet
 pub runs_none : (seed : ℕ) (told : Told) → told ≡ lines_told (batch_runs seed 0) told
@@ -66,17 +67,17 @@ range_more from (suc count) =
 
 -- one batch more
 pub runs_next : (seed count : ℕ) →
-    batch_runs seed (count + 1) ≡ batch_runs seed count ++ batch_run (drawn seed (1000 * count)) count
+    batch_runs seed (count + 1) ≡ batch_runs seed count ++ batch_run (drawn seed (VALUES * count)) count
 unfolding batch_runs
 runs_next seed count =
-    let run : ℕ → List Happening = λ number. batch_run (drawn seed (1000 * number)) number in
+    let run : ℕ → List Happening = λ number. batch_run (drawn seed (VALUES * number)) number in
     let start : 0 + count ≡ count = omega arith in
     ap (flat_map run) (rw start at (range_more 0 count)) ∙ (flat_map-append run (range_with_len 0 count) (count ∷ [])
     ∙ ap (λ last. flat_map run (range_with_len 0 count) ++ last) (append-nil (run count)))
 
 -- a journal is told: the modules are docked and report, the recipe is made known, and the batches are run
 pub journal_told : (seed : ℕ) (first docks reports knows last : Told) → first ≡ record { history = []; at = 1 } →
-    docks ≡ lines_told (each docked 8) first → reports ≡ lines_told (each idle 8) docks →
+    docks ≡ lines_told (each docked MODULES) first → reports ≡ lines_told (each idle MODULES) docks →
     knows ≡ line_told known reports → last ≡ lines_told (batch_runs seed (batches_of seed)) knows →
     last.history ≡ history_after [] (demo_events seed)
 unfolding happenings
@@ -84,9 +85,10 @@ journal_told seed first docks reports knows last begins docked_so reported_so kn
     let runs = batch_runs seed (batches_of seed) in
     let told : last ≡ lines_told (happenings seed) first =
     run_so ∙ (ap (lines_told runs) known_so
-    ∙ ap (λ told. lines_told runs (line_told known told)) (reported_so ∙ ap (lines_told (each idle 8)) docked_so)
-    ∙ (ap (λ told. lines_told runs (line_told known told)) (sym (told_append (each docked 8) (each idle 8) first))
-    ∙ sym (told_append (each docked 8 ++ each idle 8) (known ∷ runs) first))) in
+    ∙ ap (λ told. lines_told runs (line_told known told)) (reported_so ∙ ap (lines_told (each idle MODULES)) docked_so)
+    ∙ (ap (λ told. lines_told runs (line_told known told))
+    (sym (told_append (each docked MODULES) (each idle MODULES) first))
+    ∙ sym (told_append (each docked MODULES ++ each idle MODULES) (known ∷ runs) first))) in
     ap (λ told. told.history) (told ∙ ap (lines_told (happenings seed)) begins)
     ∙ told_history (happenings seed) (record { history = []; at = 1 })
 

@@ -29,6 +29,7 @@ use Rattle.pol_events.specs.Refusals.{misfit, no_variable}
 use Rattle.pol_history.specs.Looking.{past}
 use Rattle.pol_history.specs.Modules.{value_by}
 use Rattle.pol_history.proofs.Names.{same-refl}
+use Rattle.pol_site.specs.declared.limits.TheConstants.{MOST_DRIFTS, MOST_TICKS}
 use Rattle.pol_site.specs.Plans.{drifts_in, whole_in}
 use Rattle.pol_site.specs.Rules.{can_drift, found_drifts, is_drift_sound, same_drift}
 use Rattle.pol_site.specs.Sound.{is_drift_ranged}
@@ -226,12 +227,13 @@ firsts-kept d (drift ∷ others) ranged sound =
 -- a new simulator
 pub first_drifts_kept : FirstDriftsAreKept
 first_drifts_kept d plan ranged sound =
-    let one = and_parts (is_between 1 1000 plan.ticks)
-    (is_between 1 1000 plan.run && (is_between 0 64 (length plan.drifts) && list_all is_drift_ranged plan.drifts))
+    let one = and_parts (is_between 1 MOST_TICKS plan.ticks)
+    (is_between 1 MOST_TICKS plan.run
+    && (is_between 0 MOST_DRIFTS (length plan.drifts) && list_all is_drift_ranged plan.drifts))
     ranged in
-    let two = and_parts (is_between 1 1000 plan.run)
-    (is_between 0 64 (length plan.drifts) && list_all is_drift_ranged plan.drifts) one.1 in
-    let three = and_parts (is_between 0 64 (length plan.drifts)) (list_all is_drift_ranged plan.drifts) two.1 in
+    let two = and_parts (is_between 1 MOST_TICKS plan.run)
+    (is_between 0 MOST_DRIFTS (length plan.drifts) && list_all is_drift_ranged plan.drifts) one.1 in
+    let three = and_parts (is_between 0 MOST_DRIFTS (length plan.drifts)) (list_all is_drift_ranged plan.drifts) two.1 in
     firsts-kept d plan.drifts three.1 sound
 
 -- ---- values

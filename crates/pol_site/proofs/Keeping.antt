@@ -6,6 +6,7 @@ use Rattle.std.proofs.lemmas.Bool.{and_parts}
 use Rattle.std.proofs.lemmas.Result.{IfOk-weaker}
 use Rattle.serde_json.specs.Data.{Data}
 use Rattle.mtp_codes.specs.Codes.{command_codes}
+use Rattle.mtp_codes.specs.declared.limits.TheConstants.{LONGEST_HISTORY, MOST_BATCHES, MOST_MODULES, MOST_RECIPES}
 use Rattle.mtp_codes.specs.Numbers.{is_between, is_within, least_i32, greatest_i32}
 use Rattle.mtp_json.specs.declared.fault.FaultKind.{FaultKind}
 use Rattle.mtp_json.specs.declared.fault.FaultKind.TheVariants.{OutOfRange, Repeated, Unsound, BadChart}
@@ -29,6 +30,7 @@ use Rattle.pol_events.specs.Events.{recipe, start}
 use Rattle.pol_events.specs.Orderly.{is_orderly, is_valid}
 use Rattle.pol_events.proofs.Members.{AreOrderly, binds_orderly}
 use Rattle.pol_site.specs.Form.{drift_of, plan_of, module_of, recipe_of, batch_of, exchange_of, desk_of, site_in}
+use Rattle.pol_site.specs.declared.limits.TheConstants.{MOST_DRIFTS, MOST_EXCHANGES, MOST_ORDERS, MOST_TICKS}
 use Rattle.pol_site.specs.Rules.{each_ruled, has_module, is_drift_sound, known_tag, ruled_site, same_batch, same_drift, same_tag, sound_drift, sound_drifts, unlike_drifts, valid_chart}
 use Rattle.pol_site.specs.Sites.{SiteForm, SiteRecipeForm}
 use Rattle.pol_site.specs.Sound.{IsSite, is_drift_ranged, is_plan_ranged, is_plan_sound, is_plan_unlike}
@@ -77,12 +79,14 @@ told_plan : (value : Data) → IfOk (plan_of value) (λ plan. is_plan_ranged pla
 unfolding plan_of
 told_plan value =
     any_before _ (object_here value) _ (λ _.
-    told_before (λ n. is_between 1 1000 n ≡ true) _ (need (codes "ticks") (count 1 1000) value) _
-    (told_need _ (codes "ticks") (count 1 1000) (told_count 1 1000) value) (λ ticks ticks_in.
-    told_before (λ n. is_between 1 1000 n ≡ true) _ (need (codes "run") (count 1 1000) value) _
-    (told_need _ (codes "run") (count 1 1000) (told_count 1 1000) value) (λ run run_in.
-    told_before (IsListOf (is_between 0 64) is_drift_ranged) _ (list (codes "drift") 0 64 drift_of value) _
-    (told_list (is_between 0 64) is_drift_ranged (codes "drift") (items_in 0 64) drift_of (told_items 0 64) told_drift
+    told_before (λ n. is_between 1 MOST_TICKS n ≡ true) _ (need (codes "ticks") (count 1 MOST_TICKS) value) _
+    (told_need _ (codes "ticks") (count 1 MOST_TICKS) (told_count 1 MOST_TICKS) value) (λ ticks ticks_in.
+    told_before (λ n. is_between 1 MOST_TICKS n ≡ true) _ (need (codes "run") (count 1 MOST_TICKS) value) _
+    (told_need _ (codes "run") (count 1 MOST_TICKS) (told_count 1 MOST_TICKS) value) (λ run run_in.
+    told_before (IsListOf (is_between 0 MOST_DRIFTS) is_drift_ranged) _
+    (list (codes "drift") 0 MOST_DRIFTS drift_of value) _
+    (told_list (is_between 0 MOST_DRIFTS) is_drift_ranged (codes "drift") (items_in 0 MOST_DRIFTS) drift_of
+    (told_items 0 MOST_DRIFTS) told_drift
     value) (λ drifts drifts_in.
     any_before _ (nothing_but (codes "ticks run drift") value) _
     (λ _. rw (ticks_in, run_in, drifts_in.0, drifts_in.1) refl)))))
@@ -100,28 +104,29 @@ told_module value =
 
 -- and of an exchange
 told_exchange : (value : Data) →
-    IfOk (exchange_of value) (λ exchange. (is_between 0 200000 exchange.after && is_plan_ranged exchange.plan) ≡ true)
+    IfOk (exchange_of value) (λ exchange.
+    (is_between 0 LONGEST_HISTORY exchange.after && is_plan_ranged exchange.plan) ≡ true)
 unfolding exchange_of
 told_exchange value =
     any_before _ (object_here value) _ (λ _.
     any_before _ (need (codes "tag") name value) _ (λ tag.
-    told_before (λ n. is_between 0 200000 n ≡ true) _ (need (codes "after") (count 0 200000) value) _
-    (told_need _ (codes "after") (count 0 200000) (told_count 0 200000) value) (λ after after_in.
+    told_before (λ n. is_between 0 LONGEST_HISTORY n ≡ true) _ (need (codes "after") (count 0 LONGEST_HISTORY) value) _
+    (told_need _ (codes "after") (count 0 LONGEST_HISTORY) (told_count 0 LONGEST_HISTORY) value) (λ after after_in.
     any_before _ (inside (codes "desc") description_of value) _ (λ description.
     told_before (λ plan. is_plan_ranged plan ≡ true) _ (inside (codes "sim") plan_of value) _
     (told_inside (λ plan. is_plan_ranged plan ≡ true) (codes "sim") plan_of told_plan value) (λ plan ranged.
     any_before _ (nothing_but (codes "tag after desc sim") value) _ (λ _. rw (after_in, ranged) refl))))))
 
 -- and of a command of the desk
-told_desk : (value : Data) → IfOk (desk_of value) (λ order. is_between 0 200000 order.after ≡ true)
+told_desk : (value : Data) → IfOk (desk_of value) (λ order. is_between 0 LONGEST_HISTORY order.after ≡ true)
 unfolding desk_of
 told_desk value =
     any_before _ (object_here value) _ (λ _.
     any_before _ (need (codes "tag") name value) _ (λ tag.
     any_before _ (need (codes "service") name value) _ (λ service.
     any_before _ (need (codes "CommandOp") (code command_codes) value) _ (λ command.
-    told_before (λ n. is_between 0 200000 n ≡ true) _ (need (codes "after") (count 0 200000) value) _
-    (told_need _ (codes "after") (count 0 200000) (told_count 0 200000) value) (λ after after_in.
+    told_before (λ n. is_between 0 LONGEST_HISTORY n ≡ true) _ (need (codes "after") (count 0 LONGEST_HISTORY) value) _
+    (told_need _ (codes "after") (count 0 LONGEST_HISTORY) (told_count 0 LONGEST_HISTORY) value) (λ after after_in.
     any_before _ (nothing_but (codes "tag service CommandOp after") value) _ (λ _. after_in))))))
 
 -- the binds of a batch stand in order
@@ -241,13 +246,14 @@ all-orderly (each ∷ others) formed valid =
 
 -- what is known of a site's lists once they were read
 record AreRead (site : SiteForm) : Type 0 where
-  modules : IsListOf (is_between 1 64) (λ unit. is_plan_ranged unit.plan) site.modules
-  recipes : IsListOf (is_between 0 64) (λ each. is_chart_form each.chart) site.recipes
-  batches : IsListOf (is_between 0 128) (λ batch. is_orderly (start 0 batch.batch batch.recipe batch.binds))
+  modules : IsListOf (is_between 1 MOST_MODULES) (λ unit. is_plan_ranged unit.plan) site.modules
+  recipes : IsListOf (is_between 0 MOST_RECIPES) (λ each. is_chart_form each.chart) site.recipes
+  batches : IsListOf (is_between 0 MOST_BATCHES) (λ batch. is_orderly (start 0 batch.batch batch.recipe batch.binds))
       site.batches
-  exchanges : IsListOf (is_between 0 256) (λ exchange. is_between 0 200000 exchange.after && is_plan_ranged
+  exchanges : IsListOf (is_between 0 MOST_EXCHANGES)
+      (λ exchange. is_between 0 LONGEST_HISTORY exchange.after && is_plan_ranged
       exchange.plan) site.exchanges
-  desk : IsListOf (is_between 0 256) (λ order. is_between 0 200000 order.after) site.desk
+  desk : IsListOf (is_between 0 MOST_ORDERS) (λ order. is_between 0 LONGEST_HISTORY order.after) site.desk
 
 -- once its own rules were asked as well, it is a site
 told_ruled : (site : SiteForm) → AreRead site → IfOk (ruled_site site) IsSite
@@ -306,28 +312,34 @@ told_site : (value : Data) → IfOk (site_in value) IsSite
 unfolding site_in
 told_site value =
     any_before IsSite (object_here value) _ (λ _.
-    told_before (IsListOf (is_between 1 64) (λ unit. is_plan_ranged unit.plan)) IsSite
-    (list (codes "modules") 1 64 module_of value) _
-    (told_list (is_between 1 64) (λ unit. is_plan_ranged unit.plan) (codes "modules") (items_in 1 64) module_of
-    (told_items 1 64) told_module value) (λ modules modules_read.
-    told_before (IsListOf (is_between 0 64) (λ each. is_chart_form each.chart)) IsSite
-    (list (codes "recipes") 0 64 recipe_of value) _
-    (told_list (is_between 0 64) (λ each. is_chart_form each.chart) (codes "recipes") (items_in 0 64) recipe_of
-    (told_items 0 64) told_recipe value) (λ recipes recipes_read.
-    told_before (IsListOf (is_between 0 128) (λ batch. is_orderly (start 0 batch.batch batch.recipe batch.binds)))
-    IsSite (list (codes "batches") 0 128 batch_of value) _
-    (told_list (is_between 0 128) (λ batch. is_orderly (start 0 batch.batch batch.recipe batch.binds)) (codes "batches")
-    (items_in 0 128) batch_of (told_items 0 128) told_batch value) (λ batches batches_read.
-    told_before (IsListOf (is_between 0 256)
-    (λ exchange. is_between 0 200000 exchange.after && is_plan_ranged exchange.plan)) IsSite
-    (list (codes "exchanges") 0 256 exchange_of value) _
-    (told_list (is_between 0 256) (λ exchange. is_between 0 200000 exchange.after && is_plan_ranged exchange.plan)
-    (codes "exchanges") (items_in 0 256) exchange_of (told_items 0 256) told_exchange value)
+    told_before (IsListOf (is_between 1 MOST_MODULES) (λ unit. is_plan_ranged unit.plan)) IsSite
+    (list (codes "modules") 1 MOST_MODULES module_of value) _
+    (told_list (is_between 1 MOST_MODULES) (λ unit. is_plan_ranged unit.plan) (codes "modules")
+    (items_in 1 MOST_MODULES) module_of
+    (told_items 1 MOST_MODULES) told_module value) (λ modules modules_read.
+    told_before (IsListOf (is_between 0 MOST_RECIPES) (λ each. is_chart_form each.chart)) IsSite
+    (list (codes "recipes") 0 MOST_RECIPES recipe_of value) _
+    (told_list (is_between 0 MOST_RECIPES) (λ each. is_chart_form each.chart) (codes "recipes")
+    (items_in 0 MOST_RECIPES) recipe_of
+    (told_items 0 MOST_RECIPES) told_recipe value) (λ recipes recipes_read.
+    told_before (IsListOf (is_between 0 MOST_BATCHES)
+    (λ batch. is_orderly (start 0 batch.batch batch.recipe batch.binds)))
+    IsSite (list (codes "batches") 0 MOST_BATCHES batch_of value) _
+    (told_list (is_between 0 MOST_BATCHES) (λ batch. is_orderly (start 0 batch.batch batch.recipe batch.binds))
+    (codes "batches")
+    (items_in 0 MOST_BATCHES) batch_of (told_items 0 MOST_BATCHES) told_batch value) (λ batches batches_read.
+    told_before (IsListOf (is_between 0 MOST_EXCHANGES)
+    (λ exchange. is_between 0 LONGEST_HISTORY exchange.after && is_plan_ranged exchange.plan)) IsSite
+    (list (codes "exchanges") 0 MOST_EXCHANGES exchange_of value) _
+    (told_list (is_between 0 MOST_EXCHANGES)
+    (λ exchange. is_between 0 LONGEST_HISTORY exchange.after && is_plan_ranged exchange.plan)
+    (codes "exchanges") (items_in 0 MOST_EXCHANGES) exchange_of (told_items 0 MOST_EXCHANGES) told_exchange value)
     (λ exchanges exchanges_read.
-    told_before (IsListOf (is_between 0 256) (λ order. is_between 0 200000 order.after)) IsSite
-    (list (codes "desk") 0 256 desk_of value) _
-    (told_list (is_between 0 256) (λ order. is_between 0 200000 order.after) (codes "desk") (items_in 0 256) desk_of
-    (told_items 0 256) told_desk value) (λ desk desk_read.
+    told_before (IsListOf (is_between 0 MOST_ORDERS) (λ order. is_between 0 LONGEST_HISTORY order.after)) IsSite
+    (list (codes "desk") 0 MOST_ORDERS desk_of value) _
+    (told_list (is_between 0 MOST_ORDERS) (λ order. is_between 0 LONGEST_HISTORY order.after) (codes "desk")
+    (items_in 0 MOST_ORDERS) desk_of
+    (told_items 0 MOST_ORDERS) told_desk value) (λ desk desk_read.
     any_before IsSite (nothing_but (codes "modules recipes batches exchanges desk") value) _ (λ _.
     told_ruled (record { modules = modules; recipes = recipes; batches = batches; exchanges = exchanges; desk = desk })
     (record {
@@ -345,11 +357,11 @@ site_kept value site is = let told = told_site value in rw is at told
 
 -- members that were read one list after the other, of which the own rules were asked, make a site
 pub read_kept : (value : Data) (site : SiteForm) → object_here value ≡ Ok tt
-    → list (codes "modules") 1 64 module_of value ≡ Ok site.modules
-    → list (codes "recipes") 0 64 recipe_of value ≡ Ok site.recipes
-    → list (codes "batches") 0 128 batch_of value ≡ Ok site.batches
-    → list (codes "exchanges") 0 256 exchange_of value ≡ Ok site.exchanges
-    → list (codes "desk") 0 256 desk_of value ≡ Ok site.desk
+    → list (codes "modules") 1 MOST_MODULES module_of value ≡ Ok site.modules
+    → list (codes "recipes") 0 MOST_RECIPES recipe_of value ≡ Ok site.recipes
+    → list (codes "batches") 0 MOST_BATCHES batch_of value ≡ Ok site.batches
+    → list (codes "exchanges") 0 MOST_EXCHANGES exchange_of value ≡ Ok site.exchanges
+    → list (codes "desk") 0 MOST_ORDERS desk_of value ≡ Ok site.desk
     → nothing_but (codes "modules recipes batches exchanges desk") value ≡ Ok tt → ruled_site site ≡ Ok site
     → IsSite site
 unfolding site_in

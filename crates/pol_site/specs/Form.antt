@@ -2,6 +2,7 @@
 use Rattle.std.specs.Prelude.{codes, Ok}
 use Rattle.serde_json.specs.Data.{Data}
 use Rattle.mtp_codes.specs.Codes.{command_codes}
+use Rattle.mtp_codes.specs.declared.limits.TheConstants.{LONGEST_HISTORY, MOST_BATCHES, MOST_MODULES, MOST_RECIPES}
 use Rattle.mtp_codes.specs.Numbers.{least_i32, greatest_i32}
 use Rattle.mtp_json.specs.Form.{need, inside, list, object_here, nothing_but}
 use Rattle.mtp_json.specs.Leaf.{code, count, name, whole}
@@ -11,6 +12,7 @@ use Rattle.mtp_sim.specs.declared.plan.Drift.{Drift}
 use Rattle.mtp_sim.specs.Sims.{PlanForm}
 use Rattle.chart_json.specs.Form.{chart_from, roles_of, tree_of}
 use Rattle.pol_events.specs.Binds.{binds_of}
+use Rattle.pol_site.specs.declared.limits.TheConstants.{MOST_DRIFTS, MOST_EXCHANGES, MOST_ORDERS, MOST_TICKS}
 use Rattle.pol_site.specs.Rules.{ruled_site}
 use Rattle.pol_site.specs.Sites.{SiteForm, SiteModuleForm, SiteRecipeForm, SiteBatchForm, SiteExchangeForm, SiteDeskForm}
 
@@ -29,9 +31,9 @@ drift_of value =
 unfoldable pub plan_of : Data → Reading PlanForm
 plan_of value =
     object_here value >>= λ _.
-    need (codes "ticks") (count 1 1000) value >>= λ ticks.
-    need (codes "run") (count 1 1000) value >>= λ run.
-    list (codes "drift") 0 64 drift_of value >>= λ drifts.
+    need (codes "ticks") (count 1 MOST_TICKS) value >>= λ ticks.
+    need (codes "run") (count 1 MOST_TICKS) value >>= λ run.
+    list (codes "drift") 0 MOST_DRIFTS drift_of value >>= λ drifts.
     nothing_but (codes "ticks run drift") value >>= λ _.
     Ok (record { ticks = ticks; run = run; drifts = drifts })
 
@@ -71,7 +73,7 @@ unfoldable pub exchange_of : Data → Reading SiteExchangeForm
 exchange_of value =
     object_here value >>= λ _.
     need (codes "tag") name value >>= λ tag.
-    need (codes "after") (count 0 200000) value >>= λ after.
+    need (codes "after") (count 0 LONGEST_HISTORY) value >>= λ after.
     inside (codes "desc") description_of value >>= λ description.
     inside (codes "sim") plan_of value >>= λ plan.
     nothing_but (codes "tag after desc sim") value >>= λ _.
@@ -84,7 +86,7 @@ desk_of value =
     need (codes "tag") name value >>= λ tag.
     need (codes "service") name value >>= λ service.
     need (codes "CommandOp") (code command_codes) value >>= λ command.
-    need (codes "after") (count 0 200000) value >>= λ after.
+    need (codes "after") (count 0 LONGEST_HISTORY) value >>= λ after.
     nothing_but (codes "tag service CommandOp after") value >>= λ _.
     Ok (record { tag = tag; service = service; command = command; after = after })
 
@@ -92,11 +94,11 @@ desk_of value =
 unfoldable pub site_in : Data → Reading SiteForm
 site_in value =
     object_here value >>= λ _.
-    list (codes "modules") 1 64 module_of value >>= λ modules.
-    list (codes "recipes") 0 64 recipe_of value >>= λ recipes.
-    list (codes "batches") 0 128 batch_of value >>= λ batches.
-    list (codes "exchanges") 0 256 exchange_of value >>= λ exchanges.
-    list (codes "desk") 0 256 desk_of value >>= λ desk.
+    list (codes "modules") 1 MOST_MODULES module_of value >>= λ modules.
+    list (codes "recipes") 0 MOST_RECIPES recipe_of value >>= λ recipes.
+    list (codes "batches") 0 MOST_BATCHES batch_of value >>= λ batches.
+    list (codes "exchanges") 0 MOST_EXCHANGES exchange_of value >>= λ exchanges.
+    list (codes "desk") 0 MOST_ORDERS desk_of value >>= λ desk.
     nothing_but (codes "modules recipes batches exchanges desk") value >>= λ _.
     ruled_site
     (record { modules = modules; recipes = recipes; batches = batches; exchanges = exchanges; desk = desk })

@@ -1,6 +1,7 @@
 -- What every site keeps: the ranges of its form and its own rules.
 use Rattle.std.specs.Prelude.{◌≡◌, ◌&&◌, Bool, true, false, not, length}
 use Rattle.std.specs.List.{list_all}
+use Rattle.mtp_codes.specs.declared.limits.TheConstants.{LONGEST_HISTORY, MOST_BATCHES, MOST_MODULES, MOST_RECIPES}
 use Rattle.mtp_codes.specs.Numbers.{is_between, is_within, least_i32, greatest_i32}
 use Rattle.mtp_json.specs.Form.{repeats_by}
 use Rattle.mtp_desc.specs.Plain.{DescriptionForm}
@@ -8,6 +9,7 @@ use Rattle.mtp_sim.specs.declared.plan.Drift.{Drift}
 use Rattle.mtp_sim.specs.Sims.{PlanForm}
 use Rattle.pol_events.specs.Events.{recipe, start}
 use Rattle.pol_events.specs.Orderly.{is_orderly}
+use Rattle.pol_site.specs.declared.limits.TheConstants.{MOST_DRIFTS, MOST_EXCHANGES, MOST_ORDERS, MOST_TICKS}
 use Rattle.pol_site.specs.Rules.{same_tag, same_batch, same_drift, is_drift_sound, has_module}
 use Rattle.pol_site.specs.Sites.{SiteForm}
 
@@ -20,9 +22,9 @@ is_drift_ranged drift =
 -- the numbers of a plan are in their ranges, and it has at most 64 drifts
 abbrev pub is_plan_ranged : PlanForm → Bool
 is_plan_ranged plan =
-    is_between 1 1000 plan.ticks
-    && (is_between 1 1000 plan.run
-    && (is_between 0 64 (length plan.drifts) && list_all is_drift_ranged plan.drifts))
+    is_between 1 MOST_TICKS plan.ticks
+    && (is_between 1 MOST_TICKS plan.run
+    && (is_between 0 MOST_DRIFTS (length plan.drifts) && list_all is_drift_ranged plan.drifts))
 
 -- no variable drifts twice in the plan
 abbrev pub is_plan_unlike : PlanForm → Bool
@@ -34,11 +36,11 @@ is_plan_sound description plan = list_all (is_drift_sound description) plan.drif
 
 -- what every site keeps
 pub record IsSite (site : SiteForm) : Type 0 where
-  pub some_modules : is_between 1 64 (length site.modules) ≡ true
-  pub few_recipes : is_between 0 64 (length site.recipes) ≡ true
-  pub few_batches : is_between 0 128 (length site.batches) ≡ true
-  pub few_exchanges : is_between 0 256 (length site.exchanges) ≡ true
-  pub few_orders : is_between 0 256 (length site.desk) ≡ true
+  pub some_modules : is_between 1 MOST_MODULES (length site.modules) ≡ true
+  pub few_recipes : is_between 0 MOST_RECIPES (length site.recipes) ≡ true
+  pub few_batches : is_between 0 MOST_BATCHES (length site.batches) ≡ true
+  pub few_exchanges : is_between 0 MOST_EXCHANGES (length site.exchanges) ≡ true
+  pub few_orders : is_between 0 MOST_ORDERS (length site.desk) ≡ true
   pub unlike_modules : repeats_by same_tag site.modules ≡ false
   pub unlike_batches : repeats_by same_batch site.batches ≡ false
   pub known_tags : list_all (λ exchange. has_module site.modules exchange.tag) site.exchanges ≡ true
@@ -49,7 +51,8 @@ pub record IsSite (site : SiteForm) : Type 0 where
   pub unlike_drifts : list_all (λ unit. is_plan_unlike unit.plan) site.modules ≡ true
   pub sound_drifts : list_all (λ unit. is_plan_sound unit.description unit.plan) site.modules ≡ true
   pub ranged_exchanges :
-      list_all (λ exchange. is_between 0 200000 exchange.after && is_plan_ranged exchange.plan) site.exchanges ≡ true
+      list_all (λ exchange. is_between 0 LONGEST_HISTORY exchange.after && is_plan_ranged exchange.plan) site.exchanges
+      ≡ true
   pub unlike_exchanged : list_all (λ exchange. is_plan_unlike exchange.plan) site.exchanges ≡ true
   pub sound_exchanged : list_all (λ exchange. is_plan_sound exchange.description exchange.plan) site.exchanges ≡ true
-  pub ranged_orders : list_all (λ order. is_between 0 200000 order.after) site.desk ≡ true
+  pub ranged_orders : list_all (λ order. is_between 0 LONGEST_HISTORY order.after) site.desk ≡ true

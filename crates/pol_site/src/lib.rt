@@ -7,6 +7,7 @@
 //! crate knows nothing of threads, of locks or of how an actor finds what to do.
 #![tactic(auto)]
 
+mod limits;
 mod members;
 mod parts;
 mod plans;
@@ -14,6 +15,7 @@ mod reading;
 mod rules;
 mod site;
 
+pub use limits::{MOST_DRIFTS, MOST_EXCHANGES, MOST_ORDERS, MOST_TICKS};
 pub use parts::{SiteBatch, SiteDesk, SiteExchange, SiteModule, SiteRecipe};
 pub use reading::read_site;
 pub use site::Site;

@@ -10,6 +10,7 @@ ghost use Rattle.pol_site.specs.Views.{batch_view, desk_view, exchange_view, mod
 use crate::parts::{SiteBatch, SiteDesk, SiteExchange, SiteModule, SiteRecipe};
 use crate::plans::PlanJson;
 use chart_json::{make_chart, node_at, roles_at};
+use mtp_codes::LONGEST_HISTORY;
 use mtp_desc::DescriptionJson;
 use mtp_json::{
     Alike, FromJson, JsonRefusal, command_at, form_at, name_at, nothing_but, object_here, u32_at,
@@ -147,7 +148,7 @@ fn read_exchange(alloc: Global, value: &Value) -> Result<SiteExchange, JsonRefus
 {
     object_here(alloc, value)?;
     let tag = name_at(alloc, value, "tag")?;
-    let after = u32_at(alloc, value, "after", 0, 200_000)?;
+    let after = u32_at(alloc, value, "after", 0, LONGEST_HISTORY as u32)?;
     let desc = form_at::<DescriptionJson>(alloc, value, "desc")?;
     let sim = form_at::<PlanJson>(alloc, value, "sim")?;
     nothing_but(alloc, value, "tag after desc sim")?;
@@ -185,7 +186,7 @@ fn read_desk(alloc: Global, value: &Value) -> Result<SiteDesk, JsonRefusal>
     let tag = name_at(alloc, value, "tag")?;
     let service = name_at(alloc, value, "service")?;
     let command = command_at(alloc, value, "CommandOp")?;
-    let after = u32_at(alloc, value, "after", 0, 200_000)?;
+    let after = u32_at(alloc, value, "after", 0, LONGEST_HISTORY as u32)?;
     nothing_but(alloc, value, "tag service CommandOp after")?;
     Ok(SiteDesk {
         tag,

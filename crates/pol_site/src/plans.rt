@@ -7,6 +7,7 @@ ghost use Rattle.mtp_sim.specs.declared.plan.Drift.{Drift as drift_type};
 ghost use Rattle.pol_site.specs.Form.{drift_of, plan_of};
 ghost use Rattle.pol_site.specs.Rules.{same_drift};
 
+use crate::limits::{MOST_DRIFTS, MOST_TICKS};
 use mtp_json::{
     Alike, FromJson, JsonRefusal, i32_at, list_of, name_at, nothing_but, object_here, u16_at,
 };
@@ -68,9 +69,9 @@ fn read_plan(alloc: Global, value: &Value) -> Result<SimPlan, JsonRefusal>
     ensures { Gives plan_view result (plan_of (view value.now)) }
 {
     object_here(alloc, value)?;
-    let ticks = u16_at(alloc, value, "ticks", 1, 1000)?;
-    let run = u16_at(alloc, value, "run", 1, 1000)?;
-    let drifts = list_of::<DriftJson>(alloc, value, "drift", 0, 64)?;
+    let ticks = u16_at(alloc, value, "ticks", 1, MOST_TICKS)?;
+    let run = u16_at(alloc, value, "run", 1, MOST_TICKS)?;
+    let drifts = list_of::<DriftJson>(alloc, value, "drift", 0, MOST_DRIFTS)?;
     nothing_but(alloc, value, "ticks run drift")?;
     Ok(SimPlan { ticks, run, drifts })
 }

@@ -10,6 +10,7 @@ ghost use Rattle.pol_site.specs.SiteView.{site_view};
 ghost use Rattle.pol_site.specs.Texts.{site_on};
 ghost use Rattle.pol_site.specs.Views.{exchange_view, module_view, recipe_view, site_form};
 
+use crate::limits::{MOST_EXCHANGES, MOST_ORDERS};
 use crate::members::{BatchJson, DeskJson, ExchangeJson, ModuleJson, RecipeJson};
 use crate::parts::{SiteBatch, SiteDesk, SiteExchange, SiteModule, SiteRecipe};
 use crate::rules::{
@@ -17,6 +18,7 @@ use crate::rules::{
     ValidChart, ask_each,
 };
 use crate::site::Site;
+use mtp_codes::{MOST_BATCHES, MOST_MODULES, MOST_RECIPES};
 use mtp_json::{JsonRefusal, list_of, nothing_but, object_here, parse, under, unlike_under};
 use serde_json::Value;
 use std::alloc::Global;
@@ -63,11 +65,11 @@ fn read_value(alloc: Global, value: &Value) -> Result<Site, JsonRefusal>
     ensures { Gives site_view result (site_in (view value.now)) }
 {
     object_here(alloc, value)?;
-    let modules = list_of::<ModuleJson>(alloc, value, "modules", 1, 64)?;
-    let recipes = list_of::<RecipeJson>(alloc, value, "recipes", 0, 64)?;
-    let batches = list_of::<BatchJson>(alloc, value, "batches", 0, 128)?;
-    let exchanges = list_of::<ExchangeJson>(alloc, value, "exchanges", 0, 256)?;
-    let desk = list_of::<DeskJson>(alloc, value, "desk", 0, 256)?;
+    let modules = list_of::<ModuleJson>(alloc, value, "modules", 1, MOST_MODULES)?;
+    let recipes = list_of::<RecipeJson>(alloc, value, "recipes", 0, MOST_RECIPES)?;
+    let batches = list_of::<BatchJson>(alloc, value, "batches", 0, MOST_BATCHES)?;
+    let exchanges = list_of::<ExchangeJson>(alloc, value, "exchanges", 0, MOST_EXCHANGES)?;
+    let desk = list_of::<DeskJson>(alloc, value, "desk", 0, MOST_ORDERS)?;
     nothing_but(alloc, value, "modules recipes batches exchanges desk")?;
     ask_all(alloc, &modules, &recipes, &batches, &exchanges, &desk)?;
     Ok(Site {
