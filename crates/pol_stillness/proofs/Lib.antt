@@ -6,6 +6,8 @@ pub mod Owed
 pub mod Desks
 pub mod Plain
 pub mod Ended
+pub mod Carried
+pub mod Advanced
 pub mod Owing
 pub mod Still
 pub mod Starting

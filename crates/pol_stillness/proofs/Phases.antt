@@ -35,7 +35,7 @@ use Rattle.pol_stillness.specs.Phases.{asked_in, is_changed, IsSettled, IsGiven,
 use Rattle.pol_stillness.proofs.Desks.{view-control}
 use Rattle.pol_simulated.proofs.Reports.{last-newest}
 use Rattle.pol_stillness.proofs.Plain.{}
-use Rattle.pol_stillness.proofs.Owing.{undescribed}
+use Rattle.pol_stillness.proofs.Carried.{undescribed}
 use Rattle.mtp_sim.proofs.Edges.{state-refl}
 
 -- ---- ticks
