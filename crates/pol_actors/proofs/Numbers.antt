@@ -32,55 +32,65 @@ none-behind (first ∷ others) zero at = cc
 none-behind (first ∷ others) (suc n) at = let less = none-behind others n at in omega (arith, less)
 
 -- an item of two lists, one behind the other, is of the first or of the second
-pub data IsEither {A B E : Type 0} (f : A → E) (g : B → E) (xs : List A) (ys : List B) (n : ℕ) (e : E) : Type 0 where
-  of_first : (x : A) → n < length xs → slice_get xs n ≡ Some x → e ≡ f x → IsEither f g xs ys n e
-  of_second : (place : ℕ) (y : B) → n ≡ length xs + place → slice_get ys place ≡ Some y → e ≡ g y →
-      IsEither f g xs ys n e
+pub data IsEither {A B E : Type 0} (here : A → E) (there : B → E) (front : List A) (back : List B) (place : ℕ)
+    (found : E) : Type 0 where
+  of_first : (item : A) → place < length front → slice_get front place ≡ Some item → found ≡ here item →
+      IsEither here there front back place found
+  of_second : (behind : ℕ) (item : B) → place ≡ length front + behind → slice_get back behind ≡ Some item →
+      found ≡ there item →
+      IsEither here there front back place found
 
 -- an item of a mapped list comes of one of the list
-pub mapped-item : {A E : Type 0} (f : A → E) (xs : List A) (n : ℕ) (e : E) → slice_get (map f xs) n ≡ Some e →
-    (x : A) × (slice_get xs n ≡ Some x) × (e ≡ f x)
-mapped-item f [] n e at = cc
-mapped-item f (first ∷ others) zero e at = (first, refl, sym (same_Some (f first) e at))
-mapped-item f (first ∷ others) (suc n) e at = mapped-item f others n e at
+pub mapped-item : {A E : Type 0} (change : A → E) (items : List A) (place : ℕ) (found : E) →
+    slice_get (map change items) place ≡ Some found →
+    (item : A) × (slice_get items place ≡ Some item) × (found ≡ change item)
+mapped-item change [] place found at = cc
+mapped-item change (first ∷ others) zero found at = (first, refl, sym (same_Some (change first) found at))
+mapped-item change (first ∷ others) (suc place) found at = mapped-item change others place found at
 
-pub either-item : {A B E : Type 0} (f : A → E) (g : B → E) (xs : List A) (ys : List B) (n : ℕ) (e : E) →
-    slice_get (map f xs ++ map g ys) n ≡ Some e → IsEither f g xs ys n e
-either-item f g [] ys n e at =
-    let one = mapped-item g ys n e at in of_second n one.0 (omega arith) one.1 one.2
-either-item f g (x ∷ xs) ys zero e at = of_first x (omega arith) refl (sym (same_Some (f x) e at))
-either-item {A} {B} {E} f g (x ∷ xs) ys (suc n) e at = go (either-item f g xs ys n e at)
+pub either-item : {A B E : Type 0} (here : A → E) (there : B → E) (front : List A) (back : List B) (place : ℕ)
+    (found : E) →
+    slice_get (map here front ++ map there back) place ≡ Some found → IsEither here there front back place found
+either-item here there [] back place found at =
+    let one = mapped-item there back place found at in of_second place one.0 (omega arith) one.1 one.2
+either-item here there (first ∷ front) back zero found at =
+    of_first first (omega arith) refl (sym (same_Some (here first) found at))
+either-item {A} {B} {E} here there (first ∷ front) back (suc place) found at =
+    go (either-item here there front back place found at)
   where
-    go : IsEither f g xs ys n e → IsEither f g (x ∷ xs) ys (suc n) e
-    go (of_first y less at' is) = of_first y (omega (arith, less)) at' is
-    go (of_second place y place_is at' is) = of_second place y (omega (arith, place_is)) at' is
+    go : IsEither here there front back place found → IsEither here there (first ∷ front) back (suc place) found
+    go (of_first item less at' is) = of_first item (omega (arith, less)) at' is
+    go (of_second behind item place_is at' is) = of_second behind item (omega (arith, place_is)) at' is
 
 -- what holds of all items holds of one
-pub all-at : {A : Type 0} (test : A → Bool) (xs : List A) (n : ℕ) (x : A) → list_all test xs ≡ true →
-    slice_get xs n ≡ Some x → test x ≡ true
-all-at test [] n x all at = cc
-all-at {A} test (first ∷ others) n x all at = go (test first) refl n all at (all-at test others)
+pub all-at : {A : Type 0} (test : A → Bool) (items : List A) (place : ℕ) (item : A) → list_all test items ≡ true →
+    slice_get items place ≡ Some item → test item ≡ true
+all-at test [] place item all at = cc
+all-at {A} test (first ∷ others) place item all at = go (test first) refl place all at (all-at test others)
   where
-    go : (own : Bool) → test first ≡ own → (n : ℕ) → (own && list_all test others) ≡ true →
-        slice_get (first ∷ others) n ≡ Some x →
-        ((n : ℕ) (x : A) → list_all test others ≡ true → slice_get others n ≡ Some x → test x ≡ true) → test x ≡ true
-    go false is n all at again = cc
-    go true is zero all at again = ap test (sym (same_Some first x at)) ∙ is
-    go true is (suc n) all at again = again n x all at
+    go : (own : Bool) → test first ≡ own → (place : ℕ) → (own && list_all test others) ≡ true →
+        slice_get (first ∷ others) place ≡ Some item →
+        ((place : ℕ) (item : A) → list_all test others ≡ true → slice_get others place ≡ Some item →
+        test item ≡ true) → test item ≡ true
+    go false is place all at again = cc
+    go true is zero all at again = ap test (sym (same_Some first item at)) ∙ is
+    go true is (suc place) all at again = again place item all at
 
 -- an item of a list with another item put at a place: that one, there; elsewhere the one that was there
-pub set-got : {A : Type 0} (xs : List A) (place : ℕ) (y : A) (n : ℕ) (x : A) → slice_get (slice_set xs place y) n ≡ Some x →
-    ((n ≡ place) × (x ≡ y)) ⊎ ((n ≡ place → ⊥) × (slice_get xs n ≡ Some x))
-set-got [] place y n x at = cc
-set-got (first ∷ others) zero y zero x at = inl (refl, sym (same_Some y x at))
-set-got (first ∷ others) zero y (suc n) x at = inr (λ e. omega (arith, e), at)
-set-got (first ∷ others) (suc place) y zero x at = inr (λ e. omega (arith, e), at)
-set-got {A} (first ∷ others) (suc place) y (suc n) x at = go (set-got others place y n x at)
+pub set-got : {A : Type 0} (items : List A) (place : ℕ) (put : A) (index : ℕ) (found : A) →
+    slice_get (slice_set items place put) index ≡ Some found →
+    ((index ≡ place) × (found ≡ put)) ⊎ ((index ≡ place → ⊥) × (slice_get items index ≡ Some found))
+set-got [] place put index found at = cc
+set-got (first ∷ others) zero put zero found at = inl (refl, sym (same_Some put found at))
+set-got (first ∷ others) zero put (suc index) found at = inr (λ same. omega (arith, same), at)
+set-got (first ∷ others) (suc place) put zero found at = inr (λ same. omega (arith, same), at)
+set-got {A} (first ∷ others) (suc place) put (suc index) found at = go (set-got others place put index found at)
   where
-    go : ((n ≡ place) × (x ≡ y)) ⊎ ((n ≡ place → ⊥) × (slice_get others n ≡ Some x)) →
-        ((suc n ≡ suc place) × (x ≡ y)) ⊎ ((suc n ≡ suc place → ⊥) × (slice_get others n ≡ Some x))
+    go : ((index ≡ place) × (found ≡ put)) ⊎ ((index ≡ place → ⊥) × (slice_get others index ≡ Some found)) →
+        ((suc index ≡ suc place) × (found ≡ put)) ⊎
+        ((suc index ≡ suc place → ⊥) × (slice_get others index ≡ Some found))
     go (inl here) = inl (ap suc here.0, here.1)
-    go (inr other) = inr (λ e. other.0 (omega (arith, e)), other.1)
+    go (inr other) = inr (λ same. other.0 (omega (arith, same)), other.1)
 
 -- the list stays as long
 pub set-long : {A : Type 0} (xs : List A) (place : ℕ) (y : A) → length (slice_set xs place y) ≡ length xs
@@ -89,23 +99,26 @@ set-long (first ∷ others) zero y = refl
 set-long (first ∷ others) (suc place) y = ap suc (set-long others place y)
 
 -- an item of a mapped list
-pub item-mapped : {A B : Type 0} (f : A → B) (xs : List A) (n : ℕ) → slice_get (map f xs) n ≡ option_map f (slice_get xs n)
+pub item-mapped : {A B : Type 0} (f : A → B) (xs : List A) (n : ℕ) →
+    slice_get (map f xs) n ≡ option_map f (slice_get xs n)
 item-mapped f [] n = refl
 item-mapped f (x ∷ xs) zero = refl
 item-mapped f (x ∷ xs) (suc n) = item-mapped f xs n
 
 -- an item of the first of two lists
-pub item-first : {A E : Type 0} (f : A → E) (xs : List A) (ys : List E) (n : ℕ) (x : A) → slice_get xs n ≡ Some x →
-    slice_get (map f xs ++ ys) n ≡ Some (f x)
-item-first f [] ys n x at = cc
-item-first f (first ∷ others) ys zero x at = ap Some (ap f (same_Some first x at))
-item-first f (first ∷ others) ys (suc n) x at = item-first f others ys n x at
+pub item-first : {A E : Type 0} (change : A → E) (items : List A) (behind : List E) (place : ℕ) (item : A) →
+    slice_get items place ≡ Some item →
+    slice_get (map change items ++ behind) place ≡ Some (change item)
+item-first change [] behind place item at = cc
+item-first change (first ∷ others) behind zero item at = ap Some (ap change (same_Some first item at))
+item-first change (first ∷ others) behind (suc place) item at = item-first change others behind place item at
 
 -- an item behind the first of two lists
-pub item-second : {A E : Type 0} (f : A → E) (xs : List A) (ys : List E) (n : ℕ) → slice_get xs n ≡ None →
-    slice_get (map f xs ++ ys) n ≡ slice_get ys (n - length xs)
-item-second f [] ys n none = let same : n ≡ n - 0 = omega arith in ap (slice_get ys) same
-item-second f (first ∷ others) ys zero none = cc
-item-second f (first ∷ others) ys (suc n) none =
-    let same : n - length others ≡ suc n - suc (length others) = omega arith in
-    item-second f others ys n none ∙ ap (slice_get ys) same
+pub item-second : {A E : Type 0} (change : A → E) (items : List A) (behind : List E) (place : ℕ) →
+    slice_get items place ≡ None →
+    slice_get (map change items ++ behind) place ≡ slice_get behind (place - length items)
+item-second change [] behind place none = let same : place ≡ place - 0 = omega arith in ap (slice_get behind) same
+item-second change (first ∷ others) behind zero none = cc
+item-second change (first ∷ others) behind (suc place) none =
+    let same : place - length others ≡ suc place - suc (length others) = omega arith in
+    item-second change others behind place none ∙ ap (slice_get behind) same

@@ -13,17 +13,17 @@ use Rattle.pol_events.specs.declared.answer.Rule.TheVariants.{OneModuleTwice}
 use Rattle.pol_events.specs.declared.event.Bind.{Bind}
 
 -- it is the same how two ors are grouped
-or-assoc : (a b c : Bool) → (a || (b || c)) ≡ ((a || b) || c)
-or-assoc true b c = refl
-or-assoc false b c = refl
+or-assoc : (one other last : Bool) → (one || (other || last)) ≡ ((one || other) || last)
+or-assoc true other last = refl
+or-assoc false other last = refl
 
 -- or false is as before
-or-false : (a : Bool) → (a || false) ≡ a
+or-false : (one : Bool) → (one || false) ≡ one
 or-false true = refl
 or-false false = refl
 
 -- it is the same which of two comes first
-or-swap : (a b : Bool) → (a || (b || false)) ≡ (b || a)
+or-swap : (one other : Bool) → (one || (other || false)) ≡ (other || one)
 or-swap true true = refl
 or-swap true false = refl
 or-swap false true = refl

@@ -32,7 +32,8 @@ use Rattle.pol_stillness.specs.Exchanges.{open_ticket, OpenIsAway}
 
 -- the ticket of the last docking among these entries
 abbrev tickets : History → History → Option ℕ
-tickets whole entries = ticket_of (unwrap_or (last_of (λ entry. docking_after whole entry.event entry.answer) entries) absent)
+tickets whole entries =
+    ticket_of (unwrap_or (last_of (λ entry. docking_after whole entry.event entry.answer) entries) absent)
 
 -- the dockings before don't matter for it
 tickets-same : (one other entries : History) → tickets one entries ≡ tickets other entries
@@ -69,9 +70,10 @@ record IsGone {A B : Type 0} (f : A → Option B) (x : Option A) (y : B) : Type 
   goes : f with ≡ Some y
 
 -- where something came of it, it was there
-went-on : {A B : Type 0} (f : A → Option B) (x : Option A) (y : B) → option_and_then f x ≡ Some y → IsGone f x y
-went-on f None y is = cc
-went-on f (Some a) y is = record { with = a; there = refl; goes = is }
+went-on : {A B : Type 0} (goes_on : A → Option B) (found : Option A) (answer : B) →
+    option_and_then goes_on found ≡ Some answer → IsGone goes_on found answer
+went-on goes_on None answer is = cc
+went-on goes_on (Some item) answer is = record { with = item; there = refl; goes = is }
 
 -- what holds an end back is told so
 held-rule : (history : History) (tag : List ℕ) (ticket : ℕ) (description : DescriptionForm) (rule : Rule) →
@@ -86,7 +88,8 @@ held-rule history tag ticket description rule is = by (holder_of history tag) is
         ap (λ r. ended_with tag ticket (Refused r)) (sym (same_Some (HeldBack batch (missing_by role fault)) rule e))
 
     by : (holder : Option (List ℕ)) →
-        option_and_then (λ batch. uncovered_by (recipes history) tag description batch (past_of_batch batch history)) holder
+        option_and_then (λ batch. uncovered_by (recipes history) tag description batch
+        (past_of_batch batch history)) holder
         ≡ Some rule → ended_with tag ticket (Refused rule) ≡ was_held tag ticket
     by None e = cc
     by (Some batch) e =
@@ -154,7 +157,8 @@ open_away site (entry ∷ older) tag legal follows =
     -- an entry that leaves both
     other : (entry : EntryForm) (own : Bool) →
         ((whole : History) → docking_after whole entry.event entry.answer ≡ None) →
-        tickets (cond own (entry ∷ past tag older) (past tag older)) (cond own (entry ∷ past tag older) (past tag older))
+        tickets (cond own (entry ∷ past tag older) (past tag older))
+        (cond own (entry ∷ past tag older) (past tag older))
         ≡ ticket_of (docking_by (past tag older))
     other entry false none = refl
     other entry true none =
@@ -164,10 +168,12 @@ open_away site (entry ∷ older) tag legal follows =
 
     begins : (at : ℕ) (named : List ℕ) (answer : Answer) (ticket : ℕ) → answer ≡ Ticket ticket →
         exchanging older ≡ none_open → Old → Goal (exchange_begin at named) answer
-    begins at named answer ticket is closed old = subst (Goal (exchange_begin at named)) (sym is) (own (bytes_eq named tag))
+    begins at named answer ticket is closed old =
+        subst (Goal (exchange_begin at named)) (sym is) (own (bytes_eq named tag))
       where
         own : (here : Bool) →
-            ticket_of (docking_by (cond (here && true) (paired (exchange_begin at named) (Ticket ticket) ∷ past tag older)
+            ticket_of (docking_by (cond (here && true)
+            (paired (exchange_begin at named) (Ticket ticket) ∷ past tag older)
             (past tag older))) ≡ (if here then Some ticket else None)
         own true = refl
         own false = old ∙ ap (open_ticket tag) closed
@@ -203,7 +209,8 @@ open_away site (entry ∷ older) tag legal follows =
             rw (accepted, ended, mine) (before ∙ ap (λ b. if b then Some ticket else None) mine)
 
         own : (here : Bool) → bytes_eq named tag ≡ here →
-            ticket_of (docking_by (cond (bytes_eq named tag && is_accepted answer) (paired event answer ∷ past tag older)
+            ticket_of (docking_by (cond (bytes_eq named tag && is_accepted answer)
+            (paired event answer ∷ past tag older)
             (past tag older))) ≡ open_ticket tag (ended_with named ticket answer)
         own true mine =
             let same = same-true named tag mine in
@@ -220,11 +227,13 @@ open_away site (entry ∷ older) tag legal follows =
 
     cancels : (at : ℕ) (named : List ℕ) (ticket : ℕ) (answer : Answer) → is_accepted answer ≡ true →
         exchanging older ≡ was_held named ticket → Old → Goal (exchange_cancel at named ticket) answer
-    cancels at named ticket answer accepted held old = rw accepted (own (bytes_eq named tag) (old ∙ ap (open_ticket tag) held))
+    cancels at named ticket answer accepted held old =
+        rw accepted (own (bytes_eq named tag) (old ∙ ap (open_ticket tag) held))
       where
         own : (here : Bool) →
             ticket_of (docking_by (past tag older)) ≡ (if here then Some ticket else None) →
-            ticket_of (docking_by (cond (here && true) (paired (exchange_cancel at named ticket) answer ∷ past tag older)
+            ticket_of (docking_by (cond (here && true)
+            (paired (exchange_cancel at named ticket) answer ∷ past tag older)
             (past tag older))) ≡ None
         own true before = refl
         own false before = before
@@ -256,7 +265,8 @@ open_away site (entry ∷ older) tag legal follows =
     go (exchange_cancel at named ticket) answer allowed is recorded old =
         cancels at named ticket answer allowed.accepted allowed.held old
     go (report at named service control) answer allowed is recorded old =
-        other (paired (report at named service control) answer) (bytes_eq named tag && is_accepted answer) (λ whole. refl)
+        other (paired (report at named service control) answer) (bytes_eq named tag && is_accepted answer)
+        (λ whole. refl)
         ∙ old
     go (variable at named name value) answer allowed is recorded old =
         other (paired (variable at named name value) answer) (bytes_eq named tag && is_accepted answer) (λ whole. refl)
