@@ -21,15 +21,18 @@ use Rattle.pol_actors.proofs.Numbers.{item-first, item-mapped, item-second}
 pub opening-first : (site : Site) (place : ℕ) (each : SiteRecipe) → slice_get site.recipes.items place ≡ Some each →
     slice_get (openings (site_view site)) place ≡ Some (know_event (recipe_view each))
 opening-first site place each at =
-    item-first know_event (map recipe_view site.recipes.items) (map plug_event (map module_view site.modules.items)) place
+    item-first know_event (map recipe_view site.recipes.items)
+    (map plug_event (map module_view site.modules.items)) place
     (recipe_view each) (item-mapped recipe_view site.recipes.items place ∙ ap (option_map recipe_view) at)
 
 -- a module is one behind the recipes
 pub opening-second : (site : Site) (place count : ℕ) → slice_get site.recipes.items place ≡ None →
     count ≡ length site.recipes.items →
-    option_map plug_event (slice_get (site_view site).modules (place - count)) ≡ slice_get (openings (site_view site)) place
+    option_map plug_event (slice_get (site_view site).modules (place - count))
+    ≡ slice_get (openings (site_view site)) place
 opening-second site place count none is =
-    sym (item-second know_event (map recipe_view site.recipes.items) (map plug_event (map module_view site.modules.items)) place
+    sym (item-second know_event (map recipe_view site.recipes.items)
+    (map plug_event (map module_view site.modules.items)) place
     (item-mapped recipe_view site.recipes.items place ∙ ap (option_map recipe_view) none)
     ∙ ap (λ n. slice_get (map plug_event (map module_view site.modules.items)) (place - n))
     (length-map site.recipes.items recipe_view ∙ sym is)
@@ -41,10 +44,20 @@ pub module-at : (site : Site) (place : ℕ) (found : Option SiteModule) → slic
 module-at site place found at = item-mapped module_view site.modules.items place ∙ ap (option_map module_view) at
 
 -- an exchange
-pub exchange-at : (site : Site) (place : ℕ) (found : Option SiteExchange) → slice_get site.exchanges.items place ≡ found →
+pub exchange-at : (site : Site) (place : ℕ) (found : Option SiteExchange) →
+    slice_get site.exchanges.items place ≡ found →
     slice_get (site_view site).exchanges place ≡ option_map exchange_view found
 exchange-at site place found at =
     item-mapped exchange_view site.exchanges.items place ∙ ap (option_map exchange_view) at
+
+-- all recipes and modules had their events, by the lengths of the site's lists
+pub all-opened : (site : Site) (opened recipes modules : ℕ) → recipes ≡ length site.recipes.items →
+    modules ≡ length site.modules.items → recipes + modules ≤ opened →
+    length (site_view site).recipes + length (site_view site).modules ≤ opened
+all-opened site opened recipes modules one other left =
+    let first = length-map site.recipes.items recipe_view in
+    let second = length-map site.modules.items module_view in
+    omega (arith, one, other, left, first, second)
 
 -- with all recipes and modules done and no exchange open, the next exchange decides
 pub errand-closed : (site : SiteForm) (history : History) (count : ℕ) (exchanger : Exchanger)

@@ -1,40 +1,30 @@
-use Rattle.std.proofs.Common.{rules, ◌≡◌, ◌≤◌, ◌+◌, ◌∙◌, length, Some, None, ap, sym, arith}
+use Rattle.std.proofs.Common.{rules, ◌≡◌, ◌∙◌, Some, None, ap, sym, arith}
 use Rattle.std.specs.Prelude.{slice_get}
-use Rattle.std.proofs.lemmas.List.{length-map}
 use Rattle.pol_core.specs.Plants.{plant_history}
 use Rattle.pol_site.specs.SiteView.{site_view}
-use Rattle.pol_site.specs.Views.{exchange_view, module_view, recipe_view}
+use Rattle.pol_site.specs.Views.{exchange_view}
 use Rattle.pol_site.specs.declared.parts.SiteExchange.{SiteExchange}
-use Rattle.pol_actors.proofs.Lists.{errand-closed, exchange-at}
+use Rattle.pol_actors.proofs.Lists.{all-opened, errand-closed, exchange-at}
 use Rattle.pol_actors.proofs.exchanger.Exchanger.errand.Goals as goal
 
 pub returns-in_err-item_at-in-Closed : goal.returns-in_err-item_at-in-Closed
 returns-in_err-item_at-in-Closed c =
     let site = c.args.site.now in
-    let one : c.len.result ≡ length site.recipes.items = search rules in
-    let other : c.len-2.result ≡ length site.modules.items = search rules in
-    let left = c.if-self-len.false in
-    let first = length-map site.recipes.items recipe_view in
-    let second = length-map site.modules.items module_view in
-    let all : length (site_view site).recipes + length (site_view site).modules ≤ c.args.self.now.opened =
-    omega (arith, one, other, left, first, second) in
+    let all = all-opened site c.args.self.now.opened c.len.result c.len-2.result (search rules) (search rules)
+    (omega (arith, c.if-self-len.false)) in
     let at : slice_get site.exchanges.items c.args.self.now.begun ≡ None =
     ap (λ items. slice_get {X = SiteExchange} items c.args.self.now.begun) (sym c.deref.ensures.value)
     ∙ sym c.in_err-item_at-in-Closed.ensures in
     c.from_residual.ensures
-    ∙ sym (errand-closed (site_view site) (plant_history c.args.plant.now) c.args.length c.args.self.now None all c.in-Closed.is
+    ∙ sym (errand-closed (site_view site)
+    (plant_history c.args.plant.now) c.args.length c.args.self.now None all c.in-Closed.is
     (exchange-at site c.args.self.now.begun None at))
 
 pub returns-in_ok-item_at-in-Closed : goal.returns-in_ok-item_at-in-Closed
 returns-in_ok-item_at-in-Closed c =
     let site = c.args.site.now in
-    let one : c.len.result ≡ length site.recipes.items = search rules in
-    let other : c.len-2.result ≡ length site.modules.items = search rules in
-    let left = c.if-self-len.false in
-    let first = length-map site.recipes.items recipe_view in
-    let second = length-map site.modules.items module_view in
-    let all : length (site_view site).recipes + length (site_view site).modules ≤ c.args.self.now.opened =
-    omega (arith, one, other, left, first, second) in
+    let all = all-opened site c.args.self.now.opened c.len.result c.len-2.result (search rules) (search rules)
+    (omega (arith, c.if-self-len.false)) in
     let found = c.in_ok-item_at-in-Closed.field-0.now in
     let at : slice_get site.exchanges.items c.args.self.now.begun ≡ Some found =
     ap (λ items. slice_get {X = SiteExchange} items c.args.self.now.begun) (sym c.deref.ensures.value)
