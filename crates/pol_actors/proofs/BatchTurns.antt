@@ -94,7 +94,8 @@ batch-kept site older by exchanger units stages orders at place batch stage even
       orderly = next.orderly;
       follows = next.follows;
       commanded = commanded-more older entry kept.commanded (λ tag. unmoved (same-past tag) same-moving);
-      owned = owned-more site older entry by (suc (length site.modules + place)) (owner-stamped site at event ∙ owner) kept.owned;
+      owned = owned-more site older entry by (suc (length site.modules + place))
+          (owner-stamped site at event ∙ owner) kept.owned;
       exchanger_is = exchanger-other site older (stamped at event) answer exchanger
           (not-first site at event (length site.modules + place) owner)
           (allowed-stamped site older at event answer turn.allowed) kept.exchanger_is;
@@ -113,7 +114,8 @@ batch-kept site older by exchanger units stages orders at place batch stage even
     entry = entry_at older at event
 
     turn : IsBatchTurn site older batch stage event
-    turn = batch-turn site older place batch stage event room kept.sound listed (kept.stages_are place batch stage listed stands) is
+    turn = batch-turn site older place batch stage event room kept.sound listed
+        (kept.stages_are place batch stage listed stands) is
 
     next : IsNext site (entry ∷ older)
     next = next-kept site older at event room turn.formed turn.allowed kept.legal kept.orderly kept.follows
@@ -143,12 +145,15 @@ batch-kept site older by exchanger units stages orders at place batch stage even
     same-ordered : ordered (entry ∷ older) ≡ ordered older
     same-ordered = by-kind (λ event. ordered (entry_at older at event ∷ older) ≡ ordered older) refl refl
 
-    unit-next : (unit : SiteModuleForm) (own : Module) → IsUnit site unit older own → IsUnit site unit (entry ∷ older) own
+    unit-next : (unit : SiteModuleForm) (own : Module) → IsUnit site unit older own →
+        IsUnit site unit (entry ∷ older) own
     unit-next unit own is = by-kind
-        (λ event. IsNext site (entry_at older at event ∷ older) → IsUnit site unit (entry_at older at event ∷ older) own)
+        (λ event. IsNext site (entry_at older at event ∷ older) →
+        IsUnit site unit (entry_at older at event ∷ older) own)
         (λ next. unit-untouched site older (entry_at older at (start 0 batch.batch batch.recipe batch.binds)) unit own
         (touches-none unit.tag (entry_at older at (start 0 batch.batch batch.recipe batch.binds)) refl
-        (sends-none (when (is_full older) HistoryFull ∷ rules older (start 0 batch.batch batch.recipe batch.binds)) Done refl))
+        (sends-none (when (is_full older) HistoryFull ∷ rules older
+        (start 0 batch.batch batch.recipe batch.binds)) Done refl))
         is)
         (λ next. advanced-unit site older at batch.batch unit own (answer_of older (advance 0 batch.batch)) next
         kept.commanded is) next
@@ -159,7 +164,8 @@ batch-kept site older by exchanger units stages orders at place batch stage even
         go : ((n ≡ place) × (one ≡ stage_after stage answer)) ⊎ ((n ≡ place → ⊥) × (slice_get stages n ≡ Some one)) →
             IsStage (entry ∷ older) other.batch one
         go (inl here) =
-            let same : batch ≡ other = same_Some batch other (sym listed ∙ ap (slice_get site.batches) (sym here.0) ∙ at') in
+            let same : batch ≡ other = same_Some batch other
+            (sym listed ∙ ap (slice_get site.batches) (sym here.0) ∙ at') in
             subst (λ (each : SiteBatchForm). IsStage (entry ∷ older) each.batch one) same
             (subst (IsStage (entry ∷ older) batch.batch) (sym here.1) (turn.stands at))
         go (inr apart) =
@@ -198,12 +204,14 @@ desk-kept site older by exchanger units stages own at event room is kept =
           orderly = next.orderly;
           follows = next.follows;
           commanded = commanded-more older entry kept.commanded (λ tag. untouched (touches-refused tag entry refused));
-          owned = owned-more site older entry by (suc (length site.modules + (length site.batches + 0))) (owner-desk site)
+          owned =
+              owned-more site older entry by (suc (length site.modules + (length site.batches + 0))) (owner-desk site)
               kept.owned;
           exchanger_is = exchanger-other site older (desk at order.tag order.service order.command) answer exchanger
               (not-first site at sent (length site.modules + (length site.batches + 0)) (owner-desk site)) allowed
               kept.exchanger_is;
-          units_are = λ n unit own at' at''. unit-untouched site older entry unit own (touches-refused unit.tag entry refused)
+          units_are =
+              λ n unit own at' at''. unit-untouched site older entry unit own (touches-refused unit.tag entry refused)
               (kept.units_are n unit own at' at'');
           unit_count = kept.unit_count;
           stages_are = λ n batch stage at' at''. stage-other older batch.batch entry stage refl

@@ -21,7 +21,8 @@ pub data Commands (older : History) (entry : EntryForm) (tag : List ℕ) : Type 
   fresh : since_docking (past tag (entry ∷ older)) ≡ [] → Commands older entry tag
   unmoved : past tag (entry ∷ older) ≡ past tag older → is_moving entry.event ≡ false → Commands older entry tag
   counted : ((service : List ℕ) (command : Command) →
-      times_changed service command (past tag (entry ∷ older)) ≤ times_sent tag service command (story tag (entry ∷ older))) →
+      times_changed service command (past tag (entry ∷ older))
+      ≤ times_sent tag service command (story tag (entry ∷ older))) →
       Commands older entry tag
 
 -- one more entry that doesn't move the module takes no command away
@@ -47,7 +48,8 @@ sent-grows tag service command entry older still = go (touches tag entry)
 -- so its changes have their commands
 commanded-at : (older : History) (entry : EntryForm) (tag : List ℕ) → IsCommandedNow older → Commands older entry tag →
     (service : List ℕ) (command : Command) →
-    times_changed service command (past tag (entry ∷ older)) ≤ times_sent tag service command (story tag (entry ∷ older))
+    times_changed service command (past tag (entry ∷ older))
+    ≤ times_sent tag service command (story tag (entry ∷ older))
 commanded-at older entry tag now (untouched free) service command =
     let same = untouched_kept tag older entry free in rw (same.0, same.1) (now tag service command)
 commanded-at older entry tag now (fresh none) service command =

@@ -61,7 +61,8 @@ apart-free entry tag apart none =
 
 -- no event of the exchanger sends a command
 module _ (older : History) where
-  silent : (event : EventForm) → sent_command (otherwise older event) ≡ None → sent_command (answer_of older event) ≡ None
+  silent : (event : EventForm) → sent_command (otherwise older event) ≡ None →
+      sent_command (answer_of older event) ≡ None
   silent event none =
       sends-none (when (is_full older) HistoryFull ∷ rules older event) (otherwise older event) none
 
@@ -114,7 +115,8 @@ module _ (site : SiteForm) (older : History) (at : ℕ) (n : ℕ) (unit : SiteMo
 
       go : (mine : Bool) → bytes_eq other.tag unit.tag ≡ mine → IsUnit site unit (entry ∷ older) own
       go false apart =
-          unit-untouched site older entry unit own (apart-free entry unit.tag apart (silent older (plug_event other) refl)) is
+          unit-untouched site older entry unit own (apart-free entry unit.tag apart
+          (silent older (plug_event other) refl)) is
       go true same = taken (is_accepted (answer_of older (plug_event other))) refl
           (same_Some other unit (sym listed' ∙ ap (slice_get site.modules) places ∙ listed))
         where
@@ -153,7 +155,8 @@ module _ (site : SiteForm) (older : History) (at : ℕ) (n : ℕ) (unit : SiteMo
           IsUnit site unit (entry ∷ older) (if mine then record { made = None; brought = own.brought } else own)
       go true same =
           let named = sym (same-true unit.tag tag same) in
-          unit-cancelled site older at tag ticket (answer_of older (exchange_cancel 0 tag ticket)) unit own accepted named
+          unit-cancelled site older at tag ticket (answer_of older
+          (exchange_cancel 0 tag ticket)) unit own accepted named
           (ap (λ tag. is_there (docking_of older tag)) (sym named) ∙ there) is
       go false apart =
           unit-untouched site older entry unit own
@@ -232,7 +235,8 @@ changed-got site units None change n unit one unlike listed at = (one, at, refl)
 changed-got site units (Some tag) change n unit one unlike listed at = by (place_of_tag site tag) refl at
   where
     Found : Type 0
-    Found = (own : Module) × (slice_get units n ≡ Some own) × (one ≡ (if bytes_eq unit.tag tag then change own else own))
+    Found =
+        (own : Module) × (slice_get units n ≡ Some own) × (one ≡ (if bytes_eq unit.tag tag then change own else own))
 
     -- the place of the tag is the module's, where it has it
     here : bytes_eq unit.tag tag ≡ true → place_of_tag site tag ≡ Some n
@@ -246,11 +250,13 @@ changed-got site units (Some tag) change n unit one unlike listed at = by (place
         go true is = absurd (apart is)
         go false is = (one, at, refl)
 
-    by : (place : Option ℕ) → place_of_tag site tag ≡ place → slice_get (changed_at units place change) n ≡ Some one → Found
+    by : (place : Option ℕ) → place_of_tag site tag ≡ place → slice_get (changed_at units place change) n ≡ Some one →
+        Found
     by None is at = other (λ named. let clash = sym (here named) ∙ is in cc) at
     by (Some place) is at = go (slice_get units place) refl at
       where
-        go : (found : Option Module) → slice_get units place ≡ found → slice_get (put_at units place change found) n ≡ Some one →
+        go : (found : Option Module) → slice_get units place ≡ found →
+            slice_get (put_at units place change found) n ≡ Some one →
             Found
         go None none at = other
             (λ named. let same : n ≡ place = same_Some n place (sym (here named) ∙ is) in
@@ -259,8 +265,10 @@ changed-got site units (Some tag) change n unit one unlike listed at = by (place
           where
             set : ((n ≡ place) × (one ≡ change own)) ⊎ ((n ≡ place → ⊥) × (slice_get units n ≡ Some one)) → Found
             set (inl same) =
-                let passes = (position-Some (λ (each : SiteModuleForm). bytes_eq each.tag tag) site.modules place unit is).1 in
-                let it = get_or_from_slice_get site.modules place unit unit (ap (slice_get site.modules) (sym same.0) ∙ listed) in
+                let passes = (position-Some (λ (each : SiteModuleForm). bytes_eq each.tag tag) site.modules place unit
+                is).1 in
+                let it = get_or_from_slice_get site.modules place unit unit
+                (ap (slice_get site.modules) (sym same.0) ∙ listed) in
                 let named : bytes_eq unit.tag tag ≡ true =
                 ap (λ (each : SiteModuleForm). bytes_eq each.tag tag) (sym it) ∙ passes in (
                   own,
@@ -315,10 +323,12 @@ of-kind : (site : SiteForm) (older : History) (errand : Errand) (event : EventFo
     ((tag : List ℕ) (ticket : ℕ) → Goal (exchange_cancel 0 tag ticket)) → IsErrandKind site older errand event →
     Goal event
 of-kind site older errand event Goal one two three four five (knows place each e f) = subst Goal (sym f) (one each)
-of-kind site older errand event Goal one two three four five (plugs place m other e at' f) = subst Goal (sym f) (two other)
+of-kind site older errand event Goal one two three four five (plugs place m other e at' f) =
+    subst Goal (sym f) (two other)
 of-kind site older errand event Goal one two three four five (begins tag e f there accepted) =
     subst Goal (sym f) (three tag)
-of-kind site older errand event Goal one two three four five (ends tag ticket place exchange e f begun_now place_is at') =
+of-kind site older errand event Goal one two three four five
+    (ends tag ticket place exchange e f begun_now place_is at') =
     subst Goal (sym f) (four tag ticket exchange)
 of-kind site older errand event Goal one two three four five (cancels tag ticket e f there accepted) =
     subst Goal (sym f) (five tag ticket)
@@ -341,7 +351,8 @@ exchanger-kept site older by exchanger units stages desk at errand room turn kep
       owned = owned-more site older entry by 0 (owner-stamped site at turn.event ∙ turn.owner) kept.owned;
       exchanger_is = turn.stands at;
       units_are = units-next;
-      unit_count = changed-long units (option_and_then (place_of_tag site) (errand_tag errand)) (unit_after errand answer)
+      unit_count =
+          changed-long units (option_and_then (place_of_tag site) (errand_tag errand)) (unit_after errand answer)
           ∙ kept.unit_count;
       stages_are = λ n batch stage at' at''. stage-other older batch.batch entry stage (no-batch batch.batch)
           (kept.stages_are n batch stage at' at'');
@@ -371,7 +382,8 @@ exchanger-kept site older by exchanger units stages desk at errand room turn kep
 
     units-next : AreUnits site (entry ∷ older) (units_after site units errand answer)
     units-next n unit one at' at'' =
-        let found = changed-got site units (errand_tag errand) (unit_after errand answer) n unit one kept.sound.unlike_modules
+        let found = changed-got site units (errand_tag errand)
+        (unit_after errand answer) n unit one kept.sound.unlike_modules
         at' at'' in
         subst (IsUnit site unit (entry ∷ older)) (sym found.2)
         (unit-next site older at n unit found.0 kept.follows kept.sound.unlike_modules at'

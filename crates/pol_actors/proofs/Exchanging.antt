@@ -68,12 +68,17 @@ there-after entry older false moved before = before
 pub exchanger-other : (site : SiteForm) (older : History) (event : EventForm) (answer : Answer)
     (exchanger : Exchanger) → (owner_of site event ≡ Some 0 → ⊥) → IsAllowed site older event answer →
     IsExchanger site older exchanger → IsExchanger site (paired event answer ∷ older) exchanger
-exchanger-other site older (plug at tag description) answer exchanger other allowed stands = absurd (other (owner-exchanger site))
+exchanger-other site older (plug at tag description) answer exchanger other allowed stands =
+    absurd (other (owner-exchanger site))
 exchanger-other site older (unplug at tag) answer exchanger other allowed stands = absurd allowed
-exchanger-other site older (recipe at name chart) answer exchanger other allowed stands = absurd (other (owner-exchanger site))
-exchanger-other site older (exchange_begin at tag) answer exchanger other allowed stands = absurd (other (owner-exchanger site))
-exchanger-other site older (exchange_end at tag ticket description) answer exchanger other allowed stands = absurd (other (owner-exchanger site))
-exchanger-other site older (exchange_cancel at tag ticket) answer exchanger other allowed stands = absurd (other (owner-exchanger site))
+exchanger-other site older (recipe at name chart) answer exchanger other allowed stands =
+    absurd (other (owner-exchanger site))
+exchanger-other site older (exchange_begin at tag) answer exchanger other allowed stands =
+    absurd (other (owner-exchanger site))
+exchanger-other site older (exchange_end at tag ticket description) answer exchanger other allowed stands =
+    absurd (other (owner-exchanger site))
+exchanger-other site older (exchange_cancel at tag ticket) answer exchanger other allowed stands =
+    absurd (other (owner-exchanger site))
 exchanger-other site older (freeze at batch) answer exchanger other allowed stands = absurd allowed
 exchanger-other site older (thaw at batch) answer exchanger other allowed stands = absurd allowed
 exchanger-other site older (stop_batch at batch) answer exchanger other allowed stands = absurd allowed
@@ -238,7 +243,8 @@ plug-taken older at tag description room few refused =
 
     go : (docking : Docking) → is_accepted (first_rule (tag_taken docking ∷ plant_full older ∷ []) Done) ≡ false →
         is_there docking ≡ true
-    go absent e = let clash : true ≡ false = ap (λ rule. is_accepted (first_rule (rule ∷ []) Done)) (sym unfull) ∙ e in cc
+    go absent e =
+        let clash : true ≡ false = ap (λ rule. is_accepted (first_rule (rule ∷ []) Done)) (sym unfull) ∙ e in cc
     go (docked count) e = refl
     go (away ticket) e = refl
 
@@ -397,7 +403,8 @@ begin-accepted : (older : History) (tag : List ℕ) → is_full older ≡ false 
     is_accepted (answer_of older (exchange_begin 0 tag)) ≡ true
 begin-accepted older tag room there docked_now free =
     ap is_accepted answered
-    ∙ go (active_step older tag) (option_and_then (module_not_at_rest (past tag older)) (description_by (past tag older)))
+    ∙ go (active_step older tag) (option_and_then (module_not_at_rest (past tag older))
+    (description_by (past tag older)))
     (busy-active older tag) (busy-rest (past tag older) (description_by (past tag older)))
     (ap (λ answer. is_refusal_busy (refusal answer)) (sym answered) ∙ free)
   where
@@ -406,7 +413,8 @@ begin-accepted older tag room there docked_now free =
         ∷ option_and_then (module_not_at_rest (past tag older)) (description_by (past tag older)) ∷ []
 
     skipped : (docking : Docking) → is_there docking ≡ true → ticket_of docking ≡ None →
-        first_rule (no_module tag docking ∷ in_exchange tag (ticket_of docking) ∷ rest) (Ticket (next_ticket (past tag older)))
+        first_rule (no_module tag docking ∷ in_exchange tag (ticket_of docking) ∷ rest)
+        (Ticket (next_ticket (past tag older)))
         ≡ first_rule rest (Ticket (next_ticket (past tag older)))
     skipped absent there none = cc
     skipped (docked count) there none = refl
@@ -438,7 +446,8 @@ has-at (first ∷ others) tag has = go (bytes_eq first.tag tag) refl has (has-at
 -- the facts by which an exchange goes on
 module _ (site : SiteForm) (older : History) (exchanger : Exchanger) (sound : IsSite site) (legal : IsLegal older)
     (follows : FollowsSite site older) (room : is_full older ≡ false)
-    (all : length site.recipes + length site.modules ≤ exchanger.opened) (stands : IsExchanger site older exchanger) where
+    (all : length site.recipes + length site.modules ≤ exchanger.opened)
+    (stands : IsExchanger site older exchanger) where
   opened-all : length site.recipes + length site.modules ≤ opened older
   opened-all = let is = stands.opened_is in omega (arith, is, all)
 
@@ -513,7 +522,8 @@ module _ (site : SiteForm) (older : History) (exchanger : Exchanger) (sound : Is
       accepted = begin-accepted older exchange.tag room (exchanged-there exchanger.begun exchange listed)
           (open_away site older exchange.tag legal follows ∙ ap (open_ticket exchange.tag) none) free
 
-      standing-is : (answer : Answer) → exchanging_in (begun_standing exchange.tag answer) ≡ begun_with exchange.tag answer
+      standing-is : (answer : Answer) → exchanging_in (begun_standing exchange.tag answer)
+          ≡ begun_with exchange.tag answer
       standing-is Done = refl
       standing-is (Ticket ticket) = refl
       standing-is (Did entry) = refl
@@ -563,7 +573,8 @@ module _ (site : SiteForm) (older : History) (exchanger : Exchanger) (sound : Is
               begun_within = stands.begun_within;
               listed = λ still. absurd (not-begun (answer_of older (end_event tag ticket exchange)) still);
               there = λ place unit at' less. moved-there
-                  (paired (exchange_end stamp tag ticket exchange.description) (answer_of older (end_event tag ticket exchange)))
+                  (paired (exchange_end stamp tag ticket exchange.description)
+                  (answer_of older (end_event tag ticket exchange)))
                   (λ other. bytes_eq tag other && is_accepted (answer_of older (end_event tag ticket exchange)))
                   (λ other. refl) place unit at';
               few = stands.few;
@@ -614,7 +625,8 @@ module _ (site : SiteForm) (older : History) (exchanger : Exchanger) (sound : Is
       itself n = grind (arith, nat_tests)
 
       skipped : (docking : Docking) → ticket_of docking ≡ Some ticket →
-          first_rule (no_module tag docking ∷ not_in_exchange docking ∷ wrong_ticket ticket (ticket_of docking) ∷ []) Done
+          first_rule (no_module tag docking ∷ not_in_exchange docking ∷ wrong_ticket ticket (ticket_of docking)
+          ∷ []) Done
           ≡ Done
       skipped absent is = cc
       skipped (docked count) is = cc
@@ -740,7 +752,8 @@ exchanger-rests site older count exchanger legal follows counted stands is =
         waits_to_begin older found ≡ true
     begins None e = refl
     begins (Some exchange) e =
-        early (nat_lt count exchange.after) (is_refusal_busy (refusal (answer_of older (exchange_begin 0 exchange.tag))))
+        early (nat_lt count exchange.after) (is_refusal_busy
+        (refusal (answer_of older (exchange_begin 0 exchange.tag))))
         (ap (λ n. nat_lt n exchange.after) (sym counted)) (busy-by (answer_of older (exchange_begin 0 exchange.tag))) e
       where
         early : (waits busy : Bool) → nat_lt (length older) exchange.after ≡ waits →

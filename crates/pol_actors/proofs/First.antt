@@ -13,7 +13,8 @@ use Rattle.pol_actors.specs.declared.exchanger.Exchanger.{Exchanger}
 use Rattle.pol_actors.specs.declared.unit.Unit.{Unit as Module}
 
 -- what holds of all items holds of the one at a place
-each-at : {A : Type 0} (P : A → Type 0) (xs : List A) (n : ℕ) (x : A) → AllByRecursion P xs → slice_get xs n ≡ Some x → P x
+each-at : {A : Type 0} (P : A → Type 0) (xs : List A) (n : ℕ) (x : A) → AllByRecursion P xs → slice_get xs n ≡ Some x →
+    P x
 each-at P [] n x all at = cc
 each-at P (first ∷ others) zero x all at = subst P (same_Some first x at) all.0
 each-at P (first ∷ others) (suc n) x all at = each-at P others n x all.1 at

@@ -131,7 +131,8 @@ same-among : (tag : List ℕ) (place : ℕ) (later : List EntryForm) →
     (found_among tag place later)
 same-among tag place [] = omega arith
 same-among tag place (entry ∷ later) =
-    go (plant.sent_to tag entry) (at_place tag place entry) (same-one tag place entry) (same-among tag (place + 1) later)
+    go (plant.sent_to tag entry) (at_place tag place entry) (same-one tag place entry)
+    (same-among tag (place + 1) later)
   where
     next : place + 1 ≡ suc place
     next = omega arith
@@ -156,7 +157,8 @@ same-among tag place (entry ∷ later) =
     go (Some order) None one rest = absurd one
 
 -- before the place to look from nothing is found
-none-before : (tag : List ℕ) (from : ℕ) (history : History) → length history ≤ from → next_command tag from history ≡ None
+none-before : (tag : List ℕ) (from : ℕ) (history : History) → length history ≤ from →
+    next_command tag from history ≡ None
 none-before tag from [] long = refl
 none-before tag from (entry ∷ older) long =
     rw (none-before tag from older (omega (arith, long)), lt-fails from (length older) (omega (arith, long))) refl
@@ -176,8 +178,10 @@ found-behind tag from done (entry ∷ later) late =
     ∙ ap (λ history. option_or (next_command tag from history) (found_among tag (length (done ++ entry ∷ [])) later))
     (reverse-append done (entry ∷ []))
     ∙ ap (λ n. option_or (next_command tag from (entry ∷ reverse done)) (found_among tag n later)) longer
-    ∙ ap (λ found. option_or (option_or (next_command tag from (reverse done)) found) (found_among tag (suc (length done)) later)) here
-    ∙ or-or (next_command tag from (reverse done)) (at_place tag (length done) entry) (found_among tag (suc (length done)) later)
+    ∙ ap (λ found. option_or (option_or (next_command tag from (reverse done)) found)
+    (found_among tag (suc (length done)) later)) here
+    ∙ or-or (next_command tag from (reverse done)) (at_place tag (length done) entry)
+    (found_among tag (suc (length done)) later)
   where
     longer : length (done ++ entry ∷ []) ≡ suc (length done)
     longer = let long = length-append done (entry ∷ []) in omega (arith, long)
@@ -185,7 +189,8 @@ found-behind tag from done (entry ∷ later) late =
     here : found_at tag from (length (reverse done)) entry ≡ at_place tag (length done) entry
     here = ap (λ n. found_at tag from n entry) (length-reverse done) ∙ found-late tag from (length done) entry late
 
-    or-or : (one other last : Option Found) → option_or (option_or one other) last ≡ option_or one (option_or other last)
+    or-or : (one other last : Option Found) →
+        option_or (option_or one other) last ≡ option_or one (option_or other last)
     or-or None other last = refl
     or-or (Some one) other last = refl
 
@@ -194,7 +199,8 @@ pub found-next : (tag : List ℕ) (place : ℕ) (entries : List Entry) → place
     IsFoundAs tag (length entries) (plant.next_sent tag place (map entry_view (drop place entries))).0
     (plant.next_sent tag place (map entry_view (drop place entries))).1 (next_command tag place (history_view entries))
 found-next tag place entries within =
-    subst (λ found. IsFoundAs tag (length entries) (plant.next_sent tag place later).0 (plant.next_sent tag place later).1 found)
+    subst (λ found. IsFoundAs tag (length entries) (plant.next_sent tag place later).0
+    (plant.next_sent tag place later).1 found)
     (sym split)
     (subst (λ n. IsFoundAs tag n (plant.next_sent tag place later).0 (plant.next_sent tag place later).1
     (found_among tag place later)) count (same-among tag place later))

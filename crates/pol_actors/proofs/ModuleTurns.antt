@@ -47,9 +47,11 @@ pub units-set : (site : SiteForm) (history : History) (units : List Module) (pla
     ((n : ℕ) (other : SiteModuleForm) (one : Module) → (n ≡ place → ⊥) → slice_get site.modules n ≡ Some other →
     slice_get units n ≡ Some one → IsUnit site other history one) →
     AreUnits site history (slice_set units place own)
-units-set site history units place unit own listed is others n other one at' at'' = go (set-got units place own n one at'')
+units-set site history units place unit own listed is others n other one at' at'' =
+    go (set-got units place own n one at'')
   where
-    go : ((n ≡ place) × (one ≡ own)) ⊎ ((n ≡ place → ⊥) × (slice_get units n ≡ Some one)) → IsUnit site other history one
+    go : ((n ≡ place) × (one ≡ own)) ⊎ ((n ≡ place → ⊥) × (slice_get units n ≡ Some one)) →
+        IsUnit site other history one
     go (inl here) =
         let same : unit ≡ other = same_Some unit other (sym listed ∙ ap (slice_get site.modules) (sym here.0) ∙ at') in
         subst (λ (each : SiteModuleForm). IsUnit site each history one) same
@@ -90,7 +92,8 @@ pub module-reported : (site : SiteForm) (older : History) (by : List ℕ) (excha
     HasReported site unit.tag older made told → IsKept site older by exchanger units stages desk →
     IsKept site (entry_at older at (report_event 0 unit.tag told) ∷ older) (by ++ suc place ∷ []) exchanger
     (slice_set units place (simulated own made)) stages desk
-module-reported site older by exchanger units stages desk at place unit own made told room listed stands there reported kept =
+module-reported site older by exchanger units stages desk at place unit own made told room listed stands there reported
+    kept =
     record {
       sound = kept.sound;
       legal = next.legal;
@@ -103,14 +106,16 @@ module-reported site older by exchanger units stages desk at place unit own made
           (allowed-stamped site older at event (answer_of older event) reported.allowed) kept.exchanger_is;
       units_are = units-set site (entry ∷ older) units place unit (simulated own made) listed
           (subst (λ (each : EntryForm). IsUnit site unit (each ∷ older) (simulated own made)) (sym plain)
-          (unit-reported site older at told unit own made there (kept.units_are place unit own listed stands) (reported.up at)))
+          (unit-reported site older at told unit own made there (kept.units_are place unit own listed stands)
+          (reported.up at)))
           (λ n other one apart at' at''. unit-untouched site older entry other one
           (apart-free other.tag (names-apart (λ (each : SiteModuleForm). each.tag) site.modules place n unit other
           kept.sound.unlike_modules listed at' apart))
           (kept.units_are n other one at' at''));
       unit_count = set-long units place (simulated own made) ∙ kept.unit_count;
       stages_are = λ n batch stage at' at''. stage-other older batch.batch entry stage
-          (subst (λ (each : EntryForm). is_batch batch.batch (subject each.event) ≡ false) (sym plain) (no-batch told batch.batch))
+          (subst (λ (each : EntryForm). is_batch batch.batch (subject each.event) ≡ false) (sym plain)
+          (no-batch told batch.batch))
           (kept.stages_are n batch stage at' at'');
       stage_count = kept.stage_count;
       desk_is = kept.desk_is ∙ sym same-ordered;
@@ -159,7 +164,8 @@ module-reported site older by exchanger units stages desk at place unit own made
         ∙ touches-none tag (paired (report_event at unit.tag told) Done) (not-own told tag apart) refl
 
     up : KeepsUp site unit.tag made.place (entry ∷ older) made.sim
-    up = subst (λ (each : EntryForm). KeepsUp site unit.tag made.place (each ∷ older) made.sim) (sym plain) (reported.up at)
+    up = subst (λ (each : EntryForm). KeepsUp site unit.tag made.place (each ∷ older) made.sim) (sym plain)
+        (reported.up at)
 
     commands : (tag : List ℕ) → Commands older entry tag
     commands tag = go (bytes_eq unit.tag tag) refl

@@ -40,7 +40,8 @@ position-later {A} test x xs is =
         cond (nat_lt (1 + position_or_len test xs) (length (x ∷ xs))) (Some (1 + position_or_len test xs)) None
         ≡ option_map suc (cond b (Some (position_or_len test xs)) None)
     go b e =
-        ap (λ c. cond c (Some (1 + position_or_len test xs)) None) (more (position_or_len test xs) (length xs) b e) ∙ by b
+        ap (λ c. cond c (Some (1 + position_or_len test xs)) None) (more (position_or_len test xs) (length xs) b e)
+        ∙ by b
       where
         by : (b : Bool) → cond b (Some (1 + position_or_len test xs)) None
             ≡ option_map suc (cond b (Some (position_or_len test xs)) None)
@@ -106,13 +107,15 @@ names-apart name_of xs place other x y unlike at at' apart = go (bytes_eq (name_
 -- the exchanger's
 pub owner-exchanger : (site : SiteForm) → position is_exchanger (actors site) ≡ Some 0
 owner-exchanger site =
-    position-here is_exchanger the_exchanger (map a_module site.modules ++ (map a_batch site.batches ++ the_desk ∷ [])) refl
+    position-here is_exchanger the_exchanger (map a_module site.modules ++
+    (map a_batch site.batches ++ the_desk ∷ [])) refl
 
 -- a module's
 pub owner-module : (site : SiteForm) (place : ℕ) (unit : SiteModuleForm) → repeats_by same_tag site.modules ≡ false →
     slice_get site.modules place ≡ Some unit → position (has_tag unit.tag) (actors site) ≡ Some (suc place)
 owner-module site place unit unlike at =
-    position-later (has_tag unit.tag) the_exchanger (map a_module site.modules ++ (map a_batch site.batches ++ the_desk ∷ []))
+    position-later (has_tag unit.tag) the_exchanger
+    (map a_module site.modules ++ (map a_batch site.batches ++ the_desk ∷ []))
     refl
     ∙ ap (option_map suc) (position-named (λ (each : SiteModuleForm). each.tag) (has_tag unit.tag) a_module site.modules
     (map a_batch site.batches ++ the_desk ∷ []) place unit (λ each. refl) unlike at)

@@ -65,7 +65,8 @@ stage-started older at batch recipe binds answer stands = by (bytes_eq batch bat
 
     by : (own : Bool) (answer : Answer) → own ≡ true →
         IsStageBy (option_or (if own then Some (entry answer) else None) (last_entry_of batch older))
-        (start_by (cond (own && is_accepted answer) (entry answer ∷ past_of_batch batch older) (past_of_batch batch older)))
+        (start_by (cond (own && is_accepted answer) (entry answer ∷ past_of_batch batch older)
+        (past_of_batch batch older)))
         (stage_after stage.Unsent answer)
     by false answer is = cc
     by true Done is = ((entry Done, refl, refl), refl)
@@ -78,7 +79,8 @@ stage-started older at batch recipe binds answer stands = by (bytes_eq batch bat
 -- its advance
 pub stage-advanced : (older : History) (at : ℕ) (batch : List ℕ) (answer : Answer) → is_accepted answer ≡ true →
     IsStage older batch stage.Started → IsStage (paired (advance at batch) answer ∷ older) batch stage.Started
-stage-advanced older at batch answer accepted stands = by (bytes_eq batch batch) (is_accepted answer) (same-refl batch) accepted
+stage-advanced older at batch answer accepted stands =
+    by (bytes_eq batch batch) (is_accepted answer) (same-refl batch) accepted
   where
     entry : EntryForm
     entry = paired (advance at batch) answer
@@ -128,7 +130,8 @@ start-turn site older place batch event sound listed stands is =
     go true free e = cc
     go false free e = subst (IsBatchTurn site older batch stage.Unsent) (same_Some own event e) (record {
       kind = inl refl;
-      formed = all-at (λ (batch : SiteBatchForm). is_orderly (start 0 batch.batch batch.recipe batch.binds)) site.batches
+      formed =
+          all-at (λ (batch : SiteBatchForm). is_orderly (start 0 batch.batch batch.recipe batch.binds)) site.batches
           place batch sound.orderly_starts listed;
       allowed = record {
         listed = called-at (λ (each : SiteBatchForm). each.batch) site.batches place batch batch.batch
@@ -209,7 +212,8 @@ next-there : (older : History) (batch : List ℕ) → IsLegal older → IsOrderl
 next-there older batch legal orderly begun none = go (start_of older batch) refl begun none
   where
     go : (found : Option Started) → start_of older batch ≡ found → is_some found ≡ true →
-        option_and_then (next_of_started (recipes older) (past_of_batch batch older) (λ tag. past tag older)) found ≡ None →
+        option_and_then (next_of_started (recipes older) (past_of_batch batch older) (λ tag. past tag older)) found
+        ≡ None →
         ⊥
     go None is there e = cc
     go (Some started) is there e =
@@ -222,7 +226,8 @@ next-there older batch legal orderly begun none = go (start_of older batch) refl
 pub batch-rests : (older : History) (batch : SiteBatchForm) (stage : Stage) → IsLegal older → IsOrderly older →
     IsStage older batch.batch stage → batch_event older batch stage ≡ None → is_settled_batch older batch ≡ true
 batch-rests older batch stage.Unsent legal orderly stands none =
-    rw (stands.1, stands.0) (put-off-by (answer_of older own) ∙ go (is_refusal_passing (refusal (answer_of older own))) none)
+    rw (stands.1, stands.0) (put-off-by (answer_of older own) ∙ go
+    (is_refusal_passing (refusal (answer_of older own))) none)
   where
     own : EventForm
     own = start 0 batch.batch batch.recipe batch.binds

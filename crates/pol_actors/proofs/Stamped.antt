@@ -54,7 +54,8 @@ orderly-stamped at (exchange_end old tag ticket description) = refl
 orderly-stamped at (exchange_cancel old tag ticket) = refl
 
 -- nor for whose it is
-pub owner-stamped : (site : SiteForm) (at : ℕ) (event : EventForm) → owner_of site (stamped at event) ≡ owner_of site event
+pub owner-stamped : (site : SiteForm) (at : ℕ) (event : EventForm) →
+    owner_of site (stamped at event) ≡ owner_of site event
 owner-stamped site at (plug old tag description) = refl
 owner-stamped site at (unplug old tag) = refl
 owner-stamped site at (report old tag service control) = refl

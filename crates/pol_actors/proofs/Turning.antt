@@ -55,8 +55,10 @@ origin-sound site place unit brought sound listed = by brought
   where
     own : IsSoundOrigin (record { description = unit.description; plan = unit.plan })
     own = record {
-      ranged = all-at (λ (unit : SiteModuleForm). is_plan_ranged unit.plan) site.modules place unit sound.ranged_modules listed;
-      unlike = all-at (λ (unit : SiteModuleForm). is_plan_unlike unit.plan) site.modules place unit sound.unlike_drifts listed;
+      ranged = all-at (λ (unit : SiteModuleForm). is_plan_ranged unit.plan) site.modules place unit
+          sound.ranged_modules listed;
+      unlike = all-at (λ (unit : SiteModuleForm). is_plan_unlike unit.plan) site.modules place unit
+          sound.unlike_drifts listed;
       sound = all-at (λ (unit : SiteModuleForm). is_plan_sound unit.description unit.plan) site.modules place unit
           sound.sound_drifts listed;
     }
@@ -65,11 +67,13 @@ origin-sound site place unit brought sound listed = by brought
         IsSoundOrigin (origin_by unit exchange)
     found k None at = own
     found k (Some exchange) at = record {
-      ranged = second _ _ (all-at (λ (exchange : SiteExchangeForm). _ && is_plan_ranged exchange.plan) site.exchanges k exchange
+      ranged = second _ _ (all-at (λ (exchange : SiteExchangeForm). _ && is_plan_ranged exchange.plan)
+          site.exchanges k exchange
           sound.ranged_exchanges at);
       unlike = all-at (λ (exchange : SiteExchangeForm). is_plan_unlike exchange.plan) site.exchanges k exchange
           sound.unlike_exchanged at;
-      sound = all-at (λ (exchange : SiteExchangeForm). is_plan_sound exchange.description exchange.plan) site.exchanges k
+      sound =
+          all-at (λ (exchange : SiteExchangeForm). is_plan_sound exchange.description exchange.plan) site.exchanges k
           exchange sound.sound_exchanged at;
     }
       where
@@ -109,7 +113,8 @@ pub record HasLooked (site : SiteForm) (tag : List ℕ) (history : History) (mad
   pub unsettled : is_settled_module site history tag ≡ false
   pub up : KeepsUp site tag made.place history made.sim
 
-pub record HasReported (site : SiteForm) (tag : List ℕ) (history : History) (made : Made) (told : SimReport) : Type 0 where
+pub record HasReported (site : SiteForm) (tag : List ℕ) (history : History) (made : Made)
+    (told : SimReport) : Type 0 where
   pub allowed : IsAllowed site history (report_event 0 tag told) (answer_of history (report_event 0 tag told))
   pub done : answer_of history (report_event 0 tag told) ≡ Done
   pub up : (at : ℕ) → KeepsUp site tag made.place (paired (report_event at tag told) Done ∷ history) made.sim
@@ -139,7 +144,8 @@ module _ (site : SiteForm) (tag : List ℕ) (history : History) (count : ℕ) (l
   tick-turned : (made : Made) → KeepsUp site tag made.place history made.sim →
       (is_settled_module site history tag ≡ true → ⊥) →
       IsTurned site tag history (made_ticked made) (decision_by (tick_report made.sim))
-  tick-turned made up unsettled = go (tick_report made.sim) refl (λ at. ticks_up site tag at made.place history made.sim up)
+  tick-turned made up unsettled =
+      go (tick_report made.sim) refl (λ at. ticks_up site tag at made.place history made.sim up)
     where
       go : (told : Option SimReport) → tick_report made.sim ≡ told →
           ((at : ℕ) → KeepsUp site tag made.place (after_report at tag told history) (ticked made.sim)) →
@@ -147,7 +153,8 @@ module _ (site : SiteForm) (tag : List ℕ) (history : History) (count : ℕ) (l
       go None is after =
           record { unsettled = not-true (is_settled_module site history tag) unsettled; up = after 0 }
       go (Some (Service name control)) is after =
-          let allowed = reports_allowed site tag history made.sim 0 count made.place (Service name control) is_docked room
+          let allowed = reports_allowed site tag history made.sim 0 count made.place
+          (Service name control) is_docked room
           up.step up.kept up.served is in
           record {
             allowed = allowed;
@@ -155,7 +162,8 @@ module _ (site : SiteForm) (tag : List ℕ) (history : History) (count : ℕ) (l
             up = after;
           }
       go (Some (Variable name value)) is after =
-          let allowed = reports_allowed site tag history made.sim 0 count made.place (Variable name value) is_docked room
+          let allowed = reports_allowed site tag history made.sim 0 count made.place
+          (Variable name value) is_docked room
           up.step up.kept up.served is in
           record {
             allowed = allowed;

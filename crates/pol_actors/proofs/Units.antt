@@ -71,7 +71,8 @@ unseen past service view fresh seen =
 -- a command that a batch sends it
 pub unit-sent : (site : SiteForm) (older : History) (at : ℕ) (batch : List ℕ) (did : LogEntry) (sent : Sent)
     (unit : SiteModuleForm) (own : Module) → IsLegal (paired (advance at batch) (Did did) ∷ older) →
-    IsOrderly (paired (advance at batch) (Did did) ∷ older) → FollowsSite site (paired (advance at batch) (Did did) ∷ older) →
+    IsOrderly (paired (advance at batch) (Did did) ∷ older) →
+    FollowsSite site (paired (advance at batch) (Did did) ∷ older) →
     IsCommanded older → sent_by did ≡ Some sent → sent.tag ≡ unit.tag → IsUnit site unit older own →
     IsUnit site unit (paired (advance at batch) (Did did) ∷ older) own
 unit-sent site older at batch did sent unit own legal orderly follows commanded sends named is =
@@ -184,7 +185,8 @@ unit-plugged site older at place unit own unlike listed gone is =
     let before = is.unbrought gone in
     record {
       unbrought = λ gone. let clash : true ≡ false = ap (λ p. is_there (docking_by p)) (sym same) ∙ gone in cc;
-      brought = λ now. subst (λ brought. IsBrought site unit.tag (past unit.tag (entry ∷ older)) (origin_of site unit brought))
+      brought = λ now. subst (λ brought. IsBrought site unit.tag (past unit.tag (entry ∷ older))
+          (origin_of site unit brought))
           (sym before.0)
           (record {
             described = ap description_by same;
@@ -207,7 +209,8 @@ unit-reported site older at (Service name control) unit own made there is up =
     let same = own-past older entry unit.tag (same-refl unit.tag) refl in
     let before = is.brought there in
     record {
-      unbrought = λ gone. let clash : true ≡ false = sym there ∙ ap (λ p. is_there (docking_by p)) (sym same) ∙ gone in cc;
+      unbrought =
+          λ gone. let clash : true ≡ false = sym there ∙ ap (λ p. is_there (docking_by p)) (sym same) ∙ gone in cc;
       brought = λ now. subst (λ p. IsBrought site unit.tag p (origin_of site unit own.brought)) (sym same)
           (record { described = before.described; planned = before.planned });
       made = up;
@@ -217,7 +220,8 @@ unit-reported site older at (Variable name value) unit own made there is up =
     let same = own-past older entry unit.tag (same-refl unit.tag) refl in
     let before = is.brought there in
     record {
-      unbrought = λ gone. let clash : true ≡ false = sym there ∙ ap (λ p. is_there (docking_by p)) (sym same) ∙ gone in cc;
+      unbrought =
+          λ gone. let clash : true ≡ false = sym there ∙ ap (λ p. is_there (docking_by p)) (sym same) ∙ gone in cc;
       brought = λ now. subst (λ p. IsBrought site unit.tag p (origin_of site unit own.brought)) (sym same)
           (record { described = before.described; planned = before.planned });
       made = up;

@@ -70,7 +70,8 @@ drift-at test (first ∷ drifts) zero drift all here =
     ap (λ each. test (drift_in each)) (sym (same_Some first drift here))
     ∙ (and_parts (test (drift_in first)) (list_all test (map drift_in drifts)) all).0
 drift-at test (first ∷ drifts) (suc place) drift all here =
-    drift-at test drifts place drift (and_parts (test (drift_in first)) (list_all test (map drift_in drifts)) all).1 here
+    drift-at test drifts place drift (and_parts (test (drift_in first))
+    (list_all test (map drift_in drifts)) all).1 here
 
 -- where none passes a test in its place, none does
 none-all : {A : Type 0} (test : A → Bool) (xs : List A) →

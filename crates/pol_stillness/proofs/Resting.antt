@@ -53,7 +53,8 @@ named-all test (s ∷ services) (form ∷ forms) named each =
     tails = cc
 
 -- a test of names says of these names what another says of the services
-pub named-any : (test : List ℕ → Bool) (own : SimService → Bool) (services : List SimService) (forms : List ServiceForm) →
+pub named-any : (test : List ℕ → Bool) (own : SimService → Bool) (services : List SimService)
+    (forms : List ServiceForm) →
     map (λ service. service.name) services ≡ map (λ form. form.name) forms →
     ((place : ℕ) (s : SimService) → slice_get services place ≡ Some s → test s.name ≡ own s) →
     list_any (λ form. test form.name) forms ≡ list_any own services

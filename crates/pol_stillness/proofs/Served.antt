@@ -261,7 +261,8 @@ none-ahead tag name from (entry ∷ older) none =
     go true (Some sent) (Some did) e = cc
 
 -- looking at it takes its entry off the end
-pub looked : (tag name : List ℕ) (from : ℕ) (history : History) (found : Found) → next_command tag from history ≡ Some found
+pub looked : (tag name : List ℕ) (from : ℕ) (history : History) (found : Found) →
+    next_command tag from history ≡ Some found
     → unlooked tag name from history ≡ unlooked tag name (suc found.place) history
     ++ (if is_for name (if_to tag (sent_by found.did)) then found.did ∷ [] else [])
 looked tag name from [] found is = cc

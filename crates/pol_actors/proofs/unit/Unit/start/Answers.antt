@@ -23,7 +23,8 @@ returns-in-None-item_at c =
     let at : slice_get c.args.site.now.exchanges.items c.in-Some.place ≡ None =
     ap (λ items. slice_get {X = SiteExchange} items c.in-Some.place) (sym c.deref.ensures.value)
     ∙ sym c.in-None-item_at.ensures in
-    subst (λ (origin : Origin). IfOk c.first_made-in-None-item_at.result (λ made. made ≡ first_made origin c.args.length))
+    subst (λ (origin : Origin). IfOk c.first_made-in-None-item_at.result
+    (λ made. made ≡ first_made origin c.args.length))
     (sym (ap (origin_of (site_view c.args.site.now) (module_view c.args.unit.now)) c.in-Some.is
     ∙ ap (origin_by (module_view c.args.unit.now)) (exchange-at c.args.site.now c.in-Some.place None at)))
     c.first_made-in-None-item_at.ensures
