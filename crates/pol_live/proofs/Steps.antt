@@ -1,6 +1,6 @@
 -- What a turn made of the parts of a locked plant.
-use Rattle.std.proofs.Common.{◌≡◌, ◌⊎◌, inl, inr, ◌<◌, ◌≤◌, ◌+◌, ℕ, suc, Bool, true, false, List, [], ◌∷◌, ◌++◌, length, map, get_or, Option, Some, None, refl, ap, sym, ◌∙◌, subst, arith}
-use Rattle.std.specs.Prelude.{◌&&◌, nat_lt, drop, option_map, slice_get, slice_set, if◌then◌else◌}
+use Rattle.std.proofs.Common.{◌≡◌, ◌⊎◌, inl, inr, ◌<◌, ◌≤◌, ◌+◌, ℕ, suc, Bool, true, false, List, [], ◌∷◌, ◌++◌, length, get_or, Option, Some, None, refl, ap, sym, ◌∙◌, subst, arith}
+use Rattle.std.specs.Prelude.{nat_lt, option_map, slice_get, slice_set, if◌then◌else◌}
 use Rattle.std.proofs.lemmas.Bool.{and_parts}
 use Rattle.std.proofs.lemmas.List.{length-map}
 use Rattle.std.proofs.lemmas.Option.{same_Some, slice_get_read}
@@ -8,8 +8,7 @@ use Rattle.mtp_desc.specs.Plain.{same_service}
 use Rattle.mtp_json.specs.Form.{repeats_by}
 use Rattle.mtp_sim.specs.declared.report.SimReport.{SimReport}
 use Rattle.mtp_sim.specs.declared.report.SimReport.TheVariants.{Service, Variable}
-use Rattle.pol_events.specs.Events.{EventForm, EntryForm, start, advance, desk, entry_view, history_view}
-use Rattle.pol_events.specs.declared.answer.Answer.{Answer}
+use Rattle.pol_events.specs.Events.{EventForm, start, advance, desk, history_view}
 use Rattle.pol_events.specs.declared.event.Entry.{Entry}
 use Rattle.pol_history.specs.Answers.{answer_of, is_full}
 use Rattle.pol_history.specs.Looking.{History, past}
@@ -17,7 +16,7 @@ use Rattle.pol_history.specs.Modules.{Docking, absent, docked, away, docking_by,
 use Rattle.pol_history.proofs.Accepted.{paired}
 use Rattle.pol_conduct.specs.Known.{is_there}
 use Rattle.pol_core.proofs.Together.{length-history}
-use Rattle.pol_site.specs.Actors.{Actor, a_module, actors, owner_of}
+use Rattle.pol_site.specs.Actors.{Actor, actors, owner_of}
 use Rattle.pol_site.specs.Settled.{is_settled, is_settled_in, is_settled_module}
 use Rattle.pol_site.specs.Sites.{SiteForm, SiteModuleForm, SiteBatchForm, SiteDeskForm, SiteExchangeForm}
 use Rattle.pol_site.specs.SiteView.{site_view}
@@ -25,7 +24,6 @@ use Rattle.pol_site.specs.Sound.{IsSite}
 use Rattle.pol_site.specs.Stories.{story}
 use Rattle.pol_site.specs.Views.{batch_view, exchange_view, module_view}
 use Rattle.pol_site.specs.declared.parts.SiteBatch.{SiteBatch}
-use Rattle.pol_site.specs.declared.parts.SiteExchange.{SiteExchange}
 use Rattle.pol_site.specs.declared.parts.SiteModule.{SiteModule}
 use Rattle.pol_site.specs.declared.site.Site.{Site}
 use Rattle.pol_simulated.specs.Places.{next_command}
@@ -38,25 +36,22 @@ use Rattle.pol_actors.specs.Kept.{IsKept}
 use Rattle.pol_actors.specs.Moved.{units_after}
 use Rattle.pol_actors.specs.Orders.{order_event}
 use Rattle.pol_actors.specs.Stamps.{stamped}
-use Rattle.pol_actors.specs.Turning.{first_made, made_after, made_decides, made_of, next_found, origin_by, origin_of, simulated}
+use Rattle.pol_actors.specs.Turning.{made_after, made_decides, made_of, next_found, origin_by, origin_of, simulated}
 use Rattle.pol_actors.specs.declared.batch.Stage.{Stage}
 use Rattle.pol_actors.specs.declared.desk.Desk.{Desk}
 use Rattle.pol_actors.specs.declared.exchanger.Errand.{Errand}
 use Rattle.pol_actors.specs.declared.exchanger.Exchanger.{Exchanger}
-use Rattle.pol_actors.specs.declared.made.Decision.{Decision}
-use Rattle.pol_actors.specs.declared.made.Decision.TheVariants.{Reports, Looks, Rests}
 use Rattle.pol_actors.specs.declared.made.Made.{Made}
 use Rattle.pol_actors.specs.declared.unit.Unit.{Unit as Module}
 use Rattle.pol_actors.proofs.BatchTurns.{batch-kept, desk-kept}
 use Rattle.pol_actors.proofs.Exchanging.{IsErrand}
 use Rattle.pol_actors.proofs.ExchangerTurns.{exchanger-kept}
 use Rattle.pol_actors.proofs.Found.{IsFoundAs, found-next}
-use Rattle.pol_actors.proofs.ModuleTurns.{module-looked, module-reported}
 use Rattle.pol_actors.proofs.Numbers.{item-mapped, mapped-item}
 use Rattle.pol_actors.proofs.Owners.{owner-batch, owner-desk, owner-module}
-use Rattle.pol_actors.proofs.Stages.{IsBatchTurn, batch-turn}
+use Rattle.pol_actors.proofs.Stages.{IsBatchTurn}
 use Rattle.pol_actors.proofs.Stamped.{entry_at}
-use Rattle.pol_actors.proofs.Turning.{HasReported, IsTurned, made-turned, made-up}
+use Rattle.pol_actors.proofs.Turning.{IsTurned, made-turned, made-up}
 use Rattle.pol_live.specs.Turns.{Enters, HasRested, Locked, history_of, is_docked}
 use Rattle.pol_live.specs.declared.turned.Placed.{Placed}
 

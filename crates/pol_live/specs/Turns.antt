@@ -1,5 +1,5 @@
 -- What a turn at the locked plant does.
-use Rattle.std.specs.Prelude.{ℕ, suc, ◌≡◌, ◌+◌, ◌<◌, ◌++◌, ◌∷◌, List, [], length, Bool, true, false, Option, Some, slice_get}
+use Rattle.std.specs.Prelude.{ℕ, suc, ◌≡◌, ◌+◌, ◌<◌, ◌++◌, ◌∷◌, List, [], length, Bool, true, false, Some, slice_get}
 use Rattle.pol_events.specs.Events.{EventForm, history_view}
 use Rattle.pol_events.specs.declared.event.Entry.{Entry}
 use Rattle.pol_history.specs.Answers.{answer_of, is_full}

@@ -25,6 +25,6 @@ pub use gate::{Gate, OpenGate};
 pub use job::Job;
 pub use live::LivePlant;
 pub use locked::LockedPlant;
-pub use run::{Ran, run_in_turn};
+pub use run::{Ran, run_in_turn, run_site};
 pub use seat::ActorSeat;
 pub use turned::{Placed, Turned};

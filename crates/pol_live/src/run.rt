@@ -1,5 +1,6 @@
-//! A site is run to its end, all turns in the thread of the caller.
+//! A site is run to its end, by threads or all turns in the thread of the caller.
 ghost use Rattle.std.specs.Prelude.{◌≡◌, length, IfOk};
+ghost use denote.Param.Send.{IsSend, IsSync};
 ghost use Rattle.pol_events.specs.Events.{history_view};
 ghost use Rattle.pol_history.specs.Runs.{IsLegal, IsOrderly};
 ghost use Rattle.pol_site.specs.Actors.{actors};
@@ -8,13 +9,15 @@ ghost use Rattle.pol_site.specs.Following.{FollowsSite};
 ghost use Rattle.pol_site.specs.Settled.{IsSettled};
 ghost use Rattle.pol_site.specs.SiteView.{site_view};
 ghost use Rattle.pol_actors.specs.Kept.{AreOwners};
+ghost use Rattle.pol_live.specs.Seats.{AreSeated};
 
-use crate::acting::{Crew, rotate};
+use crate::acting::{Crew, act, rotate};
 use crate::gate::Gate;
 use crate::job::Job;
 use crate::live::LivePlant;
 use crate::role::actors_of;
 use crate::rounds::settle;
+use crate::seat::ActorSeat;
 use pol_events::Entry;
 use pol_io::Clock;
 use pol_site::Site;
@@ -23,6 +26,8 @@ use std::marker::Brand;
 use std::sync::atomic::{AtomicU64, Ordering};
 use std::sync::ledger::Blank;
 use std::sync::{Arc, Wait};
+use std::thread;
+use std::thread::{Promise, Threads};
 
 /// What a run left: the history, the oldest entry first, and the number of the actor that made each entry.
 #[derive(Drop)]
@@ -31,6 +36,61 @@ pub struct Ran {
     pub history: Vec<Entry>,
     /// Who made each entry.
     pub by: Vec<u32>,
+}
+
+/// Runs a site to its end: until no actor has anything to do, or the history is full. Each actor takes its turns in a thread
+/// of its own, where one can be made, and passes the gate before each; it may wait.
+///
+/// # Errors
+///
+/// Where there is no memory.
+pub fn run_site<R: Threads + Wait + Sync, C: Clock + Send, G: Gate>(
+    rt: &R,
+    alloc: Global,
+    site: Site,
+    clock: C,
+    gate: &G,
+) -> Result<Ran, AllocError>
+    ensures legal { IfOk result (λ ran. IsLegal (history_view ran.history.items)) }
+    ensures orderly { IfOk result (λ ran. IsOrderly (history_view ran.history.items)) }
+    ensures follows { IfOk result (λ ran. FollowsSite (site_view site) (history_view ran.history.items)) }
+    ensures commanded { IfOk result (λ ran. IsCommanded (history_view ran.history.items)) }
+    ensures owned { IfOk result (λ ran. AreOwners (site_view site) (history_view ran.history.items) ran.by.items) }
+    ensures settled { IfOk result (λ ran. IsSettled (site_view site) (history_view ran.history.items)) }
+{
+    let blank = Blank::new(u64::from(actors_of(&site)));
+    run_by_threads::<Brand, R, C, G>(rt, alloc, site, clock, gate, blank)
+}
+
+// The same, as any run of this site.
+fn run_by_threads<J: Job + Send + Sync, R: Threads + Wait + Sync, C: Clock + Send, G: Gate>(
+    rt: &R,
+    alloc: Global,
+    site: Site,
+    clock: C,
+    gate: &G,
+    blank: Blank,
+) -> Result<Ran, AllocError>
+    requires blank { (blank.name ≡ J.name) × (blank.parts ≡ J.parts) × (J.parts ≡ length (actors J.site)) }
+    requires site { site_view site ≡ J.site }
+    ensures legal { IfOk result (λ ran. IsLegal (history_view ran.history.items)) }
+    ensures orderly { IfOk result (λ ran. IsOrderly (history_view ran.history.items)) }
+    ensures follows { IfOk result (λ ran. FollowsSite J.site (history_view ran.history.items)) }
+    ensures commanded { IfOk result (λ ran. IsCommanded (history_view ran.history.items)) }
+    ensures owned { IfOk result (λ ran. AreOwners J.site (history_view ran.history.items) ran.by.items) }
+    ensures settled { IfOk result (λ ran. IsSettled J.site (history_view ran.history.items)) }
+{
+    let site = Arc::new(alloc, site)?;
+    let (live, seats) = LivePlant::<J, C>::new(alloc, site, clock, blank)?;
+    let crew = Crew {
+        live: &live,
+        gate,
+        refused: AtomicU64::new(0),
+    };
+    let driven = drive(rt, alloc, &crew, seats);
+    drop(crew);
+    driven?;
+    finish(rt, live)
 }
 
 /// Runs a site to its end: until no actor has anything to do, or the history is full. The actors take turns in rotation, each
@@ -54,11 +114,11 @@ pub fn run_in_turn<R: Wait, C: Clock + Send, G: Gate>(
     ensures settled { IfOk result (λ ran. IsSettled (site_view site) (history_view ran.history.items)) }
 {
     let blank = Blank::new(u64::from(actors_of(&site)));
-    run_as::<Brand, R, C, G>(rt, alloc, site, clock, gate, blank)
+    run_by_turns::<Brand, R, C, G>(rt, alloc, site, clock, gate, blank)
 }
 
 // The same, as any run of this site.
-fn run_as<J: Job, R: Wait, C: Clock + Send, G: Gate>(
+fn run_by_turns<J: Job, R: Wait, C: Clock + Send, G: Gate>(
     rt: &R,
     alloc: Global,
     site: Site,
@@ -84,8 +144,79 @@ fn run_as<J: Job, R: Wait, C: Clock + Send, G: Gate>(
     };
     rotate(rt, &crew, &mut seats);
     drop(crew);
+    finish(rt, live)
+}
+
+// What is left to do after the actors' own turns: rounds of turns by this thread alone, whose end is known to be one.
+fn finish<J: Job, R: Wait, C: Clock + Send>(
+    rt: &R,
+    live: LivePlant<J, C>,
+) -> Result<Ran, AllocError>
+    ensures legal { IfOk result (λ ran. IsLegal (history_view ran.history.items)) }
+    ensures orderly { IfOk result (λ ran. IsOrderly (history_view ran.history.items)) }
+    ensures follows { IfOk result (λ ran. FollowsSite J.site (history_view ran.history.items)) }
+    ensures commanded { IfOk result (λ ran. IsCommanded (history_view ran.history.items)) }
+    ensures owned { IfOk result (λ ran. AreOwners J.site (history_view ran.history.items) ran.by.items) }
+    ensures settled { IfOk result (λ ran. IsSettled J.site (history_view ran.history.items)) }
+{
     let mut plant = live.into_plant();
     settle(rt, &mut plant)?;
     let (history, by) = plant.into_parts();
     Ok(Ran { history, by })
+}
+
+// The seat that comes back is that of the actor with this number.
+#[derive(Clone, Copy)]
+struct SeatOf(u32);
+
+impl<J: Job> Promise<ActorSeat<J>> for SeatOf {
+    ghost kept_by = { λ promise seat. seat.actor ≡ promise.0 };
+}
+
+// The turns of all actors, each in a thread of its own; the seats come back in their order. Where a thread can't be made,
+// this thread takes the turns of that actor and of those after it, in rotation. Room for all seats is taken before the
+// first thread starts, so that no thread is left waiting for an actor that never comes.
+fn drive<J: Job + Send + Sync, R: Threads + Wait + Sync, C: Clock + Send, G: Gate>(
+    rt: &R,
+    alloc: Global,
+    crew: &Crew<'_, J, C, G>,
+    seats: Vec<ActorSeat<J>>,
+) -> Result<Vec<ActorSeat<J>>, AllocError>
+    requires seats { AreSeated (length (actors J.site)) seats.items }
+    ensures { IfOk result (λ seats. AreSeated (length (actors J.site)) seats.items) }
+{
+    thread::scope(
+        thread::scope_env(),
+        rt,
+        |scope| -> Result<Vec<ActorSeat<J>>, AllocError>
+            requires { IsSync R.row × IsSync G.row × IsSend C.row × IsSend J.row × IsSync J.row
+                × AreSeated (length (actors J.site)) seats.items }
+            ensures { IfOk result (λ seats. AreSeated (length (actors J.site)) seats.items) }
+        {
+            let mut children = Vec::new(alloc);
+            children.reserve(seats.len())?;
+            let mut here = Vec::new(alloc);
+            here.reserve(seats.len())?;
+            for seat in seats {
+                if !here.is_empty() {
+                    here.push(seat)?;
+                    continue;
+                }
+                let actor = seat.actor();
+                match scope.spawn_with(SeatOf(actor), move || act(rt, crew, seat)) {
+                    Ok(child) => children.push(child)?,
+                    Err(refused) => {
+                        crew.refused.store(u64::from(actor) + 1, Ordering::SeqCst);
+                        let seat = (refused.value)();
+                        crew.refused.store(0, Ordering::SeqCst);
+                        here.push(seat)?;
+                    },
+                }
+            }
+            rotate(rt, crew, &mut here);
+            let mut home = thread::join_promised(rt, children)?;
+            home.append(&mut here)?;
+            Ok(home)
+        },
+    )
 }

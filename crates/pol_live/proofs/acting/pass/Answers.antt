@@ -1,4 +1,4 @@
-use Rattle.std.proofs.Common.{◌≡◌, ◌∙◌, ap}
+use Rattle.std.proofs.Common.{◌∙◌, ap}
 use Rattle.pol_live.specs.Seats.{Seated}
 use Rattle.pol_live.proofs.Seats.{seat-kept}
 use Rattle.pol_live.proofs.acting.pass.Goals as goal

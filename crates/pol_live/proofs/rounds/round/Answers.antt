@@ -1,4 +1,4 @@
-use Rattle.std.proofs.Common.{rules, ◌≡◌, ◌<◌, ◌≤◌, length, inl, arith}
+use Rattle.std.proofs.Common.{rules, ◌≤◌, length, inl, arith}
 use Rattle.pol_site.specs.Actors.{actors}
 use Rattle.pol_site.specs.Settled.{IsSettledActor}
 use Rattle.pol_actors.proofs.Numbers.{within-item}

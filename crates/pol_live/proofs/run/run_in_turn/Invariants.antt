@@ -2,8 +2,8 @@
 use Rattle.pol_site.specs.SiteView.{site_view}
 use Rattle.pol_live.proofs.run.run_in_turn.Given as goal
 
-abbrev pub ghosts-run_as-J-Job : goal.ghosts-run_as-J-Job
-ghosts-run_as-J-Job g a = record { site = site_view a.site }
+abbrev pub ghosts-run_by_turns-J-Job : goal.ghosts-run_by_turns-J-Job
+ghosts-run_by_turns-J-Job g a = record { site = site_view a.site }
 
-abbrev pub ghosts-run_as-J-Ledger : goal.ghosts-run_as-J-Ledger
-ghosts-run_as-J-Ledger g a = record { name = a.blank.name; parts = a.blank.parts }
+abbrev pub ghosts-run_by_turns-J-Ledger : goal.ghosts-run_by_turns-J-Ledger
+ghosts-run_by_turns-J-Ledger g a = record { name = a.blank.name; parts = a.blank.parts }

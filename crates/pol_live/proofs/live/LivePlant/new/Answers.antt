@@ -1,4 +1,4 @@
-use Rattle.std.proofs.Common.{rules, ◌≡◌, ◌≤◌, ◌∙◌, length, subst, arith}
+use Rattle.std.proofs.Common.{rules, ◌≡◌, ◌≤◌, length, subst, arith}
 use Rattle.pol_site.specs.Actors.{actors}
 use Rattle.pol_live.specs.Seats.{AreSeated}
 use Rattle.pol_live.proofs.Seats.{seated-more}

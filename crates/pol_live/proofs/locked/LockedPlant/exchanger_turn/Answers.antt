@@ -1,4 +1,4 @@
-use Rattle.std.proofs.Common.{◌≡◌, ◌∙◌, ap, length, refl, subst, sym, Some, None}
+use Rattle.std.proofs.Common.{◌≡◌, ◌∙◌, ap, length, refl, sym, Some, None}
 use Rattle.std.specs.Prelude.{option_map}
 use Rattle.std.proofs.lemmas.Option.{same_Some}
 use Rattle.pol_events.specs.Events.{event_view}

@@ -1,4 +1,4 @@
-use Rattle.std.proofs.Common.{rules, ◌≡◌, ◌∙◌, List, [], ap, length, sym, subst}
+use Rattle.std.proofs.Common.{rules, ◌≡◌, ◌∙◌, [], ap, length, sym, subst}
 use Rattle.std.proofs.lemmas.List.{length-map}
 use Rattle.pol_events.specs.Events.{history_view}
 use Rattle.pol_site.specs.SiteView.{site_view}

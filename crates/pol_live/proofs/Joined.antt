@@ -1,0 +1,41 @@
+-- The seats that come back are those that were promised.
+use Rattle.std.proofs.Common.{◌≡◌, ◌<◌, ℕ, List, [], ◌∷◌, ◌++◌, suc, length, get_or, refl, sym, ap, ◌∙◌, arith, append-nil}
+use Rattle.std.specs.List.{range_with_len}
+use Rattle.std.proofs.lemmas.List.{map-append}
+use Rattle.std.specs.declared.thread.PromisedHandle.{PromisedHandle}
+use Rattle.pol_live.specs.declared.run.SeatOf.{SeatOf}
+use Rattle.pol_live.specs.Seats.{AreSeated, Seated, actors_of}
+use Rattle.pol_live.specs.Promises.{promised}
+
+-- each seat that came back is its handle's
+pub joined : (handles : List (PromisedHandle Seated SeatOf)) (seats : List Seated) → length seats ≡ length handles →
+    ((place : ℕ) (other : Seated) → place < length handles → (handle : PromisedHandle Seated SeatOf)
+    × (handle ≡ get_or handles place handle) × ((get_or seats place other).actor ≡ handle.promise.0)) →
+    actors_of seats ≡ promised handles
+joined [] [] same kept = refl
+joined [] (seat ∷ seats) same kept = absurd (omega arith)
+joined (handle ∷ handles) [] same kept = absurd (omega arith)
+joined (handle ∷ handles) (seat ∷ seats) same kept =
+    let first = kept 0 seat (omega arith) in
+    let here : seat.actor ≡ handle.promise.0 =
+    first.2 ∙ ap (λ (each : PromisedHandle Seated SeatOf). each.promise.0) first.1 in
+    let rest : actors_of seats ≡ promised handles =
+    joined handles seats (omega arith) (λ place other less. kept (suc place) other (omega arith)) in
+    λ i. here i ∷ rest i
+
+-- no seat is left
+none-left : (seats : List Seated) → length seats ≡ 0 → actors_of seats ≡ []
+none-left [] is = refl
+none-left (seat ∷ seats) is = absurd (omega arith)
+
+-- those that came back and those that stayed here are all seats
+pub all-home : (count : ℕ) (handles : List (PromisedHandle Seated SeatOf)) (home here turned rest : List Seated) →
+    promised handles ++ (actors_of here ++ actors_of rest) ≡ range_with_len 0 count → length rest ≡ 0 →
+    actors_of home ≡ promised handles → actors_of turned ≡ actors_of here → AreSeated count (home ++ turned)
+all-home count handles home here turned rest all none back same =
+    map-append (λ (seat : Seated). seat.actor) home turned
+    ∙ ap (λ (actors : List ℕ). actors ++ actors_of turned) back
+    ∙ ap (λ (actors : List ℕ). promised handles ++ actors)
+    (same ∙ sym (append-nil (actors_of here))
+    ∙ ap (λ (actors : List ℕ). actors_of here ++ actors) (sym (none-left rest none)))
+    ∙ all
