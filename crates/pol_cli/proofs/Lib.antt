@@ -5,3 +5,6 @@ pub mod Ending
 pub mod BatchLines
 pub mod Replaying
 pub mod Journals
+pub mod SiteTexts
+pub mod EntryLines
+pub mod PlantEnding

@@ -12,8 +12,8 @@ use Rattle.pol_record.specs.Lines as lines
 use Rattle.pol_cli.specs.LineWork.{IsShort, IsTooLong}
 
 -- a short line is not too long
-in-limit : (line : List ℕ) → IsShort line → nat_lt LONGEST_LINE (length line) ≡ false
-in-limit line short =
+pub in_limit : (line : List ℕ) → IsShort line → nat_lt LONGEST_LINE (length line) ≡ false
+in_limit line short =
     false_from_ne_true (nat_lt LONGEST_LINE (length line)) (λ long. let over = ltb-true LONGEST_LINE (length line) long in
     absurd (omega arith))
 
@@ -21,21 +21,21 @@ in-limit line short =
 pub says_nothing : (line : List ℕ) → IsShort line → list_all is_blank_byte line ≡ true →
     lines.nothing ≡ lines.saying_of line
 unfolding lines.saying_of
-says_nothing line short blank = rw (in-limit line short, blank)
+says_nothing line short blank = rw (in_limit line short, blank)
 
 -- another one says its event
 pub says_event : (line : List ℕ) (event : EventForm) → IsShort line → list_all is_blank_byte line ≡ false →
     event_of line ≡ Ok event →
     lines.an_event event ≡ lines.saying_of line
 unfolding lines.saying_of
-says_event line event short some is = rw (in-limit line short, some, is)
+says_event line event short some is = rw (in_limit line short, some, is)
 
 -- or is at fault
 pub says_fault : (line : List ℕ) (fault : LineFault) → IsShort line → list_all is_blank_byte line ≡ false →
     event_of line ≡ Err fault →
     lines.a_fault fault ≡ lines.saying_of line
 unfolding lines.saying_of
-says_fault line fault short some is = rw (in-limit line short, some, is)
+says_fault line fault short some is = rw (in_limit line short, some, is)
 
 -- a line that is too long says so
 pub says_too_long : (line : List ℕ) → IsTooLong line → lines.a_fault TooLong ≡ lines.saying_of line

@@ -8,3 +8,5 @@ pub mod Replay
 pub mod Tasks
 pub mod BatchLines
 pub mod Moments
+pub mod SiteTexts
+pub mod SiteRuns

@@ -1,4 +1,4 @@
-//! The jobs that one thread does from beginning to end.
+//! The jobs.
 ghost use Rattle.std.specs.Prelude.{◌≡◌, ◌≢◌, ℕ, List};
 ghost use Rattle.pol_cli.specs.Ends.{edge};
 ghost use Rattle.pol_cli.specs.Journal.{JournalTheorem, Laws};
@@ -6,13 +6,16 @@ ghost use Rattle.pol_cli.specs.Tasks.{TaskEnds};
 
 mod closing;
 mod demo;
+mod plant;
 mod replay;
 mod saying;
+mod site_text;
 
 use crate::journal::journals_are_sound;
 use crate::lines::work;
 use crate::status::Status;
 use demo::demonstrate;
+pub use plant::live;
 use pol_io::{Sink, Source};
 use pol_words::SerialTask;
 use replay::Replay;

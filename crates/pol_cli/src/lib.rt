@@ -12,6 +12,6 @@ mod lines;
 mod program;
 mod status;
 
-pub use jobs::serve;
+pub use jobs::{live, serve};
 pub use program::top;
 pub use status::Status;

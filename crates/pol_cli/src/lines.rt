@@ -63,7 +63,7 @@ fn put_reply<K: Sink>(
 }
 
 /// Replies to each line of the source.
-fn reply_to_all<S: Source, K: Sink, J: LineJob>(
+pub fn reply_to_all<S: Source, K: Sink, J: LineJob>(
     lines: &mut Lines,
     job: &mut J,
     source: &mut S,

@@ -1,30 +1,44 @@
 //! From words to a status: what the program does.
 ghost use Rattle.std.specs.Prelude.{◌≡◌, ◌≢◌, ◌⊎◌, ℕ, List};
 ghost use Rattle.pol_words.specs.Words.{Means, texts_of};
+ghost use Rattle.pol_words.specs.declared.LiveTask.{LiveTask};
 ghost use Rattle.pol_words.specs.declared.SerialTask.{SerialTask};
 ghost use Rattle.pol_words.specs.declared.Task.{Task};
 ghost use Rattle.pol_cli.specs.Ends.{edge};
 ghost use Rattle.pol_cli.specs.Journal.{JournalTheorem, Laws};
+ghost use Rattle.pol_cli.specs.SiteRuns.{IsUnbegun, PlantEnds};
 ghost use Rattle.pol_cli.specs.Tasks.{TaskEnds};
 
-use crate::jobs::serve;
+use crate::jobs::{live, serve};
 use crate::journal::journals_are_sound;
 use crate::status::Status;
-use pol_io::{Sink, Source};
+use pol_io::{Clock, Sink, Source};
+use pol_live::Gate;
 use pol_words::{Task, WordFault, read_words};
 use std::alloc::Global;
+use std::sync::Wait;
+use std::thread::Threads;
 
 /// Does what the words ask for; the first word is the program's name. Words that ask for no task leave the source and
-/// the sink as they were.
-pub fn top<S: Source, K: Sink>(
+/// the sink as they were. The runtime, the clock and the gate are for the plant alone, which may wait; a replay and a
+/// demo wait for nobody.
+pub fn top<R: Threads + Wait + Sync, S: Source, K: Sink, C: Clock + Send, G: Gate>(
+    rt: &R,
     alloc: Global,
     words: &[String],
     source: &mut S,
     sink: &mut K,
+    clock: C,
+    gate: &G,
 ) -> Status
     ensures ends { (task : SerialTask) → Means (texts_of words.now) (Task.Serial task) → TaskEnds task
         (edge (S.left source.old) (S.faults source.old)) (edge (S.left source.new) (S.faults source.new))
         (edge (K.held sink.old) (K.faults sink.old)) (edge (K.held sink.new) (K.faults sink.new)) result }
+    ensures plant { (task : LiveTask) → Means (texts_of words.now) (Task.Live task) → PlantEnds
+        (edge (S.left source.old) (S.faults source.old)) (edge (S.left source.new) (S.faults source.new))
+        (edge (K.held sink.old) (K.faults sink.old)) (edge (K.held sink.new) (K.faults sink.new)) result }
+    ensures unbegun { (task : LiveTask) → Means (texts_of words.now) (Task.Live task)
+        → IsUnbegun result → sink.new ≡ sink.old }
     ensures theorem { (bytes : List ℕ) → JournalTheorem bytes }
     ensures laws { Laws }
     ensures unread { (seed : ℕ) → Means (texts_of words.now) (Task.Serial (SerialTask.Demo seed))
@@ -39,6 +53,7 @@ pub fn top<S: Source, K: Sink>(
     journals_are_sound();
     match read_words(alloc, words) {
         Ok(Task::Serial(task)) => serve(alloc, &task, source, sink),
+        Ok(Task::Live(task)) => live(rt, alloc, &task, source, sink, clock, gate),
         Err(WordFault::Refused) => Status::BadWords,
         Err(WordFault::Memory) => Status::OutOfMemory,
     }

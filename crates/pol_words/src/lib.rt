@@ -5,9 +5,9 @@
 #![tactic(auto)]
 
 ghost use Rattle.std.specs.Prelude.{◌≡◌, ℕ, [], IfOk, IfErr, MatchOption, option_map};
-ghost use Rattle.pol_words.specs.Words.{pol, texts_of, Asks, IsSeed, Means};
+ghost use Rattle.pol_words.specs.Words.{option_rule, pol, texts_of, Asks, IsCount, IsSeed, Means};
 ghost use Rattle.pol_words.specs.declared.Task.{Task};
-ghost use Rattle.clap.specs.Words.{app_of, fault_of, found_of, matches_of, rows_of};
+ghost use Rattle.clap.specs.Words.{app_of, fault_of, found_of, matches_of, rows_of, with_rule};
 
 use clap::error::ErrorKind;
 use clap::{Arg, ArgAction, ArgMatches, Command};
@@ -22,11 +22,24 @@ pub enum SerialTask {
     Demo(u32),
 }
 
+/// `--job plant`: run the site of the input with simulated modules.
+#[derive(Clone, Copy, Debug, PartialEq, Eq)]
+pub struct LiveTask {
+    /// How many threads read the status board meanwhile: `--watchers N`, 0 where it isn't given.
+    pub watchers: u16,
+}
+
 /// What the program is asked to do.
 #[derive(Clone, Copy, Debug, PartialEq, Eq)]
 pub enum Task {
+    /// A job that waits for nobody.
     Serial(SerialTask),
+    /// A job that may wait.
+    Live(LiveTask),
 }
+
+/// How many watchers there may be.
+const MOST_WATCHERS: u16 = 16;
 
 /// Why the words give no task.
 #[derive(Clone, Copy, Debug, PartialEq, Eq)]
@@ -35,6 +48,17 @@ pub enum WordFault {
     Refused,
     /// There was no memory to read them.
     Memory,
+}
+
+// The command with one more option, which takes one value.
+fn with_option<'a>(
+    alloc: Global,
+    command: Command<'a>,
+    name: &'a str,
+) -> Result<Command<'a>, AllocError>
+    ensures { IfOk result (λ new. app_of new ≡ with_rule (app_of command.entry) (option_rule name.now)) }
+{
+    command.arg(Arg::new(alloc, name).long(name).action(ArgAction::Set))
 }
 
 // One simple command whose options each take one value; help and version are switched off.
@@ -46,12 +70,12 @@ fn command<'a>(alloc: Global) -> Result<Command<'a>, AllocError>
         .long("job")
         .action(ArgAction::Set)
         .required(true);
-    let seed = Arg::new(alloc, "seed").long("seed").action(ArgAction::Set);
-    Command::new(alloc, "pol")
+    let command = Command::new(alloc, "pol")
         .disable_help_flag(true)
         .disable_version_flag(true)
-        .arg(job)?
-        .arg(seed)
+        .arg(job)?;
+    let command = with_option(alloc, command, "seed")?;
+    with_option(alloc, command, "watchers")
 }
 
 #[tactic(auto, unfolding(crate::specs::Words::pol))]
@@ -82,32 +106,69 @@ fn seed_of(text: &str) -> Option<u32>
     text.parse().ok()
 }
 
-// The task that these values ask for.
-fn task_of(job: Option<&str>, seed: Option<&str>) -> Option<Task>
-    ensures { MatchOption result ((task : Task) → Asks (record
-        { job = option_map (λ text. text.now) job.entry; seed = option_map (λ text. text.now) seed.entry }) task → ⊥)
-        (Asks (record
-        { job = option_map (λ text. text.now) job.entry; seed = option_map (λ text. text.now) seed.entry })) }
+// The number of watchers, in decimal: none where no text is given.
+fn count_of(text: Option<&str>) -> Option<u16>
+    ensures { MatchOption result
+        ((count : ℕ) → IsCount count (option_map (λ text. text.now) text.entry) → ⊥)
+        (λ count. IsCount count (option_map (λ text. text.now) text.entry)) }
 {
-    match (job, seed) {
-        (Some("replay"), None) => Some(Task::Serial(SerialTask::Replay)),
-        (Some("demo"), Some(text)) => {
+    let Some(text) = text else {
+        return Some(0);
+    };
+    let count = text.parse().ok()?;
+    if count > MOST_WATCHERS {
+        return None;
+    }
+    Some(count)
+}
+
+// The plant with so many watchers, in decimal.
+fn plant_of(watchers: Option<&str>) -> Option<Task>
+    ensures { MatchOption result
+        ((count : ℕ) → IsCount count (option_map (λ text. text.now) watchers.entry) → ⊥)
+        (λ task. (count : ℕ) × (task ≡ Task.Live (record { watchers = count }))
+        × IsCount count (option_map (λ text. text.now) watchers.entry)) }
+{
+    let watchers = count_of(watchers)?;
+    Some(Task::Live(LiveTask { watchers }))
+}
+
+// The task that these values ask for.
+fn task_of(job: Option<&str>, seed: Option<&str>, watchers: Option<&str>) -> Option<Task>
+    ensures { MatchOption result ((task : Task) → Asks (record {
+      job = option_map (λ text. text.now) job.entry;
+      seed = option_map (λ text. text.now) seed.entry;
+      watchers = option_map (λ text. text.now) watchers.entry;
+    }) task → ⊥) (Asks (record {
+      job = option_map (λ text. text.now) job.entry;
+      seed = option_map (λ text. text.now) seed.entry;
+      watchers = option_map (λ text. text.now) watchers.entry;
+    })) }
+{
+    match (job, seed, watchers) {
+        (Some("replay"), None, None) => Some(Task::Serial(SerialTask::Replay)),
+        (Some("demo"), Some(text), None) => {
             let seed = seed_of(text)?;
             Some(Task::Serial(SerialTask::Demo(seed)))
         }
+        (Some("plant"), None, watchers) => plant_of(watchers),
         _ => None,
     }
 }
 
 /// The task that the words ask for; the first word is the program's name. Refused are exactly the words that ask for
 /// no task: those that `clap` refuses for another cause than memory, a job that there isn't, a demo without a seed from
-/// 0 to 4294967295, and another job with a seed.
+/// 0 to 4294967295, another job with a seed, a plant with watchers other than 0 to 16, and another job with watchers.
 pub fn read_words(alloc: Global, words: &[String]) -> Result<Task, WordFault>
     ensures ok { IfOk result (Means (texts_of words.now)) }
     ensures refused { IfErr result (λ fault. fault ≡ WordFault.Refused → (task : Task) → Means (texts_of words.now) task → ⊥) }
 {
     let matches = matches(alloc, words)?;
-    match task_of(matches.get_str("job"), matches.get_str("seed")) {
+    match task_of(
+        matches.get_str("job"),
+        matches.get_str("seed"),
+        matches.get_str("watchers"),
+    ) {
         Some(task) => Ok(task),
         None => Err(WordFault::Refused),
     }
@@ -122,12 +183,16 @@ mod tests {
     fn only_the_words_of_a_job_give_a_task(rt: HostRuntime) -> Result<(), Fail> {
         let replay = Ok(Task::Serial(SerialTask::Replay));
         let demo = |seed: u32| Ok(Task::Serial(SerialTask::Demo(seed)));
+        let plant = |watchers: u16| Ok(Task::Live(LiveTask { watchers }));
         let refused = Err(WordFault::Refused);
-        let cases: [(&str, Result<Task, WordFault>); 18] = [
+        let cases: [(&str, Result<Task, WordFault>); 24] = [
             ("pol --job replay", replay),
             ("pol --job=replay", replay),
             ("pol --job=demo --seed 0", demo(0)),
             ("pol --seed=4294967295 --job demo", demo(4_294_967_295)),
+            ("pol --job plant", plant(0)),
+            ("pol --job plant --watchers 0", plant(0)),
+            ("pol --watchers=16 --job plant", plant(16)),
             ("pol", refused),
             ("pol replay", refused),
             ("pol --job", refused),
@@ -141,6 +206,9 @@ mod tests {
             ("pol --job replay --seed 1", refused),
             ("pol --job replay --job replay", refused),
             ("pol --job plant --watchers 17", refused),
+            ("pol --job plant --watchers -1", refused),
+            ("pol --job plant --seed 1", refused),
+            ("pol --job replay --watchers 0", refused),
             ("pol --help", refused),
         ];
         for (line, task) in cases {

@@ -21,7 +21,8 @@ pub enum Saying {
     Event(Event),
 }
 
-fn is_blank(line: &[u8]) -> bool
+/// Whether a line holds only spaces, tabs and carriage returns.
+pub fn is_blank(line: &[u8]) -> bool
     ensures { result ≡ list_all is_blank_byte line.now }
 {
     line.iter()

@@ -1,0 +1,92 @@
+-- The lines of the entries of a history, one after another, and then what closes the output.
+use Rattle.std.proofs.Common.{ℕ, zero, suc, ◌≡◌, ◌<◌, List, [], ◌∷◌, ◌++◌, length, true, arith, get_or, refl, sym, ap, subst, ◌∙◌, append_assoc, length-append, map}
+use Rattle.std.proofs.lemmas.List.{reverse-append, reverse-reverse}
+use Rattle.std.proofs.lemmas.List.Folds.{flat_map-map}
+use Rattle.std.specs.Prelude.{Option, reverse}
+use Rattle.std.specs.List.{AllByRecursion, flat_map}
+use Rattle.std.specs.Io.KnownBytes.{Appends}
+use Rattle.pol_io.proofs.Known.{Appends-trans}
+use Rattle.pol_events.specs.Events.{EntryForm, entry_view, history_view}
+use Rattle.pol_events.specs.Orderly.{is_orderly}
+use Rattle.pol_events.specs.declared.event.Entry.{Entry}
+use Rattle.pol_history.specs.Looking.{History}
+use Rattle.pol_history.specs.Runs.{IsOrderly}
+use Rattle.pol_record.specs.Lines.{closing_text}
+use Rattle.pol_record.specs.Texts.{batches_text, end_text, entry_line_text}
+use Rattle.pol_cli.specs.SiteRuns.{entries_text, entry_lines, run_text}
+use Rattle.pol_cli.specs.Written.{WritesPart, WritesSome}
+use Rattle.pol_cli.proofs.BatchLines.{some_end}
+
+-- ---- orderly entries
+
+-- what holds of all of two lists holds of all of each
+all-parts : {A : Type 0} (P : A → Type 0) (xs ys : List A) → AllByRecursion P (xs ++ ys) →
+    AllByRecursion P xs × AllByRecursion P ys
+all-parts P [] ys all = (tt, all)
+all-parts P (x ∷ xs) ys all = let rest = all-parts P xs ys all.1 in ((all.0, rest.0), rest.1)
+
+-- what holds of all in one order holds of all in the other
+all-reverse : {A : Type 0} (P : A → Type 0) (xs : List A) → AllByRecursion P (reverse xs) → AllByRecursion P xs
+all-reverse P [] all = tt
+all-reverse P (x ∷ xs) all =
+    let parts = all-parts P (reverse xs) (x ∷ []) (subst (AllByRecursion P) (reverse-append (x ∷ []) xs) all) in
+    (parts.1.0, all-reverse P xs parts.0)
+
+-- each entry of an orderly history is orderly
+each-orderly : (entries : List Entry) (i : ℕ) (default : Entry) → IsOrderly (map entry_view entries) →
+    i < length entries →
+    is_orderly (entry_view (get_or entries i default)).event ≡ true
+each-orderly [] i default orderly inside = absurd (omega arith)
+each-orderly (entry ∷ entries) zero default orderly inside = orderly.0
+each-orderly (entry ∷ entries) (suc i) default orderly inside =
+    each-orderly entries i default orderly.1 (omega arith)
+
+pub entry_orderly : (entries : List Entry) (i : ℕ) (entry : Entry) → IsOrderly (history_view entries) →
+    i < length entries →
+    entry ≡ get_or entries i entry → is_orderly (entry_view entry).event ≡ true
+entry_orderly entries i entry orderly inside same =
+    subst (λ each. is_orderly (entry_view each).event ≡ true) (sym same)
+    (each-orderly entries i entry
+    (all-reverse (λ each. is_orderly each.event ≡ true) (map entry_view entries) orderly) inside)
+
+-- ---- their lines
+
+-- the lines of the entries are those of the history
+pub lines_of_entries : (entries : List Entry) → entry_lines entries ≡ entries_text (history_view entries)
+lines_of_entries entries =
+    sym (flat_map-map entry_line_text entry_view entries)
+    ∙ ap (flat_map entry_line_text) (sym (reverse-reverse (map entry_view entries)))
+
+-- what closes the output isn't empty
+some-closing : (history : History) → 0 < length (closing_text history)
+some-closing history = let end = some_end in rw (length-append (batches_text history) end_text) (omega arith)
+
+-- the lines of the entries were not written whole
+pub cut_before : (held held' : Option (List ℕ)) (history : History) → WritesSome held held' (entries_text history) →
+    WritesPart held held' (run_text history)
+cut_before held held' history some = record {
+  some = record {
+    written = some.written;
+    more = some.more ++ closing_text history;
+    appended = some.appended;
+    front = sym (append_assoc some.written some.more (closing_text history))
+        ∙ ap (λ text. text ++ closing_text history) some.front;
+  };
+  proper =
+      let longer = some-closing history in rw (length-append some.more (closing_text history)) (omega arith);
+}
+
+-- they were, but what closes the output was not
+pub cut_behind : (held between held' : Option (List ℕ)) (history : History) →
+    Appends held between (entries_text history) → WritesPart between held' (closing_text history) →
+    WritesPart held held' (run_text history)
+cut_behind held between held' history appended part = record {
+  some = record {
+    written = entries_text history ++ part.some.written;
+    more = part.some.more;
+    appended = Appends-trans held between held' (entries_text history) part.some.written appended part.some.appended;
+    front = append_assoc (entries_text history) part.some.written part.some.more
+        ∙ ap (λ text. entries_text history ++ text) part.some.front;
+  };
+  proper = part.proper;
+}

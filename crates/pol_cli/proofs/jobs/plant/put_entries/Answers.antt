@@ -1,0 +1,18 @@
+use Rattle.std.proofs.Common.{subst}
+use Rattle.std.specs.Prelude.{OnErr, OnOk}
+use Rattle.std.specs.Io.KnownBytes.{Appends}
+use Rattle.pol_cli.specs.Written.{WritesSome}
+use Rattle.pol_cli.proofs.EntryLines.{lines_of_entries}
+use Rattle.pol_cli.proofs.jobs.plant.put_entries.Goals as goal
+
+pub returns-clause-text : goal.returns-clause-text
+returns-clause-text g c =
+    subst (λ text. OnOk c.put_each.result
+    (Appends (g.K.Sink.held c.args.sink.now) (g.K.Sink.held c.put_each.new.sink) text))
+    (lines_of_entries c.args.history.now) c.put_each.ensures.text
+
+pub returns-clause-part : goal.returns-clause-part
+returns-clause-part g c =
+    subst (λ text. OnErr c.put_each.result
+    (WritesSome (g.K.Sink.held c.args.sink.now) (g.K.Sink.held c.put_each.new.sink) text))
+    (lines_of_entries c.args.history.now) c.put_each.ensures.part
