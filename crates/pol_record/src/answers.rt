@@ -24,9 +24,9 @@ pub fn outcome_name(outcome: Outcome) -> &'static str
     }
 }
 
-// The fields of a refusal: the rule's, its name and its number.
+/// The fields of a refusal: the rule's, its name and its number.
 #[tactic(auto, using(crate::proofs::Tokens::two_behind))]
-fn refusal_fields(rule: &Rule) -> Fields<'_>
+pub fn refusal_fields(rule: &Rule) -> Fields<'_>
     ensures { fields_of result ≡ refusal_fields rule.now }
 {
     let row = rule.row();
@@ -35,15 +35,15 @@ fn refusal_fields(rule: &Rule) -> Fields<'_>
         .number("refused", row.number)
 }
 
-// The fields of a log entry: its own, and what was done.
-fn entry_fields(entry: &LogEntry) -> Fields<'_>
+/// The fields of a log entry: its own, and what was done.
+pub fn entry_fields(entry: &LogEntry) -> Fields<'_>
     ensures { fields_of result ≡ entry_fields entry.now }
 {
     entry_row(entry).named_fields("do")
 }
 
-// The fields of an obstacle: its own, and what is waited for.
-fn obstacle_fields(obstacle: &Why) -> Fields<'_>
+/// The fields of an obstacle: its own, and what is waited for.
+pub fn obstacle_fields(obstacle: &Why) -> Fields<'_>
     ensures { fields_of result ≡ obstacle_fields obstacle.now }
 {
     obstacle_row(obstacle).named_fields("wait")

@@ -19,6 +19,7 @@ mod objects;
 mod records;
 mod rows;
 
+pub use answers::{entry_fields, obstacle_fields, outcome_name, refusal_fields};
 pub use batches::{batch_line, batch_log, gathered_line};
 pub use entry_lines::{entry_line, put_entry_line};
 pub use gathering::{BatchRecords, gather};

@@ -1,0 +1,5 @@
+pub mod Sizes
+pub mod Compared
+pub mod Again
+pub mod Told
+pub mod Lines

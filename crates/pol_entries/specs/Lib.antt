@@ -1,0 +1,6 @@
+pub mod Found
+pub mod Compared
+pub mod Held
+pub mod Candidates
+pub mod Answers
+pub mod Entries

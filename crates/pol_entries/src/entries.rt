@@ -1,0 +1,99 @@
+//! Reading the lines of a history.
+ghost use Rattle.std.specs.Prelude.{◌≡◌, ◌≤◌, IfOk, IsTrue, codes};
+ghost use Rattle.serde_json.specs.Data.{depth};
+ghost use Rattle.serde_json.specs.Read.{max_depth};
+ghost use Rattle.serde_json.specs.View.{view};
+ghost use Rattle.mtp_json.specs.Form.{inside};
+ghost use Rattle.mtp_json.specs.Gives.{Gives as GivesJson};
+ghost use Rattle.pol_events.specs.Events.{entry_view, event_view};
+ghost use Rattle.pol_events.specs.Forms.{event_in};
+ghost use Rattle.pol_events.specs.Lines as event_lines;
+ghost use Rattle.pol_events.specs.Orderly.{is_orderly};
+ghost use Rattle.pol_entries.specs.Entries.{Gives, Tells, entry_form, entry_of, read_of};
+
+use crate::answers::AnswerJson;
+use chart_core::ChartFault;
+use mtp_json::{JsonRefusal, form_at, nothing_but, object_here, parse, under, value_at};
+use pol_events::{Answer, Entry, Event, LineFault, LineRefusal, read_event};
+use serde_json::Value;
+use std::alloc::Global;
+
+#[tactic(auto, using(crate::proofs::Lines::event_told))]
+fn told_event(alloc: Global, value: &Value) -> Result<Event, LineRefusal>
+    requires { depth (view value.now) ≤ max_depth }
+    ensures tells { event_lines.Tells result (event_lines.of_line (event_in (view value.now))) }
+    ensures orderly { IfOk result (λ event. IsTrue (is_orderly (event_view event))) }
+{
+    match value.to_vec(alloc) {
+        Ok(text) => read_event(alloc, &text),
+        Err(_) => Err(LineRefusal::Memory),
+    }
+}
+
+#[tactic(auto, using(crate::proofs::Lines::line_ok, crate::proofs::Lines::line_chart, crate::proofs::Lines::line_json))]
+fn event_here(alloc: Global, value: &Value) -> Result<Result<Event, ChartFault>, JsonRefusal>
+    requires { depth (view value.now) ≤ max_depth }
+    ensures gives { Gives event_view (λ event. event) result (event_in (view value.now)) }
+    ensures orderly { IfOk result (λ asked. IfOk asked (λ event. IsTrue (is_orderly (event_view event)))) }
+{
+    match told_event(alloc, value) {
+        Ok(event) => Ok(Ok(event)),
+        Err(LineRefusal::Fault(LineFault::Chart(fault))) => Ok(Err(fault)),
+        Err(LineRefusal::Fault(LineFault::Json(fault))) => Err(JsonRefusal::Fault(fault)),
+        // `read_event` never answers TooLong.
+        Err(LineRefusal::Memory | LineRefusal::Fault(LineFault::TooLong)) => Err(
+            JsonRefusal::Memory,
+        ),
+    }
+}
+
+#[tactic(auto, using(crate::proofs::Lines::given_below, crate::proofs::Lines::inner_below))]
+fn event_at(alloc: Global, value: &Value) -> Result<Result<Event, ChartFault>, JsonRefusal>
+    requires { depth (view value.now) ≤ max_depth }
+    ensures gives { Gives event_view (λ event. event) result (inside (codes "event") event_in (view value.now)) }
+    ensures orderly { IfOk result (λ asked. IfOk asked (λ event. IsTrue (is_orderly (event_view event)))) }
+{
+    let inner = value_at(alloc, value, "event")?;
+    under("event", event_here(alloc, inner))
+}
+
+#[tactic(auto, unfolding(crate::specs::Entries::entry_form))]
+fn read_asked(alloc: Global, value: &Value) -> Result<Result<Entry, ChartFault>, JsonRefusal>
+    requires { depth (view value.now) ≤ max_depth }
+    ensures gives { Gives entry_view (λ entry. entry.event) result (entry_form (view value.now)) }
+    ensures orderly { IfOk result (λ asked. IfOk asked (λ entry. IsTrue (is_orderly (event_view entry.event)))) }
+{
+    object_here(alloc, value)?;
+    let answer: Answer = form_at::<AnswerJson>(alloc, value, "answer")?;
+    let asked = event_at(alloc, value)?;
+    nothing_but(alloc, value, "answer event")?;
+    match asked {
+        Ok(event) => Ok(Ok(Entry { event, answer })),
+        Err(fault) => Ok(Err(fault)),
+    }
+}
+
+#[tactic(auto, using(crate::proofs::Lines::shallow))]
+fn read_line(alloc: Global, line: &[u8]) -> Result<Result<Entry, ChartFault>, JsonRefusal>
+    ensures gives { Gives entry_view (λ entry. entry.event) result (read_of line.now) }
+    ensures orderly { IfOk result (λ asked. IfOk asked (λ entry. IsTrue (is_orderly (event_view entry.event)))) }
+{
+    let value = parse(alloc, line)?;
+    read_asked(alloc, &value)
+}
+
+/// The entry that a line of a history says: one JSON object (RFC 8259) of exactly `answer`, an answer's object, and
+/// `event`, an event's line. Else the line's first fault in reading order, with its path; else, where the event makes a
+/// recipe known, the fault of its chart. It reads lines of any length, and never answers `TooLong`.
+#[tactic(auto, unfolding(crate::specs::Entries::entry_of))]
+pub fn read_entry(alloc: Global, line: &[u8]) -> Result<Entry, LineRefusal>
+    ensures tells { Tells result (entry_of line.now) }
+    ensures orderly { IfOk result (λ entry. IsTrue (is_orderly (event_view entry.event))) }
+{
+    match read_line(alloc, line) {
+        Ok(Ok(entry)) => Ok(entry),
+        Ok(Err(fault)) => Err(LineRefusal::Fault(LineFault::Chart(fault))),
+        Err(JsonRefusal::Fault(fault)) => Err(LineRefusal::Fault(LineFault::Json(fault))),
+        Err(JsonRefusal::Memory) => Err(LineRefusal::Memory),
+    }
+}

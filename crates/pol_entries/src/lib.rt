@@ -1,0 +1,15 @@
+//! The lines of a history read back: answers, and entries of an answer and an event.
+//!
+//! What `pol_record` writes is read back as the same value, and nothing else is: the number or the name in an object
+//! tells of which kind the answer is, its fields are read by their keys, and the object has to be the one that the
+//! answer is written as. This crate knows nothing of what an event should be answered.
+#![tactic(auto)]
+
+mod answers;
+mod candidates;
+mod comparing;
+mod entries;
+mod found;
+
+pub use answers::{AnswerJson, read_answer};
+pub use entries::read_entry;
