@@ -1,5 +1,5 @@
-//! A site that is run to its end.
-use crate::{OpenGate, Ran, run_in_turn};
+//! A site that is run to its end, in turn and by threads.
+use crate::{OpenGate, Ran, run_in_turn, run_site};
 use chart_core::Outcome;
 use pol_events::{Answer, Event};
 use pol_io::MemoryClock;
@@ -41,6 +41,16 @@ fn batches_are_completed_and_a_module_is_exchanged(rt: HostRuntime) -> Result<()
     let alloc = rt.alloc();
     let clock = MemoryClock::new(vec![in alloc; 7u64, 8]?);
     let ran = run_in_turn(&rt, alloc, site(alloc)?, clock, &OpenGate)?;
+    assert_eq!(rt; counts(&ran), [2, 1, 1]);
+    assert_eq!(rt; ran.by.len(), ran.history.len());
+    Ok(())
+}
+
+#[test]
+fn threads_complete_the_batches_and_the_exchange(rt: HostRuntime) -> Result<(), Fail> {
+    let alloc = rt.alloc();
+    let clock = MemoryClock::new(vec![in alloc; 7u64, 8]?);
+    let ran = run_site(&rt, alloc, site(alloc)?, clock, &OpenGate)?;
     assert_eq!(rt; counts(&ran), [2, 1, 1]);
     assert_eq!(rt; ran.by.len(), ran.history.len());
     Ok(())
