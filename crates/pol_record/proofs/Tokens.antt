@@ -19,6 +19,7 @@ use Rattle.pol_events.specs.Written.{bind_members}
 use Rattle.pol_events.specs.declared.event.Bind.{Bind}
 use Rattle.pol_record.specs.Objects.{data_tokens, reading_data, members_in}
 use Rattle.pol_history.specs.Batches.{Started}
+use Rattle.pol_record.specs.Verdicts.{place_tokens, wrong_object}
 use Rattle.pol_record.specs.Texts.{batch_data, batch_object, course_tokens, end_text, entry_data, line_text, start_tokens, under_key}
 
 -- a whole number, with or without a sign
@@ -72,3 +73,15 @@ pub batch_tokens : (old : List Token) (batch : List ℕ) (started : Started) (lo
     ≡ old ++ data_tokens (batch_data batch started log outcome)
 unfolding batch_object
 batch_tokens old batch started log outcome = simp append_assoc refl
+
+-- a bracket, the place, the right answer, the reason and a bracket behind other tokens are the tokens of a wrong answer
+pub wrong_tokens : (old : List Token) (place : ℕ) (says : Data) →
+    ((((old ++ token.begin_object ∷ []) ++ place_tokens place) ++ token.key (codes "says") ∷ data_tokens says)
+    ++ token.key (codes "why")
+    ∷ token.string (codes "Answer")
+    ∷ [])
+    ++ token.end_object
+    ∷ []
+    ≡ old ++ data_tokens (wrong_object place says)
+unfolding wrong_object
+wrong_tokens old place says = simp append_assoc refl

@@ -3,3 +3,4 @@ pub mod Rows
 pub mod Texts
 pub mod Lines
 pub mod Gathered
+pub mod Verdicts

@@ -27,7 +27,8 @@ fn outcome_text(outcome: Option<Outcome>) -> &'static str
     }
 }
 
-fn write_text(writer: &mut Writer, key: &str, text: &str) -> Result<(), AllocError>
+/// Writes a text under a key.
+pub fn write_text(writer: &mut Writer, key: &str, text: &str) -> Result<(), AllocError>
     ensures tokens { OnOk result (writer.new.tokens
         ≡ writer.old.tokens ++ token.key key.now ∷ token.string text.now ∷ []) }
     ensures before { writer.new.before ≡ writer.old.before }
