@@ -3,8 +3,8 @@ ghost use Rattle.std.specs.Prelude.{IfOk};
 ghost use Rattle.pol_events.specs.Events.{history_view};
 ghost use Rattle.pol_history.specs.Runs.{IsOrderly};
 
+use pol_audit::says;
 use pol_events::{Answer, Entry, Event, LineRefusal, Rule, read_event};
-use pol_lookback::answer_of;
 use pol_record::{answer_line, batch_line, end_line, fault_line};
 use std::alloc::{AllocError, Global};
 
@@ -19,7 +19,7 @@ fn put_answers(alloc: Global, journal: &str, output: &mut Vec<u8>) -> Result<Vec
         }
         match read_event(alloc, line.as_bytes()) {
             Ok(event) => {
-                let answer = answer_of(alloc, &history, &event)?;
+                let answer = says(alloc, &history, &event)?;
                 output.extend_from_slice(&answer_line(alloc, &answer)?)?;
                 if answer != Answer::Refused(Rule::HistoryFull) {
                     history.push(Entry { event, answer })?;

@@ -1,0 +1,10 @@
+-- The rule against an operator's command, by why the command is forbidden.
+use Rattle.std.proofs.Common.{◌≡◌, Option, Some, None, refl}
+use Rattle.std.specs.Prelude.{Ok, Err}
+use Rattle.mtp_codes.specs.declared.mode.Forbid.{Forbid}
+use Rattle.mtp_codes.specs.Faults.{done_unless}
+
+-- what forbids a command is told
+pub is_forbidden : (found : Option Forbid) (forbid : Forbid) → Err forbid ≡ done_unless found → found ≡ Some forbid
+is_forbidden None forbid is = absurd cc
+is_forbidden (Some other) forbid is = cc

@@ -1,0 +1,12 @@
+use Rattle.std.proofs.Common.{◌∙◌, ap}
+use Rattle.std.specs.Prelude.{filter}
+use Rattle.std.proofs.lemmas.Result.{IfOk-weaker}
+use Rattle.chart_core.specs.Charts.{plan}
+use Rattle.pol_audit.specs.Starts.{is_active_plan}
+use Rattle.pol_audit.proofs.Steps.{active_is}
+use Rattle.pol_audit.proofs.following.chart_steps.Goals as goal
+
+pub returns : goal.returns
+returns c =
+    IfOk-weaker c.steps_in_order.result _ _ (λ steps is log. ap (filter (is_active_plan log)) is
+    ∙ active_is (plan c.args.chart.now) log) c.steps_in_order.ensures

@@ -1,0 +1,11 @@
+use Rattle.std.proofs.Common.{◌≡◌, length}
+use Rattle.pol_events.specs.Events.{history_view}
+use Rattle.pol_history.specs.Looking.{past}
+use Rattle.pol_history.specs.Modules.{control_by}
+use Rattle.pol_audit.proofs.modules.control_of.Given as goal
+
+abbrev pub invariant-loop-entry : goal.invariant-loop-entry
+invariant-loop-entry l = control_by l.service (past l.tag (history_view l.rest)) ≡ control_by l.service (past l.tag (history_view l.history))
+
+abbrev pub decreases-loop-entry : goal.decreases-loop-entry
+decreases-loop-entry l = length l.rest

@@ -1,0 +1,12 @@
+use Rattle.std.proofs.Common.{◌≡◌, length}
+use Rattle.pol_events.specs.Events.{history_view}
+use Rattle.pol_history.specs.Looking.{past, last_of}
+use Rattle.pol_audit.specs.Dockings.{docking_left}
+use Rattle.pol_audit.proofs.modules.docking_of.Given as goal
+
+abbrev pub invariant-loop-entry : goal.invariant-loop-entry
+invariant-loop-entry l =
+    last_of docking_left (past l.tag (history_view l.rest)) ≡ last_of docking_left (past l.tag (history_view l.history))
+
+abbrev pub decreases-loop-entry : goal.decreases-loop-entry
+decreases-loop-entry l = length l.rest

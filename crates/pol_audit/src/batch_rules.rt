@@ -1,0 +1,198 @@
+//! The rules that recipes, a batch's past and the holders of modules decide.
+ghost use Rattle.std.specs.Prelude.{◌≡◌, IfOk, filter};
+ghost use Rattle.std.specs.Option.{option_map};
+ghost use Rattle.chart_core.specs.Order.{plans_seen};
+ghost use Rattle.mtp_desc.specs.DescriptionView.{description_view};
+ghost use Rattle.pol_events.specs.Events.{history_view};
+ghost use Rattle.pol_events.specs.Bound.{bound_tag, is_tag, step_on};
+ghost use Rattle.pol_history.specs.Looking.{past_of_batch, recipes};
+ghost use Rattle.pol_history.specs.Batches.{start_by};
+ghost use Rattle.pol_history.specs.Rules.{active_step, active_step_on, already_frozen, batch_closed, batch_known, batches_full, held_back, no_batch, not_frozen, recipe_known, recipes_full, uncovered_by};
+ghost use Rattle.pol_audit.specs.Starts.{is_active_plan};
+
+use crate::batches::{
+    chart_named, holder_of, is_frozen, log_of, outcome_of, recipe_count, start_count, start_of,
+};
+use crate::following::{chart_steps, is_active_step};
+use chart_core::{LogEntry, Step};
+use mtp_codes::{MOST_BATCHES, MOST_RECIPES, Name};
+use mtp_desc::Description;
+use pol_bind::held_back_by;
+use pol_events::{Bind, Entry, Rule, bound_role, bound_tag};
+use std::alloc::{AllocError, Global};
+
+/// A recipe of this name is known.
+pub fn recipe_known(history: &[Entry], name: Name) -> Option<Rule>
+    ensures { result ≡ recipe_known name (recipes (history_view history.now)) }
+{
+    match chart_named(history, name) {
+        Some(_) => Some(Rule::RecipeKnown),
+        None => None,
+    }
+}
+
+/// 64 recipes are known.
+pub fn recipes_full(history: &[Entry]) -> Option<Rule>
+    ensures { result ≡ recipes_full (recipes (history_view history.now)) }
+{
+    if recipe_count(history) >= MOST_RECIPES {
+        Some(Rule::RecipesFull)
+    } else {
+        None
+    }
+}
+
+/// The batch was started.
+pub fn batch_known(history: &[Entry], batch: Name) -> Option<Rule>
+    ensures { result ≡ batch_known (start_by (past_of_batch batch (history_view history.now))) }
+{
+    match start_of(history, batch) {
+        Some(_) => Some(Rule::BatchKnown),
+        None => None,
+    }
+}
+
+/// The batch wasn't started.
+pub fn no_batch(history: &[Entry], batch: Name) -> Option<Rule>
+    ensures { result ≡ no_batch (start_by (past_of_batch batch (history_view history.now))) }
+{
+    match start_of(history, batch) {
+        Some(_) => None,
+        None => Some(Rule::NoBatch),
+    }
+}
+
+/// The batch is closed.
+pub fn batch_closed(history: &[Entry], batch: Name) -> Option<Rule>
+    ensures { result ≡ batch_closed (past_of_batch batch (history_view history.now)) }
+{
+    match outcome_of(history, batch) {
+        Some(_) => Some(Rule::BatchClosed),
+        None => None,
+    }
+}
+
+/// The batch is frozen.
+pub fn already_frozen(history: &[Entry], batch: Name) -> Option<Rule>
+    ensures { result ≡ already_frozen (past_of_batch batch (history_view history.now)) }
+{
+    if is_frozen(history, batch) {
+        Some(Rule::AlreadyFrozen)
+    } else {
+        None
+    }
+}
+
+/// The batch isn't frozen.
+pub fn not_frozen(history: &[Entry], batch: Name) -> Option<Rule>
+    ensures { result ≡ not_frozen (past_of_batch batch (history_view history.now)) }
+{
+    if is_frozen(history, batch) {
+        None
+    } else {
+        Some(Rule::NotFrozen)
+    }
+}
+
+/// 128 batches were started.
+pub fn batches_full(history: &[Entry]) -> Option<Rule>
+    ensures { result ≡ batches_full (history_view history.now) }
+{
+    if start_count(history) >= MOST_BATCHES {
+        Some(Rule::BatchesFull)
+    } else {
+        None
+    }
+}
+
+fn is_on(binds: &[Bind], role: Name, tag: Name) -> bool
+    ensures { result ≡ is_tag tag (bound_tag binds.now role) }
+{
+    match bound_tag(binds, role) {
+        Some(other) => other == tag,
+        None => false,
+    }
+}
+
+// The name of the first active step whose role has the tag.
+fn step_on(binds: &[Bind], tag: Name, steps: &[&Step], log: &[LogEntry]) -> Option<Name>
+    ensures { result ≡ option_map (λ step. step.name)
+        (step_on binds.now tag (filter (is_active_plan log.now) (plans_seen steps.now))) }
+{
+    for step in steps {
+        if !is_active_step(step, log) {
+            continue;
+        }
+        if is_on(binds, step.role, tag) {
+            return Some(step.name);
+        }
+    }
+    None
+}
+
+// The batch has an active step on the module.
+fn active_step_of(
+    alloc: Global,
+    history: &[Entry],
+    tag: Name,
+    batch: Name,
+) -> Result<Option<Rule>, AllocError>
+    ensures { IfOk result (λ rule. rule
+        ≡ active_step_on (recipes (history_view history.now)) tag batch (past_of_batch batch (history_view history.now))) }
+{
+    let Some(start) = start_of(history, batch) else {
+        return Ok(None);
+    };
+    let Some(chart) = chart_named(history, start.recipe) else {
+        return Ok(None);
+    };
+    let log = log_of(alloc, history, batch)?;
+    let steps = chart_steps(alloc, chart)?;
+    match step_on(start.binds, tag, &steps, &log) {
+        Some(step) => Ok(Some(Rule::ActiveStep { batch, step })),
+        None => Ok(None),
+    }
+}
+
+/// The batch that holds the module has an active step on it.
+pub fn active_step(alloc: Global, history: &[Entry], tag: Name) -> Result<Option<Rule>, AllocError>
+    ensures { IfOk result (λ rule. rule ≡ active_step (history_view history.now) tag) }
+{
+    match holder_of(history, tag) {
+        Some(batch) => active_step_of(alloc, history, tag, batch),
+        None => Ok(None),
+    }
+}
+
+// What of the batch's chart the new module doesn't cover.
+fn uncovered_by(
+    history: &[Entry],
+    tag: Name,
+    description: &Description,
+    batch: Name,
+) -> Option<Rule>
+    ensures { result ≡ uncovered_by (recipes (history_view history.now)) tag (description_view description.now) batch
+        (past_of_batch batch (history_view history.now)) }
+{
+    let Some(start) = start_of(history, batch) else {
+        return None;
+    };
+    let Some(chart) = chart_named(history, start.recipe) else {
+        return None;
+    };
+    let Some(role) = bound_role(start.binds, tag) else {
+        return None;
+    };
+    match held_back_by(chart, role, description) {
+        Some(missing) => Some(Rule::HeldBack { batch, missing }),
+        None => None,
+    }
+}
+
+/// The new module doesn't cover its role in the batch that holds the tag.
+pub fn held_back(history: &[Entry], tag: Name, description: &Description) -> Option<Rule>
+    ensures { result ≡ held_back (history_view history.now) tag (description_view description.now) }
+{
+    let batch = holder_of(history, tag)?;
+    uncovered_by(history, tag, description, batch)
+}

@@ -1,0 +1,227 @@
+//! The next entry of a batch.
+ghost use Rattle.std.specs.Prelude.{◌≡◌, ◌∷◌, List, Bool, filter, IfOk};
+ghost use Rattle.chart_core.specs.Charts.{plan};
+ghost use Rattle.chart_core.specs.Trees.{StepPlan, step_plan};
+ghost use Rattle.chart_core.specs.Order.{plans_seen};
+ghost use Rattle.chart_core.specs.declared.entry.LogEntry.{LogEntry};
+ghost use Rattle.chart_core.specs.Valid.{IsValid};
+ghost use Rattle.chart_cursor.specs.Logs.{has_broken, was_stopped, chart_entries, active};
+ghost use Rattle.chart_cursor.specs.NextEntry.{is_broken_state, broken_step, first_broken, stop_next, stop_step, run_next, next_by};
+ghost use Rattle.pol_events.specs.Events.{history_view};
+ghost use Rattle.pol_history.specs.Looking.{past, past_of_batch};
+ghost use Rattle.pol_history.specs.Batches.{is_frozen_by, log_by};
+ghost use Rattle.pol_history.specs.Following.{sights_by, next_of};
+ghost use Rattle.pol_history.specs.Runs.{IsOrderly};
+ghost use Rattle.pol_audit.specs.Starts.{is_active_plan};
+
+use crate::batches::{Start, chart_named, is_frozen, log_of, start_of};
+use crate::sights::Sights;
+use chart_core::{Chart, LogEntry, Step, Why, is_active, steps_in_order};
+use chart_cursor::{CursorNext, Seen, Sight, next_of_log};
+use mtp_codes::{Command, Name, Speaker, State};
+use mtp_modes::permitted;
+use pol_events::{Entry, Next, Outcome};
+use std::alloc::{AllocError, Global};
+
+/// Whether the batch broke.
+pub fn has_broken(log: &[LogEntry]) -> bool
+    ensures { result ≡ has_broken log.now }
+{
+    log.iter()
+        .any(|entry| matches!(entry, LogEntry::Broke { .. }))
+}
+
+/// Whether the operator had the batch stopped.
+pub fn was_stopped(log: &[LogEntry]) -> bool
+    ensures { result ≡ was_stopped log.now }
+{
+    log.iter().any(|entry| matches!(entry, LogEntry::StopAsked))
+}
+
+/// Whether the step is active after the log.
+#[tactic(auto, unfolding(crate::specs::Starts::is_active_plan))]
+pub fn is_active_step(step: &Step, log: &[LogEntry]) -> bool
+    ensures { result ≡ is_active_plan log.now (step_plan step.now) }
+{
+    is_active(log, step.name)
+}
+
+/// The steps of the chart in chart order.
+pub fn chart_steps(alloc: Global, chart: &Chart) -> Result<Vec<&Step>, AllocError>
+    ensures { IfOk result (λ steps. (log : List LogEntry)
+        → filter (is_active_plan log) (plans_seen steps.items) ≡ active (plan chart.now) log) }
+{
+    steps_in_order(alloc, chart)
+}
+
+// The entries of the log that belong to the run of the chart.
+fn chart_entries(alloc: Global, log: &[LogEntry]) -> Result<Vec<LogEntry>, AllocError>
+    ensures { IfOk result (λ entries. entries.items ≡ chart_entries log.now) }
+{
+    let mut entries = Vec::new(alloc);
+    for entry in log {
+        if entry.is_of_chart() {
+            entries.push(*entry)?;
+        }
+    }
+    Ok(entries)
+}
+
+// What an active step of a batch that is stopped comes to, by what is seen of its service.
+fn stop_step(step: Name, service: Name, tag: Name, sight: Sight) -> Next
+    ensures { result ≡ stop_step step service tag sight }
+{
+    match sight {
+        Sight::Away => Next::Waiting(Why::Away { tag }),
+        Sight::Unreported => Next::Waiting(Why::NotReported { tag, name: service }),
+        Sight::Is(view) if permitted(&view, Speaker::Recipe, Command::Stop).is_ok() => {
+            Next::Did(LogEntry::Stop { step, tag, service })
+        }
+        Sight::Is(view) => Next::Did(LogEntry::Left {
+            step,
+            state: view.control.state,
+        }),
+    }
+}
+
+// An active step of a batch that is stopped, by what is seen of its service.
+#[tactic(auto, using(crate::proofs::Steps::role_or_itself))]
+fn stop_seen(seen: &Sights, step: &Step) -> Next
+    ensures { (broken : Bool) (others : List StepPlan)
+        → result ≡ stop_next
+        (sights_by seen.now.binds.now (λ tag. past tag (history_view seen.now.history.now)))
+        broken (step_plan step.now ∷ others) }
+{
+    let tag = seen.tag(step.role).unwrap_or(step.role);
+    stop_step(
+        step.name,
+        step.service,
+        tag,
+        seen.view(step.role, step.service),
+    )
+}
+
+// A batch that is stopped: its first active step, and when there is none it is closed.
+fn stop_next(seen: &Sights, broken: bool, steps: &[&Step], log: &[LogEntry]) -> Next
+    ensures { result ≡ stop_next
+        (sights_by seen.now.binds.now (λ tag. past tag (history_view seen.now.history.now)))
+        broken (filter (is_active_plan log.now) (plans_seen steps.now)) }
+{
+    for step in steps {
+        if is_active_step(step, log) {
+            return stop_seen(seen, step);
+        }
+    }
+    Next::Closed(if broken {
+        Outcome::Broken
+    } else {
+        Outcome::Stopped
+    })
+}
+
+fn is_broken_state(state: State) -> bool
+    ensures { result ≡ is_broken_state state }
+{
+    matches!(state, State::Stopped | State::Aborted)
+}
+
+fn broken_step(step: &Step, sight: Sight) -> Option<LogEntry>
+    ensures { result ≡ broken_step (step_plan step.now) sight }
+{
+    match sight {
+        Sight::Is(view) if is_broken_state(view.control.state) => Some(LogEntry::Broke {
+            step: step.name,
+            state: view.control.state,
+        }),
+        _ => None,
+    }
+}
+
+// The entry Broke of the first active step whose service is stopped or aborted.
+fn first_broken(seen: &Sights, steps: &[&Step], log: &[LogEntry]) -> Option<LogEntry>
+    ensures { result ≡ first_broken
+        (sights_by seen.now.binds.now (λ tag. past tag (history_view seen.now.history.now)))
+        (filter (is_active_plan log.now) (plans_seen steps.now)) }
+{
+    for step in steps {
+        if !is_active_step(step, log) {
+            continue;
+        }
+        if let Some(entry) = broken_step(step, seen.view(step.role, step.service)) {
+            return Some(entry);
+        }
+    }
+    None
+}
+
+fn run_next(next: CursorNext) -> Next
+    ensures { result ≡ run_next next }
+{
+    match next {
+        CursorNext::Entry(entry) => Next::Did(entry),
+        CursorNext::Wait(why) => Next::Waiting(why),
+        CursorNext::Whole => Next::Closed(Outcome::Completed),
+    }
+}
+
+fn next_by(
+    alloc: Global,
+    chart: &Chart,
+    frozen: bool,
+    log: &[LogEntry],
+    seen: &Sights,
+) -> Result<Next, AllocError>
+    requires { IsValid (plan chart.now) }
+    ensures { IfOk result (λ next. next ≡ next_by (plan chart.now) frozen log.now
+        (sights_by seen.now.binds.now (λ tag. past tag (history_view seen.now.history.now)))) }
+{
+    if frozen {
+        return Ok(Next::Waiting(Why::Frozen));
+    }
+    let steps = chart_steps(alloc, chart)?;
+    let broken = has_broken(log);
+    if broken || was_stopped(log) {
+        return Ok(stop_next(seen, broken, &steps, log));
+    }
+    if let Some(entry) = first_broken(seen, &steps, log) {
+        return Ok(Next::Did(entry));
+    }
+    let entries = chart_entries(alloc, log)?;
+    Ok(run_next(next_of_log(alloc, chart, &entries, seen)?))
+}
+
+// The next entry of a batch with this start and this chart.
+fn next_of_start(
+    alloc: Global,
+    history: &[Entry],
+    batch: Name,
+    start: Start,
+    chart: &Chart,
+) -> Result<Next, AllocError>
+    requires { IsValid (plan chart.now) }
+    ensures { IfOk result (λ next. next ≡ next_by (plan chart.now)
+        (is_frozen_by (past_of_batch batch (history_view history.now)))
+        (log_by (past_of_batch batch (history_view history.now)))
+        (sights_by start.entry.binds.now (λ tag. past tag (history_view history.now)))) }
+{
+    let seen = Sights {
+        history,
+        binds: start.binds,
+    };
+    let log = log_of(alloc, history, batch)?;
+    next_by(alloc, chart, is_frozen(history, batch), &log, &seen)
+}
+
+/// The next entry of the batch; None where it wasn't started.
+pub fn next_of(alloc: Global, history: &[Entry], batch: Name) -> Result<Option<Next>, AllocError>
+    requires { IsOrderly (history_view history.now) }
+    ensures { IfOk result (λ next. next ≡ next_of (history_view history.now) batch) }
+{
+    let Some(start) = start_of(history, batch) else {
+        return Ok(None);
+    };
+    let Some(chart) = chart_named(history, start.recipe) else {
+        return Ok(None);
+    };
+    Ok(Some(next_of_start(alloc, history, batch, start, chart)?))
+}

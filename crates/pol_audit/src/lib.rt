@@ -1,0 +1,27 @@
+//! The answer to an event, worked out by looking back in a history: plain and slow.
+//!
+//! No job uses it: the worked journals are answered by it a second time, beside the program (`pol_examples`).
+//!
+//! Its main contract is that of `says`: the answer is the one that `pol_history` defines. It keeps nothing, as each
+//! value is searched in the history that it is lent; and it knows nothing of lines, texts, threads or clocks.
+//!
+//! Each rule that can refuse an event is the function of its name: in `module_rules` where a module's past decides it, in
+//! `batch_rules` where recipes, batches or holders do, in `start_rules` where it asks about the binds of a start. The
+//! order of the rules of each kind of event stands in `answers`.
+#![tactic(auto)]
+
+mod answers;
+mod batch_rules;
+mod batches;
+mod entries;
+mod following;
+mod module_rules;
+mod modules;
+mod sights;
+mod start_rules;
+
+pub use answers::says;
+pub use batches::{Start, log_of, outcome_of, start_of};
+
+#[cfg(test)]
+mod tests;

@@ -1,0 +1,245 @@
+//! Looking back at a module.
+ghost use Rattle.std.specs.Prelude.{◌≡◌, ◌≤◌, IfOk, length};
+ghost use Rattle.std.specs.Option.{option_map};
+ghost use Rattle.mtp_codes.specs.declared.limits.TheConstants.{LONGEST_HISTORY};
+ghost use Rattle.mtp_desc.specs.DescriptionView.{description_view};
+ghost use Rattle.pol_events.specs.Events.{entry_view, event_view, history_view};
+ghost use Rattle.pol_history.specs.Looking.{past, is_accepted};
+ghost use Rattle.pol_history.specs.Modules.{is_moving, docking_by, described, description_by, completes_by, reported, control_by, view_by, reported_value, value_by, next_ticket, tags_without, present_after, present_tags};
+ghost use Rattle.pol_audit.specs.Dockings.{docking_left, docking_seen};
+
+use crate::entries::{is_of_module, newest};
+use mtp_assembly::ServiceControl;
+use mtp_codes::{Name, Value};
+use mtp_desc::Description;
+use mtp_modes::ServiceView;
+use pol_events::{Answer, Entry, Event};
+use std::alloc::{AllocError, Global};
+
+/// Whether a tag is there: docked, or away with the ticket of its exchange.
+#[derive(Clone, Copy, Debug, PartialEq, Eq)]
+pub enum Docking {
+    Absent,
+    Docked,
+    Away { ticket: u32 },
+}
+
+// The docking that an accepted event leaves, if it changes it.
+fn docking_left(entry: &Entry) -> Option<Docking>
+    ensures { result ≡ docking_left (entry_view entry.now) }
+{
+    match (&entry.event, &entry.answer) {
+        (Event::Plug { .. } | Event::ExchangeEnd { .. } | Event::ExchangeCancel { .. }, _) => {
+            Some(Docking::Docked)
+        }
+        (Event::Unplug { .. }, _) => Some(Docking::Absent),
+        (Event::ExchangeBegin { .. }, Answer::Ticket(ticket)) => {
+            Some(Docking::Away { ticket: *ticket })
+        }
+        (Event::ExchangeBegin { .. }, _) => Some(Docking::Away { ticket: 0 }),
+        _ => None,
+    }
+}
+
+/// Whether the tag is there, by its last plug, unplug or exchange.
+#[tactic(auto, using(crate::proofs::Docked::docking_is))]
+pub fn docking_of(history: &[Entry], tag: Name) -> Docking
+    ensures { result ≡ docking_seen (docking_by (past tag (history_view history.now))) }
+{
+    let mut rest = history;
+    while let Some((entry, older)) = newest(rest) {
+        if let Some(docking) = docking_left(entry) {
+            if is_of_module(entry, tag) {
+                return docking;
+            }
+        }
+        rest = older;
+    }
+    Docking::Absent
+}
+
+fn described(event: &Event) -> Option<&Description>
+    ensures { option_map (λ description. description_view description.now) result ≡ described (event_view event.now) }
+{
+    match event {
+        Event::Plug { desc, .. } => Some(desc),
+        Event::ExchangeEnd { desc, .. } => Some(desc),
+        _ => None,
+    }
+}
+
+/// The description of the tag: that of its last plug, or of the last end of an exchange.
+pub fn description_of(history: &[Entry], tag: Name) -> Option<&Description>
+    ensures { option_map (λ description. description_view description.now) result
+        ≡ description_by (past tag (history_view history.now)) }
+{
+    let mut rest = history;
+    while let Some((entry, older)) = newest(rest) {
+        if let Some(description) = described(&entry.event) {
+            if is_of_module(entry, tag) {
+                return Some(description);
+            }
+        }
+        rest = older;
+    }
+    None
+}
+
+// Whether the event changes whether the module is docked.
+fn is_moving(event: &Event) -> bool
+    ensures { result ≡ is_moving (event_view event.now) }
+{
+    matches!(
+        event,
+        Event::Plug { .. }
+            | Event::Unplug { .. }
+            | Event::ExchangeBegin { .. }
+            | Event::ExchangeEnd { .. }
+            | Event::ExchangeCancel { .. }
+    )
+}
+
+fn reported(event: &Event, service: Name) -> Option<ServiceControl>
+    ensures { result ≡ reported service (event_view event.now) }
+{
+    match event {
+        Event::Report {
+            service: other,
+            control,
+            ..
+        } if *other == service => Some(*control),
+        _ => None,
+    }
+}
+
+/// What the service reported last since its module was docked.
+pub fn control_of(history: &[Entry], tag: Name, service: Name) -> Option<ServiceControl>
+    ensures { result ≡ control_by service (past tag (history_view history.now)) }
+{
+    let mut rest = history;
+    while let Some((entry, older)) = newest(rest) {
+        if is_of_module(entry, tag) {
+            if is_moving(&entry.event) {
+                return None;
+            }
+            if let Some(control) = reported(&entry.event, service) {
+                return Some(control);
+            }
+        }
+        rest = older;
+    }
+    None
+}
+
+fn reported_value(event: &Event, name: Name) -> Option<Value>
+    ensures { result ≡ reported_value name (event_view event.now) }
+{
+    match event {
+        Event::Variable {
+            name: other,
+            value,
+            ..
+        } if *other == name => Some(*value),
+        _ => None,
+    }
+}
+
+/// The value with which the variable was reported last since its module was docked.
+pub fn value_of(history: &[Entry], tag: Name, name: Name) -> Option<Value>
+    ensures { result ≡ value_by name (past tag (history_view history.now)) }
+{
+    let mut rest = history;
+    while let Some((entry, older)) = newest(rest) {
+        if is_of_module(entry, tag) {
+            if is_moving(&entry.event) {
+                return None;
+            }
+            if let Some(value) = reported_value(&entry.event, name) {
+                return Some(value);
+            }
+        }
+        rest = older;
+    }
+    None
+}
+
+// Whether the procedure completes by itself, by the module's description.
+fn completes(description: Option<&Description>, service: Name, procedure: u16) -> bool
+    ensures { result ≡ completes_by service procedure
+        (option_map (λ description. description_view description.now) description.entry) }
+{
+    match description {
+        Some(description) => description.self_completes(service, procedure),
+        None => false,
+    }
+}
+
+/// What is seen of the service: what it reported last since its module was docked, and whether its procedure completes
+/// by itself.
+pub fn view_of(history: &[Entry], tag: Name, service: Name) -> Option<ServiceView>
+    ensures { result ≡ view_by service (past tag (history_view history.now)) }
+{
+    let control = control_of(history, tag, service)?;
+    let description = description_of(history, tag);
+    Some(ServiceView {
+        control,
+        self_completes: completes(description, service, control.procedure),
+    })
+}
+
+/// The ticket of the tag's next exchange: one more than its exchanges since its last plug.
+pub fn next_ticket(history: &[Entry], tag: Name) -> u32
+    requires { length history.now ≤ LONGEST_HISTORY }
+    ensures { result ≡ next_ticket (past tag (history_view history.now)) }
+{
+    let mut ticket = 1;
+    let mut rest = history;
+    while let Some((entry, older)) = newest(rest) {
+        match entry.event {
+            Event::Plug { .. } if is_of_module(entry, tag) => return ticket,
+            Event::ExchangeBegin { .. } if is_of_module(entry, tag) => ticket += 1,
+            _ => {}
+        }
+        rest = older;
+    }
+    ticket
+}
+
+fn tags_without(alloc: Global, tag: Name, tags: &[Name]) -> Result<Vec<Name>, AllocError>
+    ensures { IfOk result (λ others. others.items ≡ tags_without tag tags.now) }
+{
+    let mut others = Vec::new(alloc);
+    for other in tags {
+        if *other != tag {
+            others.push(*other)?;
+        }
+    }
+    Ok(others)
+}
+
+// The tags with that of a plug, without that of an unplug.
+fn tags_after(alloc: Global, tags: Vec<Name>, entry: &Entry) -> Result<Vec<Name>, AllocError>
+    ensures { IfOk result
+        (λ after. after.items ≡ present_after (event_view entry.now.event) (is_accepted entry.now.answer) tags.items) }
+{
+    match &entry.event {
+        Event::Plug { tag, .. } if entry.answer.is_accepted() => {
+            let mut others = tags_without(alloc, *tag, &tags)?;
+            others.insert(0, *tag)?;
+            Ok(others)
+        }
+        Event::Unplug { tag, .. } if entry.answer.is_accepted() => tags_without(alloc, *tag, &tags),
+        _ => Ok(tags),
+    }
+}
+
+/// The tags that are docked or away, each once.
+pub fn present_tags(alloc: Global, history: &[Entry]) -> Result<Vec<Name>, AllocError>
+    ensures { IfOk result (λ tags. tags.items ≡ present_tags (history_view history.now)) }
+{
+    let mut tags = Vec::new(alloc);
+    for entry in history {
+        tags = tags_after(alloc, tags, entry)?;
+    }
+    Ok(tags)
+}
