@@ -1,7 +1,7 @@
 //! What a plant's journal means: looking back in a history, the answer that an event gets, runs, and the output of an
 //! input. Definitions, and the first laws about them: each law is the contract of a function with an empty body.
 //!
-//! It knows nothing of tables or of how an answer is found: `pol_lookback` and `pol_core` are held against it. What
+//! It knows nothing of tables or of how an answer is found: `pol_audit` and `pol_core` are held against it. What
 //! follows from the definitions stands above it, in `pol_conduct` and `pol_removal`.
 #![tactic(auto)]
 
