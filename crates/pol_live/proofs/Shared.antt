@@ -44,7 +44,8 @@ orders-send = search (sendable, heap.crosses) depth 20
 
 -- ---- a plant and its seats
 
-module _ (J C : RattleType) (job : jobs.Ghosts J.Denot) (ledger : ledgers.Ghosts J.Denot) (clock : clocks.Ghosts C.Denot) where
+module _ (J C : RattleType) (job : jobs.Ghosts J.Denot) (ledger : ledgers.Ghosts J.Denot)
+    (clock : clocks.Ghosts C.Denot) where
   locked-send : IsSend J → IsSend C → IsSend (locked.the_row J C job ledger clock)
   locked-send j c =
       view_send _ _ _ _ _
@@ -99,8 +100,10 @@ module _ (J C : RattleType) (job : jobs.Ghosts J.Denot) (ledger : ledgers.Ghosts
   pub crew-sync : (life : NamedLft) (G : RattleType) → IsSend J → IsSend C → IsSync G →
       IsSync (crew.the_row life J C G job clock ledger)
   crew-sync life G j c shared =
+      let plant : IsSync (live.the_row J C job clock ledger) = live-sync j c in
       declared_sync (crew.the_type life J C G job clock ledger) (
-        as_row_sync (shr_ref_field life (live.the_row J C job clock ledger) tt) (shr_sync life.mir life.lft (live.the_row J C job clock ledger) (live-sync j c)),
+        as_row_sync (shr_ref_field life (live.the_row J C job clock ledger) tt)
+            (shr_sync life.mir life.lft (live.the_row J C job clock ledger) plant),
         (
           as_row_sync (row_field _) (shr_sync _ _ _ shared),
           (search (sendable, heap.crosses) depth 20, tt),
