@@ -4,3 +4,4 @@ pub mod Held
 pub mod Candidates
 pub mod Answers
 pub mod Entries
+pub mod Same

@@ -10,6 +10,8 @@ mod candidates;
 mod comparing;
 mod entries;
 mod found;
+mod same;
 
 pub use answers::{AnswerJson, read_answer};
 pub use entries::read_entry;
+pub use same::same_answer;
