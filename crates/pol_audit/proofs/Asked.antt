@@ -1,6 +1,6 @@
 -- The rule against an operator's command, by why the command is forbidden.
-use Rattle.std.proofs.Common.{◌≡◌, Option, Some, None, refl}
-use Rattle.std.specs.Prelude.{Ok, Err}
+use Rattle.std.proofs.Common.{◌≡◌, Option, Some, None}
+use Rattle.std.specs.Prelude.{Err}
 use Rattle.mtp_codes.specs.declared.mode.Forbid.{Forbid}
 use Rattle.mtp_codes.specs.Faults.{done_unless}
 

@@ -6,3 +6,4 @@ pub mod Ruled
 pub mod Answered
 pub mod Uncovered
 pub mod Asked
+pub mod Found

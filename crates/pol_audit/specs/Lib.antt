@@ -1,3 +1,4 @@
 pub mod Dockings
 pub mod Starts
 pub mod Holding
+pub mod Judging

@@ -15,6 +15,7 @@ mod batch_rules;
 mod batches;
 mod entries;
 mod following;
+mod judging;
 mod module_rules;
 mod modules;
 mod sights;
@@ -22,6 +23,7 @@ mod start_rules;
 
 pub use answers::says;
 pub use batches::{Start, log_of, outcome_of, start_of};
+pub use judging::{Judged, MOST_JUDGED, judge};
 
 #[cfg(test)]
 mod tests;

@@ -1,0 +1,80 @@
+//! Judging a history: each of its answers against the one that the entries before it give.
+ghost use Rattle.std.specs.Prelude.{◌≡◌, ◌≤◌, IfOk, Some, None, length, map, if◌then◌else◌};
+ghost use Rattle.pol_events.specs.Events.{entry_view, event_view, history_view};
+ghost use Rattle.pol_history.specs.Answers.{answer_of};
+ghost use Rattle.pol_history.specs.Runs.{IsOrderly};
+ghost use Rattle.pol_entries.specs.Same.{same_answer};
+ghost use Rattle.pol_audit.specs.Judging.{Judges, judged};
+ghost use Rattle.pol_audit.specs.declared.judging.TheConstants.{MOST_JUDGED};
+
+use crate::answers::says;
+use pol_entries::same_answer;
+use pol_events::{Answer, Entry};
+use std::alloc::{AllocError, Global};
+
+/// How many entries are judged at most.
+pub const MOST_JUDGED: usize = 20_000;
+
+/// What is found of a history.
+#[derive(Clone, Copy, Debug, PartialEq, Eq)]
+pub enum Judged {
+    /// Each answer is the one that the entries before it give.
+    Good,
+    /// The answer of the entry at this place, counted from 0, isn't; it should be this one.
+    Wrong { place: u32, says: Answer },
+}
+
+// The right answer to an entry, where its own is wrong.
+fn wrong_answer(
+    alloc: Global,
+    history: &[Entry],
+    entry: &Entry,
+) -> Result<Option<Answer>, AllocError>
+    requires { IsOrderly (history_view history.now) }
+    ensures { IfOk result (λ wrong. wrong
+        ≡ (if same_answer entry.now.answer (answer_of (history_view history.now) (event_view entry.now.event)) then None
+        else Some (answer_of (history_view history.now) (event_view entry.now.event)))) }
+{
+    let says = says(alloc, history, &entry.event)?;
+    if same_answer(&entry.answer, &says) {
+        Ok(None)
+    } else {
+        Ok(Some(says))
+    }
+}
+
+#[tactic(auto, using(crate::proofs::Found::orderly_before))]
+fn first_wrong(alloc: Global, history: &[Entry]) -> Result<Judged, AllocError>
+    requires few { length history.now ≤ MOST_JUDGED }
+    requires orderly { IsOrderly (history_view history.now) }
+    ensures { IfOk result (λ found. found ≡ judged (map entry_view history.now)) }
+{
+    for (place, entry) in history.iter().enumerate() {
+        if let Some(says) = wrong_answer(alloc, &history[..place], entry)? {
+            return Ok(Judged::Wrong {
+                place: place as u32,
+                says,
+            });
+        }
+    }
+    Ok(Judged::Good)
+}
+
+/// Judges a history, the oldest entry first: it is good exactly where each answer is the one that the entries before it
+/// give; else the first wrong answer is told by its place, with the right one.
+///
+/// The history has at most 20,000 entries; the charts of its events are valid, and the binds of each start are at most 64
+/// and rise by role, as those of every line do.
+///
+/// # Errors
+///
+/// AllocError where memory is wanting.
+#[tactic(auto, using(crate::proofs::Found::judges))]
+pub fn judge(alloc: Global, history: &[Entry]) -> Result<Judged, AllocError>
+    requires few { length history.now ≤ MOST_JUDGED }
+    requires orderly { IsOrderly (history_view history.now) }
+    ensures value { IfOk result (λ found. found ≡ judged (map entry_view history.now)) }
+    ensures judges { IfOk result (λ found. Judges (map entry_view history.now) found) }
+{
+    first_wrong(alloc, history)
+}
