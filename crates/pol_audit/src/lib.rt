@@ -2,8 +2,9 @@
 //!
 //! No job uses it: the worked journals are answered by it a second time, beside the program (`pol_examples`).
 //!
-//! Its main contract is that of `says`: the answer is the one that `pol_history` defines. It keeps nothing, as each
-//! value is searched in the history that it is lent; and it knows nothing of lines, texts, threads or clocks.
+//! Its main contracts are those of `says`, which answers as `pol_history` defines, and of `judge`, which tells the first
+//! answer of a history that is another one. It keeps nothing, as each value is searched in the history that it is lent;
+//! and it knows nothing of plants and their tables, of lines, texts, threads or clocks.
 //!
 //! Each rule that can refuse an event is the function of its name: in `module_rules` where a module's past decides it, in
 //! `batch_rules` where recipes, batches or holders do, in `start_rules` where it asks about the binds of a start. The
