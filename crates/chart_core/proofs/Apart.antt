@@ -57,7 +57,8 @@ within_more ns ms n m n1 m1 (Some (of_step stage name service procedure)) f a b 
 within_more ns ms n m n1 m1 (Some (of_node node decision values)) f a b (h, k) = (omega arith, omega arith)
 
 pub within_apart :
-    (ns ms : List (List ℕ)) (n m n1 m1 : ℕ) (e : Option ChartEntry) → Distinct (ns ++ ms) → m ≤ n1 → Within ns n m e → Within ms n1 m1 e → ⊥
+    (ns ms : List (List ℕ)) (n m n1 m1 : ℕ) (e : Option ChartEntry) → Distinct (ns ++ ms) → m ≤ n1 → Within ns n m e
+    → Within ms n1 m1 e → ⊥
 within_apart ns ms n m n1 m1 None d l h k = h
 within_apart ns ms n m n1 m1 (Some (of_step stage name service procedure)) d l h k = distinct_apart name ns ms d h k
 within_apart ns ms n m n1 m1 (Some (of_node node decision values)) d l (a, b) (a1, b1) = omega arith
@@ -70,13 +71,15 @@ pub some_if_is : {A : Type 0} (b : Bool) (x y : A) → (if b then Some x else No
 some_if_is true x y h = (refl, cc)
 some_if_is false x y h = (cc, cc)
 
-pub stage_named : (s : StepPlan) (n m : ℕ) (e : Option ChartEntry) → is_some (stage_of s e) ≡ true → Within (s.name ∷ []) n m e
+pub stage_named : (s : StepPlan) (n m : ℕ) (e : Option ChartEntry) → is_some (stage_of s e) ≡ true
+    → Within (s.name ∷ []) n m e
 stage_named s n m None h = cc
 stage_named s n m (Some (of_step stage name service procedure)) h =
     inl (same_text name s.name (sym (and_left (same_name name s.name) _ (some_if _ stage h))))
 stage_named s n m (Some (of_node node decision values)) h = cc
 
-pub at_within : (ns : List (List ℕ)) (n m l : ℕ) (e : Option ChartEntry) → n ≤ l → l < m → AtNumber l e → Within ns n m e
+pub at_within : (ns : List (List ℕ)) (n m l : ℕ) (e : Option ChartEntry) → n ≤ l → l < m → AtNumber l e
+    → Within ns n m e
 at_within ns n m l None a b h = h
 at_within ns n m l (Some (of_step stage name service procedure)) a b h = absurd h
 at_within ns n m l (Some (of_node node decision values)) a b h = (omega arith, omega arith)
@@ -100,19 +103,23 @@ choice_below each aside (chose arm) values a h =
 choice_below each aside turn values a h = cc
 choice_below each aside leave values a h = cc
 
-pub arm_below_count : (each : Arms) (aside : Bool) (d : Option Decided) (a : ℕ) → right_arm each aside d ≡ Some a → a < arm_count each
+pub arm_below_count : (each : Arms) (aside : Bool) (d : Option Decided) (a : ℕ) → right_arm each aside d ≡ Some a
+    → a < arm_count each
 arm_below_count each aside None a h = cc
 arm_below_count each aside (Some d) a h = choice_below each aside d.decision d.values a h
 
-pub arm_decided : (each : Arms) (aside : Bool) (d : Option Decided) (a : ℕ) → right_arm each aside d ≡ Some a → is_some d ≡ true
+pub arm_decided : (each : Arms) (aside : Bool) (d : Option Decided) (a : ℕ) → right_arm each aside d ≡ Some a
+    → is_some d ≡ true
 arm_decided each aside None a h = cc
 arm_decided each aside (Some d) a h = refl
 
-pub turn_decided : (until : Formula) (aside : Bool) (d : Option Decided) → turns_rightly until aside d ≡ true → is_some d ≡ true
+pub turn_decided : (until : Formula) (aside : Bool) (d : Option Decided) → turns_rightly until aside d ≡ true
+    → is_some d ≡ true
 turn_decided until aside None h = cc
 turn_decided until aside (Some d) h = refl
 
-pub leave_decided : (until : Formula) (aside : Bool) (d : Option Decided) → leaves_rightly until aside d ≡ true → is_some d ≡ true
+pub leave_decided : (until : Formula) (aside : Bool) (d : Option Decided) → leaves_rightly until aside d ≡ true
+    → is_some d ≡ true
 leave_decided until aside None h = cc
 leave_decided until aside (Some d) h = refl
 
@@ -123,7 +130,8 @@ turn_or_leave until aside (chose arm) values h k = cc
 turn_or_leave until aside turn values h k = cc
 turn_or_leave until aside leave values h k = cc
 
-pub turn_not_leave : (until : Formula) (aside : Bool) (d : Option Decided) → turns_rightly until aside d ≡ true → leaves_rightly until aside d ≡ true → ⊥
+pub turn_not_leave : (until : Formula) (aside : Bool) (d : Option Decided) → turns_rightly until aside d ≡ true
+    → leaves_rightly until aside d ≡ true → ⊥
 turn_not_leave until aside None h k = cc
 turn_not_leave until aside (Some d) h k = turn_or_leave until aside d.decision d.values h k
 
@@ -160,7 +168,8 @@ mutual
   arm_range (more_arms c t each) n (suc a) i h = let r = arm_range each (n + size t) a i h in (omega arith, omega arith)
 
 mutual
-  pub of_within : (t : Tree) (n : ℕ) (e : Judged) → is_of (course t n) e ≡ true → Within (names t) n (n + size t) e.entry
+  pub of_within : (t : Tree) (n : ℕ) (e : Judged) → is_of (course t n) e ≡ true
+      → Within (names t) n (n + size t) e.entry
   of_within (leaf s) n e h = stage_named s n (n + 1) e.entry h
   of_within (seq ts) n e h =
       within_more (all_names ts) (all_names ts) (n + 1) (n + 1 + sizes ts) n (n + (1 + sizes ts)) e.entry (λ x i. i)
@@ -169,12 +178,14 @@ mutual
       within_more (all_names ts) (all_names ts) (n + 1) (n + 1 + sizes ts) n (n + (1 + sizes ts)) e.entry (λ x i. i)
       (omega arith) (omega arith) (once_within ts (n + 1) e h)
   of_within (choice each) n e h =
-      elim (or_split (is_some (decision_at n (arm_reads each) e)) (any_below (arm_count each) (λ a. is_of (arm_at each (n + 1) a) e)) h) [
+      elim (or_split (is_some (decision_at n (arm_reads each) e))
+      (any_below (arm_count each) (λ a. is_of (arm_at each (n + 1) a) e)) h) [
         | inl k ↦ at_within (arm_names each) n (n + (1 + arm_sizes each)) n e.entry (omega arith) (omega arith)
             (decided_number n (length (arm_reads each)) e.entry k)
         | inr k ↦
             let r = any_of (arm_count each) (λ a. is_of (arm_at each (n + 1) a) e) k in
-            within_more (arm_names each) (arm_names each) (n + 1) (n + 1 + arm_sizes each) n (n + (1 + arm_sizes each)) e.entry (λ x i. i)
+            within_more (arm_names each) (arm_names each) (n + 1) (n + 1 + arm_sizes each) n
+            (n + (1 + arm_sizes each)) e.entry (λ x i. i)
             (omega arith) (omega arith) (arm_within each (n + 1) r.0 e r.2)
       ]
   of_within (loop t until) n e h =
@@ -186,34 +197,43 @@ mutual
             (omega arith) (omega arith) (of_within t (n + 1) e k)
       ]
 
-  pub turn_within : (ts : Trees) (n : ℕ) (e : Judged) → is_of (in_turn ts n) e ≡ true → Within (all_names ts) n (n + sizes ts) e.entry
+  pub turn_within : (ts : Trees) (n : ℕ) (e : Judged) → is_of (in_turn ts n) e ≡ true
+      → Within (all_names ts) n (n + sizes ts) e.entry
   turn_within no_trees n e h = cc
   turn_within (more_trees t ts) n e h =
       elim (or_split (is_of (course t n) e) (is_of (in_turn ts (n + size t)) e) h) [
         | inl k ↦ within_more (names t) (names t ++ all_names ts) n (n + size t) n (n + (size t + sizes ts)) e.entry
             (λ x i. in_left x (names t) (all_names ts) i) (omega arith) (omega arith) (of_within t n e k)
-        | inr k ↦ within_more (all_names ts) (names t ++ all_names ts) (n + size t) (n + size t + sizes ts) n (n + (size t + sizes ts))
-            e.entry (λ x i. in_right x (names t) (all_names ts) i) (omega arith) (omega arith) (turn_within ts (n + size t) e k)
+        | inr k ↦ within_more (all_names ts) (names t ++ all_names ts) (n + size t) (n + size t + sizes ts) n
+            (n + (size t + sizes ts))
+            e.entry (λ x i. in_right x (names t) (all_names ts) i) (omega arith) (omega arith)
+            (turn_within ts (n + size t) e k)
       ]
 
-  pub once_within : (ts : Trees) (n : ℕ) (e : Judged) → is_of (at_once ts n) e ≡ true → Within (all_names ts) n (n + sizes ts) e.entry
+  pub once_within : (ts : Trees) (n : ℕ) (e : Judged) → is_of (at_once ts n) e ≡ true
+      → Within (all_names ts) n (n + sizes ts) e.entry
   once_within no_trees n e h = cc
   once_within (more_trees t ts) n e h =
       elim (or_split (is_of (course t n) e) (is_of (at_once ts (n + size t)) e) h) [
         | inl k ↦ within_more (names t) (names t ++ all_names ts) n (n + size t) n (n + (size t + sizes ts)) e.entry
             (λ x i. in_left x (names t) (all_names ts) i) (omega arith) (omega arith) (of_within t n e k)
-        | inr k ↦ within_more (all_names ts) (names t ++ all_names ts) (n + size t) (n + size t + sizes ts) n (n + (size t + sizes ts))
-            e.entry (λ x i. in_right x (names t) (all_names ts) i) (omega arith) (omega arith) (once_within ts (n + size t) e k)
+        | inr k ↦ within_more (all_names ts) (names t ++ all_names ts) (n + size t) (n + size t + sizes ts) n
+            (n + (size t + sizes ts))
+            e.entry (λ x i. in_right x (names t) (all_names ts) i) (omega arith) (omega arith)
+            (once_within ts (n + size t) e k)
       ]
 
-  pub arm_within : (each : Arms) (n a : ℕ) (e : Judged) → is_of (arm_at each n a) e ≡ true → Within (arm_names each) n (n + arm_sizes each) e.entry
+  pub arm_within : (each : Arms) (n a : ℕ) (e : Judged) → is_of (arm_at each n a) e ≡ true
+      → Within (arm_names each) n (n + arm_sizes each) e.entry
   arm_within no_arms n a e h = cc
   arm_within (more_arms c t each) n zero e h =
       within_more (names t) (names t ++ arm_names each) n (n + size t) n (n + (size t + arm_sizes each)) e.entry
       (λ x i. in_left x (names t) (arm_names each) i) (omega arith) (omega arith) (of_within t n e h)
   arm_within (more_arms c t each) n (suc a) e h =
-      within_more (arm_names each) (names t ++ arm_names each) (n + size t) (n + size t + arm_sizes each) n (n + (size t + arm_sizes each))
-      e.entry (λ x i. in_right x (names t) (arm_names each) i) (omega arith) (omega arith) (arm_within each (n + size t) a e h)
+      within_more (arm_names each) (names t ++ arm_names each) (n + size t) (n + size t + arm_sizes each) n
+      (n + (size t + arm_sizes each))
+      e.entry (λ x i. in_right x (names t) (arm_names each) i) (omega arith) (omega arith)
+      (arm_within each (n + size t) a e h)
 
 pub arm_below : (each : Arms) (n a : ℕ) (e : Judged) → is_of (arm_at each n a) e ≡ true → a < arm_count each
 arm_below no_arms n a e h = cc
@@ -238,10 +258,12 @@ mutual
     omega arith,
     λ i h. let r = has_range t (n + 1) i h in (omega arith, omega arith),
     λ e h k. at_outside (names t) (n + 1) (n + 1 + size t) n e.entry (omega arith)
-        (decided_number n (length (loop_reads until)) e.entry (turn_decided until e.aside (decision_at n (loop_reads until) e) k))
+        (decided_number n (length (loop_reads until)) e.entry
+        (turn_decided until e.aside (decision_at n (loop_reads until) e) k))
         (of_within t (n + 1) e h),
     λ e h k. at_outside (names t) (n + 1) (n + 1 + size t) n e.entry (omega arith)
-        (decided_number n (length (loop_reads until)) e.entry (leave_decided until e.aside (decision_at n (loop_reads until) e) k))
+        (decided_number n (length (loop_reads until)) e.entry
+        (leave_decided until e.aside (decision_at n (loop_reads until) e) k))
         (of_within t (n + 1) e h),
     λ e h k. turn_not_leave until e.aside (decision_at n (loop_reads until) e) h k,
     λ e h. turn_decided until e.aside (decision_at n (loop_reads until) e) h,
@@ -254,7 +276,8 @@ mutual
     sound t n (distinct_front (names t) (all_names ts) d),
     turn_sound ts (n + size t) (distinct_back (names t) (all_names ts) d),
     (
-      λ e h k. within_apart (names t) (all_names ts) n (n + size t) (n + size t) (n + size t + sizes ts) e.entry d (omega arith)
+      λ e h k. within_apart (names t) (all_names ts) n (n + size t) (n + size t)
+          (n + size t + sizes ts) e.entry d (omega arith)
           (of_within t n e h) (turn_within ts (n + size t) e k),
       λ i h k. let a = has_range t n i h in let b = turn_range ts (n + size t) i k in omega arith,
     ),
@@ -266,7 +289,8 @@ mutual
     sound t n (distinct_front (names t) (all_names ts) d),
     once_sound ts (n + size t) (distinct_back (names t) (all_names ts) d),
     (
-      λ e h k. within_apart (names t) (all_names ts) n (n + size t) (n + size t) (n + size t + sizes ts) e.entry d (omega arith)
+      λ e h k. within_apart (names t) (all_names ts) n (n + size t) (n + size t)
+          (n + size t + sizes ts) e.entry d (omega arith)
           (of_within t n e h) (once_within ts (n + size t) e k),
       λ i h k. let a = has_range t n i h in let b = once_range ts (n + size t) i k in omega arith,
     ),
@@ -275,4 +299,5 @@ mutual
   pub arm_sound : (each : Arms) (n a : ℕ) → Distinct (arm_names each) → Sound (arm_at each n a)
   arm_sound no_arms n a d = tt
   arm_sound (more_arms c t each) n zero d = sound t n (distinct_front (names t) (arm_names each) d)
-  arm_sound (more_arms c t each) n (suc a) d = arm_sound each (n + size t) a (distinct_back (names t) (arm_names each) d)
+  arm_sound (more_arms c t each) n (suc a) d = arm_sound each (n + size t) a
+      (distinct_back (names t) (arm_names each) d)

@@ -66,11 +66,14 @@ next_finish : (b : Bool) (m1 : Progress) → cond b (Some Finished) None ≡ Som
 next_finish true m1 h = let e : Finished ≡ m1 = cc in subst (λ t. Next true Begun (Some finish) t) e (to_finished refl)
 next_finish false m1 h = cc
 
-pub next_of : (b : Bool) (m : Progress) (s : Option Stage) (m1 : Progress) → next_progress b m s ≡ Some m1 → Next b m s m1
-next_of b Untouched (Some begin) m1 h = let e : Begun ≡ m1 = cc in subst (λ t. Next b Untouched (Some begin) t) e to_begun
+pub next_of : (b : Bool) (m : Progress) (s : Option Stage) (m1 : Progress) → next_progress b m s ≡ Some m1
+    → Next b m s m1
+next_of b Untouched (Some begin) m1 h = let e : Begun ≡ m1 = cc in
+    subst (λ t. Next b Untouched (Some begin) t) e to_begun
 next_of b Begun (Some finish) m1 h = next_finish b m1 h
 next_of b Begun (Some reset) m1 h = let e : WasReset ≡ m1 = cc in subst (λ t. Next b Begun (Some reset) t) e reset_begun
-next_of b Finished (Some reset) m1 h = let e : WasReset ≡ m1 = cc in subst (λ t. Next b Finished (Some reset) t) e reset_finished
+next_of b Finished (Some reset) m1 h = let e : WasReset ≡ m1 = cc in
+    subst (λ t. Next b Finished (Some reset) t) e reset_finished
 next_of b WasReset (Some end) m1 h = let e : Ended ≡ m1 = cc in subst (λ t. Next b WasReset (Some end) t) e to_ended
 next_of b m None m1 h = cc
 next_of b m (Some begin) m1 h = cc
@@ -78,7 +81,8 @@ next_of b m (Some finish) m1 h = cc
 next_of b m (Some reset) m1 h = cc
 next_of b m (Some end) m1 h = cc
 
-pub of_next : (b : Bool) (m : Progress) (s : Option Stage) (m1 : Progress) → Next b m s m1 → next_progress b m s ≡ Some m1
+pub of_next : (b : Bool) (m : Progress) (s : Option Stage) (m1 : Progress) → Next b m s m1
+    → next_progress b m s ≡ Some m1
 of_next b m s m1 to_begun = refl
 of_next b m s m1 (to_finished h) = ap (λ t. cond t (Some Finished) None) h
 of_next b m s m1 reset_begun = refl
@@ -100,7 +104,8 @@ clear_clears n below f = (
   λ i h.
       let no : nat_lt n i && nat_lt i below ≡ false
       = not_true (nat_lt n i && nat_lt i below)
-      (λ z. h (lt_told n i (and_left (nat_lt n i) (nat_lt i below) z)) (lt_told i below (and_right (nat_lt n i) (nat_lt i below) z))) in
+      (λ z. h (lt_told n i (and_left (nat_lt n i) (nat_lt i below) z))
+      (lt_told i below (and_right (nat_lt n i) (nat_lt i below) z))) in
       rw no refl,
 )
 
@@ -109,33 +114,47 @@ loop_change k f e n after t l d =
     cond d (cond t (Some (Clear n after)) (cond l (Some (Put n Left)) None)) (change_by k f e)
 
 pub change_moves :
-    {E : Type 0} (p : Course E) (f : Marks) (e : E) (c : Change) → Sound p → change_by p f e ≡ Some c → Moves p f e (changed c f)
+    {E : Type 0} (p : Course E) (f : Marks) (e : E) (c : Change) → Sound p → change_by p f e ≡ Some c
+    → Moves p f e (changed c f)
 change_moves nothing f e c s h = cc
 change_moves (step n b st) f e c s h =
-    (elim (next_progress b (f n) (st e)) as (λ o. next_progress b (f n) (st e) ≡ o → put_at n o ≡ Some c → Moves (step n b st) f e (changed c f)) [
+    (elim (next_progress b (f n) (st e)) as (λ o. next_progress b (f n) (st e) ≡ o → put_at n o ≡ Some c
+    → Moves (step n b st) f e (changed c f)) [
       | None ↦ λ q h. cc
       | Some m ↦ λ q h.
           let same : Put n m ≡ c = cc in
           (m, next_of b (f n) (st e) m q, subst (λ c. Puts n m f (changed c f)) same (put_puts n m f))
     ]) refl h
 change_moves (chain a b) f e c s h =
-    (elim (is_done a f) as (λ d. is_done a f ≡ d → cond d (change_by b f e) (change_by a f e) ≡ Some c → Moves (chain a b) f e (changed c f)) [
+    (elim (is_done a f) as (λ d. is_done a f ≡ d → cond d (change_by b f e) (change_by a f e) ≡ Some c
+    → Moves (chain a b) f e (changed c f)) [
       | true ↦ λ d h. inr (done_of a f d, change_moves b f e c s.1 h)
       | false ↦ λ d h. inl (change_moves a f e c s.0 h)
     ]) refl h
 change_moves (beside a b) f e c s h =
-    (elim (change_by a f e) as (λ o. change_by a f e ≡ o → either_change o (change_by b f e) ≡ Some c → Moves (beside a b) f e (changed c f)) [
+    (elim (change_by a f e) as (λ o. change_by a f e ≡ o → either_change o (change_by b f e) ≡ Some c
+    → Moves (beside a b) f e (changed c f)) [
       | None ↦ λ q h. inr (change_moves b f e c s.1 h)
       | Some d ↦ λ q h. inl (change_moves a f e c s.0 (q ∙ h))
     ]) refl h
 change_moves (select n count o c k) f e d s h =
-    (elim (f n) as (λ m. f n ≡ m → change_in_arm (choose_at n (c e)) (λ a. change_by (k a) f e) m ≡ Some d → Moves (select n count o c k) f e (changed d f)) [
+    (elim (f n) as (λ m. f n ≡ m → change_in_arm (choose_at n (c e)) (λ a. change_by (k a) f e) m ≡ Some d
+    → Moves (select n count o c k) f e (changed d f)) [
       | Untouched ↦ λ q h.
           (elim (c e) as (λ z. c e ≡ z → choose_at n z ≡ Some d → Moves (select n count o c k) f e (changed d f)) [
             | None ↦ λ r h. cc
             | Some a ↦ λ r h.
                 let same : Put n (Chosen a) ≡ d = cc in
-                inl (q, (a, s.2 a e r, r, subst (λ d. Puts n (Chosen a) f (changed d f)) same (put_puts n (Chosen a) f)))
+                inl (
+                  q,
+                  (
+                    a,
+                    s.2 a e r,
+                    r,
+                    subst (λ d. Puts n (Chosen a) f (changed d f)) same
+                        (put_puts n (Chosen a) f),
+                  ),
+                )
           ]) refl h
       | Chosen a ↦ λ q h.
           let m : Moves (k a) f e (changed d f) = change_moves (k a) f e d (s.0 a) h in
@@ -153,14 +172,28 @@ change_moves (repeat n after k o tu le) f e c s h =
                 (elim (tu e) as (λ t. tu e ≡ t → loop_change k f e n after t (le e) true ≡ Some c
                 → Moves (repeat n after k o tu le) f e (changed c f)) [
                   | true ↦ λ t h.
-                      let same : Clear n after ≡ c = cc in
-                      (q, inr (inl (done_of k f d, t, subst (λ c. Clears n after f (changed c f)) same (clear_clears n after f))))
+                      let same : Clear n after ≡ c = cc in (
+                        q,
+                        inr (inl (
+                          done_of k f d,
+                          t,
+                          subst (λ c. Clears n after f (changed c f)) same
+                              (clear_clears n after f),
+                        )),
+                      )
                   | false ↦ λ t h.
                       (elim (le e) as (λ l. le e ≡ l → loop_change k f e n after false l true ≡ Some c
                       → Moves (repeat n after k o tu le) f e (changed c f)) [
                         | true ↦ λ l h.
-                            let same : Put n Left ≡ c = cc in
-                            (q, inr (inr (done_of k f d, l, subst (λ c. Puts n Left f (changed c f)) same (put_puts n Left f))))
+                            let same : Put n Left ≡ c = cc in (
+                              q,
+                              inr (inr (
+                                done_of k f d,
+                                l,
+                                subst (λ c. Puts n Left f (changed c f)) same
+                                    (put_puts n Left f),
+                              )),
+                            )
                         | false ↦ λ l h. cc
                       ]) refl h
                 ]) refl h
@@ -169,7 +202,8 @@ change_moves (repeat n after k o tu le) f e c s h =
     ]) refl h
 
 -- an awaited entry has a target
-pub await_change : {E : Type 0} (p : Course E) (f : Marks) (e : E) → Sound p → Awaits p f e → (c : Change) × (change_by p f e ≡ Some c)
+pub await_change : {E : Type 0} (p : Course E) (f : Marks) (e : E) → Sound p → Awaits p f e
+    → (c : Change) × (change_by p f e ≡ Some c)
 await_change nothing f e s m = absurd m
 await_change (step n b st) f e s (m, x) = (Put n m, ap (put_at n) (of_next b (f n) (st e) m x))
 await_change (chain a b) f e s (inl m) =

@@ -12,5 +12,6 @@ pub few_nodes : (chart : Chart) → IsValid (plan chart) → size (tree chart.ro
 few_nodes chart valid = valid_small (plan chart) chart.form valid
 
 -- and so few marks
-pub few_marks : (chart : Chart) (marks : List Progress) → IsValid (plan chart) → length marks ≡ size (tree chart.root) → length marks < 2 ^ 32
+pub few_marks : (chart : Chart) (marks : List Progress) → IsValid (plan chart) → length marks ≡ size (tree chart.root)
+    → length marks < 2 ^ 32
 few_marks chart marks valid room = let small = few_nodes chart valid in omega arith

@@ -10,7 +10,8 @@ use Rattle.chart_core.proofs.Link.{complete_partial}
 
 module _ {E : Type 0} where
   -- which of two cuts is later
-  pub cuts : (u v x y : List E) → u ++ v ≡ x ++ y → ((z : List E) × (x ≡ u ++ z)) ⊎ ((z : List E) × (u ≡ x ++ z) × (y ≡ z ++ v))
+  pub cuts : (u v x y : List E) → u ++ v ≡ x ++ y → ((z : List E) × (x ≡ u ++ z))
+      ⊎ ((z : List E) × (u ≡ x ++ z) × (y ≡ z ++ v))
   cuts [] v x y h = inl (x, refl)
   cuts (a ∷ u) v [] y h = inr (a ∷ u, refl, sym h)
   cuts (a ∷ u) v (b ∷ x) y h =
@@ -59,8 +60,11 @@ rounds_front Body turns leaves P f b u v w q (round x t y r g k l) =
 -- a front of a part is a part
 pub partial_front : {E : Type 0} (p : Course E) (u v : List E) → Partial p (u ++ v) → Partial p u
 partial_front nothing u v h = nil_front u v h
-partial_front (step n b st) u v (ms, r) =
-    (map st v ++ ms, subst (StepRun b) (ap (λ t. t ++ ms) (map-append st u v) ∙ append_assoc (map st u) (map st v) ms) r)
+partial_front (step n b st) u v (ms, r) = (
+  map st v ++ ms,
+  subst (StepRun b) (ap (λ t. t ++ ms) (map-append st u v)
+      ∙ append_assoc (map st u) (map st v) ms) r,
+)
 partial_front (chain a b) u v (inl h) = inl (partial_front a u v h)
 partial_front (chain a b) u v (inr (x, y, q, h, k)) =
     elim (cuts u v x y q) [
@@ -79,4 +83,5 @@ partial_front (select n count o c k) (x ∷ u) v (inr (a, e, w, q, l, m, h)) =
     let rest : w ≡ u ++ v = cc in
     inr (a, e, u, ap (λ t. t ∷ u) same, l, m, partial_front (k a) u v (subst (Partial (k a)) rest h))
 partial_front (repeat n after k o tu le) u v h =
-    rounds_front (Complete k) tu le (Partial k) (λ u v h. partial_front k u v h) (λ u h. complete_partial k u h) u v (u ++ v) refl h
+    rounds_front (Complete k) tu le (Partial k) (λ u v h. partial_front k u v h) (λ u h. complete_partial k u h) u v
+    (u ++ v) refl h

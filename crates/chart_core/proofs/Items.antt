@@ -8,7 +8,8 @@ use Rattle.chart_core.specs.declared.node.Arm.{Arm}
 use Rattle.chart_core.specs.declared.node.Node.{Node}
 use Rattle.chart_core.specs.declared.node.Node.TheFolds.{fold_out-Arm}
 
-pub one_more : {A : Type 0} (xs : List A) (i : ℕ) (x : A) → i < length xs → x ≡ get_or xs i x → drop i xs ≡ x ∷ drop (i + 1) xs
+pub one_more : {A : Type 0} (xs : List A) (i : ℕ) (x : A) → i < length xs → x ≡ get_or xs i x
+    → drop i xs ≡ x ∷ drop (i + 1) xs
 one_more xs i x inside same =
     let next : suc i ≡ i + 1 = omega arith in
     drop-cons xs i x inside ∙ ap (λ front. front ∷ drop (suc i) xs) (sym same) ∙ ap (λ k. x ∷ drop k xs) next
@@ -22,7 +23,8 @@ pub arms_cut :
     (each : List Arm) (i : ℕ) (arm : Arm) → i < length each → arm ≡ get_or each i arm
     → arms (drop i each) ≡ more_arms (formula arm.when) (tree arm.body) (arms (drop (i + 1) each))
 arms_cut each i arm inside same =
-    ap arms (one_more each i arm inside same) ∙ ap (λ plan. more_arms plan.when plan.body (arms (drop (i + 1) each))) (arm_laid arm)
+    ap arms (one_more each i arm inside same) ∙ ap (λ plan. more_arms plan.when plan.body
+    (arms (drop (i + 1) each))) (arm_laid arm)
 
 -- the nodes from here on, as plain data
 pub trees_cut :

@@ -20,11 +20,13 @@ pub rounds_map :
     → ((w : List E) → Body w → Body1 w) → ((w : List E) → A w → B w)
     → (w : List E) → Rounds Body turns A w → Rounds Body1 turns B w
 rounds_map Body Body1 turns A B g h w (last a) = last (h w a)
-rounds_map Body Body1 turns A B g h w (round u t v e b k r) = round u t v e (g u b) k (rounds_map Body Body1 turns A B g h v r)
+rounds_map Body Body1 turns A B g h w (round u t v e b k r) =
+    round u t v e (g u b) k (rounds_map Body Body1 turns A B g h v r)
 
 -- Steps
 
-pub had_run : (b : Bool) (m : Progress) (xs : List (Option Stage)) → Had b m xs → (ms : List (Option Stage)) × StepRun b (xs ++ ms)
+pub had_run : (b : Bool) (m : Progress) (xs : List (Option Stage)) → Had b m xs
+    → (ms : List (Option Stage)) × StepRun b (xs ++ ms)
 had_run b m xs had_nothing = (Some begin ∷ Some reset ∷ Some end ∷ [], inl refl)
 had_run b m xs had_begin = (Some reset ∷ Some end ∷ [], inl refl)
 had_run b m xs (had_finish h) = (Some reset ∷ Some end ∷ [], inr (h, refl))
@@ -56,7 +58,8 @@ had_ended b m xs (had_both l) (inr (k, h)) = cc
 had_ended b m xs had_end h = refl
 had_ended b m xs (had_all l) h = refl
 
-pub had_next : (b : Bool) (m : Progress) (xs : List (Option Stage)) (s : Option Stage) (m1 : Progress) → Had b m xs → Next b m s m1 → Had b m1 (xs ++ (s ∷ []))
+pub had_next : (b : Bool) (m : Progress) (xs : List (Option Stage)) (s : Option Stage) (m1 : Progress) → Had b m xs
+    → Next b m s m1 → Had b m1 (xs ++ (s ∷ []))
 had_next b m xs s m1 had_nothing to_begun = had_begin
 had_next b m xs s m1 had_begin (to_finished h) = had_finish h
 had_next b m xs s m1 had_begin reset_begun = had_reset
@@ -69,16 +72,23 @@ had_next b m xs s m1 (had_all h) x = elim x [ ]
 pub had_awaits :
     (b : Bool) (m : Progress) (xs : List (Option Stage)) (s : Option Stage) (ms : List (Option Stage)) → Had b m xs
     → StepRun b ((xs ++ (s ∷ [])) ++ ms) → (m1 : Progress) × Next b m s m1
-had_awaits b m xs s ms had_nothing (inl h) = let e : Some begin ≡ s = cc in (Begun, subst (λ t. Next b Untouched t Begun) e to_begun)
-had_awaits b m xs s ms had_nothing (inr (k, h)) = let e : Some begin ≡ s = cc in (Begun, subst (λ t. Next b Untouched t Begun) e to_begun)
-had_awaits b m xs s ms had_begin (inl h) = let e : Some reset ≡ s = cc in (WasReset, subst (λ t. Next b Begun t WasReset) e reset_begun)
-had_awaits b m xs s ms had_begin (inr (k, h)) = let e : Some finish ≡ s = cc in (Finished, subst (λ t. Next b Begun t Finished) e (to_finished k))
+had_awaits b m xs s ms had_nothing (inl h) = let e : Some begin ≡ s = cc in
+    (Begun, subst (λ t. Next b Untouched t Begun) e to_begun)
+had_awaits b m xs s ms had_nothing (inr (k, h)) = let e : Some begin ≡ s = cc in
+    (Begun, subst (λ t. Next b Untouched t Begun) e to_begun)
+had_awaits b m xs s ms had_begin (inl h) = let e : Some reset ≡ s = cc in
+    (WasReset, subst (λ t. Next b Begun t WasReset) e reset_begun)
+had_awaits b m xs s ms had_begin (inr (k, h)) = let e : Some finish ≡ s = cc in
+    (Finished, subst (λ t. Next b Begun t Finished) e (to_finished k))
 had_awaits b m xs s ms (had_finish l) (inl h) = cc
-had_awaits b m xs s ms (had_finish l) (inr (k, h)) = let e : Some reset ≡ s = cc in (WasReset, subst (λ t. Next b Finished t WasReset) e reset_finished)
-had_awaits b m xs s ms had_reset (inl h) = let e : Some end ≡ s = cc in (Ended, subst (λ t. Next b WasReset t Ended) e to_ended)
+had_awaits b m xs s ms (had_finish l) (inr (k, h)) = let e : Some reset ≡ s = cc in
+    (WasReset, subst (λ t. Next b Finished t WasReset) e reset_finished)
+had_awaits b m xs s ms had_reset (inl h) = let e : Some end ≡ s = cc in
+    (Ended, subst (λ t. Next b WasReset t Ended) e to_ended)
 had_awaits b m xs s ms had_reset (inr (k, h)) = cc
 had_awaits b m xs s ms (had_both l) (inl h) = cc
-had_awaits b m xs s ms (had_both l) (inr (k, h)) = let e : Some end ≡ s = cc in (Ended, subst (λ t. Next b WasReset t Ended) e to_ended)
+had_awaits b m xs s ms (had_both l) (inr (k, h)) = let e : Some end ≡ s = cc in
+    (Ended, subst (λ t. Next b WasReset t Ended) e to_ended)
 had_awaits b m xs s ms had_end (inl h) = cc
 had_awaits b m xs s ms had_end (inr (k, h)) = cc
 had_awaits b m xs s ms (had_all l) (inl h) = cc
@@ -103,7 +113,8 @@ pub agree_fresh :
 agree_fresh p f g h k i l = h i l ∙ k i l
 
 pub agree_stands :
-    {E : Type 0} (p : Course E) (f g : Marks) (w : List E) → ((i : ℕ) → Has p i → g i ≡ f i) → Sound p → Stands p f w → Stands p g w
+    {E : Type 0} (p : Course E) (f g : Marks) (w : List E) → ((i : ℕ) → Has p i → g i ≡ f i) → Sound p
+    → Stands p f w → Stands p g w
 agree_stands nothing f g w h s d = d
 agree_stands (step n b st) f g w h s d = subst (λ t. Had b t (map st w)) (sym (h n refl)) d
 agree_stands (chain a b) f g w h s (inl (d, r)) =
@@ -136,7 +147,8 @@ agree_stands (repeat n after k o tu le) f g w h s (inr (e, d)) = inr (h n (omega
 
 -- a move touches the plan's own places alone
 pub move_frame :
-    {E : Type 0} (p : Course E) (f : Marks) (e : E) (g : Marks) → Sound p → Moves p f e g → (i : ℕ) → (Has p i → ⊥) → g i ≡ f i
+    {E : Type 0} (p : Course E) (f : Marks) (e : E) (g : Marks) → Sound p → Moves p f e g → (i : ℕ)
+    → (Has p i → ⊥) → g i ≡ f i
 move_frame nothing f e g s m i h = absurd m
 move_frame (step n b st) f e g s (m, x, y) i h = y.1 i h
 move_frame (chain a b) f e g s (inl m) i h = move_frame a f e g s.0 m i (λ k. h (inl k))
@@ -144,7 +156,8 @@ move_frame (chain a b) f e g s (inr m) i h = move_frame b f e g s.1 m.1 i (λ k.
 move_frame (beside a b) f e g s (inl m) i h = move_frame a f e g s.0 m i (λ k. h (inl k))
 move_frame (beside a b) f e g s (inr m) i h = move_frame b f e g s.1 m i (λ k. h (inr k))
 move_frame (select n count o c k) f e g s (inl (x, (a, l, m, y))) i h = y.1 i (λ z. h (inl z))
-move_frame (select n count o c k) f e g s (inr (a, x, l, m)) i h = move_frame (k a) f e g (s.0 a) m i (λ z. h (inr (a, z)))
+move_frame (select n count o c k) f e g s (inr (a, x, l, m)) i h =
+    move_frame (k a) f e g (s.0 a) m i (λ z. h (inr (a, z)))
 move_frame (repeat n after k o tu le) f e g s (x, inl m) i h =
     move_frame k f e g s.0 m i (λ z. h (let r = s.2 i z in omega arith, (s.2 i z).1))
 move_frame (repeat n after k o tu le) f e g s (x, inr (inl (d, t, y))) i h = y.1 i (λ p q. h (omega arith, q))
@@ -167,12 +180,19 @@ pub complete_partial : {E : Type 0} (p : Course E) (w : List E) → Complete p w
 complete_partial nothing w h = h
 complete_partial (step n b st) w h = ([], rw append-nil h)
 complete_partial (chain a b) w (u, v, e, x, y) = inr (u, v, e, x, complete_partial b v y)
-complete_partial (beside a b) w (l, x, y) = (l, complete_partial a (filter (is_of a) w) x, complete_partial b (filter (is_of b) w) y)
+complete_partial (beside a b) w (l, x, y) = (
+  l,
+  complete_partial a (filter (is_of a) w) x,
+  complete_partial b
+      (filter (is_of b) w) y,
+)
 complete_partial (select n count o c k) w (a, e, v, q, l, m, x) = inr (a, e, v, q, l, m, complete_partial (k a) v x)
 complete_partial (repeat n after k o tu le) w h =
-    rounds_map (Complete k) (Complete k) tu (Closing (Complete k) le) (λ v. Partial k v ⊎ Closing (Complete k) le v) (λ u x. x) (λ u x. inr x) w h
+    rounds_map (Complete k) (Complete k) tu (Closing (Complete k) le) (λ v. Partial k v ⊎ Closing (Complete k) le v)
+    (λ u x. x) (λ u x. inr x) w h
 
-pub done_complete : {E : Type 0} (p : Course E) (f : Marks) (w : List E) → Sound p → Stands p f w → Done p f → Complete p w
+pub done_complete : {E : Type 0} (p : Course E) (f : Marks) (w : List E) → Sound p → Stands p f w
+    → Done p f → Complete p w
 done_complete nothing f w s h d = h
 done_complete (step n b st) f w s h d = had_whole b (f n) (map st w) h d
 done_complete (chain a b) f w s (inl (x, r)) (d, g) =
@@ -192,15 +212,23 @@ pub stands_partial : {E : Type 0} (p : Course E) (f : Marks) (w : List E) → So
 stands_partial nothing f w s h = h
 stands_partial (step n b st) f w s h = had_run b (f n) (map st w) h
 stands_partial (chain a b) f w s (inl (x, r)) = inl (stands_partial a f w s.0 x)
-stands_partial (chain a b) f w s (inr (u, v, e, d, x, y)) = inr (u, v, e, done_complete a f u s.0 x d, stands_partial b f v s.1 y)
-stands_partial (beside a b) f w s (l, x, y) = (l, stands_partial a f (filter (is_of a) w) s.0 x, stands_partial b f (filter (is_of b) w) s.1 y)
+stands_partial (chain a b) f w s (inr (u, v, e, d, x, y)) = inr
+    (u, v, e, done_complete a f u s.0 x d, stands_partial b f v s.1 y)
+stands_partial (beside a b) f w s (l, x, y) = (
+  l,
+  stands_partial a f (filter (is_of a) w) s.0 x,
+  stands_partial b f
+      (filter (is_of b) w) s.1 y,
+)
 stands_partial (select n count o c k) f w s (inl (x, e, r)) = inl e
-stands_partial (select n count o c k) f w s (inr (a, e, v, q, l, m, x, y)) = inr (a, e, v, q, l, m, stands_partial (k a) f v (s.0 a) y)
+stands_partial (select n count o c k) f w s (inr (a, e, v, q, l, m, x, y)) =
+    inr (a, e, v, q, l, m, stands_partial (k a) f v (s.0 a) y)
 stands_partial (repeat n after k o tu le) f w s (inl (x, y)) =
     rounds_map (Complete k) (Complete k) tu (Stands k f) (λ v. Partial k v ⊎ Closing (Complete k) le v) (λ u z. z)
     (λ u z. inl (stands_partial k f u s.0 z)) w y
 stands_partial (repeat n after k o tu le) f w s (inr (x, y)) =
-    rounds_map (Complete k) (Complete k) tu (Closing (Complete k) le) (λ v. Partial k v ⊎ Closing (Complete k) le v) (λ u z. z) (λ u z. inr z) w y
+    rounds_map (Complete k) (Complete k) tu (Closing (Complete k) le) (λ v. Partial k v ⊎ Closing (Complete k) le v)
+    (λ u z. z) (λ u z. inr z) w y
 
 -- Every entry of a part is of the plan.
 
@@ -238,11 +266,13 @@ pub partial_of : {E : Type 0} (p : Course E) (w : List E) → Sound p → Partia
 partial_of nothing w s h = subst (All (is_of nothing)) (sym h) tt
 partial_of (step n b st) w s (ms, inl h) = all_staged st w ms _ (refl, (refl, (refl, tt))) h
 partial_of (step n b st) w s (ms, inr (k, h)) = all_staged st w ms _ (refl, (refl, (refl, (refl, tt)))) h
-partial_of (chain a b) w s (inl x) = All-mono (is_of a) (is_of (chain a b)) w (λ e. or_left (is_of a e) (is_of b e)) (partial_of a w s.0 x)
+partial_of (chain a b) w s (inl x) = All-mono (is_of a) (is_of (chain a b)) w (λ e. or_left (is_of a e) (is_of b e))
+    (partial_of a w s.0 x)
 partial_of (chain a b) w s (inr (u, v, e, x, y)) =
     subst (All (is_of (chain a b))) (sym e)
     (All-append (is_of (chain a b)) u v
-    (All-mono (is_of a) (is_of (chain a b)) u (λ e. or_left (is_of a e) (is_of b e)) (partial_of a u s.0 (complete_partial a u x)))
+    (All-mono (is_of a) (is_of (chain a b)) u (λ e. or_left (is_of a e) (is_of b e))
+    (partial_of a u s.0 (complete_partial a u x)))
     (All-mono (is_of b) (is_of (chain a b)) v (λ e. or_right (is_of a e) (is_of b e)) (partial_of b v s.1 y)))
 partial_of (beside a b) w s (l, x, y) = l
 partial_of (select n count o c k) w s (inl e) = subst (All (is_of (select n count o c k))) (sym e) tt
@@ -254,16 +284,20 @@ partial_of (select n count o c k) w s (inr (a, e, v, q, l, m, x)) =
           (partial_of (k a) v (s.0 a) x),
     )
 partial_of (repeat n after k o tu le) w s h =
-    let inside : (d : _) → is_of k d ≡ true → is_of (repeat n after k o tu le) d ≡ true = λ d z. or_right (o d) (is_of k d) z in
+    let inside : (d : _) → is_of k d ≡ true → is_of (repeat n after k o tu le) d ≡ true =
+    λ d z. or_right (o d) (is_of k d) z in
     let whole : (u : List _) → Complete k u → All (is_of (repeat n after k o tu le)) u
-    = λ u x. All-mono (is_of k) (is_of (repeat n after k o tu le)) u inside (partial_of k u s.0 (complete_partial k u x)) in
-    rounds_of (is_of k) (is_of (repeat n after k o tu le)) (Complete k) tu (λ v. Partial k v ⊎ Closing (Complete k) le v) whole
+    = λ u x. All-mono (is_of k) (is_of (repeat n after k o tu le)) u inside
+    (partial_of k u s.0 (complete_partial k u x)) in
+    rounds_of (is_of k) (is_of (repeat n after k o tu le)) (Complete k) tu
+    (λ v. Partial k v ⊎ Closing (Complete k) le v) whole
     (λ d z. or_left (o d) (is_of k d) (s.6 d z))
     (λ v z. elim z [
       | inl x ↦ All-mono (is_of k) (is_of (repeat n after k o tu le)) v inside (partial_of k v s.0 x)
       | inr (u, e, q, x, y) ↦
           subst (All (is_of (repeat n after k o tu le))) (sym q)
-          (All-append (is_of (repeat n after k o tu le)) u (e ∷ []) (whole u x) (or_left (o e) (is_of k e) (s.7 e y), tt))
+          (All-append (is_of (repeat n after k o tu le)) u (e ∷ []) (whole u x)
+          (or_left (o e) (is_of k e) (s.7 e y), tt))
     ]) w h
 
 pub stands_of : {E : Type 0} (p : Course E) (f : Marks) (w : List E) → Sound p → Stands p f w → All (is_of p) w
@@ -305,9 +339,11 @@ await_of (chain a b) f e s (inl m) = or_left (is_of a e) (is_of b e) (await_of a
 await_of (chain a b) f e s (inr m) = or_right (is_of a e) (is_of b e) (await_of b f e s.1 m.1)
 await_of (beside a b) f e s (inl m) = or_left (is_of a e) (is_of b e) (await_of a f e s.0 m)
 await_of (beside a b) f e s (inr m) = or_right (is_of a e) (is_of b e) (await_of b f e s.1 m)
-await_of (select n count o c k) f e s (inl (x, (a, l, m))) = or_left (o e) (any_below count (λ b. is_of (k b) e)) (s.4 a e m)
+await_of (select n count o c k) f e s (inl (x, (a, l, m))) =
+    or_left (o e) (any_below count (λ b. is_of (k b) e)) (s.4 a e m)
 await_of (select n count o c k) f e s (inr (a, x, l, m)) =
-    or_right (o e) (any_below count (λ b. is_of (k b) e)) (any_at count (λ b. is_of (k b) e) a l (await_of (k a) f e (s.0 a) m))
+    or_right (o e) (any_below count (λ b. is_of (k b) e)) (any_at count (λ b. is_of (k b) e) a l
+    (await_of (k a) f e (s.0 a) m))
 await_of (repeat n after k o tu le) f e s (x, inl m) = or_right (o e) (is_of k e) (await_of k f e s.0 m)
 await_of (repeat n after k o tu le) f e s (x, inr (inl (d, t))) = or_left (o e) (is_of k e) (s.6 e t)
 await_of (repeat n after k o tu le) f e s (x, inr (inr (d, t))) = or_left (o e) (is_of k e) (s.7 e t)
@@ -341,7 +377,9 @@ rounds_snoc Body turns A B r h w (round u t v e b k l) =
 
 pub rounds_turn :
     {E : Type 0} (Body : List E → Type 0) (turns : E → Bool) (A B : List E → Type 0) (e : E)
-    → ((v : List E) → A v → Body v) → turns e ≡ true → B [] → (w : List E) → Rounds Body turns A w → Rounds Body turns B (w ++ (e ∷ []))
+    → ((v : List E) → A v → Body v) → turns e ≡ true → B [] → (w : List E) → Rounds Body turns A w
+    → Rounds Body turns B (w ++ (e ∷ []))
 rounds_turn Body turns A B e h t n w (last a) = round w e [] refl (h w a) t (last n)
 rounds_turn Body turns A B e h t n w (round u x v q b k l) =
-    round u x (v ++ (e ∷ [])) (ap (λ y. y ++ (e ∷ [])) q ∙ append_assoc u (x ∷ v) (e ∷ [])) b k (rounds_turn Body turns A B e h t n v l)
+    round u x (v ++ (e ∷ [])) (ap (λ y. y ++ (e ∷ [])) q ∙ append_assoc u (x ∷ v) (e ∷ [])) b k
+    (rounds_turn Body turns A B e h t n v l)

@@ -110,7 +110,8 @@ take_stands (repeat n after k o tu le) f w e g s (inr (x, y)) (z, m) = cc
 
 -- Two ways to cut a loop's word: the laps that both have are the same.
 pub rounds_align :
-    {E : Type 0} (p : E → Bool) (Body : List E → Type 0) (turns : E → Bool) (A B : List E → Type 0) (C : Type 0) (r : List E)
+    {E : Type 0} (p : E → Bool) (Body : List E → Type 0) (turns : E → Bool) (A B : List E → Type 0)
+    (C : Type 0) (r : List E)
     → ((w : List E) → Body w → All p w)
     → ((e : E) → p e ≡ true → turns e ≡ true → ⊥)
     → ((v : List E) → A v → B (v ++ r) → C)
@@ -134,7 +135,8 @@ inside p u t v h = (All-back p u (t ∷ v) h).0
 -- a closing does not go on past its leave
 pub closing_late :
     {E : Type 0} (p : E → Bool) (Body : List E → Type 0) (turns leaves : E → Bool) (u : List E) (t : E) (v : List E)
-    → ((w : List E) → Body w → All p w) → ((e : E) → p e ≡ true → turns e ≡ true → ⊥) → ((e : E) → turns e ≡ true → leaves e ≡ true → ⊥)
+    → ((w : List E) → Body w → All p w) → ((e : E) → p e ≡ true → turns e ≡ true → ⊥)
+    → ((e : E) → turns e ≡ true → leaves e ≡ true → ⊥)
     → Closing Body leaves (u ++ (t ∷ v)) → turns t ≡ true → ⊥
 closing_late p Body turns leaves u t v o d dl (x, e, q, b, l) k =
     elim (snoc_cut x e u (t ∷ v) (sym q)) [
@@ -150,7 +152,8 @@ closing_late p Body turns leaves u t v o d dl (x, e, q, b, l) k =
     ]
 
 -- What stands for a whole word is done.
-pub complete_done : {E : Type 0} (p : Course E) (f : Marks) (w : List E) → Sound p → Stands p f w → Complete p w → Done p f
+pub complete_done : {E : Type 0} (p : Course E) (f : Marks) (w : List E) → Sound p → Stands p f w
+    → Complete p w → Done p f
 complete_done nothing f w s h d = tt
 complete_done (step n b st) f w s h d = had_ended b (f n) (map st w) h d
 complete_done (chain a b) f w s (inl (x, r)) (u, v, q, y, z) =
@@ -180,7 +183,8 @@ complete_done (repeat n after k o tu le) f w s (inl (x, y)) h =
     (λ u z. partial_of k u s.0 (complete_partial k u z)) s.3
     (λ v a (u, e, q, b, l).
     s.4 e (inside (is_of k) u e [] (subst (All (is_of k)) (sym (append-nil v) ∙ q) (stands_of k f v s.0 a))) l)
-    (λ v u t z a q b l. s.3 t (inside (is_of k) u t z (subst (All (is_of k)) (sym (append-nil v) ∙ q) (stands_of k f v s.0 a))) l)
+    (λ v u t z a q b l. s.3 t
+    (inside (is_of k) u t z (subst (All (is_of k)) (sym (append-nil v) ∙ q) (stands_of k f v s.0 a))) l)
     (λ u t v b l.
     closing_late (is_of k) (Complete k) tu le u t v (λ u z. partial_of k u s.0 (complete_partial k u z)) s.3 s.5 b l)
     w y (subst (Rounds (Complete k) tu (Closing (Complete k) le)) (sym (append-nil w)) h))
@@ -188,7 +192,8 @@ complete_done (repeat n after k o tu le) f w s (inr (x, y)) h = x
 
 -- An entry after which the word is still a part is awaited.
 pub partial_awaits :
-    {E : Type 0} (p : Course E) (f : Marks) (w : List E) (e : E) → Sound p → Stands p f w → Partial p (w ++ (e ∷ [])) → Awaits p f e
+    {E : Type 0} (p : Course E) (f : Marks) (w : List E) (e : E) → Sound p → Stands p f w
+    → Partial p (w ++ (e ∷ [])) → Awaits p f e
 partial_awaits nothing f w e s h m = absurd (snoc_not_nil w e [] (sym m))
 partial_awaits (step n b st) f w e s h (ms, r) =
     had_awaits b (f n) (map st w) (st e) ms h (subst (λ t. StepRun b (t ++ ms)) (map-append st w (e ∷ [])) r)
@@ -209,7 +214,8 @@ partial_awaits (chain a b) f w e s (inl (x, r)) (inr (u, v, q, y, z)) =
     ]
 partial_awaits (chain a b) f w e s (inr (u, v, q, d, x, y)) (inl m) =
     let vb : All (is_of b) v = stands_of b f v s.1 y in
-    let wa : All (is_of a) (u ++ v) = subst (All (is_of a)) q (All-front (is_of a) w (e ∷ []) (partial_of a (w ++ (e ∷ [])) s.0 m)) in
+    let wa : All (is_of a) (u ++ v) = subst (All (is_of a)) q
+    (All-front (is_of a) w (e ∷ []) (partial_of a (w ++ (e ∷ [])) s.0 m)) in
     let none : v ≡ [] = none_both (is_of a) (is_of b) v s.2.0 (All-back (is_of a) u v wa) vb in
     let same : w ≡ u = q ∙ ap (λ t. u ++ t) none ∙ append-nil u in
     inl (partial_awaits a f u e s.0 x (subst (λ t. Partial a (t ++ (e ∷ []))) same m))
@@ -218,12 +224,14 @@ partial_awaits (chain a b) f w e s (inr (u, v, q, d, x, y)) (inr (u1, v1, q1, x1
       | inl g ↦
           let m : Partial a (w ++ (e ∷ [])) = subst (Partial a) (sym g.1) (complete_partial a u1 x1) in
           let vb : All (is_of b) v = stands_of b f v s.1 y in
-          let wa : All (is_of a) (u ++ v) = subst (All (is_of a)) q (All-front (is_of a) w (e ∷ []) (partial_of a (w ++ (e ∷ [])) s.0 m)) in
+          let wa : All (is_of a) (u ++ v) = subst (All (is_of a)) q
+          (All-front (is_of a) w (e ∷ []) (partial_of a (w ++ (e ∷ [])) s.0 m)) in
           let none : v ≡ [] = none_both (is_of a) (is_of b) v s.2.0 (All-back (is_of a) u v wa) vb in
           let same : w ≡ u = q ∙ ap (λ t. u ++ t) none ∙ append-nil u in
           inl (partial_awaits a f u e s.0 x (subst (λ t. Partial a (t ++ (e ∷ []))) same m))
       | inr (t, g, h) ↦
-          let tb : All (is_of b) t = All-front (is_of b) t (e ∷ []) (subst (All (is_of b)) g (partial_of b v1 s.1 y1)) in
+          let tb : All (is_of b) t = All-front (is_of b) t (e ∷ [])
+          (subst (All (is_of b)) g (partial_of b v1 s.1 y1)) in
           let same : (u ≡ u1) × (v ≡ t)
           = cut_unique (is_of a) (is_of b) u v u1 t s.2.0 (stands_of a f u s.0 x) (stands_of b f v s.1 y)
           (partial_of a u1 s.0 (complete_partial a u1 x1)) tb (sym q ∙ h) in
@@ -231,15 +239,18 @@ partial_awaits (chain a b) f w e s (inr (u, v, q, d, x, y)) (inr (u1, v1, q1, x1
     ]
 partial_awaits (beside a b) f w e s (l, x, y) (l1, x1, y1) =
     elim (or_split (is_of a e) (is_of b e) (All-back (is_of (beside a b)) w (e ∷ []) l1).0) [
-      | inl is ↦ inl (partial_awaits a f (filter (is_of a) w) e s.0 x (subst (Partial a) (filter_in (is_of a) w e is) x1))
-      | inr is ↦ inr (partial_awaits b f (filter (is_of b) w) e s.1 y (subst (Partial b) (filter_in (is_of b) w e is) y1))
+      | inl is ↦ inl (partial_awaits a f (filter (is_of a) w) e s.0 x
+          (subst (Partial a) (filter_in (is_of a) w e is) x1))
+      | inr is ↦ inr (partial_awaits b f (filter (is_of b) w) e s.1 y
+          (subst (Partial b) (filter_in (is_of b) w e is) y1))
     ]
 partial_awaits (select n count o c k) f w e s (inl (x, q, r)) (inl m) = absurd (snoc_not_nil w e [] (sym m))
 partial_awaits (select n count o c k) f w e s (inl (x, q, r)) (inr (a, d, v, q1, l, m, z)) =
     let one : e ∷ [] ≡ d ∷ v = ap (λ t. t ++ (e ∷ [])) (sym q) ∙ q1 in
     let same : d ≡ e = cc in
     inl (x, (a, l, ap c (sym same) ∙ m))
-partial_awaits (select n count o c k) f w e s (inr (a, d, v, q, l, m, x, y)) (inl g) = absurd (snoc_not_nil w e [] (sym g))
+partial_awaits (select n count o c k) f w e s (inr (a, d, v, q, l, m, x, y)) (inl g) =
+    absurd (snoc_not_nil w e [] (sym g))
 partial_awaits (select n count o c k) f w e s (inr (a, d, v, q, l, m, x, y)) (inr (b, d1, v1, q1, l1, m1, z)) =
     let one : d ∷ (v ++ (e ∷ [])) ≡ d1 ∷ v1 = ap (λ t. t ++ (e ∷ [])) (sym q) ∙ q1 in
     let sd : d1 ≡ d = cc in
@@ -247,7 +258,8 @@ partial_awaits (select n count o c k) f w e s (inr (a, d, v, q, l, m, x, y)) (in
     let sa : b ≡ a = cc (ap c sd) in
     inr (a, x, l, partial_awaits (k a) f v e (s.0 a) y (subst (Partial (k a)) sv (subst (λ t. Partial (k t) v1) sa z)))
 partial_awaits (repeat n after k o tu le) f w e s (inl (x, y)) h =
-    rounds_align (is_of k) (Complete k) tu (Stands k f) (λ v. Partial k v ⊎ Closing (Complete k) le v) (Awaits (repeat n after k o tu le) f e) (e ∷ [])
+    rounds_align (is_of k) (Complete k) tu (Stands k f) (λ v. Partial k v ⊎ Closing (Complete k) le v)
+    (Awaits (repeat n after k o tu le) f e) (e ∷ [])
     (λ u z. partial_of k u s.0 (complete_partial k u z)) s.3
     (λ v a b. elim b [
       | inl z ↦ (x, inl (partial_awaits k f v e s.0 a z))
@@ -265,36 +277,43 @@ partial_awaits (repeat n after k o tu le) f w e s (inl (x, y)) h =
                 (x, inr (inl (complete_done k f v s.0 a (subst (Complete k) (sym sv) b), ap tu (sym same) ∙ l)))
             | (y1 ∷ ys) ↦ λ g j.
                 let same : t ≡ y1 = cc in
-                absurd (s.3 t (ap (is_of k) same ∙ inside (is_of k) u y1 ys (subst (All (is_of k)) j (stands_of k f v s.0 a))) l)
+                absurd (s.3 t (ap (is_of k) same ∙ inside (is_of k) u y1 ys
+                (subst (All (is_of k)) j (stands_of k f v s.0 a))) l)
           ]) g j
     ])
     (λ u t v b l. elim b [
       | inl z ↦ absurd (s.3 t (inside (is_of k) u t v (partial_of k (u ++ (t ∷ v)) s.0 z)) l)
-      | inr z ↦ absurd (closing_late (is_of k) (Complete k) tu le u t v (λ u z. partial_of k u s.0 (complete_partial k u z)) s.3 s.5 z l)
+      | inr z ↦ absurd (closing_late (is_of k) (Complete k) tu le u t v
+          (λ u z. partial_of k u s.0 (complete_partial k u z)) s.3 s.5 z l)
     ])
     w y h
 partial_awaits (repeat n after k o tu le) f w e s (inr (x, y)) h =
     absurd
-    (rounds_align (is_of k) (Complete k) tu (Closing (Complete k) le) (λ v. Partial k v ⊎ Closing (Complete k) le v) ⊥ (e ∷ [])
+    (rounds_align (is_of k) (Complete k) tu (Closing (Complete k) le)
+    (λ v. Partial k v ⊎ Closing (Complete k) le v) ⊥ (e ∷ [])
     (λ u z. partial_of k u s.0 (complete_partial k u z)) s.3
     (λ v (u, d, q, b, l) c. elim c [
       | inl z ↦
-          s.4 d (inside (is_of k) u d [] (subst (All (is_of k)) q (All-front (is_of k) v (e ∷ []) (partial_of k (v ++ (e ∷ [])) s.0 z)))) l
+          s.4 d (inside (is_of k) u d [] (subst (All (is_of k)) q
+          (All-front (is_of k) v (e ∷ []) (partial_of k (v ++ (e ∷ [])) s.0 z)))) l
       | inr (u1, d1, q1, b1, l1) ↦
           let same : (v ≡ u1) × (e ≡ d1) = snoc_same v u1 e d1 q1 in
-          let va : All (is_of k) v = subst (All (is_of k)) (sym same.0) (partial_of k u1 s.0 (complete_partial k u1 b1)) in
+          let va : All (is_of k) v = subst (All (is_of k)) (sym same.0)
+          (partial_of k u1 s.0 (complete_partial k u1 b1)) in
           s.4 d (inside (is_of k) u d [] (subst (All (is_of k)) q va)) l
     ])
     (λ v u t z (u0, d, q, b0, l) q1 b k1.
     let r : u0 ++ (d ∷ (e ∷ [])) ≡ u ++ (t ∷ z)
     = sym (append_assoc u0 (d ∷ []) (e ∷ [])) ∙ sym (ap (λ t. t ++ (e ∷ [])) q) ∙ q1 in
     let same : (u0 ≡ u) × (d ≡ t) × (e ∷ [] ≡ z)
-    = turn_unique (is_of k) u0 d (e ∷ []) u t z (partial_of k u0 s.0 (complete_partial k u0 b0)) (partial_of k u s.0 (complete_partial k u b))
+    = turn_unique (is_of k) u0 d (e ∷ []) u t z (partial_of k u0 s.0 (complete_partial k u0 b0))
+    (partial_of k u s.0 (complete_partial k u b))
     (λ i. s.4 d i l) (λ i. s.3 t i k1) r in
     s.5 t k1 (ap le (sym same.1) ∙ l))
     (λ u t v b l. elim b [
       | inl z ↦ s.3 t (inside (is_of k) u t v (partial_of k (u ++ (t ∷ v)) s.0 z)) l
-      | inr z ↦ closing_late (is_of k) (Complete k) tu le u t v (λ u z. partial_of k u s.0 (complete_partial k u z)) s.3 s.5 z l
+      | inr z ↦ closing_late (is_of k) (Complete k) tu le u t v
+          (λ u z. partial_of k u s.0 (complete_partial k u z)) s.3 s.5 z l
     ])
     w y h)
 

@@ -21,19 +21,23 @@ mutual
   all_plans_are : (each : Trees) (n : ℕ) → map step_in (all_steps each n) ≡ all_step_plans each
   all_plans_are no_trees n = refl
   all_plans_are (more_trees each others) n =
-      map-append step_in (steps each n) (all_steps others (n + size each)) ∙ rw (plans_are each n, all_plans_are others (n + size each)) refl
+      map-append step_in (steps each n) (all_steps others (n + size each))
+      ∙ rw (plans_are each n, all_plans_are others (n + size each)) refl
 
   arm_plans_are : (each : Arms) (n : ℕ) → map step_in (arm_steps each n) ≡ arm_step_plans each
   arm_plans_are no_arms n = refl
   arm_plans_are (more_arms when each others) n =
-      map-append step_in (steps each n) (arm_steps others (n + size each)) ∙ rw (plans_are each n, arm_plans_are others (n + size each)) refl
+      map-append step_in (steps each n) (arm_steps others (n + size each))
+      ∙ rw (plans_are each n, arm_plans_are others (n + size each)) refl
 
 -- what a later entry says of a step, after what an earlier one said
 pub said_before : (later says : Option Phase) (before : Bool) →
-    or_before (option_map is_running (or_earlier later says)) before ≡ or_before (option_map is_running later) (or_before (option_map is_running says) before)
+    or_before (option_map is_running (or_earlier later says)) before
+    ≡ or_before (option_map is_running later) (or_before (option_map is_running says) before)
 said_before None says before = refl
 said_before (Some phase) says before = refl
 
-pub said_at_last : (said : Option Phase) → or_before (option_map is_running said) (is_running (or_idle None)) ≡ is_running (or_idle said)
+pub said_at_last : (said : Option Phase) → or_before (option_map is_running said) (is_running (or_idle None))
+    ≡ is_running (or_idle said)
 said_at_last None = refl
 said_at_last (Some phase) = refl

@@ -10,7 +10,8 @@ use Rattle.chart_core.specs.Walks.{Walk, stop_at, and_on, one_on, walked, walked
 use Rattle.chart_core.specs.declared.fault.ChartFault.{ChartFault}
 use Rattle.chart_core.specs.declared.valid.Reached.{Reached}
 
-or_else_assoc : (one other third : Option ChartFault) → option_or (option_or one other) third ≡ option_or one (option_or other third)
+or_else_assoc : (one other third : Option ChartFault) → option_or (option_or one other) third
+    ≡ option_or one (option_or other third)
 or_else_assoc None other third = refl
 or_else_assoc (Some fault) other third = refl
 
@@ -22,7 +23,8 @@ first_fault-append chart (node ∷ front) back =
     ap (option_or (node_fault chart node)) (first_fault-append chart front back)
     ∙ sym (or_else_assoc (node_fault chart node) (first_fault chart front) (first_fault chart back))
 
-stop_ended : (one other : Option ChartFault) (there : Reached) → stop_at one (unless other there) ≡ unless (option_or one other) there
+stop_ended : (one other : Option ChartFault) (there : Reached)
+    → stop_at one (unless other there) ≡ unless (option_or one other) there
 stop_ended None other there = refl
 stop_ended (Some fault) other there = refl
 
@@ -38,7 +40,8 @@ behind here nodes steps = record { number = here.number + nodes; steps = here.st
 
 behind_one : (here : Reached) (nodes steps : ℕ) → behind (one_on here) nodes steps ≡ behind here (1 + nodes) steps
 behind_one here nodes steps =
-    ap (λ n. record { number = n; steps = here.steps + steps }) (let e : here.number + 1 + nodes ≡ here.number + (1 + nodes) = omega arith in e)
+    ap (λ n. record { number = n; steps = here.steps + steps })
+    (let e : here.number + 1 + nodes ≡ here.number + (1 + nodes) = omega arith in e)
 
 behind_both :
     (here : Reached) (nodes steps nodes1 steps1 : ℕ)
@@ -46,7 +49,8 @@ behind_both :
 behind_both here nodes steps nodes1 steps1 =
     let n : here.number + nodes + nodes1 ≡ here.number + (nodes + nodes1) = omega arith in
     let k : here.steps + steps + steps1 ≡ here.steps + (steps + steps1) = omega arith in
-    ap (λ m. record { number = m; steps = here.steps + steps + steps1 }) n ∙ ap (λ m. record { number = here.number + (nodes + nodes1); steps = m }) k
+    ap (λ m. record { number = m; steps = here.steps + steps + steps1 }) n
+    ∙ ap (λ m. record { number = here.number + (nodes + nodes1); steps = m }) k
 
 -- from a node down to its children
 down :
@@ -60,15 +64,19 @@ down chart node below onward here nodes steps h =
 
 -- from one tree to those behind it
 across :
-    (chart : ChartPlan) (front back : List Visit) (one : Walk) (onward : Reached → Walk) (here : Reached) (nodes steps nodes1 steps1 : ℕ)
+    (chart : ChartPlan) (front back : List Visit) (one : Walk) (onward : Reached → Walk) (here : Reached)
+    (nodes steps nodes1 steps1 : ℕ)
     → one ≡ unless (first_fault chart front) (behind here nodes steps)
-    → onward (behind here nodes steps) ≡ unless (first_fault chart back) (behind (behind here nodes steps) nodes1 steps1)
+    → onward (behind here nodes steps) ≡ unless (first_fault chart back)
+    (behind (behind here nodes steps) nodes1 steps1)
     → and_on one onward ≡ unless (first_fault chart (front ++ back)) (behind here (nodes + nodes1) (steps + steps1))
 across chart front back one onward here nodes steps nodes1 steps1 h k =
     ap (λ walk. and_on walk onward) h
-    ∙ on_ended (first_fault chart front) (first_fault chart back) (behind here nodes steps) (behind here (nodes + nodes1) (steps + steps1)) onward
+    ∙ on_ended (first_fault chart front) (first_fault chart back) (behind here nodes steps)
+    (behind here (nodes + nodes1) (steps + steps1)) onward
     (k ∙ ap (unless (first_fault chart back)) (behind_both here nodes steps nodes1 steps1))
-    ∙ ap (λ fault. unless fault (behind here (nodes + nodes1) (steps + steps1))) (sym (first_fault-append chart front back))
+    ∙ ap (λ fault. unless fault (behind here (nodes + nodes1) (steps + steps1)))
+    (sym (first_fault-append chart front back))
 
 none_behind : (here : Reached) → here ≡ behind here 0 0
 none_behind here =
@@ -79,23 +87,28 @@ none_behind here =
 mutual
   pub walk_ends :
       (chart : ChartPlan) (each : Tree) (depth : ℕ) (here : Reached)
-      → walked chart each depth here ≡ unless (first_fault chart (visits each here.number depth here.steps)) (behind here (size each) (step_count each))
+      → walked chart each depth here ≡ unless (first_fault chart (visits each here.number depth here.steps))
+      (behind here (size each) (step_count each))
   walk_ends chart (leaf step) depth here =
       stop_ended (node_fault chart (visit (leaf step) here.number depth here.steps)) None (behind here 1 1)
   walk_ends chart (seq each) depth here =
-      down chart (visit (seq each) here.number depth here.steps) (all_visits each (here.number + 1) (depth + 1) here.steps)
+      down chart (visit (seq each) here.number depth here.steps)
+      (all_visits each (here.number + 1) (depth + 1) here.steps)
       (walked_all chart each (depth + 1) (one_on here)) here (sizes each) (step_counts each)
       (walk_all_ends chart each (depth + 1) (one_on here))
   walk_ends chart (par each) depth here =
-      down chart (visit (par each) here.number depth here.steps) (all_visits each (here.number + 1) (depth + 1) here.steps)
+      down chart (visit (par each) here.number depth here.steps)
+      (all_visits each (here.number + 1) (depth + 1) here.steps)
       (walked_all chart each (depth + 1) (one_on here)) here (sizes each) (step_counts each)
       (walk_all_ends chart each (depth + 1) (one_on here))
   walk_ends chart (choice each) depth here =
-      down chart (visit (choice each) here.number depth here.steps) (arm_visits each (here.number + 1) (depth + 1) here.steps)
+      down chart (visit (choice each) here.number depth here.steps)
+      (arm_visits each (here.number + 1) (depth + 1) here.steps)
       (walked_arms chart each (depth + 1) (one_on here)) here (arm_sizes each) (arm_step_counts each)
       (walk_arms_ends chart each (depth + 1) (one_on here))
   walk_ends chart (loop body until) depth here =
-      down chart (visit (loop body until) here.number depth here.steps) (visits body (here.number + 1) (depth + 1) here.steps)
+      down chart (visit (loop body until) here.number depth here.steps)
+      (visits body (here.number + 1) (depth + 1) here.steps)
       (walked chart body (depth + 1) (one_on here)) here (size body) (step_count body)
       (walk_ends chart body (depth + 1) (one_on here))
 
@@ -108,7 +121,8 @@ mutual
   walk_all_ends chart (more_trees each others) depth here =
       across chart (visits each here.number depth here.steps)
       (all_visits others (here.number + size each) depth (here.steps + step_count each))
-      (walked chart each depth here) (walked_all chart others depth) here (size each) (step_count each) (sizes others) (step_counts others)
+      (walked chart each depth here) (walked_all chart others depth) here (size each) (step_count each) (sizes others)
+      (step_counts others)
       (walk_ends chart each depth here) (walk_all_ends chart others depth (behind here (size each) (step_count each)))
 
   pub walk_arms_ends :
@@ -120,30 +134,38 @@ mutual
   walk_arms_ends chart (more_arms when each others) depth here =
       across chart (visits each here.number depth here.steps)
       (arm_visits others (here.number + size each) depth (here.steps + step_count each))
-      (walked chart each depth here) (walked_arms chart others depth) here (size each) (step_count each) (arm_sizes others) (arm_step_counts others)
+      (walked chart each depth here) (walked_arms chart others depth) here (size each) (step_count each)
+      (arm_sizes others) (arm_step_counts others)
       (walk_ends chart each depth here) (walk_arms_ends chart others depth (behind here (size each) (step_count each)))
 
 clear : (one : Option ChartFault) (there : Reached) (last : Reached) → unless one there ≡ Ok last → one ≡ None
 clear None there last h = refl
 clear (Some fault) there last h = cc
 
-stopped : (one : Option ChartFault) (there : Reached) (fault : ChartFault) → unless one there ≡ Err fault → one ≡ Some fault
+stopped : (one : Option ChartFault) (there : Reached) (fault : ChartFault) → unless one there ≡ Err fault
+    → one ≡ Some fault
 stopped None there fault h = cc
 stopped (Some found) there fault h = cc
 
 -- where the walk through the whole chart comes to its end, the chart has no fault
 pub walk_clear :
-    (chart : ChartPlan) (here last : Reached) → here.number ≡ 0 → here.steps ≡ 0 → walked chart chart.root 1 here ≡ Ok last → chart_fault chart ≡ None
+    (chart : ChartPlan) (here last : Reached) → here.number ≡ 0 → here.steps ≡ 0
+    → walked chart chart.root 1 here ≡ Ok last → chart_fault chart ≡ None
 walk_clear chart here last n k h =
     let same : chart_fault chart ≡ first_fault chart (visits chart.root here.number 1 here.steps)
-    = ap (λ m. first_fault chart (visits chart.root m 1 0)) (sym n) ∙ ap (λ m. first_fault chart (visits chart.root here.number 1 m)) (sym k) in
-    same ∙ clear _ (behind here (size chart.root) (step_count chart.root)) last (sym (walk_ends chart chart.root 1 here) ∙ h)
+    = ap (λ m. first_fault chart (visits chart.root m 1 0)) (sym n)
+    ∙ ap (λ m. first_fault chart (visits chart.root here.number 1 m)) (sym k) in
+    same ∙ clear _ (behind here (size chart.root) (step_count chart.root)) last
+    (sym (walk_ends chart chart.root 1 here) ∙ h)
 
 -- where it stops at a fault, this is the chart's first
 pub walk_stopped :
-    (chart : ChartPlan) (here : Reached) (fault : ChartFault) → here.number ≡ 0 → here.steps ≡ 0 → walked chart chart.root 1 here ≡ Err fault
+    (chart : ChartPlan) (here : Reached) (fault : ChartFault) → here.number ≡ 0 → here.steps ≡ 0
+    → walked chart chart.root 1 here ≡ Err fault
     → chart_fault chart ≡ Some fault
 walk_stopped chart here fault n k h =
     let same : chart_fault chart ≡ first_fault chart (visits chart.root here.number 1 here.steps)
-    = ap (λ m. first_fault chart (visits chart.root m 1 0)) (sym n) ∙ ap (λ m. first_fault chart (visits chart.root here.number 1 m)) (sym k) in
-    same ∙ stopped _ (behind here (size chart.root) (step_count chart.root)) fault (sym (walk_ends chart chart.root 1 here) ∙ h)
+    = ap (λ m. first_fault chart (visits chart.root m 1 0)) (sym n)
+    ∙ ap (λ m. first_fault chart (visits chart.root here.number 1 m)) (sym k) in
+    same ∙ stopped _ (behind here (size chart.root) (step_count chart.root)) fault
+    (sym (walk_ends chart chart.root 1 here) ∙ h)

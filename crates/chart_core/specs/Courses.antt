@@ -46,11 +46,13 @@ StepRun finishes stages =
     ⊎ ((finishes ≡ true) × (stages ≡ Some begin ∷ Some finish ∷ Some reset ∷ Some end ∷ []))
 
 -- rounds of a loop's body, each followed by a turn, and then something last
-pub data Rounds {E : Type 0} (Body : List E → Type 0) (turns : E → Bool) (Last : List E → Type 0) : List E → Type 0 where
+pub data Rounds {E : Type 0} (Body : List E → Type 0) (turns : E → Bool)
+    (Last : List E → Type 0) : List E → Type 0 where
   last : {word : List E} → Last word → Rounds Body turns Last word
   round :
       {word : List E} (front : List E) (e : E) (back : List E)
-      → word ≡ front ++ (e ∷ back) → Body front → turns e ≡ true → Rounds Body turns Last back → Rounds Body turns Last word
+      → word ≡ front ++ (e ∷ back) → Body front → turns e ≡ true → Rounds Body turns Last back
+      → Rounds Body turns Last word
 
 -- a run of the body and then a leave
 abbrev pub Closing : {E : Type 0} → (List E → Type 0) → (E → Bool) → List E → Type 0
@@ -69,7 +71,8 @@ Complete (beside one other) word =
 Complete {E} (select n count own chooses bodies) word =
     (arm : ℕ) × (e : E) × (back : List E) × (word ≡ e ∷ back) × (arm < count) × (chooses e ≡ Some arm)
     × Complete (bodies arm) back
-Complete (repeat n after body own turns leaves) word = Rounds (Complete body) turns (Closing (Complete body) leaves) word
+Complete (repeat n after body own turns leaves) word = Rounds (Complete body) turns
+    (Closing (Complete body) leaves) word
 
 -- The word is a partial run: of a step a prefix of a complete run; of one course and then another a partial run of the
 -- first, or a complete run of it and then a partial run of the rest; of two side by side a partial run of each; of a
@@ -79,7 +82,8 @@ abbrev pub Partial : {E : Type 0} → Course E → List E → Type 0
 Partial nothing word = word ≡ []
 Partial (step n finishes stage) word = (others : List (Option Stage)) × StepRun finishes (map stage word ++ others)
 Partial {E} (chain first rest) word =
-    Partial first word ⊎ ((front : List E) × (back : List E) × (word ≡ front ++ back) × Complete first front × Partial rest back)
+    Partial first word ⊎ ((front : List E) × (back : List E) × (word ≡ front ++ back) × Complete first front
+    × Partial rest back)
 Partial (beside one other) word =
     All (λ e. is_of one e || is_of other e) word × Partial one (filter (is_of one) word)
     × Partial other (filter (is_of other) word)

@@ -70,4 +70,5 @@ abbrev pub decided_at : ℕ → ℕ → Option ChartEntry → Option Decided
 decided_at number read_count None = None
 decided_at number read_count (Some (of_step stage name service procedure)) = None
 decided_at number read_count (Some (of_node node decision values)) =
-    if node == number && length values == read_count then Some (record { decision = decision; values = values }) else None
+    if node == number && length values == read_count then Some
+    (record { decision = decision; values = values }) else None

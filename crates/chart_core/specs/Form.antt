@@ -104,4 +104,5 @@ abbrev mutual
 
   pub are_arms_formed : Arms → Bool
   are_arms_formed no_arms = true
-  are_arms_formed (more_arms when each others) = is_tree_formed each && (is_formula_formed when && are_arms_formed others)
+  are_arms_formed (more_arms when each others) = is_tree_formed each &&
+      (is_formula_formed when && are_arms_formed others)

@@ -9,5 +9,6 @@ abbrev pub fields_of : List Reading → Inside
 fields_of list = record { items = filled_up list; len = length list }
 
 -- the fields that keep the items in use are the fields themselves
-pub fields_of-kept : (fields : Inside) → IsKept fields.items fields.len → fields_of (take fields.len fields.items) ≡ fields
+pub fields_of-kept : (fields : Inside) → IsKept fields.items fields.len
+    → fields_of (take fields.len fields.items) ≡ fields
 fields_of-kept fields kept = rw (filled_up-used fields.items fields.len kept, length-used fields.items fields.len kept)

@@ -44,7 +44,8 @@ loop_reads until = reads_of (more_formulas until no_formulas)
 -- of a decision with its readings: the arm that it chooses rightly
 abbrev pub right_choice : Arms → Bool → Decision → List Reading → Option ℕ
 right_choice each aside (chose arm) values =
-    if nat_lt arm (arm_count each) && (aside || is_first_true (arm_conditions each) arm (stored (arm_reads each) values))
+    if nat_lt arm (arm_count each) && (aside || is_first_true (arm_conditions each) arm
+    (stored (arm_reads each) values))
     then Some arm else None
 right_choice each aside turn values = None
 right_choice each aside leave values = None
@@ -144,4 +145,5 @@ abbrev mutual
 -- The node with this number is awaited after the log: some entry of it makes the log a longer partial run, once the
 -- condition on this last entry's readings is set aside.
 abbrev pub IsAwaited : ChartPlan → List LogEntry → ℕ → Type 0
-IsAwaited chart log i = (e : ChartEntry) × EntryOf chart.root 0 i e × Partial (course_of chart) (word log ++ (loose e ∷ []))
+IsAwaited chart log i = (e : ChartEntry) × EntryOf chart.root 0 i e
+    × Partial (course_of chart) (word log ++ (loose e ∷ []))

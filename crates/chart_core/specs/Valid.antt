@@ -44,9 +44,30 @@ finish_conditions (Some condition) = more_formulas condition no_formulas
 -- a tree's first node
 abbrev pub visit : Tree → ℕ → ℕ → ℕ → Visit
 visit (leaf step) n depth earlier =
-    record { number = n; depth = depth; earlier = earlier; step = Some step; conditions = finish_conditions step.finish }
-visit (seq each) n depth earlier = record { number = n; depth = depth; earlier = earlier; step = None; conditions = no_formulas }
-visit (par each) n depth earlier = record { number = n; depth = depth; earlier = earlier; step = None; conditions = no_formulas }
+    record {
+      number = n;
+      depth = depth;
+      earlier = earlier;
+      step = Some step;
+      conditions =
+          finish_conditions step.finish;
+    }
+visit (seq each) n depth earlier = record {
+  number = n;
+  depth = depth;
+  earlier = earlier;
+  step =
+      None;
+  conditions = no_formulas;
+}
+visit (par each) n depth earlier = record {
+  number = n;
+  depth = depth;
+  earlier = earlier;
+  step =
+      None;
+  conditions = no_formulas;
+}
 visit (choice each) n depth earlier =
     record { number = n; depth = depth; earlier = earlier; step = None; conditions = arm_conditions each }
 visit (loop body until) n depth earlier =
@@ -59,8 +80,10 @@ abbrev mutual
   visits (leaf step) n depth earlier = visit (leaf step) n depth earlier ∷ []
   visits (seq each) n depth earlier = visit (seq each) n depth earlier ∷ all_visits each (n + 1) (depth + 1) earlier
   visits (par each) n depth earlier = visit (par each) n depth earlier ∷ all_visits each (n + 1) (depth + 1) earlier
-  visits (choice each) n depth earlier = visit (choice each) n depth earlier ∷ arm_visits each (n + 1) (depth + 1) earlier
-  visits (loop body until) n depth earlier = visit (loop body until) n depth earlier ∷ visits body (n + 1) (depth + 1) earlier
+  visits (choice each) n depth earlier = visit (choice each) n depth earlier ∷ arm_visits each (n + 1)
+      (depth + 1) earlier
+  visits (loop body until) n depth earlier = visit (loop body until) n depth earlier ∷ visits body (n + 1)
+      (depth + 1) earlier
 
   pub all_visits : Trees → ℕ → ℕ → ℕ → List Visit
   all_visits no_trees n depth earlier = []
@@ -83,11 +106,13 @@ abbrev mutual
 
   pub some_has_name : Trees → ℕ → List ℕ → Bool
   some_has_name no_trees count name = false
-  some_has_name (more_trees each others) count name = has_name each count name || some_has_name others (count - size each) name
+  some_has_name (more_trees each others) count name = has_name each count name || some_has_name others
+      (count - size each) name
 
   pub arm_has_name : Arms → ℕ → List ℕ → Bool
   arm_has_name no_arms count name = false
-  arm_has_name (more_arms when each others) count name = has_name each count name || arm_has_name others (count - size each) name
+  arm_has_name (more_arms when each others) count name = has_name each count name || arm_has_name others
+      (count - size each) name
 
 -- some step of the tree has this role and this service
 abbrev mutual

@@ -34,9 +34,11 @@ abbrev mutual
   walked chart (leaf step) depth here =
       stop_at (node_fault chart (visit (leaf step) here.number depth here.steps)) (Ok (step_on here))
   walked chart (seq each) depth here =
-      stop_at (node_fault chart (visit (seq each) here.number depth here.steps)) (walked_all chart each (depth + 1) (one_on here))
+      stop_at (node_fault chart (visit (seq each) here.number depth here.steps))
+      (walked_all chart each (depth + 1) (one_on here))
   walked chart (par each) depth here =
-      stop_at (node_fault chart (visit (par each) here.number depth here.steps)) (walked_all chart each (depth + 1) (one_on here))
+      stop_at (node_fault chart (visit (par each) here.number depth here.steps))
+      (walked_all chart each (depth + 1) (one_on here))
   walked chart (choice each) depth here =
       stop_at (node_fault chart (visit (choice each) here.number depth here.steps))
       (walked_arms chart each (depth + 1) (one_on here))
@@ -46,7 +48,8 @@ abbrev mutual
 
   pub walked_all : ChartPlan → Trees → ℕ → Reached → Walk
   walked_all chart no_trees depth here = Ok here
-  walked_all chart (more_trees each others) depth here = and_on (walked chart each depth here) (walked_all chart others depth)
+  walked_all chart (more_trees each others) depth here = and_on (walked chart each depth here)
+      (walked_all chart others depth)
 
   pub walked_arms : ChartPlan → Arms → ℕ → Reached → Walk
   walked_arms chart no_arms depth here = Ok here

@@ -55,20 +55,24 @@ runs_append (s ∷ ss) ys =
 
 -- what holds of each name of a tree holds of the names of its steps
 mutual
-  on_names : (t : Tree) (n : ℕ) (P : List ℕ → Type 0) → ((x : List ℕ) → In x (names t) → P x) → Each (λ p. P p.step.name) (steps t n)
+  on_names : (t : Tree) (n : ℕ) (P : List ℕ → Type 0) → ((x : List ℕ) → In x (names t) → P x)
+      → Each (λ p. P p.step.name) (steps t n)
   on_names (leaf s) n P h = (h s.name (inl refl), tt)
   on_names (seq ts) n P h = on_all_names ts (n + 1) P h
   on_names (par ts) n P h = on_all_names ts (n + 1) P h
   on_names (choice each) n P h = on_arm_names each (n + 1) P h
   on_names (loop t until) n P h = on_names t (n + 1) P h
 
-  on_all_names : (ts : Trees) (n : ℕ) (P : List ℕ → Type 0) → ((x : List ℕ) → In x (all_names ts) → P x) → Each (λ p. P p.step.name) (all_steps ts n)
+  on_all_names : (ts : Trees) (n : ℕ) (P : List ℕ → Type 0) → ((x : List ℕ) → In x (all_names ts) → P x)
+      → Each (λ p. P p.step.name) (all_steps ts n)
   on_all_names no_trees n P h = tt
   on_all_names (more_trees t ts) n P h =
       each_append (λ p. P p.step.name) (steps t n) (all_steps ts (n + size t))
-      (on_names t n P (λ x i. h x (in_left x (names t) (all_names ts) i))) (on_all_names ts (n + size t) P (λ x i. h x (in_right x (names t) (all_names ts) i)))
+      (on_names t n P (λ x i. h x (in_left x (names t) (all_names ts) i)))
+      (on_all_names ts (n + size t) P (λ x i. h x (in_right x (names t) (all_names ts) i)))
 
-  on_arm_names : (each : Arms) (n : ℕ) (P : List ℕ → Type 0) → ((x : List ℕ) → In x (arm_names each) → P x) → Each (λ p. P p.step.name) (arm_steps each n)
+  on_arm_names : (each : Arms) (n : ℕ) (P : List ℕ → Type 0) → ((x : List ℕ) → In x (arm_names each) → P x)
+      → Each (λ p. P p.step.name) (arm_steps each n)
   on_arm_names no_arms n P h = tt
   on_arm_names (more_arms c t each) n P h =
       each_append (λ p. P p.step.name) (steps t n) (arm_steps each (n + size t))
@@ -85,9 +89,11 @@ LeavesAlike v w x = or_idle (word_phase x w) ≡ or_idle (word_phase x v)
 
 quiet : (w : List Judged) (ps : List Placed) → Each (λ p. LeavesIdle w p.step.name) ps → filter (is_live w) ps ≡ []
 quiet w [] h = refl
-quiet w (p ∷ ps) (h, k) = ap (λ o. if is_running o then p ∷ filter (is_live w) ps else filter (is_live w) ps) h ∙ quiet w ps k
+quiet w (p ∷ ps) (h, k) = ap (λ o. if is_running o then p ∷ filter (is_live w) ps else filter (is_live w) ps)
+    h ∙ quiet w ps k
 
-alike : (v w : List Judged) (ps : List Placed) → Each (λ p. LeavesAlike v w p.step.name) ps → filter (is_live w) ps ≡ filter (is_live v) ps
+alike : (v w : List Judged) (ps : List Placed) → Each (λ p. LeavesAlike v w p.step.name) ps
+    → filter (is_live w) ps ≡ filter (is_live v) ps
 alike v w [] h = refl
 alike v w (p ∷ ps) (h, k) =
     ap (λ o. if is_running o then p ∷ filter (is_live w) ps else filter (is_live w) ps) h
@@ -103,10 +109,12 @@ step_runs s n Ended = refl
 step_runs s n (Chosen a) = refl
 step_runs s n Left = refl
 
-choice_runs : (n : ℕ) (each : Arms) (arm : ℕ → List Spot) (m : Progress) → m ≡ Untouched → runs (choice_spots n (choice each) arm m) ≡ []
+choice_runs : (n : ℕ) (each : Arms) (arm : ℕ → List Spot) (m : Progress) → m ≡ Untouched
+    → runs (choice_spots n (choice each) arm m) ≡ []
 choice_runs n each arm m h = ap (λ m. runs (choice_spots n (choice each) arm m)) h
 
-if_runs : (d : Bool) (xs ys : List Spot) (ps : List Placed) → (d ≡ true → runs xs ≡ ps) → (d ≡ false → runs ys ≡ ps) → runs (if d then xs else ys) ≡ ps
+if_runs : (d : Bool) (xs ys : List Spot) (ps : List Placed) → (d ≡ true → runs xs ≡ ps) → (d ≡ false → runs ys ≡ ps)
+    → runs (if d then xs else ys) ≡ ps
 if_runs true xs ys ps h k = h refl
 if_runs false xs ys ps h k = k refl
 
@@ -114,13 +122,15 @@ mutual
   pub lives : (t : Tree) (n : ℕ) (f : Marks) (w : List Judged) → Distinct (names t) → Stands (course t n) f w
       → runs (spots t n f) ≡ filter (is_live w) (steps t n)
   lives (leaf s) n f w d h =
-      let phase = ap or_idle (leaf_phase s n s.name w refl (stands_of (course (leaf s) n) f w tt h)) ∙ had_phase (is_some s.finish) (f n) _ h in
+      let phase = ap or_idle (leaf_phase s n s.name w refl (stands_of (course (leaf s) n) f w tt h))
+      ∙ had_phase (is_some s.finish) (f n) _ h in
       step_runs s n (f n) ∙ ap (λ o. if is_running o then record { number = n; step = s } ∷ [] else []) (sym phase)
   lives (seq ts) n f w d h = turn_lives ts (n + 1) f w d h
   lives (par ts) n f w d h = once_lives ts (n + 1) f w d h
   lives (choice each) n f w d (inl (q, z, r)) =
       choice_runs n each (λ a. arm_spots each (n + 1) a f) (f n) q
-      ∙ sym (quiet w (arm_steps each (n + 1)) (on_arm_names each (n + 1) (LeavesIdle w) (λ x i. ap (λ w. or_idle (word_phase x w)) z)))
+      ∙ sym (quiet w (arm_steps each (n + 1)) (on_arm_names each (n + 1) (LeavesIdle w)
+      (λ x i. ap (λ w. or_idle (word_phase x w)) z)))
   lives (choice each) n f w d (inr (a, e, v, q, l, c, x, y)) =
       ap (λ m. runs (choice_spots n (choice each) (λ a. arm_spots each (n + 1) a f) m)) x
       ∙ arm_lives each (n + 1) a f v d y
@@ -129,7 +139,8 @@ mutual
       (λ name i. ap or_idle (phase_head name e v w q (arm_says each n name e a c)))))
   lives (loop t until) n f w d (inr (x, y)) =
       ap (λ m. runs (loop_spots n (loop t until) (is_done (course t (n + 1)) f) (spots t (n + 1) f) m)) x
-      ∙ sym (quiet w (steps t (n + 1)) (on_names t (n + 1) (LeavesIdle w) (λ name i. complete_idle (loop t until) n w name d i y)))
+      ∙ sym (quiet w (steps t (n + 1)) (on_names t (n + 1) (LeavesIdle w)
+      (λ name i. complete_idle (loop t until) n w name d i y)))
   lives (loop t until) n f w d (inl (x, y)) =
       let r = rounds_last_phase t (n + 1) f (λ e. turns_rightly until e.aside (decision_at n (loop_reads until) e)) d
       (λ name e k. turns_says until n name e k) w y in
@@ -139,7 +150,8 @@ mutual
       (spots t (n + 1) f) (filter (is_live w) (steps t (n + 1)))
       (λ z. sym (same ∙ quiet r.0 (steps t (n + 1))
       (on_names t (n + 1) (LeavesIdle r.0)
-      (λ name i. complete_idle t (n + 1) r.0 name d i (done_complete (course t (n + 1)) f r.0 (sound t (n + 1) d) r.1 (done_of (course t (n + 1)) f z))))))
+      (λ name i. complete_idle t (n + 1) r.0 name d i (done_complete (course t (n + 1)) f r.0 (sound t (n + 1) d) r.1
+      (done_of (course t (n + 1)) f z))))))
       (λ z. lives t (n + 1) f r.0 d r.1 ∙ sym same)
 
   pub turn_lives : (ts : Trees) (n : ℕ) (f : Marks) (w : List Judged) → Distinct (all_names ts)
@@ -151,18 +163,22 @@ mutual
       let rest : filter (is_live w) (all_steps ts (n + size t)) ≡ []
       = quiet w (all_steps ts (n + size t))
       (on_all_names ts (n + size t) (LeavesIdle w)
-      (λ name i. ap or_idle (silent name (is_of (course t n)) w (tree_silent t n name (λ j. distinct_apart name (names t) (all_names ts) d j i))
+      (λ name i. ap or_idle (silent name (is_of (course t n)) w
+      (tree_silent t n name (λ j. distinct_apart name (names t) (all_names ts) d j i))
       (stands_of (course t n) f w (sound t n front) x)))) in
       let none : filter (is_live []) (all_steps ts (n + size t)) ≡ []
       = quiet [] (all_steps ts (n + size t)) (on_all_names ts (n + size t) (LeavesIdle []) (λ name i. refl)) in
       let cut : filter (is_live w) (all_steps (more_trees t ts) n) ≡ filter (is_live w) (steps t n)
       = filter-append (is_live w) (steps t n) (all_steps ts (n + size t))
       ∙ ap (λ ps. filter (is_live w) (steps t n) ++ ps) rest ∙ append-nil (filter (is_live w) (steps t n)) in
-      if_runs (is_done (course t n) f) (turn_spots ts (n + size t) f) (spots t n f) (filter (is_live w) (all_steps (more_trees t ts) n))
-      (λ z. turn_lives ts (n + size t) f [] back (fresh_stands (in_turn ts (n + size t)) f (turn_sound ts (n + size t) back) r) ∙ none
+      if_runs (is_done (course t n) f) (turn_spots ts (n + size t) f) (spots t n f)
+      (filter (is_live w) (all_steps (more_trees t ts) n))
+      (λ z. turn_lives ts (n + size t) f [] back (fresh_stands (in_turn ts (n + size t)) f
+      (turn_sound ts (n + size t) back) r) ∙ none
       ∙ sym (cut ∙ quiet w (steps t n)
       (on_names t n (LeavesIdle w)
-      (λ name i. complete_idle t n w name front i (done_complete (course t n) f w (sound t n front) x (done_of (course t n) f z))))))
+      (λ name i. complete_idle t n w name front i (done_complete (course t n) f w (sound t n front) x
+      (done_of (course t n) f z))))))
       (λ z. lives t n f w front x ∙ sym cut)
   turn_lives (more_trees t ts) n f w d (inr (u, v, q, g, x, y)) =
       let front = distinct_front (names t) (all_names ts) d in
@@ -171,18 +187,24 @@ mutual
       = alike u w (steps t n)
       (on_names t n (LeavesAlike u w)
       (λ name i. ap or_idle (phase_front name u v w q
-      (silent name (is_of (in_turn ts (n + size t))) v (turn_silent ts (n + size t) name (λ j. distinct_apart name (names t) (all_names ts) d i j))
+      (silent name (is_of (in_turn ts (n + size t))) v (turn_silent ts (n + size t) name
+      (λ j. distinct_apart name (names t) (all_names ts) d i j))
       (stands_of (in_turn ts (n + size t)) f v (turn_sound ts (n + size t) back) y)))))
-      ∙ quiet u (steps t n) (on_names t n (LeavesIdle u) (λ name i. complete_idle t n u name front i (done_complete (course t n) f u (sound t n front) x g))) in
+      ∙ quiet u (steps t n)
+      (on_names t n (LeavesIdle u) (λ name i. complete_idle t n u name front i
+      (done_complete (course t n) f u (sound t n front) x g))) in
       let rest : filter (is_live w) (all_steps ts (n + size t)) ≡ filter (is_live v) (all_steps ts (n + size t))
       = alike v w (all_steps ts (n + size t))
       (on_all_names ts (n + size t) (LeavesAlike v w)
       (λ name i. ap or_idle (phase_back name u v w q
-      (silent name (is_of (course t n)) u (tree_silent t n name (λ j. distinct_apart name (names t) (all_names ts) d j i))
+      (silent name (is_of (course t n)) u (tree_silent t n name
+      (λ j. distinct_apart name (names t) (all_names ts) d j i))
       (stands_of (course t n) f u (sound t n front) x))))) in
       let cut : filter (is_live w) (all_steps (more_trees t ts) n) ≡ filter (is_live v) (all_steps ts (n + size t))
-      = filter-append (is_live w) (steps t n) (all_steps ts (n + size t)) ∙ ap (λ ps. ps ++ filter (is_live w) (all_steps ts (n + size t))) first ∙ rest in
-      if_runs (is_done (course t n) f) (turn_spots ts (n + size t) f) (spots t n f) (filter (is_live w) (all_steps (more_trees t ts) n))
+      = filter-append (is_live w) (steps t n) (all_steps ts (n + size t))
+      ∙ ap (λ ps. ps ++ filter (is_live w) (all_steps ts (n + size t))) first ∙ rest in
+      if_runs (is_done (course t n) f) (turn_spots ts (n + size t) f) (spots t n f)
+      (filter (is_live w) (all_steps (more_trees t ts) n))
       (λ z. turn_lives ts (n + size t) f v back y ∙ sym cut)
       (λ z. let clash : true ≡ false = sym (of_done (course t n) f g) ∙ z in cc)
 
@@ -218,7 +240,8 @@ mutual
       let rest : filter (is_live w) (arm_steps each (n + size t)) ≡ []
       = quiet w (arm_steps each (n + size t))
       (on_arm_names each (n + size t) (LeavesIdle w)
-      (λ name i. ap or_idle (silent name (is_of (course t n)) w (tree_silent t n name (λ j. distinct_apart name (names t) (arm_names each) d j i))
+      (λ name i. ap or_idle (silent name (is_of (course t n)) w
+      (tree_silent t n name (λ j. distinct_apart name (names t) (arm_names each) d j i))
       (stands_of (course t n) f w (sound t n front) h)))) in
       lives t n f w front h
       ∙ sym (filter-append (is_live w) (steps t n) (arm_steps each (n + size t))
@@ -229,18 +252,21 @@ mutual
       = quiet w (steps t n)
       (on_names t n (LeavesIdle w)
       (λ name i. ap or_idle (silent name (is_of (arm_at each (n + size t) a)) w
-      (λ e z. unnamed name (arm_names each) (n + size t) (n + size t + arm_sizes each) e.entry (arm_within each (n + size t) a e z)
+      (λ e z. unnamed name (arm_names each) (n + size t) (n + size t + arm_sizes each) e.entry
+      (arm_within each (n + size t) a e z)
       (λ j. distinct_apart name (names t) (arm_names each) d i j))
       (stands_of (arm_at each (n + size t) a) f w (arm_sound each (n + size t) a back) h)))) in
       arm_lives each (n + size t) a f w back h
-      ∙ sym (filter-append (is_live w) (steps t n) (arm_steps each (n + size t)) ∙ ap (λ ps. ps ++ filter (is_live w) (arm_steps each (n + size t))) first)
+      ∙ sym (filter-append (is_live w) (steps t n) (arm_steps each (n + size t))
+      ∙ ap (λ ps. ps ++ filter (is_live w) (arm_steps each (n + size t))) first)
 
 -- the active steps, told by the log or by its word
 active_live : (chart : ChartPlan) (log : List LogEntry) (ps : List Placed) → All (is_of (course_of chart)) (word log)
     → filter (is_active log) ps ≡ filter (is_live (word log)) ps
 active_live chart log [] a = refl
 active_live chart log (p ∷ ps) a =
-    ap (λ o. if is_running (or_idle o) then p ∷ filter (is_active log) ps else filter (is_active log) ps) (log_phase chart p.step.name log a)
+    ap (λ o. if is_running (or_idle o) then p ∷ filter (is_active log) ps else filter (is_active log) ps)
+    (log_phase chart p.step.name log a)
     ∙ ap (λ qs. if is_live (word log) p then p ∷ qs else qs) (active_live chart log ps a)
 
 -- Of every log that the marks stand for: the running steps among the open nodes are the active ones.
@@ -248,12 +274,15 @@ pub runs_active : (chart : ChartPlan) (f : Marks) (log : List LogEntry) → IsVa
     → Stands (course_of chart) f (word log) → runs (spots chart.root 0 f) ≡ active_steps chart log
 runs_active chart f log valid h =
     lives chart.root 0 f (word log) (valid_distinct chart valid) h
-    ∙ sym (active_live chart log (steps chart.root 0) (stands_of (course_of chart) f (word log) (chart_sound chart valid) h))
+    ∙ sym (active_live chart log (steps chart.root 0) (stands_of (course_of chart) f (word log)
+    (chart_sound chart valid) h))
 
 placed_one : (wanted : ℕ → StepPlan → Bool) (n : ℕ) (node : Tree) (phase : Phase) (rest : List Placed)
-    → option_or (running_node wanted n node phase) (first_placed wanted rest) ≡ first_placed wanted (run_of n node phase ++ rest)
+    → option_or (running_node wanted n node phase) (first_placed wanted rest)
+    ≡ first_placed wanted (run_of n node phase ++ rest)
 placed_one wanted n (leaf s) phase rest =
-    elim (is_running phase) as (λ b. option_or (if b && wanted n s then Some (running_step n s) else None) (first_placed wanted rest)
+    elim (is_running phase) as (λ b. option_or (if b && wanted n s then Some (running_step n s) else None)
+    (first_placed wanted rest)
     ≡ first_placed wanted ((if b then record { number = n; step = s } ∷ [] else []) ++ rest)) [
       | true ↦ (elim (wanted n s) as
           (λ b. option_or (if b then Some (running_step n s) else None) (first_placed wanted rest)
@@ -268,7 +297,8 @@ placed_one wanted n (par each) phase rest = refl
 placed_one wanted n (choice each) phase rest = refl
 placed_one wanted n (loop body until) phase rest = refl
 
-pub running_placed : (wanted : ℕ → StepPlan → Bool) (ss : List Spot) → first_running wanted ss ≡ first_placed wanted (runs ss)
+pub running_placed : (wanted : ℕ → StepPlan → Bool) (ss : List Spot)
+    → first_running wanted ss ≡ first_placed wanted (runs ss)
 running_placed wanted [] = refl
 running_placed wanted (s ∷ ss) =
     ap (option_or (running_node wanted s.number s.node (phase_of s.progress))) (running_placed wanted ss)
@@ -276,9 +306,11 @@ running_placed wanted (s ∷ ss) =
 
 -- the first wanted step that runs is the first wanted active step of the log
 pub first_active :
-    (chart : ChartPlan) (f : Marks) (log : List LogEntry) (wanted : ℕ → StepPlan → Bool) → IsValid chart → Stands (course_of chart) f (word log)
+    (chart : ChartPlan) (f : Marks) (log : List LogEntry) (wanted : ℕ → StepPlan → Bool) → IsValid chart
+    → Stands (course_of chart) f (word log)
     → first_running wanted (spots chart.root 0 f) ≡ first_placed wanted (active_steps chart log)
-first_active chart f log wanted valid h = running_placed wanted (spots chart.root 0 f) ∙ ap (first_placed wanted) (runs_active chart f log valid h)
+first_active chart f log wanted valid h = running_placed wanted (spots chart.root 0 f)
+    ∙ ap (first_placed wanted) (runs_active chart f log valid h)
 
 broken_one : (seen : Sights) (number : ℕ) (node : Tree) (phase : Phase) (rest : List Placed)
     → option_or (broken_node seen node phase) (first_broken seen (map (λ placed. placed.step) rest))

@@ -35,7 +35,8 @@ ended_step n node (Chosen arm) h = refl
 ended_step n node Left h = refl
 
 done_choice :
-    (n : ℕ) (node : Tree) (arm : ℕ → List Spot) (test : ℕ → Bool) (progress : Progress) → ((place : ℕ) → test place ≡ true → arm place ≡ [])
+    (n : ℕ) (node : Tree) (arm : ℕ → List Spot) (test : ℕ → Bool) (progress : Progress)
+    → ((place : ℕ) → test place ≡ true → arm place ≡ [])
     → has_chosen test progress ≡ true → choice_spots n node arm progress ≡ []
 done_choice n node arm test Untouched k h = absurd cc
 done_choice n node arm test Begun k h = refl
@@ -45,7 +46,8 @@ done_choice n node arm test Ended k h = refl
 done_choice n node arm test (Chosen place) k h = k place h
 done_choice n node arm test Left k h = refl
 
-left_loop : (n : ℕ) (node : Tree) (done : Bool) (body : List Spot) (progress : Progress) → is_left progress ≡ true → loop_spots n node done body progress ≡ []
+left_loop : (n : ℕ) (node : Tree) (done : Bool) (body : List Spot) (progress : Progress) → is_left progress ≡ true
+    → loop_spots n node done body progress ≡ []
 left_loop n node done body Untouched h = absurd cc
 left_loop n node done body Begun h = refl
 left_loop n node done body Finished h = refl
@@ -55,29 +57,34 @@ left_loop n node done body (Chosen arm) h = refl
 left_loop n node done body Left h = refl
 
 mutual
-  pub done_closed : (each : Tree) (n : ℕ) (marks : Marks) → is_done (course each n) marks ≡ true → spots each n marks ≡ []
+  pub done_closed : (each : Tree) (n : ℕ) (marks : Marks) → is_done (course each n) marks ≡ true
+      → spots each n marks ≡ []
   done_closed (leaf step) n marks h = ended_step n (leaf step) (marks n) h
   done_closed (seq each) n marks h = turn_closed each (n + 1) marks h
   done_closed (par each) n marks h = once_closed each (n + 1) marks h
   done_closed (choice each) n marks h =
-      done_choice n (choice each) (λ arm. arm_spots each (n + 1) arm marks) (λ arm. is_done (arm_at each (n + 1) arm) marks) (marks n)
+      done_choice n (choice each) (λ arm. arm_spots each (n + 1) arm marks)
+      (λ arm. is_done (arm_at each (n + 1) arm) marks) (marks n)
       (λ place. arm_closed each (n + 1) place marks) h
   done_closed (loop body until) n marks h =
       left_loop n (loop body until) (is_done (course body (n + 1)) marks) (spots body (n + 1) marks) (marks n) h
 
-  turn_closed : (each : Trees) (n : ℕ) (marks : Marks) → is_done (in_turn each n) marks ≡ true → turn_spots each n marks ≡ []
+  turn_closed : (each : Trees) (n : ℕ) (marks : Marks) → is_done (in_turn each n) marks ≡ true
+      → turn_spots each n marks ≡ []
   turn_closed no_trees n marks h = refl
   turn_closed (more_trees each others) n marks h =
       let both = and_parts (is_done (course each n) marks) (is_done (in_turn others (n + size each)) marks) h in
       rw both.0 (turn_closed others (n + size each) marks both.1)
 
-  once_closed : (each : Trees) (n : ℕ) (marks : Marks) → is_done (at_once each n) marks ≡ true → once_spots each n marks ≡ []
+  once_closed : (each : Trees) (n : ℕ) (marks : Marks) → is_done (at_once each n) marks ≡ true
+      → once_spots each n marks ≡ []
   once_closed no_trees n marks h = refl
   once_closed (more_trees each others) n marks h =
       let both = and_parts (is_done (course each n) marks) (is_done (at_once others (n + size each)) marks) h in
       rw (done_closed each n marks both.0) (once_closed others (n + size each) marks both.1)
 
-  arm_closed : (each : Arms) (n place : ℕ) (marks : Marks) → is_done (arm_at each n place) marks ≡ true → arm_spots each n place marks ≡ []
+  arm_closed : (each : Arms) (n place : ℕ) (marks : Marks) → is_done (arm_at each n place) marks ≡ true
+      → arm_spots each n place marks ≡ []
   arm_closed no_arms n place marks h = refl
   arm_closed (more_arms when each others) n zero marks h = done_closed each n marks h
   arm_closed (more_arms when each others) n (suc place) marks h = arm_closed others (n + size each) place marks h
@@ -101,7 +108,8 @@ turn_more after old new each others n marks looked =
     (λ done. is_done (course each n) marks ≡ done →
     (if done then fold after new (turn_spots others (n + size each) marks) else new)
     ≡ fold after old (if done then turn_spots others (n + size each) marks else spots each n marks)) [
-      | true ↦ λ done. ap (λ look. fold after look (turn_spots others (n + size each) marks)) (done_same after old new each n marks looked done)
+      | true ↦ λ done. ap (λ look. fold after look (turn_spots others (n + size each) marks))
+          (done_same after old new each n marks looked done)
       | false ↦ λ done. looked
     ]) refl
 
@@ -141,17 +149,20 @@ or_none (Some first) = refl
 -- what ran before a walk, and then the first running one of the steps that it looks at
 pub running_found :
     (running : FirstRunning) (each : List Spot)
-    → (fold look_running running each).found ≡ option_or running.found (first_running (is_wanted running.from running.role) each)
+    → (fold look_running running each).found ≡ option_or running.found
+    (first_running (is_wanted running.from running.role) each)
 running_found running [] = sym (or_none running.found)
 running_found running (spot ∷ others) =
     let wanted = is_wanted running.from running.role in
     running_found (look_running running spot) others
-    ∙ or_assoc running.found (running_node wanted spot.number spot.node (phase_of spot.progress)) (first_running wanted others)
+    ∙ or_assoc running.found (running_node wanted spot.number spot.node (phase_of spot.progress))
+    (first_running wanted others)
 
 -- what broke before a walk, and then the first one that broke of the steps that it looks at
 pub broken_found :
     {S : Type 0} (sights : S → Sights) (broken : FirstBroken S) (each : List Spot)
-    → (fold (look_broken sights) broken each).found ≡ option_or broken.found (first_broken_node (sights broken.seen.now) each)
+    → (fold (look_broken sights) broken each).found ≡ option_or broken.found
+    (first_broken_node (sights broken.seen.now) each)
 broken_found sights broken [] = sym (or_none broken.found)
 broken_found sights broken (spot ∷ others) =
     broken_found sights (look_broken sights broken spot) others

@@ -10,7 +10,8 @@ use Rattle.chart_cursor.specs.Spots.{Spot, phase_of}
 
 -- the entry Broke, where the node is a running step whose service is stopped or aborted
 abbrev pub broken_node : Sights → Tree → Phase → Option LogEntry
-broken_node seen (leaf step) phase = if is_running phase then broken_step step (seen.view step.role step.service) else None
+broken_node seen (leaf step) phase = if is_running phase then broken_step step
+    (seen.view step.role step.service) else None
 broken_node seen (seq each) phase = None
 broken_node seen (par each) phase = None
 broken_node seen (choice each) phase = None

@@ -49,12 +49,14 @@ is_broken_state other = false
 abbrev pub broken_step : StepPlan → Sight → Option LogEntry
 broken_step step sight.Away = None
 broken_step step sight.Unreported = None
-broken_step step (sight.Is view) = if is_broken_state view.control.state then Some (Broke step.name view.control.state) else None
+broken_step step (sight.Is view) = if is_broken_state view.control.state then Some
+    (Broke step.name view.control.state) else None
 
 -- the entry Broke of the first of these steps whose service is stopped or aborted
 abbrev pub first_broken : Sights → List StepPlan → Option LogEntry
 first_broken seen [] = None
-first_broken seen (step ∷ others) = option_or (broken_step step (seen.view step.role step.service)) (first_broken seen others)
+first_broken seen (step ∷ others) = option_or (broken_step step (seen.view step.role step.service))
+    (first_broken seen others)
 
 -- what comes next in the run of the chart, as the batch does it
 abbrev pub run_next : CursorNext → Next

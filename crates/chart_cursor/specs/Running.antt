@@ -39,7 +39,8 @@ first_running wanted (spot ∷ others) =
 abbrev pub first_placed : (ℕ → StepPlan → Bool) → List Placed → Option RunningStep
 first_placed wanted [] = None
 first_placed wanted (placed ∷ others) =
-    if wanted placed.number placed.step then Some (running_step placed.number placed.step) else first_placed wanted others
+    if wanted placed.number placed.step then Some (running_step placed.number placed.step) else
+    first_placed wanted others
 
 -- the name alone
 abbrev pub name_of : Option RunningStep → Option (List ℕ)

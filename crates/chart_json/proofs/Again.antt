@@ -68,7 +68,8 @@ test_again depth role variable op value may sound =
     rw (rest.0, named.0, op_again op, compared_again value rest.1, may) refl
 
 mutual
-  unfolding condition_within condition_by_key const_form all_form any_form not_form written_formula written_formulas listed each
+  unfolding condition_within condition_by_key const_form all_form any_form not_form written_formula
+      written_formulas listed each
 
   within_again : (condition : Formula) (depth : ℕ) → has_parts_formed condition ≡ true
       → is_formula_sound condition ≡ true → nesting condition ≤ depth
@@ -85,8 +86,10 @@ mutual
   within_again (any_of each) (suc depth) formed sound deep =
       let parts = and_parts (is_between 1 16 (formula_count each)) (have_parts_formed each) formed in
       rw (formulas_len each, parts.0, all_again each depth 0 parts.1 sound (omega arith), listed_again each) refl
-  within_again (not_of inner) (suc depth) formed sound deep = rw (within_again inner depth formed sound (omega arith)) refl
-  within_again (test role variable op value) (suc depth) formed sound deep = test_again depth role variable op value formed sound
+  within_again (not_of inner) (suc depth) formed sound deep =
+      rw (within_again inner depth formed sound (omega arith)) refl
+  within_again (test role variable op value) (suc depth) formed sound deep =
+      test_again depth role variable op value formed sound
 
   all_again : (conditions : Formulas) (depth place : ℕ) → have_parts_formed conditions ≡ true
       → are_formulas_sound conditions ≡ true → nestings conditions ≤ depth
@@ -95,7 +98,11 @@ mutual
   all_again (more_formulas one others) depth place formed sound deep =
       let parts = and_parts (has_parts_formed one) (have_parts_formed others) formed in
       let sounds = and_parts (is_formula_sound one) (are_formulas_sound others) sound in
-      rw (within_again one depth parts.0 sounds.0 (omega arith), all_again others depth (suc place) parts.1 sounds.1 (omega arith)) refl
+      rw (
+        within_again one depth parts.0 sounds.0 (omega arith),
+        all_again others depth (suc place) parts.1 sounds.1
+            (omega arith),
+      ) refl
 
 mutual
   unfolding written_formula written_formulas
@@ -124,13 +131,15 @@ pub condition_again : (condition : Formula) → is_formula_formed condition ≡ 
     → condition_of (written_formula condition) ≡ Ok condition
 unfolding condition_of
 condition_again condition formed sound =
-    let parts = and_parts (has_parts_formed condition) (nat_le (test_count condition) 16 && nat_le (nesting condition) 8) formed in
+    let parts = and_parts (has_parts_formed condition) (nat_le (test_count condition) 16 && nat_le
+    (nesting condition) 8) formed in
     let small = and_parts (nat_le (test_count condition) 16) (nat_le (nesting condition) 8) parts.1 in
     rw (formula_again condition parts.0 sound, small.0, small.1) refl
 
 -- ---- steps
 
-setting_again : (setting : Setting) → is_setting_sound setting ≡ true → setting_of (written_setting setting) ≡ Ok setting
+setting_again : (setting : Setting) → is_setting_sound setting ≡ true
+    → setting_of (written_setting setting) ≡ Ok setting
 unfolding setting_of written_setting
 setting_again setting sound =
     let parts = and_parts (is_name setting.name) (is_scalar setting.value) sound in
@@ -146,27 +155,52 @@ record AreFields (step : StepPlan) : Type 0 where
   pub settings : list_all is_setting_sound step.settings ≡ true
   pub unlike : repeats_by same_setting step.settings ≡ false
 
-fields_again : (step : StepPlan) (finish : Option Formula) → AreFields step → is_finish_formed finish ≡ true → is_finish_sound finish ≡ true
+fields_again : (step : StepPlan) (finish : Option Formula) → AreFields step → is_finish_formed finish ≡ true
+    → is_finish_sound finish ≡ true
     → step_of (object (finish_first finish
     (step_keys step.name step.procedure step.role step.service (written_settings step.settings))))
     ≡ Ok (record step { finish = finish })
 unfolding step_of
 fields_again step None are formed sound =
-    rw (are.named, are.role, are.service, are.procedure, len_again written_setting step.settings, are.few, each_again setting_of written_setting is_setting_sound setting_again 0 step.settings are.settings, are.unlike) refl
+    rw (
+      are.named,
+      are.role,
+      are.service,
+      are.procedure,
+      len_again written_setting step.settings,
+      are.few,
+      each_again
+          setting_of written_setting is_setting_sound setting_again 0 step.settings are.settings,
+      are.unlike,
+    ) refl
 fields_again step (Some finish) are formed sound =
-    rw (are.named, are.role, are.service, are.procedure, len_again written_setting step.settings, are.few, each_again setting_of written_setting is_setting_sound setting_again 0 step.settings are.settings, condition_again finish formed sound, are.unlike) refl
+    rw (
+      are.named,
+      are.role,
+      are.service,
+      are.procedure,
+      len_again written_setting step.settings,
+      are.few,
+      each_again
+          setting_of written_setting is_setting_sound setting_again 0 step.settings are.settings,
+      condition_again finish
+          formed sound,
+      are.unlike,
+    ) refl
 
 some_settings : (n : ℕ) → nat_le n 32 ≡ true → is_between 0 32 n ≡ true
 some_settings n few = rw few (grind (arith, nat_tests))
 
 -- a step that is written is read back
-step_again : (step : StepPlan) → is_step_formed step ≡ true → is_step_sound step ≡ true → step_of (written_step step) ≡ Ok step
+step_again : (step : StepPlan) → is_step_formed step ≡ true → is_step_sound step ≡ true
+    → step_of (written_step step) ≡ Ok step
 unfolding written_step
 step_again step formed sound =
     let a = and_parts (nat_le 1 step.procedure)
     (nat_le (length step.settings) 32
     && (are_distinct (map (λ setting. setting.name) step.settings) && is_finish_formed step.finish)) formed in
-    let b = and_parts (nat_le (length step.settings) 32) (are_distinct (map (λ setting. setting.name) step.settings) && is_finish_formed step.finish) a.1 in
+    let b = and_parts (nat_le (length step.settings) 32) (are_distinct
+    (map (λ setting. setting.name) step.settings) && is_finish_formed step.finish) a.1 in
     let c = and_parts (are_distinct (map (λ setting. setting.name) step.settings)) (is_finish_formed step.finish) b.1 in
     let n = and_parts (is_name step.name)
     (is_name step.role && (is_name step.service
@@ -176,8 +210,10 @@ step_again step formed sound =
     (is_name step.service
     && (nat_le step.procedure 65535
     && (list_all is_setting_sound step.settings && is_finish_sound step.finish))) n.1 in
-    let s = and_parts (is_name step.service) (nat_le step.procedure 65535 && (list_all is_setting_sound step.settings && is_finish_sound step.finish)) r.1 in
-    let p = and_parts (nat_le step.procedure 65535) (list_all is_setting_sound step.settings && is_finish_sound step.finish) s.1 in
+    let s = and_parts (is_name step.service) (nat_le step.procedure 65535 &&
+    (list_all is_setting_sound step.settings && is_finish_sound step.finish)) r.1 in
+    let p = and_parts (nat_le step.procedure 65535) (list_all is_setting_sound step.settings && is_finish_sound
+    step.finish) s.1 in
     let e = and_parts (list_all is_setting_sound step.settings) (is_finish_sound step.finish) p.1 in
     fields_again step step.finish
     (record {
@@ -187,7 +223,8 @@ step_again step formed sound =
       procedure = rw (a.0, p.0) refl;
       few = some_settings (length step.settings) b.0;
       settings = e.0;
-      unlike = not-true (repeats_by same_setting step.settings) (sym (distinct_told (λ setting. setting.name) step.settings) ∙ c.0);
+      unlike = not-true (repeats_by same_setting step.settings)
+          (sym (distinct_told (λ setting. setting.name) step.settings) ∙ c.0);
     })
     c.1 e.1
 
@@ -245,7 +282,8 @@ plans_again no_arms = refl
 plans_again (more_arms when one each) = ap (more_arms when one) (plans_again each)
 
 mutual
-  unfolding tree_within node_by_key seq_form par_form sel_form loop_form arm_of written_tree written_trees written_arms nodes plans each
+  unfolding tree_within node_by_key seq_form par_form sel_form loop_form arm_of written_tree written_trees written_arms
+      nodes plans each
 
   -- a node that is written is read back, where none lies deeper than the reading goes
   pub tree_within_again : (node : Tree) (depth : ℕ) → is_tree_formed node ≡ true → is_tree_sound node ≡ true
@@ -276,7 +314,11 @@ mutual
   trees_again (more_trees one others) depth place formed sound deep =
       let parts = and_parts (is_tree_formed one) (are_trees_formed others) formed in
       let sounds = and_parts (is_tree_sound one) (are_trees_sound others) sound in
-      rw (tree_within_again one depth parts.0 sounds.0 (omega arith), trees_again others depth (suc place) parts.1 sounds.1 (omega arith)) refl
+      rw (
+        tree_within_again one depth parts.0 sounds.0 (omega arith),
+        trees_again others depth
+            (suc place) parts.1 sounds.1 (omega arith),
+      ) refl
 
   arms_again : (arms : Arms) (depth place : ℕ) → are_arms_formed arms ≡ true → are_arms_sound arms ≡ true
       → arm_levels arms ≤ depth → each (arm_of (tree_within depth)) place (written_arms arms) ≡ Ok (plans arms)
@@ -313,7 +355,8 @@ mutual
   arms_levels (more_arms when one others) = omega (arith, tree_levels one, arms_levels others)
 
 -- a node that is written is read back
-pub tree_again : (node : Tree) → is_tree_formed node ≡ true → is_tree_sound node ≡ true → tree_of (written_tree node) ≡ Ok node
+pub tree_again : (node : Tree) → is_tree_formed node ≡ true → is_tree_sound node ≡ true
+    → tree_of (written_tree node) ≡ Ok node
 unfolding tree_of
 tree_again node formed sound = tree_within_again node (suc (depth (written_tree node))) formed sound (tree_levels node)
 
@@ -341,15 +384,23 @@ all_of_both : (roles : List RolePlan) → list_all is_role_sound roles ≡ true
 all_of_both [] sound short = refl
 all_of_both (role ∷ roles) sound short =
     let sounds = and_parts (is_role_sound role) (list_all is_role_sound roles) sound in
-    let shorts = and_parts (nat_le (length role.wants) 64) (list_all (λ role. nat_le (length role.wants) 64) roles) short in
+    let shorts = and_parts (nat_le (length role.wants) 64) (list_all
+    (λ role. nat_le (length role.wants) 64) roles) short in
     rw (sounds.0, shorts.0, all_of_both roles sounds.1 shorts.1) refl
 
 -- roles that are written are read back
-pub roles_again : (roles : List RolePlan) → are_roles_sized roles ≡ true → list_all is_role_sound roles ≡ true → roles_of (written_roles roles) ≡ Ok roles
+pub roles_again : (roles : List RolePlan) → are_roles_sized roles ≡ true → list_all is_role_sound roles ≡ true
+    → roles_of (written_roles roles) ≡ Ok roles
 unfolding roles_of written_roles
 roles_again roles sized sound =
-    let parts = and_parts (is_between 1 64 (length roles)) (list_all (λ role. nat_le (length role.wants) 64) roles) sized in
-    rw (len_again written_role roles, parts.0, each_again role_of written_role is_role_written role_again 0 roles (all_of_both roles sound parts.1)) refl
+    let parts = and_parts (is_between 1 64 (length roles)) (list_all
+    (λ role. nat_le (length role.wants) 64) roles) sized in
+    rw (
+      len_again written_role roles,
+      parts.0,
+      each_again role_of written_role is_role_written role_again 0 roles
+          (all_of_both roles sound parts.1),
+    ) refl
 
 -- ---- charts
 
@@ -358,7 +409,8 @@ sized_told chart formed =
     let parts = and_parts (are_roles_formed chart) (is_tree_formed chart.root) formed in
     let sizes = and_parts (is_between 1 64 (length chart.roles))
     (are_distinct (role_names chart) && list_all (λ role. nat_le (length role.wants) 64) chart.roles) parts.0 in
-    let texts = and_parts (are_distinct (role_names chart)) (list_all (λ role. nat_le (length role.wants) 64) chart.roles) sizes.1 in
+    let texts = and_parts (are_distinct (role_names chart)) (list_all
+    (λ role. nat_le (length role.wants) 64) chart.roles) sizes.1 in
     rw (sizes.0, texts.1) refl
 
 unlike_told : (chart : ChartPlan) → is_chart_form chart ≡ true → repeats_by same_role chart.roles ≡ false
@@ -366,7 +418,8 @@ unlike_told chart formed =
     let parts = and_parts (are_roles_formed chart) (is_tree_formed chart.root) formed in
     let sizes = and_parts (is_between 1 64 (length chart.roles))
     (are_distinct (role_names chart) && list_all (λ role. nat_le (length role.wants) 64) chart.roles) parts.0 in
-    let texts = and_parts (are_distinct (role_names chart)) (list_all (λ role. nat_le (length role.wants) 64) chart.roles) sizes.1 in
+    let texts = and_parts (are_distinct (role_names chart)) (list_all
+    (λ role. nat_le (length role.wants) 64) chart.roles) sizes.1 in
     not-true (repeats_by same_role chart.roles) (sym (distinct_told (λ role. role.role) chart.roles) ∙ texts.0)
 
 -- a chart's own roles and root make the chart
@@ -375,9 +428,11 @@ unfolding chart_from
 chart_from_again chart formed = rw (unlike_told chart formed) refl
 
 -- the written roles of a chart are read back
-pub roles_of_chart_again : (chart : ChartPlan) → is_chart_form chart ≡ true → is_sound chart ≡ true → roles_of (written_roles chart.roles) ≡ Ok chart.roles
+pub roles_of_chart_again : (chart : ChartPlan) → is_chart_form chart ≡ true → is_sound chart ≡ true
+    → roles_of (written_roles chart.roles) ≡ Ok chart.roles
 roles_of_chart_again chart formed sound =
-    roles_again chart.roles (sized_told chart formed) (and_parts (list_all is_role_sound chart.roles) (is_tree_sound chart.root) sound).0
+    roles_again chart.roles (sized_told chart formed) (and_parts (list_all is_role_sound chart.roles)
+    (is_tree_sound chart.root) sound).0
 
 -- the written root of a chart is read back
 pub root_again : (chart : ChartPlan) → is_chart_form chart ≡ true → is_sound chart ≡ true
@@ -390,4 +445,5 @@ root_again chart formed sound =
 pub chart_again : (chart : ChartPlan) → is_chart_form chart ≡ true → is_sound chart ≡ true
     → chart_of (written_roles chart.roles) (written_tree chart.root) ≡ Ok chart
 unfolding chart_of
-chart_again chart formed sound = rw (roles_of_chart_again chart formed sound, root_again chart formed sound, chart_from_again chart formed) refl
+chart_again chart formed sound =
+    rw (roles_of_chart_again chart formed sound, root_again chart formed sound, chart_from_again chart formed) refl

@@ -53,7 +53,8 @@ nesting_told n few = grind (arith, nat_tests)
 -- a whole condition nests at most 16 deep
 condition_depth : (condition : Formula) → is_formula_formed condition ≡ true → depth (written_formula condition) ≤ 16
 condition_depth condition formed =
-    let parts = and_parts (has_parts_formed condition) (nat_le (test_count condition) 16 && nat_le (nesting condition) 8) formed in
+    let parts = and_parts (has_parts_formed condition) (nat_le (test_count condition) 16 && nat_le
+    (nesting condition) 8) formed in
     let small = and_parts (nat_le (test_count condition) 16) (nat_le (nesting condition) 8) parts.1 in
     omega (arith, formula_depth condition, nesting_told (nesting condition) small.1)
 
@@ -71,14 +72,16 @@ finish_depth : (step : StepPlan) (finish : Option Formula) → is_finish_formed 
     → depth (object (finish_first finish
     (step_keys step.name step.procedure step.role step.service (written_settings step.settings)))) ≤ 17
 finish_depth step None formed = omega (arith, items_depth_below written_setting 1 setting_depth step.settings)
-finish_depth step (Some finish) formed = omega (arith, condition_depth finish formed, items_depth_below written_setting 1 setting_depth step.settings)
+finish_depth step (Some finish) formed =
+    omega (arith, condition_depth finish formed, items_depth_below written_setting 1 setting_depth step.settings)
 
 step_parts : (step : StepPlan) → is_step_formed step ≡ true → is_finish_formed step.finish ≡ true
 step_parts step formed =
     let a = and_parts (nat_le 1 step.procedure)
     (nat_le (length step.settings) 32
     && (are_distinct (map (λ setting. setting.name) step.settings) && is_finish_formed step.finish)) formed in
-    let b = and_parts (nat_le (length step.settings) 32) (are_distinct (map (λ setting. setting.name) step.settings) && is_finish_formed step.finish) a.1 in
+    let b = and_parts (nat_le (length step.settings) 32) (are_distinct
+    (map (λ setting. setting.name) step.settings) && is_finish_formed step.finish) a.1 in
     (and_parts (are_distinct (map (λ setting. setting.name) step.settings)) (is_finish_formed step.finish) b.1).1
 
 step_depth : (step : StepPlan) → is_step_formed step ≡ true → depth (written_step step) ≤ 17
@@ -91,14 +94,27 @@ mutual
   -- a written node nests at most three times as deep as its nodes lie, and 17 more for what the deepest holds
   pub tree_depth : (node : Tree) → is_tree_formed node ≡ true → depth (written_tree node) ≤ 3 * levels node + 17
   tree_depth (leaf step) formed = omega (arith, step_depth step formed)
-  tree_depth (seq each) formed = omega (arith, trees_depth each (and_parts (nat_le 1 (tree_count each)) (are_trees_formed each) formed).1)
-  tree_depth (par each) formed = omega (arith, trees_depth each (and_parts (nat_le 2 (tree_count each)) (are_trees_formed each) formed).1)
-  tree_depth (choice each) formed = omega (arith, arms_depth each (and_parts (is_between 1 16 (arm_count each)) (are_arms_formed each) formed).1)
+  tree_depth (seq each) formed = omega (
+    arith,
+    trees_depth each
+        (and_parts (nat_le 1 (tree_count each)) (are_trees_formed each) formed).1,
+  )
+  tree_depth (par each) formed = omega (
+    arith,
+    trees_depth each
+        (and_parts (nat_le 2 (tree_count each)) (are_trees_formed each) formed).1,
+  )
+  tree_depth (choice each) formed = omega (
+    arith,
+    arms_depth each
+        (and_parts (is_between 1 16 (arm_count each)) (are_arms_formed each) formed).1,
+  )
   tree_depth (loop body until) formed =
       let parts = and_parts (is_tree_formed body) (is_formula_formed until) formed in
       omega (arith, tree_depth body parts.0, condition_depth until parts.1)
 
-  trees_depth : (each : Trees) → are_trees_formed each ≡ true → items_depth (written_trees each) ≤ 3 * all_levels each + 17
+  trees_depth : (each : Trees) → are_trees_formed each ≡ true
+      → items_depth (written_trees each) ≤ 3 * all_levels each + 17
   trees_depth no_trees formed = omega arith
   trees_depth (more_trees one each) formed =
       let parts = and_parts (is_tree_formed one) (are_trees_formed each) formed in
@@ -112,5 +128,10 @@ mutual
       omega (arith, tree_depth one parts.0, condition_depth when others.0, arms_depth each others.1)
 
 -- the written root of a chart that lies at most 16 deep nests at most 65 deep
-pub root_depth : (chart : ChartPlan) → is_chart_form chart ≡ true → levels chart.root ≤ 16 → depth (written_tree chart.root) ≤ 65
-root_depth chart formed shallow = omega (arith, tree_depth chart.root (and_parts (are_roles_formed chart) (is_tree_formed chart.root) formed).1)
+pub root_depth : (chart : ChartPlan) → is_chart_form chart ≡ true → levels chart.root ≤ 16
+    → depth (written_tree chart.root) ≤ 65
+root_depth chart formed shallow = omega (
+  arith,
+  tree_depth chart.root
+      (and_parts (are_roles_formed chart) (is_tree_formed chart.root) formed).1,
+)

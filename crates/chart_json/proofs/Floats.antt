@@ -56,7 +56,8 @@ finish_whole : (step : StepPlan) (finish : Option Formula)
     → has_float (object (finish_first finish
     (step_keys step.name step.procedure step.role step.service (written_settings step.settings)))) ≡ false
 finish_whole step None = rw (items_whole written_setting setting_whole step.settings) refl
-finish_whole step (Some finish) = rw (formula_whole finish, items_whole written_setting setting_whole step.settings) refl
+finish_whole step (Some finish) =
+    rw (formula_whole finish, items_whole written_setting setting_whole step.settings) refl
 
 step_whole : (step : StepPlan) → has_float (written_step step) ≡ false
 unfolding written_step

@@ -49,7 +49,8 @@ const_parts : (value : Data) → IfOk (const_form value) HasParts
 unfolding const_form
 const_parts value = search any_before
 
-all_parts : (inner : Data → Reading Formula) → ((value : Data) → IfOk (inner value) HasParts) → (value : Data) → IfOk (all_form inner value) HasParts
+all_parts : (inner : Data → Reading Formula) → ((value : Data) → IfOk (inner value) HasParts) → (value : Data)
+    → IfOk (all_form inner value) HasParts
 unfolding all_form
 all_parts inner told value =
     told_before (IsListOf (is_between 1 16) has_parts_formed) HasParts (list (codes "all") 1 16 inner value)
@@ -58,7 +59,8 @@ all_parts inner told value =
     (λ each are. any_before HasParts (nothing_but (codes "all") value) (λ _. Ok (all_of (formulas_of each)))
     (λ _. rw (count_formulas each, are.0, parts_of_all each, are.1) refl))
 
-any_parts : (inner : Data → Reading Formula) → ((value : Data) → IfOk (inner value) HasParts) → (value : Data) → IfOk (any_form inner value) HasParts
+any_parts : (inner : Data → Reading Formula) → ((value : Data) → IfOk (inner value) HasParts) → (value : Data)
+    → IfOk (any_form inner value) HasParts
 unfolding any_form
 any_parts inner told value =
     told_before (IsListOf (is_between 1 16) has_parts_formed) HasParts (list (codes "any") 1 16 inner value)
@@ -67,13 +69,15 @@ any_parts inner told value =
     (λ each are. any_before HasParts (nothing_but (codes "any") value) (λ _. Ok (any_of (formulas_of each)))
     (λ _. rw (count_formulas each, are.0, parts_of_all each, are.1) refl))
 
-not_parts : (inner : Data → Reading Formula) → ((value : Data) → IfOk (inner value) HasParts) → (value : Data) → IfOk (not_form inner value) HasParts
+not_parts : (inner : Data → Reading Formula) → ((value : Data) → IfOk (inner value) HasParts) → (value : Data)
+    → IfOk (not_form inner value) HasParts
 unfolding not_form
 not_parts inner told value =
     told_before HasParts HasParts (inside (codes "not") inner value)
     (λ condition. nothing_but (codes "not") value >>= λ _. Ok (not_of condition))
     (told_inside HasParts (codes "not") inner told value)
-    (λ condition formed. any_before HasParts (nothing_but (codes "not") value) (λ _. Ok (not_of condition)) (λ _. formed))
+    (λ condition formed. any_before HasParts (nothing_but (codes "not") value)
+    (λ _. Ok (not_of condition)) (λ _. formed))
 
 -- a test that was asked may compare
 tested : (variable role : List ℕ) (op : Op) (against : Compared)
@@ -87,15 +91,28 @@ test_parts : (value : Data) → IfOk (test_form value) HasParts
 unfolding test_form
 test_parts value = search (any_before, tested) depth 12
 
-by_key_parts : (inner : Data → Reading Formula) → ((value : Data) → IfOk (inner value) HasParts) → (value : Data) → IfOk (condition_by_key inner value) HasParts
+by_key_parts : (inner : Data → Reading Formula) → ((value : Data) → IfOk (inner value) HasParts) → (value : Data)
+    → IfOk (condition_by_key inner value) HasParts
 unfolding condition_by_key
 by_key_parts inner told value =
-    search (either, const_parts value, all_parts inner told value, any_parts inner told value, not_parts inner told value, test_parts value) depth 12
+    search (
+      either,
+      const_parts value,
+      all_parts inner told value,
+      any_parts inner told value,
+      not_parts inner told
+          value,
+      test_parts value,
+    ) depth 12
 
 within_parts : (levels : ℕ) (value : Data) → IfOk (condition_within levels value) HasParts
 unfolding condition_within
 within_parts zero value = tt
-within_parts (suc levels) value = search (any_before, by_key_parts (condition_within levels) (within_parts levels) value)
+within_parts (suc levels) value = search (
+  any_before,
+  by_key_parts (condition_within levels)
+      (within_parts levels) value,
+)
 
 formula_parts : (value : Data) → IfOk (formula_of value) HasParts
 unfolding formula_of
@@ -122,10 +139,12 @@ condition_formed value =
 same_either_way : (one other : List ℕ) → bytes_eq other one ≡ bytes_eq one other
 same_either_way one other =
     let same = bytes_eq-Decides other one in
-    let turned : Decides (bytes_eq one other) (other ≡ one) = (λ e. sym ((bytes_eq-Decides one other).0 e), λ e. (bytes_eq-Decides one other).1 (sym e)) in
+    let turned : Decides (bytes_eq one other) (other ≡ one) =
+    (λ e. sym ((bytes_eq-Decides one other).0 e), λ e. (bytes_eq-Decides one other).1 (sym e)) in
     one_answer (bytes_eq other one) (bytes_eq one other) same turned
 
-among_told : {A : Type 0} (key : A → List ℕ) (x : A) (xs : List A) → is_among (map key xs) (key x) ≡ list_any (λ other. bytes_eq (key x) (key other)) xs
+among_told : {A : Type 0} (key : A → List ℕ) (x : A) (xs : List A)
+    → is_among (map key xs) (key x) ≡ list_any (λ other. bytes_eq (key x) (key other)) xs
 among_told key x [] = refl
 among_told key x (y ∷ xs) = rw (same_either_way (key x) (key y), among_told key x xs) refl
 
@@ -134,7 +153,8 @@ neither true b = refl
 neither false b = refl
 
 -- keys are distinct where none is repeated
-pub distinct_told : {A : Type 0} (key : A → List ℕ) (xs : List A) → are_distinct (map key xs) ≡ not (repeats_by (λ x other. bytes_eq (key x) (key other)) xs)
+pub distinct_told : {A : Type 0} (key : A → List ℕ) (xs : List A)
+    → are_distinct (map key xs) ≡ not (repeats_by (λ x other. bytes_eq (key x) (key other)) xs)
 distinct_told key [] = refl
 distinct_told key (x ∷ xs) =
     rw (
@@ -156,7 +176,15 @@ abbrev ruled_step : List ℕ → List ℕ → List ℕ → ℕ → List Setting 
 ruled_step named role service procedure settings finish value =
     nothing_but (codes "step role service procedure settings finish") value >>= λ _.
     under (codes "settings") (refused_if (repeats_by same_setting settings) Repeated) >>= λ _.
-    Ok (record { name = named; role = role; service = service; procedure = procedure; settings = settings; finish = finish })
+    Ok (record {
+      name = named;
+      role = role;
+      service = service;
+      procedure = procedure;
+      settings =
+          settings;
+      finish = finish;
+    })
 
 ruled : (named role service : List ℕ) (procedure : ℕ) (settings : List Setting) (finish : Option Formula) (value : Data)
     → nat_le 1 procedure ≡ true → nat_le (length settings) 32 ≡ true → is_finish_formed finish ≡ true
@@ -173,8 +201,17 @@ ruled named role service procedure settings finish value numbered few formed =
       finish = finish;
     }))
     (λ _.
-    told_before (λ _. repeats_by same_setting settings ≡ false) IsStep (under (codes "settings") (refused_if (repeats_by same_setting settings) Repeated))
-    (λ _. Ok (record { name = named; role = role; service = service; procedure = procedure; settings = settings; finish = finish }))
+    told_before (λ _. repeats_by same_setting settings ≡ false) IsStep
+    (under (codes "settings") (refused_if (repeats_by same_setting settings) Repeated))
+    (λ _. Ok (record {
+      name = named;
+      role = role;
+      service = service;
+      procedure = procedure;
+      settings =
+          settings;
+      finish = finish;
+    }))
     (told_at (λ _. repeats_by same_setting settings ≡ false) (Key (codes "settings"))
     (refused_if (repeats_by same_setting settings) Repeated) (kept (repeats_by same_setting settings) Repeated))
     (λ _ unlike. rw (numbered, few, distinct_told (λ setting. setting.name) settings, unlike, formed) refl))
@@ -186,20 +223,24 @@ rest_of_step : (named role service : List ℕ) (value : Data)
     inside_if_there (codes "finish") condition_of value >>= λ finish.
     ruled_step named role service procedure settings finish value) IsStep
 rest_of_step named role service value =
-    told_before (λ procedure. is_between 1 65535 procedure ≡ true) IsStep (need (codes "procedure") (count 1 65535) value)
+    told_before (λ procedure. is_between 1 65535 procedure ≡ true) IsStep
+    (need (codes "procedure") (count 1 65535) value)
     (λ procedure. list_or_none (codes "settings") 0 32 setting_of value
     >>= λ settings. inside_if_there (codes "finish") condition_of value
     >>= λ finish. ruled_step named role service procedure settings finish value)
-    (told_need (λ procedure. is_between 1 65535 procedure ≡ true) (codes "procedure") (count 1 65535) (told_count 1 65535) value)
+    (told_need (λ procedure. is_between 1 65535 procedure ≡ true) (codes "procedure") (count 1 65535)
+    (told_count 1 65535) value)
     (λ procedure numbered.
     told_before (IsListOf (is_between 0 32) (λ _. true)) IsStep (list_or_none (codes "settings") 0 32 setting_of value)
-    (λ settings. inside_if_there (codes "finish") condition_of value >>= λ finish. ruled_step named role service procedure settings finish value)
+    (λ settings. inside_if_there (codes "finish") condition_of value >>= λ finish. ruled_step named role service
+    procedure settings finish value)
     (told_list_or_none (is_between 0 32) (λ _. true) (codes "settings") (items_in 0 32) setting_of refl
     (told_items 0 32) (λ value. any_value (setting_of value)) value)
     (λ settings few.
     told_before (λ finish. is_finish_formed finish ≡ true) IsStep (inside_if_there (codes "finish") condition_of value)
     (λ finish. ruled_step named role service procedure settings finish value)
-    (told_inside_if_there (λ finish. is_finish_formed finish ≡ true) (codes "finish") condition_of refl condition_formed value)
+    (told_inside_if_there (λ finish. is_finish_formed finish ≡ true)
+    (codes "finish") condition_of refl condition_formed value)
     (λ finish formed. ruled named role service procedure settings finish value (from_one procedure numbered)
     (and_parts (nat_le 0 (length settings)) (nat_le (length settings) 32) few.0).1 formed)))
 
@@ -231,13 +272,17 @@ is_arm_formed arm = is_tree_formed arm.body && is_formula_formed arm.when
 
 arms_all : (arms : List ArmPlan) → are_arms_formed (arms_of arms) ≡ list_all is_arm_formed arms
 arms_all [] = refl
-arms_all (arm ∷ arms) = rw (arms_all arms) (sym (and_assoc (is_tree_formed arm.body) (is_formula_formed arm.when) (list_all is_arm_formed arms)))
+arms_all (arm ∷ arms) =
+    rw (arms_all arms) (sym (and_assoc (is_tree_formed arm.body) (is_formula_formed arm.when)
+    (list_all is_arm_formed arms)))
 
 leaf_formed : (value : Data) → IfOk (step_form value) IsNode
 unfolding step_form
-leaf_formed value = told_before IsStep IsNode (step_of value) (λ step. Ok (leaf step)) (step_formed value) (λ step formed. formed)
+leaf_formed value = told_before IsStep IsNode (step_of value) (λ step. Ok (leaf step)) (step_formed value)
+    (λ step formed. formed)
 
-seq_formed : (inner : Data → Reading Tree) → ((value : Data) → IfOk (inner value) IsNode) → (value : Data) → IfOk (seq_form inner value) IsNode
+seq_formed : (inner : Data → Reading Tree) → ((value : Data) → IfOk (inner value) IsNode) → (value : Data)
+    → IfOk (seq_form inner value) IsNode
 unfolding seq_form
 seq_formed inner told value =
     told_before (IsListOf (nat_le 1) is_tree_formed) IsNode (list_from (codes "seq") 1 inner value)
@@ -246,7 +291,8 @@ seq_formed inner told value =
     (λ nodes are. any_before IsNode (nothing_but (codes "seq") value) (λ _. Ok (seq (trees_of nodes)))
     (λ _. rw (count_trees nodes, are.0, trees_all nodes, are.1) refl))
 
-par_formed : (inner : Data → Reading Tree) → ((value : Data) → IfOk (inner value) IsNode) → (value : Data) → IfOk (par_form inner value) IsNode
+par_formed : (inner : Data → Reading Tree) → ((value : Data) → IfOk (inner value) IsNode) → (value : Data)
+    → IfOk (par_form inner value) IsNode
 unfolding par_form
 par_formed inner told value =
     told_before (IsListOf (nat_le 2) is_tree_formed) IsNode (list_from (codes "par") 2 inner value)
@@ -259,7 +305,8 @@ par_formed inner told value =
 abbrev IsArm : ArmPlan → Type 0
 IsArm arm = is_arm_formed arm ≡ true
 
-arm_formed : (inner : Data → Reading Tree) → ((value : Data) → IfOk (inner value) IsNode) → (value : Data) → IfOk (arm_of inner value) IsArm
+arm_formed : (inner : Data → Reading Tree) → ((value : Data) → IfOk (inner value) IsNode) → (value : Data)
+    → IfOk (arm_of inner value) IsArm
 unfolding arm_of
 arm_formed inner told value =
     any_before IsArm (object_here value)
@@ -277,16 +324,19 @@ arm_formed inner told value =
     (λ body body_formed. any_before IsArm (nothing_but (codes "when then") value)
     (λ _. Ok (record { when = when; body = body })) (λ _. rw (body_formed, when_formed) refl))))
 
-sel_formed : (inner : Data → Reading Tree) → ((value : Data) → IfOk (inner value) IsNode) → (value : Data) → IfOk (sel_form inner value) IsNode
+sel_formed : (inner : Data → Reading Tree) → ((value : Data) → IfOk (inner value) IsNode) → (value : Data)
+    → IfOk (sel_form inner value) IsNode
 unfolding sel_form
 sel_formed inner told value =
     told_before (IsListOf (is_between 1 16) is_arm_formed) IsNode (list (codes "sel") 1 16 (arm_of inner) value)
     (λ arms. nothing_but (codes "sel") value >>= λ _. Ok (choice (arms_of arms)))
-    (told_list (is_between 1 16) is_arm_formed (codes "sel") (items_in 1 16) (arm_of inner) (told_items 1 16) (arm_formed inner told) value)
+    (told_list (is_between 1 16) is_arm_formed (codes "sel") (items_in 1 16) (arm_of inner) (told_items 1 16)
+    (arm_formed inner told) value)
     (λ arms are. any_before IsNode (nothing_but (codes "sel") value) (λ _. Ok (choice (arms_of arms)))
     (λ _. rw (count_arms arms, are.0, arms_all arms, are.1) refl))
 
-loop_formed : (inner : Data → Reading Tree) → ((value : Data) → IfOk (inner value) IsNode) → (value : Data) → IfOk (loop_form inner value) IsNode
+loop_formed : (inner : Data → Reading Tree) → ((value : Data) → IfOk (inner value) IsNode) → (value : Data)
+    → IfOk (loop_form inner value) IsNode
 unfolding loop_form
 loop_formed inner told value =
     told_before IsNode IsNode (inside (codes "loop") inner value)
@@ -297,17 +347,31 @@ loop_formed inner told value =
     told_before IsFormed IsNode (inside (codes "until") condition_of value)
     (λ until. nothing_but (codes "loop until") value >>= λ _. Ok (loop body until))
     (told_inside IsFormed (codes "until") condition_of condition_formed value)
-    (λ until until_formed. any_before IsNode (nothing_but (codes "loop until") value) (λ _. Ok (loop body until)) (λ _. rw (body_formed, until_formed) refl)))
+    (λ until until_formed. any_before IsNode (nothing_but (codes "loop until") value) (λ _. Ok (loop body until))
+    (λ _. rw (body_formed, until_formed) refl)))
 
-node_by_key_formed : (inner : Data → Reading Tree) → ((value : Data) → IfOk (inner value) IsNode) → (value : Data) → IfOk (node_by_key inner value) IsNode
+node_by_key_formed : (inner : Data → Reading Tree) → ((value : Data) → IfOk (inner value) IsNode) → (value : Data)
+    → IfOk (node_by_key inner value) IsNode
 unfolding node_by_key
 node_by_key_formed inner told value =
-    search (either, leaf_formed value, seq_formed inner told value, par_formed inner told value, sel_formed inner told value, loop_formed inner told value) depth 12
+    search (
+      either,
+      leaf_formed value,
+      seq_formed inner told value,
+      par_formed inner told value,
+      sel_formed inner told
+          value,
+      loop_formed inner told value,
+    ) depth 12
 
 within_formed : (levels : ℕ) (value : Data) → IfOk (tree_within levels value) IsNode
 unfolding tree_within
 within_formed zero value = tt
-within_formed (suc levels) value = search (any_before, node_by_key_formed (tree_within levels) (within_formed levels) value)
+within_formed (suc levels) value = search (
+  any_before,
+  node_by_key_formed (tree_within levels)
+      (within_formed levels) value,
+)
 
 -- a node that is read is formed, with all that is in it
 pub tree_formed : (value : Data) → IfOk (tree_of value) (λ node. is_tree_formed node ≡ true)
@@ -345,7 +409,8 @@ role_short value = search (any_before, wants_short) depth 12
 pub roles_sized : (value : Data) → IfOk (roles_of value) (λ roles. are_roles_sized roles ≡ true)
 unfolding roles_of
 roles_sized value =
-    told_before (HasSize (is_between 1 64)) (λ roles. are_roles_sized roles ≡ true) (here (items_in 1 64 value)) (λ values. each role_of 0 values)
+    told_before (HasSize (is_between 1 64)) (λ roles. are_roles_sized roles ≡ true) (here (items_in 1 64 value))
+    (λ values. each role_of 0 values)
     (told_here (HasSize (is_between 1 64)) (items_in 1 64 value) (told_items 1 64 value))
     (λ values sized.
     IfOk-weaker (each role_of 0 values) (IsListOf (is_between 1 64) is_role_short)

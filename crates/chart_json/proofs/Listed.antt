@@ -27,9 +27,11 @@ formulas_items (condition ∷ conditions) = ap (item (written_formula (formula c
 pub conditions_written : (list : Vec Value Global) (conditions : List Condition)
     → map view list.items ≡ map (λ condition. written_formula (formula condition)) conditions
     → view (Array list) ≡ array (written_formulas (formulas conditions))
-conditions_written list conditions each_is = view-Array list ∙ ap (λ values. array (items_of values)) each_is ∙ ap array (formulas_items conditions)
+conditions_written list conditions each_is = view-Array list ∙ ap (λ values. array (items_of values)) each_is
+    ∙ ap array (formulas_items conditions)
 
-trees_items : (nodes : List Node) → items_of (map (λ node. written_tree (tree node)) nodes) ≡ written_trees (trees nodes)
+trees_items : (nodes : List Node) → items_of (map (λ node. written_tree (tree node)) nodes)
+    ≡ written_trees (trees nodes)
 unfolding written_trees
 trees_items [] = refl
 trees_items (node ∷ nodes) = ap (item (written_tree (tree node))) (trees_items nodes)
@@ -38,21 +40,25 @@ trees_items (node ∷ nodes) = ap (item (written_tree (tree node))) (trees_items
 pub nodes_written : (list : Vec Value Global) (nodes : List Node)
     → map view list.items ≡ map (λ node. written_tree (tree node)) nodes
     → view (Array list) ≡ array (written_trees (trees nodes))
-nodes_written list nodes each_is = view-Array list ∙ ap (λ values. array (items_of values)) each_is ∙ ap array (trees_items nodes)
+nodes_written list nodes each_is = view-Array list ∙ ap (λ values. array (items_of values)) each_is
+    ∙ ap array (trees_items nodes)
 
 arms_items : (each : List Arm)
     → items_of (map (λ arm. written_arm (written_formula (formula arm.when)) (written_tree (tree arm.body))) each)
     ≡ written_arms (arms each)
 unfolding written_arms
 arms_items [] = refl
-arms_items (arm ∷ each) = rw arm_laid (ap (item (written_arm (written_formula (formula arm.when)) (written_tree (tree arm.body)))) (arms_items each))
+arms_items (arm ∷ each) =
+    rw arm_laid (ap (item (written_arm (written_formula (formula arm.when)) (written_tree (tree arm.body))))
+    (arms_items each))
 
 -- a list of the written forms of these arms
 pub arms_written : (list : Vec Value Global) (each : List Arm)
     → map view list.items
     ≡ map (λ arm. written_arm (written_formula (formula arm.when)) (written_tree (tree arm.body))) each
     → view (Array list) ≡ array (written_arms (arms each))
-arms_written list each each_is = view-Array list ∙ ap (λ values. array (items_of values)) each_is ∙ ap array (arms_items each)
+arms_written list each each_is = view-Array list ∙ ap (λ values. array (items_of values)) each_is
+    ∙ ap array (arms_items each)
 
 -- a list of the written forms of these roles
 pub roles_written : (list : Vec Value Global) (roles : List Role)

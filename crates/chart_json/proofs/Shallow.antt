@@ -30,7 +30,8 @@ node_shallow chart node rest none =
     (not_there (nat_lt 16 node.depth) (TooDeep node.number)
     (neither_faulty (when (nat_lt 16 node.depth) (TooDeep node.number)) rest none).0)
 
-both_clear : (chart : ChartPlan) (xs ys : List Visit) → first_fault chart (xs ++ ys) ≡ None → (first_fault chart xs ≡ None) × (first_fault chart ys ≡ None)
+both_clear : (chart : ChartPlan) (xs ys : List Visit) → first_fault chart (xs ++ ys) ≡ None
+    → (first_fault chart xs ≡ None) × (first_fault chart ys ≡ None)
 both_clear chart [] ys none = (refl, none)
 both_clear chart (x ∷ xs) ys none =
     let first = neither_faulty (node_fault chart x) (first_fault chart (xs ++ ys)) none in
@@ -43,28 +44,34 @@ mutual
       let here : d ≤ 16 = node_shallow chart (visit (leaf step) n d k) _
       (neither_faulty (node_fault chart (visit (leaf step) n d k)) None none).0 in omega arith
   shallow chart (seq each) n d k none =
-      let parts = neither_faulty (node_fault chart (visit (seq each) n d k)) (first_fault chart (all_visits each (n + 1) (d + 1) k)) none in
+      let parts = neither_faulty (node_fault chart (visit (seq each) n d k))
+      (first_fault chart (all_visits each (n + 1) (d + 1) k)) none in
       let here : d ≤ 16 = node_shallow chart (visit (seq each) n d k) _ parts.0 in
       omega (arith, all_shallow chart each (n + 1) (d + 1) k parts.1 (omega arith))
   shallow chart (par each) n d k none =
-      let parts = neither_faulty (node_fault chart (visit (par each) n d k)) (first_fault chart (all_visits each (n + 1) (d + 1) k)) none in
+      let parts = neither_faulty (node_fault chart (visit (par each) n d k))
+      (first_fault chart (all_visits each (n + 1) (d + 1) k)) none in
       let here : d ≤ 16 = node_shallow chart (visit (par each) n d k) _ parts.0 in
       omega (arith, all_shallow chart each (n + 1) (d + 1) k parts.1 (omega arith))
   shallow chart (choice each) n d k none =
-      let parts = neither_faulty (node_fault chart (visit (choice each) n d k)) (first_fault chart (arm_visits each (n + 1) (d + 1) k)) none in
+      let parts = neither_faulty (node_fault chart (visit (choice each) n d k))
+      (first_fault chart (arm_visits each (n + 1) (d + 1) k)) none in
       let here : d ≤ 16 = node_shallow chart (visit (choice each) n d k) _ parts.0 in
       omega (arith, arms_shallow chart each (n + 1) (d + 1) k parts.1 (omega arith))
   shallow chart (loop body until) n d k none =
-      let parts = neither_faulty (node_fault chart (visit (loop body until) n d k)) (first_fault chart (visits body (n + 1) (d + 1) k)) none in
+      let parts = neither_faulty (node_fault chart (visit (loop body until) n d k))
+      (first_fault chart (visits body (n + 1) (d + 1) k)) none in
       omega (arith, shallow chart body (n + 1) (d + 1) k parts.1)
 
-  all_shallow : (chart : ChartPlan) (ts : Trees) (n d k : ℕ) → first_fault chart (all_visits ts n d k) ≡ None → d ≤ 17 → all_levels ts + d ≤ 17
+  all_shallow : (chart : ChartPlan) (ts : Trees) (n d k : ℕ) → first_fault chart (all_visits ts n d k) ≡ None → d ≤ 17
+      → all_levels ts + d ≤ 17
   all_shallow chart no_trees n d k none few = omega arith
   all_shallow chart (more_trees t ts) n d k none few =
       let parts = both_clear chart (visits t n d k) (all_visits ts (n + size t) d (k + step_count t)) none in
       omega (arith, shallow chart t n d k parts.0, all_shallow chart ts (n + size t) d (k + step_count t) parts.1 few)
 
-  arms_shallow : (chart : ChartPlan) (ts : Arms) (n d k : ℕ) → first_fault chart (arm_visits ts n d k) ≡ None → d ≤ 17 → arm_levels ts + d ≤ 17
+  arms_shallow : (chart : ChartPlan) (ts : Arms) (n d k : ℕ) → first_fault chart (arm_visits ts n d k) ≡ None → d ≤ 17
+      → arm_levels ts + d ≤ 17
   arms_shallow chart no_arms n d k none few = omega arith
   arms_shallow chart (more_arms when t ts) n d k none few =
       let parts = both_clear chart (visits t n d k) (arm_visits ts (n + size t) d (k + step_count t)) none in

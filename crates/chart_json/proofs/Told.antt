@@ -19,7 +19,8 @@ use Rattle.mtp_json.specs.Reading.{Finding, Reading, ◌>>=◌, at, here, in_pla
 use Rattle.chart_json.specs.Form.{items_from, sized_from}
 
 -- whatever is read before, what is read next has the property
-pub any_before : {A B : Type 0} (P : B → Type 0) (read : Reading A) (next : A → Reading B) → ((x : A) → IfOk (next x) P) → IfOk (read >>= next) P
+pub any_before : {A B : Type 0} (P : B → Type 0) (read : Reading A) (next : A → Reading B)
+    → ((x : A) → IfOk (next x) P) → IfOk (read >>= next) P
 any_before P (Ok x) next has = has x
 any_before P (Err fault) next has = tt
 
@@ -39,12 +40,14 @@ told_here P (Ok x) told = told
 told_here P (Err kind) told = tt
 
 -- a value that is given where a test holds
-told_if : {A : Type 0} (P : A → Type 0) (test : Bool) (x : A) (kind : FaultKind) → (test ≡ true → P x) → IfOk (if test then Ok x else Err kind) P
+told_if : {A : Type 0} (P : A → Type 0) (test : Bool) (x : A) (kind : FaultKind) → (test ≡ true → P x)
+    → IfOk (if test then Ok x else Err kind) P
 told_if P true x kind has = has refl
 told_if P false x kind has = tt
 
 -- one reading or another
-pub either : {A : Type 0} (P : A → Type 0) (test : Bool) (one other : Reading A) → IfOk one P → IfOk other P → IfOk (if test then one else other) P
+pub either : {A : Type 0} (P : A → Type 0) (test : Bool) (one other : Reading A) → IfOk one P → IfOk other P
+    → IfOk (if test then one else other) P
 either P true one other told_one told_other = told_one
 either P false one other told_one told_other = told_other
 
@@ -67,37 +70,44 @@ told_present P form told (Some value) = told value
 pub told_need : {A : Type 0} (P : A → Type 0) (key : List ℕ) (form : Data → Finding A)
     → ((value : Data) → IfOk (form value) P) → (value : Data) → IfOk (need key form value) P
 told_need P key form told value =
-    told_at P (Key key) (here (present form (get key value))) (told_here P (present form (get key value)) (told_present P form told (get key value)))
+    told_at P (Key key) (here (present form (get key value)))
+    (told_here P (present form (get key value)) (told_present P form told (get key value)))
 
 -- the value at a key that must be there, by a form of its own
 pub told_inside : {A : Type 0} (P : A → Type 0) (key : List ℕ) (form : Data → Reading A)
     → ((value : Data) → IfOk (form value) P) → (value : Data) → IfOk (inside key form value) P
 told_inside P key form told value =
-    any_before P (need key anything value) (λ inner. under key (form inner)) (λ inner. told_at P (Key key) (form inner) (told inner))
+    any_before P (need key anything value) (λ inner. under key (form inner))
+    (λ inner. told_at P (Key key) (form inner) (told inner))
 
 told_by_form : {A : Type 0} (P : Option A → Type 0) (form : Data → Reading A) → P None
     → ((value : Data) → IfOk (form value) (λ x. P (Some x))) → (found : Option Data) → IfOk (by_form form found) P
 told_by_form P form absent told None = absent
-told_by_form P form absent told (Some value) = told_before (λ x. P (Some x)) P (form value) (λ x. Ok (Some x)) (told value) (λ x has. has)
+told_by_form P form absent told (Some value) = told_before (λ x. P (Some x)) P (form value) (λ x. Ok (Some x))
+    (told value) (λ x has. has)
 
 -- the same where the key may be absent
 pub told_inside_if_there : {A : Type 0} (P : Option A → Type 0) (key : List ℕ) (form : Data → Reading A) → P None
     → ((value : Data) → IfOk (form value) (λ x. P (Some x))) → (value : Data) → IfOk (inside_if_there key form value) P
-told_inside_if_there P key form absent told value = told_at P (Key key) (by_form form (get key value)) (told_by_form P form absent told (get key value))
+told_inside_if_there P key form absent told value = told_at P (Key key) (by_form form (get key value))
+    (told_by_form P form absent told (get key value))
 
 -- a number from low to high
 told_count_in : (low high : ℕ) (found : Option ℤ) → IfOk (count_in low high found) (λ n. is_between low high n ≡ true)
 told_count_in low high None = tt
-told_count_in low high (Some (pos n)) = told_if (λ n. is_between low high n ≡ true) (is_between low high n) n OutOfRange (λ is_within. is_within)
+told_count_in low high (Some (pos n)) = told_if (λ n. is_between low high n ≡ true)
+    (is_between low high n) n OutOfRange (λ is_within. is_within)
 told_count_in low high (Some (negsuc n)) = tt
 
 pub told_count : (low high : ℕ) (value : Data) → IfOk (count low high value) (λ n. is_between low high n ≡ true)
 told_count low high value = told_count_in low high (whole_number value)
 
 -- a text of at most so many bytes
-told_text_in : (limit : ℕ) (found : Option (List ℕ)) → IfOk (text_in limit found) (λ bytes. nat_le (length bytes) limit ≡ true)
+told_text_in : (limit : ℕ) (found : Option (List ℕ)) → IfOk (text_in limit found)
+    (λ bytes. nat_le (length bytes) limit ≡ true)
 told_text_in limit None = tt
-told_text_in limit (Some bytes) = told_if (λ bytes. nat_le (length bytes) limit ≡ true) (nat_le (length bytes) limit) bytes OutOfRange (λ is_within. is_within)
+told_text_in limit (Some bytes) = told_if (λ bytes. nat_le (length bytes) limit ≡ true)
+    (nat_le (length bytes) limit) bytes OutOfRange (λ is_within. is_within)
 
 pub told_text : (limit : ℕ) (value : Data) → IfOk (text_to limit value) (λ bytes. nat_le (length bytes) limit ≡ true)
 told_text limit value = told_text_in limit (as_str value)
@@ -110,14 +120,16 @@ HasSize size values = size (items_len values) ≡ true
 
 told_sized : (low high : ℕ) (found : Option Items) → IfOk (sized low high found) (HasSize (is_between low high))
 told_sized low high None = tt
-told_sized low high (Some values) = told_if (HasSize (is_between low high)) (is_between low high (items_len values)) values OutOfRange (λ is_within. is_within)
+told_sized low high (Some values) = told_if (HasSize (is_between low high))
+    (is_between low high (items_len values)) values OutOfRange (λ is_within. is_within)
 
 pub told_items : (low high : ℕ) (value : Data) → IfOk (items_in low high value) (HasSize (is_between low high))
 told_items low high value = told_sized low high (as_array value)
 
 told_sized_from : (low : ℕ) (found : Option Items) → IfOk (sized_from low found) (HasSize (nat_le low))
 told_sized_from low None = tt
-told_sized_from low (Some values) = told_if (HasSize (nat_le low)) (nat_le low (items_len values)) values OutOfRange (λ is_within. is_within)
+told_sized_from low (Some values) = told_if (HasSize (nat_le low)) (nat_le low (items_len values)) values OutOfRange
+    (λ is_within. is_within)
 
 pub told_items_from : (low : ℕ) (value : Data) → IfOk (items_from low value) (HasSize (nat_le low))
 told_items_from low value = told_sized_from low (as_array value)
@@ -149,7 +161,8 @@ pub told_all : {A : Type 0} (size : ℕ → Bool) (test : A → Bool) (form : Da
     → ((value : Data) → IfOk (form value) (λ x. test x ≡ true)) → (values : Items) → HasSize size values
     → IfOk (each form 0 values) (IsListOf size test)
 told_all size test form told values sized =
-    IfOk-weaker (each form 0 values) (AreRead test values) (IsListOf size test) (λ found are. (rw are.0 sized, are.1)) (told_each test form told 0 values)
+    IfOk-weaker (each form 0 values) (AreRead test values) (IsListOf size test) (λ found are. (rw are.0 sized, are.1))
+    (told_each test form told 0 values)
 
 -- the same at a key
 pub told_list : {A : Type 0} (size : ℕ → Bool) (test : A → Bool) (key : List ℕ) (leaf : Data
@@ -159,7 +172,8 @@ pub told_list : {A : Type 0} (size : ℕ → Bool) (test : A → Bool) (key : Li
 told_list size test key leaf form told_leaf told value =
     told_before (HasSize size) (IsListOf size test) (need key leaf value) (λ values. under key (each form 0 values))
     (told_need (HasSize size) key leaf told_leaf value)
-    (λ values sized. told_at (IsListOf size test) (Key key) (each form 0 values) (told_all size test form told values sized))
+    (λ values sized. told_at (IsListOf size test) (Key key) (each form 0 values)
+    (told_all size test form told values sized))
 
 told_some : {A : Type 0} (P : A → Type 0) (found : Finding A) → IfOk found P → IfOk (some found) (λ x. IfSome x P)
 told_some P (Ok x) told = told
@@ -183,9 +197,11 @@ pub told_list_or_none : {A : Type 0} (size : ℕ → Bool) (test : A → Bool) (
     → ((value : Data) → IfOk (form value) (λ x. test x ≡ true)) → (value : Data)
     → IfOk (optional key leaf value >>= λ values. each_or_none key form values) (IsListOf size test)
 told_list_or_none size test key leaf form absent told_leaf told value =
-    told_before (λ values. IfSome values (HasSize size)) (IsListOf size test) (optional key leaf value) (λ values. each_or_none key form values)
+    told_before (λ values. IfSome values (HasSize size)) (IsListOf size test) (optional key leaf value)
+    (λ values. each_or_none key form values)
     (told_at (λ values. IfSome values (HasSize size)) (Key key) (here (if_present leaf (get key value)))
-    (told_here (λ values. IfSome values (HasSize size)) (if_present leaf (get key value)) (told_if_present (HasSize size) leaf told_leaf (get key value))))
+    (told_here (λ values. IfSome values (HasSize size)) (if_present leaf (get key value))
+    (told_if_present (HasSize size) leaf told_leaf (get key value))))
     (λ values sized. told_each_or_none size test key form absent told values sized)
 
 -- what the code gives has what its form tells
@@ -195,7 +211,8 @@ told_of see P (Ok x) read gives told = rw gives at told
 told_of see P (Err refusal) read gives told = tt
 
 -- one step further out it has the same
-pub told_below : {X : Type 0} (P : X → Type 0) (part : PathPart) (read result : Result X JsonRefusal) → Below part read result → IfOk read P → IfOk result P
+pub told_below : {X : Type 0} (P : X → Type 0) (part : PathPart) (read result : Result X JsonRefusal)
+    → Below part read result → IfOk read P → IfOk result P
 told_below P part (Ok x) (Ok y) below told = let same : x ≡ y = cc in rw (← same) told
 told_below P part (Err e) (Ok y) below told = absurd cc
 told_below P part read (Err e) below told = tt

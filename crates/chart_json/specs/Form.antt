@@ -160,7 +160,15 @@ step_of value =
     inside_if_there (codes "finish") condition_of value >>= λ finish.
     nothing_but (codes "step role service procedure settings finish") value >>= λ _.
     under (codes "settings") (refused_if (repeats_by same_setting settings) Repeated) >>= λ _.
-    Ok (record { name = named; role = role; service = service; procedure = procedure; settings = settings; finish = finish })
+    Ok (record {
+      name = named;
+      role = role;
+      service = service;
+      procedure = procedure;
+      settings =
+          settings;
+      finish = finish;
+    })
 
 -- a list that was found, or none, against its least size
 abbrev pub sized_from : ℕ → Option Items → Finding Items

@@ -1,4 +1,5 @@
--- What every chart holds by the types of its parts: names that are names, numbers of their bits, texts that semver reads.
+-- What every chart holds by the types of its parts: names that are names, numbers of their bits, texts that semver
+-- reads.
 use Rattle.std.specs.Prelude.{nat_le, Bool, true, ◌&&◌, Option, Some, None, is_ok}
 use Rattle.std.specs.List.{list_all}
 use Rattle.mtp_codes.specs.Names.{is_name}

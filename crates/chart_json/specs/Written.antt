@@ -77,7 +77,8 @@ finish_first (Some finish) others = member (codes "finish") (written_formula fin
 -- a step, with every key but `finish` where there is none
 unfoldable pub written_step : StepPlan → Data
 written_step step =
-    object (finish_first step.finish (step_keys step.name step.procedure step.role step.service (written_settings step.settings)))
+    object (finish_first step.finish (step_keys step.name step.procedure step.role step.service
+    (written_settings step.settings)))
 
 -- an arm of a selection, with every key
 abbrev pub written_arm : Data → Data → Data

@@ -13,9 +13,13 @@ name_byte_is_ascii byte test = grind (arith, nat_tests)
 
 name_bytes_are_ascii : (bytes : List ℕ) → list_all is_name_byte bytes ≡ true → (i : ℕ) → slice_index bytes i < 128
 name_bytes_are_ascii [] test i = omega arith
-name_bytes_are_ascii (byte ∷ bytes) test zero = name_byte_is_ascii byte (and_parts (is_name_byte byte) (list_all is_name_byte bytes) test).0
-name_bytes_are_ascii (byte ∷ bytes) test (suc i) = name_bytes_are_ascii bytes (and_parts (is_name_byte byte) (list_all is_name_byte bytes) test).1 i
+name_bytes_are_ascii (byte ∷ bytes) test zero = name_byte_is_ascii byte
+    (and_parts (is_name_byte byte) (list_all is_name_byte bytes) test).0
+name_bytes_are_ascii (byte ∷ bytes) test (suc i) = name_bytes_are_ascii bytes
+    (and_parts (is_name_byte byte) (list_all is_name_byte bytes) test).1 i
 
 pub name_is_text : (bytes : List ℕ) → is_name bytes ≡ true → IsUtf8 bytes
 name_is_text bytes test =
-    IsUtf8-from_ascii bytes (name_bytes_are_ascii bytes (and_parts (nat_le 1 (length bytes) && nat_le (length bytes) 32) (list_all is_name_byte bytes) test).1)
+    IsUtf8-from_ascii bytes
+    (name_bytes_are_ascii bytes (and_parts (nat_le 1 (length bytes) && nat_le (length bytes) 32)
+    (list_all is_name_byte bytes) test).1)

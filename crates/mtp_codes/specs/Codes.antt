@@ -8,7 +8,8 @@ use Rattle.mtp_codes.specs.declared.command.Command.TheVariants.{Reset, Start, S
 -- the states and their codes
 abbrev pub state_codes : List (State × ℕ)
 state_codes =
-    (Stopped, 4) ∷ (Starting, 8) ∷ (Idle, 16) ∷ (Paused, 32) ∷ (Execute, 64) ∷ (Stopping, 128) ∷ (Aborting, 256) ∷ (Aborted, 512)
+    (Stopped, 4) ∷ (Starting, 8) ∷ (Idle, 16) ∷ (Paused, 32) ∷ (Execute, 64) ∷ (Stopping, 128) ∷
+    (Aborting, 256) ∷ (Aborted, 512)
     ∷ (Holding, 1024) ∷ (Held, 2048) ∷ (Unholding, 4096) ∷ (Pausing, 8192) ∷ (Resuming, 16384) ∷ (Resetting, 32768)
     ∷ (Completing, 65536) ∷ (Completed, 131072) ∷ []
 

@@ -22,18 +22,21 @@ kind_again : (named : List ℕ) (kind : ParamKind) → is_name named ≡ true �
     → param_of (written_param (record { name = named; kind = kind })) ≡ Ok (record { name = named; kind = kind })
 unfolding param_of written_param ranged_param free_param
 kind_again named (Ana min max) is ordered =
-    let low = and_parts (is_within least_i64 greatest_i64 min) (is_within least_i64 greatest_i64 max && not (int_lt max min)) ordered in
+    let low = and_parts (is_within least_i64 greatest_i64 min)
+    (is_within least_i64 greatest_i64 max && not (int_lt max min)) ordered in
     let high = and_parts (is_within least_i64 greatest_i64 max) (not (int_lt max min)) low.1 in
     rw (is, whole_again min, low.0, whole_again max, high.0, not-true (int_lt max min) high.1) refl
 kind_again named (DInt min max) is ordered =
-    let low = and_parts (is_within least_i32 greatest_i32 min) (is_within least_i32 greatest_i32 max && not (int_lt max min)) ordered in
+    let low = and_parts (is_within least_i32 greatest_i32 min)
+    (is_within least_i32 greatest_i32 max && not (int_lt max min)) ordered in
     let high = and_parts (is_within least_i32 greatest_i32 max) (not (int_lt max min)) low.1 in
     rw (is, whole_again min, low.0, whole_again max, high.0, not-true (int_lt max min) high.1) refl
 kind_again named Bin is ordered = rw is refl
 kind_again named Text is ordered = rw is refl
 
 pub param_again : (param : ParamForm) → is_param param ≡ true → param_of (written_param param) ≡ Ok param
-param_again param sound = let parts = and_parts (is_name param.name) (is_ordered param.kind) sound in kind_again param.name param.kind parts.0 parts.1
+param_again param sound = let parts = and_parts (is_name param.name) (is_ordered param.kind) sound in
+    kind_again param.name param.kind parts.0 parts.1
 
 variable_kind_again : (named : List ℕ) (kind : ViewKind) → is_name named ≡ true
     → variable_of (written_variable (record { name = named; kind = kind })) ≡ Ok (record { name = named; kind = kind })
@@ -43,10 +46,12 @@ variable_kind_again named variable.DInt is = rw is refl
 variable_kind_again named variable.Bin is = rw is refl
 variable_kind_again named variable.Text is = rw is refl
 
-pub variable_again : (variable : VariableForm) → is_variable variable ≡ true → variable_of (written_variable variable) ≡ Ok variable
+pub variable_again : (variable : VariableForm) → is_variable variable ≡ true
+    → variable_of (written_variable variable) ≡ Ok variable
 variable_again variable sound = variable_kind_again variable.name variable.kind sound
 
-pub procedure_again : (procedure : ProcedureForm) → is_procedure procedure ≡ true → procedure_of (written_procedure procedure) ≡ Ok procedure
+pub procedure_again : (procedure : ProcedureForm) → is_procedure procedure ≡ true
+    → procedure_of (written_procedure procedure) ≡ Ok procedure
 unfolding procedure_of written_procedure
 procedure_again procedure sound =
     let numbered = and_parts (is_between 1 65535 procedure.number)
@@ -55,9 +60,17 @@ procedure_again procedure sound =
     let few = and_parts (is_between 0 32 (length procedure.params))
     (list_all is_param procedure.params && not (repeats_by same_param procedure.params)) numbered.1 in
     let each = and_parts (list_all is_param procedure.params) (not (repeats_by same_param procedure.params)) few.1 in
-    rw (numbered.0, len_again written_param procedure.params, few.0, each_again param_of written_param is_param param_again 0 procedure.params each.0, not-true (repeats_by same_param procedure.params) each.1) refl
+    rw (
+      numbered.0,
+      len_again written_param procedure.params,
+      few.0,
+      each_again param_of written_param is_param
+          param_again 0 procedure.params each.0,
+      not-true (repeats_by same_param procedure.params) each.1,
+    ) refl
 
-pub service_again : (service : ServiceForm) → is_service service ≡ true → service_of (written_service service) ≡ Ok service
+pub service_again : (service : ServiceForm) → is_service service ≡ true
+    → service_of (written_service service) ≡ Ok service
 unfolding service_of ruled_service written_service
 service_again service sound =
     let named = and_parts (is_name service.name)
@@ -69,11 +82,22 @@ service_again service sound =
     && (not (repeats_by same_procedure service.procedures) && has_one_default service.procedures)) named.1 in
     let each = and_parts (list_all is_procedure service.procedures)
     (not (repeats_by same_procedure service.procedures) && has_one_default service.procedures) few.1 in
-    let ruled = and_parts (not (repeats_by same_procedure service.procedures)) (has_one_default service.procedures) each.1 in
-    rw (named.0, len_again written_procedure service.procedures, few.0, each_again procedure_of written_procedure is_procedure procedure_again 0 service.procedures each.0, not-true (repeats_by same_procedure service.procedures) ruled.0, ruled.1) refl
+    let ruled = and_parts (not (repeats_by same_procedure service.procedures))
+    (has_one_default service.procedures) each.1 in
+    rw (
+      named.0,
+      len_again written_procedure service.procedures,
+      few.0,
+      each_again procedure_of written_procedure
+          is_procedure procedure_again 0 service.procedures each.0,
+      not-true
+          (repeats_by same_procedure service.procedures) ruled.0,
+      ruled.1,
+    ) refl
 
 -- a description that is written is read back
-pub description_again : (description : DescriptionForm) → IsDescription description → description_of (written_description description) ≡ Ok description
+pub description_again : (description : DescriptionForm) → IsDescription description
+    → description_of (written_description description) ≡ Ok description
 unfolding description_of written_description
 description_again description is =
     rw (

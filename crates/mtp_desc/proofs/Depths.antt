@@ -34,4 +34,9 @@ service_depth service = omega (arith, items_depth_below written_procedure 3 proc
 pub description_depth : (description : DescriptionForm) → depth (written_description description) ≤ 7
 unfolding written_description
 description_depth description =
-    omega (arith, items_depth_below written_service 5 service_depth description.services, items_depth_below written_variable 1 variable_depth description.variables)
+    omega (
+      arith,
+      items_depth_below written_service 5 service_depth description.services,
+      items_depth_below
+          written_variable 1 variable_depth description.variables,
+    )

@@ -34,4 +34,8 @@ service_whole service = rw (items_whole written_procedure procedure_whole servic
 pub description_whole : (description : DescriptionForm) → has_float (written_description description) ≡ false
 unfolding written_description
 description_whole description =
-    rw (items_whole written_service service_whole description.services, items_whole written_variable variable_whole description.variables) refl
+    rw (
+      items_whole written_service service_whole description.services,
+      items_whole written_variable variable_whole
+          description.variables,
+    ) refl

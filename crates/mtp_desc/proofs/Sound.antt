@@ -43,7 +43,8 @@ is_service service =
     && (not (repeats_by same_procedure service.procedures) && has_one_default service.procedures)))
 
 -- where every item is in its form, so is each of a list
-pub all_sound : {X Y : Type 0} (view : X → Y) (test : Y → Bool) → ((x : X) → test (view x) ≡ true) → (xs : List X) → list_all test (map view xs) ≡ true
+pub all_sound : {X Y : Type 0} (view : X → Y) (test : Y → Bool) → ((x : X) → test (view x) ≡ true) → (xs : List X)
+    → list_all test (map view xs) ≡ true
 all_sound view test sound [] = refl
 all_sound view test sound (x ∷ xs) = rw (sound x, all_sound view test sound xs) refl
 
@@ -55,11 +56,26 @@ variable_sound variable = variable.named
 
 pub procedure_sound : (procedure : Procedure) → is_procedure (procedure_view procedure) ≡ true
 procedure_sound procedure =
-    rw (length-map procedure.params.items param_view, procedure.numbered, procedure.few, all_sound param_view is_param param_sound procedure.params.items, procedure.unlike) refl
+    rw (
+      length-map procedure.params.items param_view,
+      procedure.numbered,
+      procedure.few,
+      all_sound param_view is_param
+          param_sound procedure.params.items,
+      procedure.unlike,
+    ) refl
 
 pub service_sound : (service : Service) → is_service (service_view service) ≡ true
 service_sound service =
-    rw (length-map service.procedures.items procedure_view, service.named, service.few, all_sound procedure_view is_procedure procedure_sound service.procedures.items, service.unlike, service.one_default) refl
+    rw (
+      length-map service.procedures.items procedure_view,
+      service.named,
+      service.few,
+      all_sound procedure_view
+          is_procedure procedure_sound service.procedures.items,
+      service.unlike,
+      service.one_default,
+    ) refl
 
 -- what a description is, beside being well formed in its parts
 pub record IsDescription (description : DescriptionForm) : Type 0 where

@@ -34,7 +34,8 @@ param_named named procedure = find (λ param. bytes_eq param.name named) procedu
 
 -- the procedure of this number of the service of this name, if there is one
 abbrev pub procedure_at : List ℕ → ℕ → DescriptionForm → Option ProcedureForm
-procedure_at service number description = option_and_then (procedure_numbered number) (service_named service description)
+procedure_at service number description = option_and_then (procedure_numbered number)
+    (service_named service description)
 
 -- whether a procedure that was found completes by itself
 abbrev pub completes_itself : Option ProcedureForm → Bool

@@ -4,7 +4,8 @@ use Rattle.std.specs.Str.{bytes_eq}
 use Rattle.semver.specs.Parse.{Parts}
 use Rattle.mtp_assembly.specs.Plain.{ParamForm, VariableForm}
 
--- a procedure of a service: its number, whether it is the service's default, whether it completes by itself, what it takes
+-- a procedure of a service: its number, whether it is the service's default, whether it completes by itself, what it
+-- takes
 pub record ProcedureForm : Type 0 where
   pub number : ℕ
   pub is_default : Bool
@@ -16,7 +17,8 @@ pub record ServiceForm : Type 0 where
   pub name : List ℕ
   pub procedures : List ProcedureForm
 
--- a description: the module's type, the text of its version with what semver reads of it, its services and its variables
+-- a description: the module's type, the text of its version with what semver reads of it, its services and its
+-- variables
 pub record DescriptionForm : Type 0 where
   pub type_name : List ℕ
   pub version_text : List ℕ

@@ -38,7 +38,8 @@ len_again written (x ∷ xs) = ap suc (len_again written xs)
 pub items_depth_below : {A : Type 0} (written : A → Data) (limit : ℕ) → ((x : A) → depth (written x) ≤ limit)
     → (xs : List A) → items_depth (items_of (map written xs)) ≤ limit
 items_depth_below written limit each_below [] = omega arith
-items_depth_below written limit each_below (x ∷ xs) = omega (arith, each_below x, items_depth_below written limit each_below xs)
+items_depth_below written limit each_below (x ∷ xs) =
+    omega (arith, each_below x, items_depth_below written limit each_below xs)
 
 -- a whole number is written as no float
 pub of_integer-whole : (z : ℤ) → is_float (of_integer z) ≡ false

@@ -68,11 +68,13 @@ goes_on form front values i value x total inside is read so_far =
 ends : {A : Type 0} (form : Data
     → Reading A) (refusal : JsonRefusal) (front : List A) (values : List Value) (i : ℕ) (value : Value)
     (total : Reading (List A)) → i < length values → value ≡ get_or values i value
-    → Fails refusal (at (Place i) (form (view value))) → with_front front (each form i (items_view (drop i values))) ≡ total → Fails refusal total
+    → Fails refusal (at (Place i) (form (view value))) → with_front front (each form i (items_view (drop i values)))
+    ≡ total → Fails refusal total
 unfolding each
 ends form Memory front values i value total inside is fails so_far = tt
 ends form (Fault fault) front values i value total inside is fails so_far =
-    let one : with_front front (each form i (items_view (drop i values))) ≡ Err fault = rw (items_view-drop values i value inside is, fails) refl in
+    let one : with_front front (each form i (items_view (drop i values))) ≡ Err fault =
+    rw (items_view-drop values i value inside is, fails) refl in
     sym so_far ∙ one
 
 -- Three goals of a loop that reads each item in its place, and keeps
@@ -107,5 +109,6 @@ pub is_done : {A : Type 0} (form : Data
 unfolding each
 is_done form front values i total past so_far =
     let none : drop i values ≡ [] = drop_all i values past in
-    let one : with_front front (each form i (items_view (drop i values))) ≡ Ok front = rw none (ap (λ xs. Ok xs) (append-nil front)) in
+    let one : with_front front (each form i (items_view (drop i values))) ≡ Ok front =
+    rw none (ap (λ xs. Ok xs) (append-nil front)) in
     sym so_far ∙ one

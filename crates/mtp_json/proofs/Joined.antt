@@ -12,7 +12,8 @@ join-push : (byte : ℕ) (x : List ℕ) (xs : List (List ℕ)) (last : List ℕ)
 join-push byte x [] last = sym (append_assoc x (byte ∷ []) last)
 join-push byte x (y ∷ xs) last = ap (λ rest. x ++ (byte ∷ rest)) (join-push byte y xs last) ∙ simp append_assoc
 
-take-next : (parts : List PathPart) (i : ℕ) (part : PathPart) → i < length parts → part ≡ get_or parts i part → take (i + 1) parts ≡ take i parts ++ part ∷ []
+take-next : (parts : List PathPart) (i : ℕ) (part : PathPart) → i < length parts → part ≡ get_or parts i part
+    → take (i + 1) parts ≡ take i parts ++ part ∷ []
 take-next parts i part inside is = let next : i + 1 ≡ suc i = omega arith in ap (λ k. take k parts) next
     ∙ (take-suc parts i part inside ∙ ap (λ q. take i parts ++ q ∷ []) (sym is))
 
@@ -28,4 +29,9 @@ pub text_next : (parts : List PathPart) (i : ℕ) (part : PathPart) (old new : L
     → part ≡ get_or parts i part → new ≡ with_dot i old ++ part_text part → old ≡ path_text (take i parts)
     → new ≡ path_text (take (i + 1) parts)
 text_next parts i part old new inside is wrote so_far =
-    rw (take-next parts i part inside is, path_text-push (take i parts) part i (omega (arith, length-take i parts)), ← so_far) wrote
+    rw (
+      take-next parts i part inside is,
+      path_text-push (take i parts) part i
+          (omega (arith, length-take i parts)),
+      ← so_far,
+    ) wrote

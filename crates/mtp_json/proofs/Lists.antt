@@ -11,7 +11,8 @@ use Rattle.mtp_json.specs.Form.{repeats_by}
 pub length_of_view : (values : List Value) → items_len (items_view values) ≡ length values
 length_of_view values = items_len-items_view values
 
-any_map : {X Y : Type 0} (view : X → Y) (test : Y → Bool) (xs : List X) → list_any test (map view xs) ≡ list_any (λ x. test (view x)) xs
+any_map : {X Y : Type 0} (view : X → Y) (test : Y → Bool) (xs : List X)
+    → list_any test (map view xs) ≡ list_any (λ x. test (view x)) xs
 any_map view test [] = refl
 any_map view test (x ∷ xs) = ap (λ b. test (view x) || b) (any_map view test xs)
 
@@ -20,7 +21,8 @@ pub repeats_map : {X Y : Type 0} (view : X → Y) (same : Y → Y → Bool) (xs 
 repeats_map view same [] = refl
 repeats_map view same (x ∷ xs) = rw (any_map view (same (view x)) xs, repeats_map view same xs) refl
 
-pub map_map : {X Y Z : Type 0} (outer : Y → Z) (inner : X → Y) (xs : List X) → map outer (map inner xs) ≡ map (λ x. outer (inner x)) xs
+pub map_map : {X Y Z : Type 0} (outer : Y → Z) (inner : X → Y) (xs : List X)
+    → map outer (map inner xs) ≡ map (λ x. outer (inner x)) xs
 map_map outer inner [] = refl
 map_map outer inner (x ∷ xs) = ap (λ ys. outer (inner x) ∷ ys) (map_map outer inner xs)
 

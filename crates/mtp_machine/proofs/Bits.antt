@@ -20,12 +20,14 @@ every_edge = search
 
 -- it tells so for every two states
 pub edge_by_mask : (from to : State) → has_bit (successor_mask from) (state_number to) ≡ is_edge from to
-edge_by_mask from to = of_each_state (MaskHasEdge from) (of_each_state (λ state. AllByRecursion (MaskHasEdge state) every_state) every_edge from) to
+edge_by_mask from to = of_each_state (MaskHasEdge from) (of_each_state
+    (λ state. AllByRecursion (MaskHasEdge state) every_state) every_edge from) to
 
 -- the bit of this command tells whether it leaves the state, and it leads to its one goal
 abbrev MaskHasTarget : State → Command → Type 0
 MaskHasTarget state command =
-    command_target state command ≡ (if has_bit (enabled_mask state) (command_number command) then Some (command_goal command) else None)
+    command_target state command ≡ (if has_bit (enabled_mask state) (command_number command) then Some
+    (command_goal command) else None)
 
 every_target : AllByRecursion (λ state. AllByRecursion (MaskHasTarget state) every_command) every_state
 unfolding command_target enabled_mask
@@ -47,5 +49,6 @@ pub target_where_bit : (state : State) (command : Command) → bit_and (enabled_
 target_where_bit state command set = target_by_mask state command ∙ chosen _ (Some (command_goal command)) None set
 
 -- a command whose bit is not set does not leave the state
-pub none_without_bit : (state : State) (command : Command) → bit_and (enabled_mask state) (command_number command) ≡ 0 → command_target state command ≡ None
+pub none_without_bit : (state : State) (command : Command) → bit_and (enabled_mask state) (command_number command) ≡ 0
+    → command_target state command ≡ None
 none_without_bit state command unset = rw (target_by_mask state command, unset) refl

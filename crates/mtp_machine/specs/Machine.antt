@@ -22,7 +22,8 @@ commanded =
     ∷ (Paused, Hold, Holding) ∷ (Resuming, Hold, Holding) ∷ (Unholding, Hold, Holding)
     ∷ (Starting, Stop, Stopping) ∷ (Idle, Stop, Stopping) ∷ (Paused, Stop, Stopping) ∷ (Execute, Stop, Stopping)
     ∷ (Holding, Stop, Stopping) ∷ (Held, Stop, Stopping) ∷ (Unholding, Stop, Stopping) ∷ (Pausing, Stop, Stopping)
-    ∷ (Resuming, Stop, Stopping) ∷ (Resetting, Stop, Stopping) ∷ (Completing, Stop, Stopping) ∷ (Completed, Stop, Stopping)
+    ∷ (Resuming, Stop, Stopping) ∷ (Resetting, Stop, Stopping) ∷ (Completing, Stop, Stopping) ∷
+    (Completed, Stop, Stopping)
     ∷ (Stopped, Abort, Aborting) ∷ (Starting, Abort, Aborting) ∷ (Idle, Abort, Aborting) ∷ (Paused, Abort, Aborting)
     ∷ (Execute, Abort, Aborting) ∷ (Stopping, Abort, Aborting) ∷ (Holding, Abort, Aborting) ∷ (Held, Abort, Aborting)
     ∷ (Unholding, Abort, Aborting) ∷ (Pausing, Abort, Aborting) ∷ (Resuming, Abort, Aborting)

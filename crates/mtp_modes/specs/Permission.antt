@@ -14,7 +14,8 @@ use Rattle.mtp_codes.specs.declared.mode.Forbid.TheVariants.{ModeForbids, SelfCo
 use Rattle.mtp_machine.specs.Machine.{command_target, same_command, has_bit}
 use Rattle.mtp_modes.specs.declared.view.ServiceView.{ServiceView}
 
--- who may command: the operator in mode Operator, a recipe in Automatic from outside, the module itself in Automatic from inside
+-- who may command: the operator in mode Operator, a recipe in Automatic from outside, the module itself in Automatic
+-- from inside
 abbrev pub speaks : Mode → Origin → Speaker → Bool
 speaks by_operator origin Operator = true
 speaks Automatic External Recipe = true

@@ -38,7 +38,8 @@ role_fault description (Some role) =
 
 -- the module can't do what the step demands
 abbrev pub is_refused : DescriptionForm → StepPlan → Bool
-is_refused description step = is_some (step_fault description step.service step.procedure step.settings (is_some step.finish))
+is_refused description step = is_some (step_fault description step.service step.procedure step.settings
+    (is_some step.finish))
 
 -- the step is of the role, and the module can't do it
 abbrev pub is_refused_step : List ℕ → DescriptionForm → StepPlan → Bool
@@ -87,7 +88,8 @@ variable_of_first property tests = option_map (λ test. test.variable) (find pro
 
 -- the first variable of the role, in order of first appearance in the chart, that some test of it doesn't fit
 abbrev pub refused_variable : ChartPlan → List ℕ → DescriptionForm → Option (List ℕ)
-refused_variable chart role description = variable_of_first (is_refused_test chart.root role description) (tests_in chart.root)
+refused_variable chart role description = variable_of_first (is_refused_test chart.root role description)
+    (tests_in chart.root)
 
 -- The first fault of the description for this role of the chart, if it has one: the type differs; the version isn't one
 -- that the role asks for; a step of the role can't be done, or else a variable that is read of it doesn't fit.

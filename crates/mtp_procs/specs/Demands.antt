@@ -24,14 +24,16 @@ setting_fault procedure setting =
 -- the fault of the first setting that has one
 abbrev pub settings_fault : ProcedureForm → List Setting → Option ValueFault
 settings_fault procedure [] = None
-settings_fault procedure (setting ∷ others) = option_or (setting_fault procedure setting) (settings_fault procedure others)
+settings_fault procedure (setting ∷ others) = option_or (setting_fault procedure setting)
+    (settings_fault procedure others)
 
 -- a value's fault as a step's
 abbrev pub of_value : ValueFault → StepFault
 of_value value.WrongKind = WrongKind
 of_value value.OutOfRange = OutOfRange
 
--- What is wrong with demanding this of the procedure: it isn't there, it hasn't a parameter that is set, or it is finished
+-- What is wrong with demanding this of the procedure: it isn't there, it hasn't a parameter that is set, or it is
+-- finished
 -- by command where it completes by itself and the other way round; else the first value that doesn't fit.
 abbrev pub procedure_fault : List Setting → Bool → Option ProcedureForm → Option StepFault
 procedure_fault settings finishes None = Some NotCovered

@@ -13,14 +13,16 @@ use Rattle.mtp_procs.specs.Covers.{name_of_first, variable_of_first, is_misfit, 
 use Rattle.pol_bind.specs.Misfits.{is_misfit_for}
 use Rattle.pol_bind.specs.Walks.{variable_in, variable_among, variable_in_finish, variable_under, variable_under_all, variable_under_arms, first_name, first_name_among, first_name_in_arms}
 
-map_or : {X Y : Type 0} (part : X → Y) (one other : Option X) → option_map part (option_or one other) ≡ option_or (option_map part one) (option_map part other)
+map_or : {X Y : Type 0} (part : X → Y) (one other : Option X)
+    → option_map part (option_or one other) ≡ option_or (option_map part one) (option_map part other)
 map_or part None other = refl
 map_or part (Some x) other = refl
 
 found_append : {X Y : Type 0} (part : X → Y) (property : X → Bool) (xs ys : List X)
     → option_map part (find property (xs ++ ys))
     ≡ option_or (option_map part (find property xs)) (option_map part (find property ys))
-found_append part property xs ys = ap (option_map part) (find-append property xs ys) ∙ map_or part (find property xs) (find property ys)
+found_append part property xs ys = ap (option_map part) (find-append property xs ys)
+    ∙ map_or part (find property xs) (find property ys)
 
 variable_append :
     (property : TestPlan → Bool) (xs ys : List TestPlan)
@@ -33,20 +35,23 @@ name_append :
 name_append property xs ys = found_append (λ each. each.step.name) (λ each. property each.step) xs ys
 
 one_name : (property : StepPlan → Bool) (step : StepPlan) (n : ℕ) (b : Bool)
-    → cond b (Some step.name) None ≡ option_map (λ (each : Placed). each.step.name) (cond b (Some (record { number = n; step = step })) None)
+    → cond b (Some step.name) None ≡ option_map (λ (each : Placed). each.step.name)
+    (cond b (Some (record { number = n; step = step })) None)
 one_name property step n true = refl
 one_name property step n false = refl
 
 -- the walk finds the first step in chart order, whatever the number of the tree's first node
 mutual
-  pub first_is : (property : StepPlan → Bool) (each : Tree) (n : ℕ) → first_name property each ≡ name_of_first property (steps each n)
+  pub first_is : (property : StepPlan → Bool) (each : Tree) (n : ℕ)
+      → first_name property each ≡ name_of_first property (steps each n)
   first_is property (leaf step) n = one_name property step n (property step)
   first_is property (seq each) n = first_among_is property each (n + 1)
   first_is property (par each) n = first_among_is property each (n + 1)
   first_is property (choice each) n = first_in_arms_is property each (n + 1)
   first_is property (loop body until) n = first_is property body (n + 1)
 
-  pub first_among_is : (property : StepPlan → Bool) (each : Trees) (n : ℕ) → first_name_among property each ≡ name_of_first property (all_steps each n)
+  pub first_among_is : (property : StepPlan → Bool) (each : Trees) (n : ℕ)
+      → first_name_among property each ≡ name_of_first property (all_steps each n)
   first_among_is property no_trees n = refl
   first_among_is property (more_trees each others) n =
       rw (
@@ -57,7 +62,8 @@ mutual
             (n + size each),
       ) refl
 
-  pub first_in_arms_is : (property : StepPlan → Bool) (each : Arms) (n : ℕ) → first_name_in_arms property each ≡ name_of_first property (arm_steps each n)
+  pub first_in_arms_is : (property : StepPlan → Bool) (each : Arms) (n : ℕ)
+      → first_name_in_arms property each ≡ name_of_first property (arm_steps each n)
   first_in_arms_is property no_arms n = refl
   first_in_arms_is property (more_arms when each others) n =
       rw (
@@ -68,24 +74,33 @@ mutual
             (n + size each),
       ) refl
 
-one_variable : (each : TestPlan) (b : Bool) → cond b (Some each.variable) None ≡ option_map (λ (test : TestPlan). test.variable) (cond b (Some each) None)
+one_variable : (each : TestPlan) (b : Bool) → cond b (Some each.variable) None
+    ≡ option_map (λ (test : TestPlan). test.variable) (cond b (Some each) None)
 one_variable each true = refl
 one_variable each false = refl
 
 -- the walk finds the first of a condition's tests
 mutual
-  test_is : (property : TestPlan → Bool) (each : Formula) → variable_in property each ≡ variable_of_first property (tests_of each)
+  test_is : (property : TestPlan → Bool) (each : Formula) → variable_in property each
+      ≡ variable_of_first property (tests_of each)
   test_is property (constant value) = refl
   test_is property (all_of each) = test_among_is property each
   test_is property (any_of each) = test_among_is property each
   test_is property (not_of inner) = test_is property inner
   test_is property (test role variable op value) =
-      one_variable (record { role = role; variable = variable; value = value }) (property (record { role = role; variable = variable; value = value }))
+      one_variable (record { role = role; variable = variable; value = value })
+      (property (record { role = role; variable = variable; value = value }))
 
-  test_among_is : (property : TestPlan → Bool) (each : Formulas) → variable_among property each ≡ variable_of_first property (tests_of_all each)
+  test_among_is : (property : TestPlan → Bool) (each : Formulas)
+      → variable_among property each ≡ variable_of_first property (tests_of_all each)
   test_among_is property no_formulas = refl
   test_among_is property (more_formulas each others) =
-      rw (variable_append property (tests_of each) (tests_of_all others), ← test_is property each, ← test_among_is property others) refl
+      rw (
+        variable_append property (tests_of each) (tests_of_all others),
+        ← test_is property each,
+        ← test_among_is
+            property others,
+      ) refl
 
 test_in_finish_is : (property : TestPlan → Bool) (finish : Option Formula)
     → variable_in_finish property finish ≡ variable_of_first property (finish_tests finish)
@@ -94,7 +109,8 @@ test_in_finish_is property (Some condition) = test_is property condition
 
 -- the walk finds the first of a tree's tests
 mutual
-  pub test_under_is : (property : TestPlan → Bool) (each : Tree) → variable_under property each ≡ variable_of_first property (tests_in each)
+  pub test_under_is : (property : TestPlan → Bool) (each : Tree)
+      → variable_under property each ≡ variable_of_first property (tests_in each)
   test_under_is property (leaf step) = test_in_finish_is property step.finish
   test_under_is property (seq each) = test_under_all_is property each
   test_under_is property (par each) = test_under_all_is property each
@@ -106,17 +122,34 @@ mutual
         ← test_under_arms_is property each,
       ) refl
   test_under_is property (loop body until) =
-      rw (variable_append property (tests_of until) (tests_in body), ← test_is property until, ← test_under_is property body) refl
+      rw (
+        variable_append property (tests_of until) (tests_in body),
+        ← test_is property until,
+        ← test_under_is
+            property body,
+      ) refl
 
-  test_under_all_is : (property : TestPlan → Bool) (each : Trees) → variable_under_all property each ≡ variable_of_first property (tests_in_all each)
+  test_under_all_is : (property : TestPlan → Bool) (each : Trees)
+      → variable_under_all property each ≡ variable_of_first property (tests_in_all each)
   test_under_all_is property no_trees = refl
   test_under_all_is property (more_trees each others) =
-      rw (variable_append property (tests_in each) (tests_in_all others), ← test_under_is property each, ← test_under_all_is property others) refl
+      rw (
+        variable_append property (tests_in each) (tests_in_all others),
+        ← test_under_is property each,
+        ←
+            test_under_all_is property others,
+      ) refl
 
-  test_under_arms_is : (property : TestPlan → Bool) (each : Arms) → variable_under_arms property each ≡ variable_of_first property (tests_in_arms each)
+  test_under_arms_is : (property : TestPlan → Bool) (each : Arms)
+      → variable_under_arms property each ≡ variable_of_first property (tests_in_arms each)
   test_under_arms_is property no_arms = refl
   test_under_arms_is property (more_arms when each others) =
-      rw (variable_append property (tests_in each) (tests_in_arms others), ← test_under_is property each, ← test_under_arms_is property others) refl
+      rw (
+        variable_append property (tests_in each) (tests_in_arms others),
+        ← test_under_is property each,
+        ←
+            test_under_arms_is property others,
+      ) refl
 
 found_is_any : {X Y : Type 0} (part : X → Y) (property : X → Bool) (x : X) (b : Bool) (rest : Option X) (others : Bool)
     → is_some (option_map part rest) ≡ others → is_some (option_map part (cond b (Some x) rest)) ≡ (b || others)
@@ -124,13 +157,15 @@ found_is_any part property x true rest others same = refl
 found_is_any part property x false rest others same = same
 
 -- one is found exactly where some test has the property
-pub found_where_any : (property : TestPlan → Bool) (xs : List TestPlan) → is_some (variable_of_first property xs) ≡ list_any property xs
+pub found_where_any : (property : TestPlan → Bool) (xs : List TestPlan)
+    → is_some (variable_of_first property xs) ≡ list_any property xs
 found_where_any property [] = refl
 found_where_any property (x ∷ xs) =
     found_is_any (λ test. test.variable) property x (property x) (find property xs) (list_any property xs)
     (found_where_any property xs)
 
-none_more : (ours theirs same misfits rest : Bool) → (ours && misfits || rest) ≡ false → (ours && (same && misfits) || theirs) ≡ theirs
+none_more : (ours theirs same misfits rest : Bool) → (ours && misfits || rest) ≡ false
+    → (ours && (same && misfits) || theirs) ≡ theirs
 none_more true theirs true true rest h = cc
 none_more true theirs true false rest h = refl
 none_more true theirs false misfits rest h = refl
@@ -143,18 +178,22 @@ rest_none false rest h = h
 -- where no test of the role is a misfit, none of one of its variables is
 none_of_variable :
     (role variable : List ℕ) (description : DescriptionForm) (xs : List TestPlan)
-    → list_any (is_misfit_for role description) xs ≡ false → list_any (is_misfit_of role variable description) xs ≡ false
+    → list_any (is_misfit_for role description) xs ≡ false → list_any
+    (is_misfit_of role variable description) xs ≡ false
 none_of_variable role variable description [] none = refl
 none_of_variable role variable description (x ∷ xs) none =
-    none_more (same_name x.role role) (list_any (is_misfit_of role variable description) xs) (same_name x.variable variable) (is_misfit description x)
+    none_more (same_name x.role role) (list_any (is_misfit_of role variable description) xs)
+    (same_name x.variable variable) (is_misfit description x)
     (list_any (is_misfit_for role description) xs) none
-    ∙ none_of_variable role variable description xs (rest_none (is_misfit_for role description x) (list_any (is_misfit_for role description) xs) none)
+    ∙ none_of_variable role variable description xs (rest_none (is_misfit_for role description x)
+    (list_any (is_misfit_for role description) xs) none)
 
 and_none : (one other : Bool) → other ≡ false → (one && other) ≡ false
 and_none true other h = h
 and_none false other h = refl
 
-none_found : {X Y : Type 0} (part : X → Y) (property : X → Bool) → ((x : X) → property x ≡ false) → (xs : List X) → option_map part (find property xs) ≡ None
+none_found : {X Y : Type 0} (part : X → Y) (property : X → Bool) → ((x : X) → property x ≡ false) → (xs : List X)
+    → option_map part (find property xs) ≡ None
 none_found part property none [] = refl
 none_found part property none (x ∷ xs) = rw (none x) (none_found part property none xs)
 
@@ -166,6 +205,7 @@ pub none_refused :
 none_refused root role description none =
     let no_misfit = sym (found_where_any (is_misfit_for role description) (tests_in root)) ∙ ap is_some none in
     none_found (λ test. test.variable) (is_refused_test root role description)
-    (λ test. and_none (same_name test.role role) (list_any (is_misfit_of role test.variable description) (tests_in root))
+    (λ test. and_none (same_name test.role role) (list_any (is_misfit_of role test.variable description)
+    (tests_in root))
     (none_of_variable role test.variable description (tests_in root) no_misfit))
     (tests_in root)

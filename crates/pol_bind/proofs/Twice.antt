@@ -79,5 +79,6 @@ twice-same binds front earlier (role ∷ roles) same =
     (same tag) ∙ before-one binds earlier role tag))
 
 -- as where no role is earlier
-pub twice_in_order : (binds : List Bind) (roles : List (List ℕ)) → twice_from binds [] roles ≡ one_module_twice binds [] roles
+pub twice_in_order : (binds : List Bind) (roles : List (List ℕ))
+    → twice_from binds [] roles ≡ one_module_twice binds [] roles
 twice_in_order binds roles = twice-same binds [] [] roles (λ tag. refl)

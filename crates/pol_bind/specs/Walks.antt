@@ -16,7 +16,8 @@ abbrev mutual
 
   pub first_name_among : (StepPlan → Bool) → Trees → Option (List ℕ)
   first_name_among property no_trees = None
-  first_name_among property (more_trees each others) = option_or (first_name property each) (first_name_among property others)
+  first_name_among property (more_trees each others) = option_or (first_name property each)
+      (first_name_among property others)
 
   pub first_name_in_arms : (StepPlan → Bool) → Arms → Option (List ℕ)
   first_name_in_arms property no_arms = None
@@ -35,7 +36,8 @@ abbrev mutual
 
   pub variable_among : (TestPlan → Bool) → Formulas → Option (List ℕ)
   variable_among property no_formulas = None
-  variable_among property (more_formulas each others) = option_or (variable_in property each) (variable_among property others)
+  variable_among property (more_formulas each others) = option_or (variable_in property each)
+      (variable_among property others)
 
 -- the variable of the first test of a step's finish with this property
 abbrev pub variable_in_finish : (TestPlan → Bool) → Option Formula → Option (List ℕ)

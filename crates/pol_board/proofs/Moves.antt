@@ -14,7 +14,8 @@ use Rattle.pol_board.specs.Rules.{IsBoard, KeepsRule, IsLoad, IsStore, JoinsKeep
 use Rattle.pol_board.proofs.Older.{older-same, older-read, older-written, older-joined, found-after}
 
 -- what was written over an item is found at its place
-set-there : {A : Type 0} (items : List A) (place : ℕ) (item new : A) → get_elem? items place ≡ some item → get_elem? (set items place new) place ≡ some new
+set-there : {A : Type 0} (items : List A) (place : ℕ) (item new : A) → get_elem? items place ≡ some item
+    → get_elem? (set items place new) place ≡ some new
 set-there [] place item new there = absurd (some-ne-none item (sym there))
 set-there (first ∷ items) zero item new there = refl
 set-there (first ∷ items) (suc place) item new there = set-there items place item new there
@@ -43,7 +44,8 @@ splits words seats seat board there =
 -- a load, by any seat that isn't spent
 load-kept : (words : List ℕ) (seats : List Remembered) (number : ℕ) (seat : Remembered) (place : ℕ)
     → IsBoard words seats → get_elem? seats number ≡ some seat → seat.spent ≡ false
-    → IsBoard (slice_set words place (slice_index words place)) (set seats number (remembers (slice_set seat.words place (slice_index words place))))
+    → IsBoard (slice_set words place (slice_index words place))
+    (set seats number (remembers (slice_set seat.words place (slice_index words place))))
 load-kept words seats number seat place board there lives =
     let new : Remembered = remembers (slice_set seat.words place (slice_index words place)) in
     let same : slice_set words place (slice_index words place) ≡ words = set-get_or words place 0 in
@@ -54,7 +56,8 @@ load-kept words seats number seat place board there lives =
           ⊎_elim
           (λ told.
           let zero-is : number ≡ 0 = told.1 in
-          let First : ℕ → Type 0 = λ at. get_elem? seats at ≡ some seat → get_elem? (set seats at new) 0 ≡ some (remembers words) in
+          let First : ℕ → Type 0 = λ at. get_elem? seats at ≡ some seat
+          → get_elem? (set seats at new) 0 ≡ some (remembers words) in
           subst First (sym zero-is)
           (λ there-first.
           let is : seat ≡ remembers words = remembers-words words seats seat board there-first in
@@ -83,27 +86,32 @@ loads slots number place me lives board kept homes there fits = (
 
 -- a store by seat 0, of a word with a higher number
 store-kept : (words : List ℕ) (seats : List Remembered) (seat : Remembered) (place word : ℕ)
-    → IsBoard words seats → get_elem? seats 0 ≡ some seat → IsWord word → number_of (slice_index seat.words place) < number_of word
+    → IsBoard words seats → get_elem? seats 0 ≡ some seat → IsWord word
+    → number_of (slice_index seat.words place) < number_of word
     → IsBoard (slice_set words place word) (set seats 0 (remembers (slice_set seat.words place word)))
 store-kept words seats seat place word board there coded less =
     let is : seat ≡ remembers words = remembers-words words seats seat board there in
     let Less : Remembered → Type 0 = λ one. number_of (slice_index one.words place) < number_of word in
     let new : Remembered = remembers (slice_set seat.words place word) in
-    let new-is : new ≡ remembers (slice_set words place word) = ap (λ (one : Remembered). remembers (slice_set one.words place word)) is in
+    let new-is : new ≡ remembers (slice_set words place word) =
+    ap (λ (one : Remembered). remembers (slice_set one.words place word)) is in
     record {
-      coded = λ at. ⊎_elim (λ told. subst IsWord (sym told.2) coded) (λ same. subst IsWord (sym same) (board.coded at)) (found-after words place at word);
+      coded = λ at. ⊎_elim (λ told. subst IsWord (sym told.2) coded) (λ same. subst IsWord (sym same) (board.coded at))
+          (found-after words place at word);
       first = set-there seats 0 seat new there ∙ ap some new-is;
       others = λ other found at alive.
           ⊎_elim
           (λ told.
           let Older : Remembered → Type 0 = λ one. AreOlder one.words (slice_set words place word) in
           subst Older (sym new-is ∙ told.1) (older-same (slice_set words place word)))
-          (λ told. older-written found.words words place word (board.others other found told.1 alive) (subst Less is less))
+          (λ told. older-written found.words words place word (board.others other found told.1 alive)
+          (subst Less is less))
           (at_set seats 0 other new found at);
     }
 
 -- a store is allowed, and is remembered
-pub stores : (slots place word : ℕ) (me : Me ℕ Remembered) → IsWord word → number_of (slice_index me.0.words place) < number_of word
+pub stores : (slots place word : ℕ) (me : Me ℕ Remembered) → IsWord word
+    → number_of (slice_index me.0.words place) < number_of word
     → Allows {S = ℕ} KeepsRule slots 0 me place (λ _. word) (λ _. IsStore (step slots place word 0 none) me word)
 stores slots place word me coded less board kept homes there fits = (
   remembers (slice_set me.0.words place word),
@@ -117,9 +125,11 @@ stores slots place word me coded less board kept homes there fits = (
 pub joins : JoinsKeepTheRule
 joins number other seat second apart-first apart-second lives second-lives board kept there differ there-second =
     let both : Remembered = newer_of seat second in
-    let stood : get_elem? board.views other ≡ some second = sym (set_else board.views number other both differ) ∙ there-second in
+    let stood : get_elem? board.views other ≡ some second = sym (set_else board.views number other both differ)
+    ∙ there-second in
     let older : AreOlder both.words board.words =
-    older-joined seat.words second.words board.words (kept.others number seat there lives) (kept.others other second stood second-lives) in
+    older-joined seat.words second.words board.words (kept.others number seat there lives)
+    (kept.others other second stood second-lives) in
     record {
       coded = kept.coded;
       first =
@@ -130,7 +140,8 @@ joins number other seat second apart-first apart-second lives second-lives board
           (λ told. absurd (true≢false (ap (λ (one : Remembered). one.spent) told.1 ∙ alive)))
           (λ told.
           ⊎_elim
-          (λ joined. let Older : Remembered → Type 0 = λ one. AreOlder one.words board.words in subst Older joined.1 older)
+          (λ joined. let Older : Remembered → Type 0 = λ one. AreOlder one.words board.words in
+          subst Older joined.1 older)
           (λ apart. kept.others at found apart.1 alive) (at_set board.views number at both found told.1))
           (at_set (set board.views number both) other at spent found where-found);
     }

@@ -59,7 +59,8 @@ code-said (Some Completed) = refl
 pub word-again : (word : ℕ) → IsWord word → word_of (number_of word) (state_at word) ≡ word
 word-again word (number, state, is) =
     let said-state : state_at word ≡ state =
-    ap state_at is ∙ ap (λ code. state_of code state_codes) (mod-mul-add number 262144 (code_of state) (code-small state))
+    ap state_at is ∙ ap (λ code. state_of code state_codes) (mod-mul-add number 262144 (code_of state)
+    (code-small state))
     ∙ code-said state in
     ap (λ of. word_of of (state_at word)) (ap number_of is ∙ number-said number state)
     ∙ ap (word_of number) said-state ∙ sym is
@@ -74,7 +75,12 @@ found-after words written place word =
     let same : place ≡ written = told.1 in
     ⊎_elim
     (λ inside.
-    inl (same, inside, ap (λ at. slice_index (slice_set words written word) at) same ∙ get_or-set_same words written word 0 inside))
+    inl (
+      same,
+      inside,
+      ap (λ at. slice_index (slice_set words written word) at) same
+          ∙ get_or-set_same words written word 0 inside,
+    ))
     (λ past.
     inr (get_or_past (slice_set words written word) place 0 (omega (arith, same, past, length-set words written word))
     ∙ sym (get_or_past words place 0 (omega (arith, same, past))))) (cases_lt written (length words)))
@@ -85,12 +91,14 @@ pub older-same : (words : List ℕ) → AreOlder words words
 older-same words = (refl, λ place. inl refl)
 
 -- one place is remembered as it is now
-pub older-read : (old words : List ℕ) (read : ℕ) → AreOlder old words → AreOlder (slice_set old read (slice_index words read)) words
+pub older-read : (old words : List ℕ) (read : ℕ) → AreOlder old words
+    → AreOlder (slice_set old read (slice_index words read)) words
 older-read old words read older = (
   length-set old read (slice_index words read) ∙ older.0,
   λ place.
       ⊎_elim (λ told. inl (told.2 ∙ ap (λ at. slice_index words at) (sym told.0)))
-      (λ same. let Older : ℕ → Type 0 = λ word. IsOlder word (slice_index words place) in subst Older (sym same) (older.1 place))
+      (λ same. let Older : ℕ → Type 0 = λ word. IsOlder word (slice_index words place) in
+      subst Older (sym same) (older.1 place))
       (found-after old read place (slice_index words read)),
 )
 
@@ -102,7 +110,8 @@ older-than old word next older less =
 
 -- one place got a word with a higher number
 pub older-written : (old words : List ℕ) (written next : ℕ)
-    → AreOlder old words → number_of (slice_index words written) < number_of next → AreOlder old (slice_set words written next)
+    → AreOlder old words → number_of (slice_index words written) < number_of next
+    → AreOlder old (slice_set words written next)
 older-written old words written next older less = (
   older.0 ∙ sym (length-set words written next),
   λ place.
@@ -110,7 +119,8 @@ older-written old words written next older less = (
       ⊎_elim
       (λ told.
       let Less : ℕ → Type 0 = λ at. number_of (slice_index words at) < number_of next in
-      subst Older (sym told.2) (older-than (slice_index old place) (slice_index words place) next (older.1 place) (subst Less (sym told.0) less)))
+      subst Older (sym told.2) (older-than (slice_index old place) (slice_index words place) next (older.1 place)
+      (subst Less (sym told.0) less)))
       (λ same. subst Older (sym same) (older.1 place)) (found-after words written place next),
 )
 
@@ -126,13 +136,15 @@ older-newer word other now first second =
 older-places : (words others now : List ℕ)
     → ((place : ℕ) → IsOlder (slice_index words place) (slice_index now place))
     → ((place : ℕ) → IsOlder (slice_index others place) (slice_index now place))
-    → length words ≡ length others → (place : ℕ) → IsOlder (slice_index (newer_words words others) place) (slice_index now place)
+    → length words ≡ length others → (place : ℕ) → IsOlder (slice_index (newer_words words others) place)
+    (slice_index now place)
 older-places [] others now first second same place = first place
 older-places (word ∷ words) [] now first second same place = first place
 older-places (word ∷ words) (other ∷ others) [] first second same zero = older-newer word other 0 (first 0) (second 0)
 older-places (word ∷ words) (other ∷ others) [] first second same (suc place) =
     older-places words others [] (λ at. first (suc at)) (λ at. second (suc at)) (omega (arith, same)) place
-older-places (word ∷ words) (other ∷ others) (at ∷ now) first second same zero = older-newer word other at (first 0) (second 0)
+older-places (word ∷ words) (other ∷ others) (at ∷ now) first second same zero =
+    older-newer word other at (first 0) (second 0)
 older-places (word ∷ words) (other ∷ others) (at ∷ now) first second same (suc place) =
     older-places words others now (λ at. first (suc at)) (λ at. second (suc at)) (omega (arith, same)) place
 
@@ -143,7 +155,8 @@ length-newer (word ∷ words) [] same = refl
 length-newer (word ∷ words) (other ∷ others) same = ap suc (length-newer words others (omega (arith, same)))
 
 -- what two lists of older words say together is older too
-pub older-joined : (words others now : List ℕ) → AreOlder words now → AreOlder others now → AreOlder (newer_words words others) now
+pub older-joined : (words others now : List ℕ) → AreOlder words now → AreOlder others now
+    → AreOlder (newer_words words others) now
 older-joined words others now first second =
     let same : length words ≡ length others = first.0 ∙ sym second.0 in
     (length-newer words others same ∙ first.0, older-places words others now first.1 second.1 same)

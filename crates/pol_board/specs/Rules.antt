@@ -10,7 +10,8 @@ use Rattle.pol_board.specs.Words.{IsWord, IsOlder, AreOlder, newer_words}
 abbrev pub remembers : List ℕ → Remembered
 remembers words = record { spent = false; words = words }
 
--- The rule of a board: each word says some number and state; seat 0, the publisher, remembers the words as they are; each
+-- The rule of a board: each word says some number and state; seat 0, the publisher, remembers the words as they are;
+-- each
 -- other seat that isn't spent remembers them as they are or as they were.
 pub record IsBoard (words : List ℕ) (seats : List Remembered) : Type 0 where
   pub coded : (place : ℕ) → IsWord (slice_index words place)

@@ -30,7 +30,8 @@ IsOlder old word = (old ≡ word) ⊎ (number_of old < number_of word)
 
 -- each of the first words is the one at its place among the second, or an older one
 abbrev pub AreOlder : List ℕ → List ℕ → Type 0
-AreOlder old words = (length old ≡ length words) × ((place : ℕ) → IsOlder (slice_index old place) (slice_index words place))
+AreOlder old words = (length old ≡ length words) × ((place : ℕ)
+    → IsOlder (slice_index old place) (slice_index words place))
 
 -- the one of two words that has the higher number
 abbrev pub newer : ℕ → ℕ → ℕ

@@ -129,7 +129,8 @@ since-few test (entry ∷ past) = go (test entry) (since-few test past)
     go false rest = omega (arith, rest)
 
 -- a slot has begun at most as many exchanges as the history has entries
-pub begun-few : (berths : Berths Slot) (history : History) → SeatsMirror berths history → length history ≤ LONGEST_HISTORY →
+pub begun-few : (berths : Berths Slot) (history : History) → SeatsMirror berths history
+    → length history ≤ LONGEST_HISTORY →
     HaveBegunFew berths
 begun-few berths history seats few tag slot found =
     let keeps = seated-slot history tag berths slot seats found in

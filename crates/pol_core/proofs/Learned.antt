@@ -85,7 +85,8 @@ module _ {Z : Type 0} where
   known-recipe history at name chart known mirror room there =
       refused-recipe history at name chart known (Refused RecipeKnown)
       (sym (recipe-answer history at name chart known mirror room
-      ∙ ap (λ there. first_rule (when there RecipeKnown ∷ when (nat_le MOST_RECIPES (length known)) RecipesFull ∷ []) Done)
+      ∙ ap (λ there. first_rule (when there RecipeKnown ∷ when
+      (nat_le MOST_RECIPES (length known)) RecipesFull ∷ []) Done)
       there)) refl mirror
 
   full-recipe : (history : History) (at : ℕ) (name : List ℕ) (chart : ChartPlan)
@@ -95,12 +96,14 @@ module _ {Z : Type 0} where
       answer_of history (recipe at name chart) ≡ first_rule (when full RecipesFull ∷ []) Done
   full-recipe history at name chart known mirror room new full is =
       recipe-answer history at name chart known mirror room
-      ∙ ap (λ there. first_rule (when there RecipeKnown ∷ when (nat_le MOST_RECIPES (length known)) RecipesFull ∷ []) Done) new
+      ∙ ap (λ there. first_rule (when there RecipeKnown ∷ when
+      (nat_le MOST_RECIPES (length known)) RecipesFull ∷ []) Done) new
       ∙ ap (λ full. first_rule (when full RecipesFull ∷ []) Done) is
 
   pub no-room-recipe : (history : History) (at : ℕ) (name : List ℕ) (chart : ChartPlan)
       (known : List (List ℕ × Arc Chart Z)) → RecipesMirror known history →
-      is_full history ≡ false → is_some (lookup (bytes_eq name) known) ≡ false → nat_le MOST_RECIPES (length known) ≡ true →
+      is_full history ≡ false → is_some (lookup (bytes_eq name) known) ≡ false
+      → nat_le MOST_RECIPES (length known) ≡ true →
       AnswersRecipe history (recipe at name chart) (Refused RecipesFull) known
   no-room-recipe history at name chart known mirror room new full =
       refused-recipe history at name chart known (Refused RecipesFull)
@@ -108,7 +111,8 @@ module _ {Z : Type 0} where
 
   pub new-recipe : (history : History) (at : ℕ) (name : List ℕ) (kept : Arc Chart Z)
       (old new : List (List ℕ × Arc Chart Z)) → RecipesMirror old history →
-      is_full history ≡ false → is_some (lookup (bytes_eq name) old) ≡ false → nat_le MOST_RECIPES (length old) ≡ false →
+      is_full history ≡ false → is_some (lookup (bytes_eq name) old) ≡ false
+      → nat_le MOST_RECIPES (length old) ≡ false →
       is_valid (plan kept.value) ≡ true →
       ((other : List ℕ) → lookup (bytes_eq other) new ≡ cond (bytes_eq name other) (Some kept)
       (lookup (bytes_eq other) old)) → length new ≡ length old + 1 →

@@ -81,7 +81,8 @@ tag-taken history at tag description berths (Some berth) is some seats room =
 pub new-tag : (history : History) (at : ℕ) (tag : List ℕ) (description : DescriptionForm) (berths : Berths Slot) →
     look tag berths ≡ None → SeatsMirror berths history →
     IsCounted berths history → is_full history ≡ false →
-    answer_of history (plug at tag description) ≡ first_rule (when (nat_le MOST_MODULES (length berths)) PlantFull ∷ []) Done
+    answer_of history (plug at tag description) ≡ first_rule
+    (when (nat_le MOST_MODULES (length berths)) PlantFull ∷ []) Done
 new-tag history at tag description berths is seats counted room =
     let empty : IsEmpty (past tag history) (holder_of history tag) =
     subst (λ found. IsSeated tag found (past tag history) (holder_of history tag)) is (seats tag) in
@@ -92,7 +93,8 @@ new-tag history at tag description berths is seats counted room =
 -- a new tag gets a berth
 pub plug-answered : (history : History) (at : ℕ) (tag : List ℕ) (description : DescriptionForm)
     (slot : Slot) (old new : Berths Slot) → look tag old ≡ None →
-    nat_le MOST_MODULES (length old) ≡ false → SlotKeeps tag slot (paired (plug at tag description) Done ∷ past tag history) →
+    nat_le MOST_MODULES (length old) ≡ false → SlotKeeps tag slot
+    (paired (plug at tag description) Done ∷ past tag history) →
     Changes tag (Some (record { part = slot; holder = None })) old new → length new ≡ length old + 1 →
     SeatsMirror old history → IsCounted old history → is_full history ≡ false →
     AnswersModule history (plug at tag description) Done new

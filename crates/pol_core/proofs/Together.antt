@@ -199,7 +199,8 @@ grown old new event answer berths runs known is short orderly kept takes =
     let room = short-has-room old short in
     let same = appended old new event answer is takes.answer_is in
     let length_is : length (history_view old) ≡ length old = length-history old in
-    let few : length (entry_of (history_view old) (event_view event) ∷ history_view old) ≤ LONGEST_HISTORY = omega arith in
+    let few : length (entry_of (history_view old) (event_view event) ∷ history_view old) ≤
+    LONGEST_HISTORY = omega arith in
     subst (λ history. IsPlantHistory history × Mirrors berths runs known history) (sym same) (
       record {
         legal = (refl, recorded-with-room (history_view old) (event_view event) room, kept.legal);

@@ -9,4 +9,5 @@ use Rattle.pol_demo.specs.Summary.{demo_output, summary_data, summary_of}
 pub some_output : (seed : ℕ) → 0 < length (demo_output seed)
 some_output seed =
     let feed : List ℕ = 10 ∷ [] in
-    rw (length-append (compact_text (summary_data (summary_of (history_after [] (demo_events seed))))) feed) (omega arith)
+    rw (length-append (compact_text (summary_data (summary_of (history_after [] (demo_events seed)))))
+    feed) (omega arith)

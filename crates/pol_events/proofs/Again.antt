@@ -98,7 +98,8 @@ origin_again External = refl
 -- ---- modules
 
 -- a written plug is read back
-plug_again : (at : ℕ) (tag : List ℕ) (description : DescriptionForm) → is_stamped at tag ≡ true → IsDescription description
+plug_again : (at : ℕ) (tag : List ℕ) (description : DescriptionForm) → is_stamped at tag ≡ true
+    → IsDescription description
     → event_in (written_plug at tag (written_description description)) ≡ Ok (plug at tag description)
 unfolding event_in plug_in written_plug
 plug_again at tag description held sound = let stamped =
@@ -109,10 +110,12 @@ plug_again at tag description held sound = let stamped =
 tag_again : (word : List ℕ) (event : ℕ → List ℕ → EventForm) (at : ℕ) (tag : List ℕ) → is_stamped at tag ≡ true
     → tag_in event (written_tag word at tag) ≡ Ok (event at tag)
 unfolding tag_in written_tag
-tag_again word event at tag held = let stamped = and_parts (is_between 0 greatest_u64 at) (is_name tag) held in rw (stamped.0, stamped.1) refl
+tag_again word event at tag held = let stamped = and_parts (is_between 0 greatest_u64 at) (is_name tag) held in
+    rw (stamped.0, stamped.1) refl
 
 -- a written report is read back
-report_again : (at : ℕ) (tag service : List ℕ) (control : ServiceControl) → is_held (report at tag service control) ≡ true
+report_again : (at : ℕ) (tag service : List ℕ) (control : ServiceControl)
+    → is_held (report at tag service control) ≡ true
     → event_in (written_report at tag service control) ≡ Ok (report at tag service control)
 unfolding event_in report_in control_in written_report
 report_again at tag service control held =
@@ -120,7 +123,17 @@ report_again at tag service control held =
     let stamped = and_parts (is_between 0 greatest_u64 at) (is_name tag) parts.0 in
     let served = and_parts (is_name service) (is_held_control control) parts.1 in
     let ranged = and_parts (is_between 0 greatest_u32 control.mask) (is_between 0 65535 control.procedure) served.1 in
-    rw (stamped.0, stamped.1, served.0, state_again control.state, ranged.0, mode_again control.mode, origin_again control.origin, ranged.1) refl
+    rw (
+      stamped.0,
+      stamped.1,
+      served.0,
+      state_again control.state,
+      ranged.0,
+      mode_again control.mode,
+      origin_again
+          control.origin,
+      ranged.1,
+    ) refl
 
 -- a written value of a variable is read back
 variable_again : (at : ℕ) (tag named : List ℕ) (value : Value) → is_held (variable at tag named value) ≡ true
@@ -144,7 +157,8 @@ desk_again at tag service order held =
 -- a written end of an exchange is read back
 exchange_end_again : (at : ℕ) (tag : List ℕ) (ticket : ℕ) (description : DescriptionForm)
     → (is_stamped at tag && is_between 0 greatest_u32 ticket) ≡ true → IsDescription description
-    → event_in (written_exchange_end at tag ticket (written_description description)) ≡ Ok (exchange_end at tag ticket description)
+    → event_in (written_exchange_end at tag ticket (written_description description))
+    ≡ Ok (exchange_end at tag ticket description)
 unfolding event_in exchange_end_in written_exchange_end
 exchange_end_again at tag ticket description held sound =
     let parts = and_parts (is_stamped at tag) (is_between 0 greatest_u32 ticket) held in
@@ -152,7 +166,8 @@ exchange_end_again at tag ticket description held sound =
     rw (stamped.0, stamped.1, parts.1, description_again description sound) refl
 
 -- a written cancelling of an exchange is read back
-exchange_cancel_again : (at : ℕ) (tag : List ℕ) (ticket : ℕ) → (is_stamped at tag && is_between 0 greatest_u32 ticket) ≡ true
+exchange_cancel_again : (at : ℕ) (tag : List ℕ) (ticket : ℕ)
+    → (is_stamped at tag && is_between 0 greatest_u32 ticket) ≡ true
     → event_in (written_exchange_cancel at tag ticket) ≡ Ok (exchange_cancel at tag ticket)
 unfolding event_in exchange_cancel_in written_exchange_cancel
 exchange_cancel_again at tag ticket held =
@@ -163,13 +178,21 @@ exchange_cancel_again at tag ticket held =
 -- ---- recipes
 
 -- a written recipe is read back
-recipe_again : (at : ℕ) (named : List ℕ) (chart : ChartPlan) → is_chart_form chart ≡ true → is_held (recipe at named chart) ≡ true
-    → event_in (written_recipe at named (written_roles chart.roles) (written_tree chart.root)) ≡ Ok (recipe at named chart)
+recipe_again : (at : ℕ) (named : List ℕ) (chart : ChartPlan) → is_chart_form chart ≡ true
+    → is_held (recipe at named chart) ≡ true
+    → event_in (written_recipe at named (written_roles chart.roles) (written_tree chart.root))
+    ≡ Ok (recipe at named chart)
 unfolding event_in recipe_in written_recipe
 recipe_again at named chart formed held =
     let parts = and_parts (is_stamped at named) (is_sound chart) held in
     let stamped = and_parts (is_between 0 greatest_u64 at) (is_name named) parts.0 in
-    rw (stamped.0, stamped.1, roles_of_chart_again chart formed parts.1, root_again chart formed parts.1, chart_from_again chart formed) refl
+    rw (
+      stamped.0,
+      stamped.1,
+      roles_of_chart_again chart formed parts.1,
+      root_again chart formed parts.1,
+      chart_from_again chart formed,
+    ) refl
 
 -- ---- batches
 
@@ -190,7 +213,8 @@ each_again (bind ∷ binds) held =
     rw (named.0, named.1, each_again binds parts.1) refl
 
 -- written binds are read back
-binds_again : (binds : List Bind) → (nat_le (length binds) MOST_BINDS && rise binds) ≡ true → list_all is_held_bind binds ≡ true
+binds_again : (binds : List Bind) → (nat_le (length binds) MOST_BINDS && rise binds) ≡ true
+    → list_all is_held_bind binds ≡ true
     → binds_of (written_binds binds) ≡ Ok binds
 unfolding binds_of written_binds
 binds_again binds orderly held =
@@ -198,7 +222,8 @@ binds_again binds orderly held =
     rw (texts_again binds, many_again binds, parts.0, each_again binds held, by_role_rising binds parts.1) refl
 
 -- a written start is read back
-start_again : (at : ℕ) (batch named : List ℕ) (binds : List Bind) → is_held (start at batch named binds) ≡ true → is_orderly (start at batch named binds) ≡ true
+start_again : (at : ℕ) (batch named : List ℕ) (binds : List Bind) → is_held (start at batch named binds) ≡ true
+    → is_orderly (start at batch named binds) ≡ true
     → event_in (written_start at batch named (written_binds binds)) ≡ Ok (start at batch named binds)
 unfolding event_in start_in written_start
 start_again at batch named binds held orderly =
@@ -211,7 +236,8 @@ start_again at batch named binds held orderly =
 batch_again : (word : List ℕ) (event : ℕ → List ℕ → EventForm) (at : ℕ) (batch : List ℕ) → is_stamped at batch ≡ true
     → batch_in event (written_batch word at batch) ≡ Ok (event at batch)
 unfolding batch_in written_batch
-batch_again word event at batch held = let stamped = and_parts (is_between 0 greatest_u64 at) (is_name batch) held in rw (stamped.0, stamped.1) refl
+batch_again word event at batch held = let stamped = and_parts (is_between 0 greatest_u64 at) (is_name batch) held in
+    rw (stamped.0, stamped.1) refl
 
 -- ---- all kinds
 
@@ -221,14 +247,16 @@ is_none-none (Some value) none = absurd (true≢false (sym none))
 
 -- the chart of an orderly event has no fault
 pub faultless : (event : EventForm) → is_orderly event ≡ true → fault_within event ≡ None
-faultless (recipe at name chart) orderly = is_none-none (chart_fault chart) (and_parts (is_chart_form chart) (is_valid chart) orderly).1
+faultless (recipe at name chart) orderly = is_none-none (chart_fault chart)
+    (and_parts (is_chart_form chart) (is_valid chart) orderly).1
 faultless _ orderly = refl
 
 -- a written event is read back
 pub event_again : (event : Event) → is_held (event_view event) ≡ true → is_orderly (event_view event) ≡ true
     → event_in (written_event (event_view event)) ≡ Ok (event_view event)
 unfolding event_in written_tag written_batch
-event_again (Plug at tag desc) held orderly = plug_again at tag (description_view desc.value) held (description_sound desc.value)
+event_again (Plug at tag desc) held orderly = plug_again at tag (description_view desc.value) held
+    (description_sound desc.value)
 event_again (Unplug at tag) held orderly = tag_again (codes "unplug") unplug at tag held
 event_again (Report at tag service control) held orderly = report_again at tag service control held
 event_again (Variable at tag name value) held orderly = variable_again at tag name value held
@@ -241,7 +269,8 @@ event_again (StopBatch at batch) held orderly = batch_again (codes "stop") stop_
 event_again (Abandon at batch) held orderly = batch_again (codes "abandon") abandon at batch held
 event_again (Desk at tag service order) held orderly = desk_again at tag service order held
 event_again (ExchangeBegin at tag) held orderly = tag_again (codes "exchange_begin") exchange_begin at tag held
-event_again (ExchangeEnd at tag ticket desc) held orderly = exchange_end_again at tag ticket (description_view desc.value) held (description_sound desc.value)
+event_again (ExchangeEnd at tag ticket desc) held orderly = exchange_end_again at tag ticket
+    (description_view desc.value) held (description_sound desc.value)
 event_again (ExchangeCancel at tag ticket) held orderly = exchange_cancel_again at tag ticket held
 
 -- a text that is read as a value is a line that says what the value says, if that is orderly

@@ -35,8 +35,10 @@ unfolding written_binds
 binds-whole binds = members-whole binds
 
 -- a written event nests no deeper than reading goes
-pub event_depth : (event : Event) → is_orderly (event_view event) ≡ true → depth (written_event (event_view event)) ≤ max_depth
-unfolding written_plug written_tag written_report written_variable written_desk written_exchange_end written_exchange_cancel written_recipe written_start written_batch
+pub event_depth : (event : Event) → is_orderly (event_view event) ≡ true
+    → depth (written_event (event_view event)) ≤ max_depth
+unfolding written_plug written_tag written_report written_variable written_desk written_exchange_end
+    written_exchange_cancel written_recipe written_start written_batch
 event_depth (Plug at tag desc) orderly = omega (arith, description_depth (description_view desc.value))
 event_depth (Variable at tag name value) orderly = omega (arith, scalar_depth value)
 event_depth (Recipe at name chart) orderly =
@@ -53,7 +55,8 @@ event_depth _ orderly = omega arith
 
 -- a written event has no float, so its compact text is exact
 pub event_whole : (event : EventForm) → has_float (written_event event) ≡ false
-unfolding written_plug written_tag written_report written_variable written_desk written_exchange_end written_exchange_cancel written_recipe written_start written_batch
+unfolding written_plug written_tag written_report written_variable written_desk written_exchange_end
+    written_exchange_cancel written_recipe written_start written_batch
 event_whole (plug at tag description) = rw (description_whole description) refl
 event_whole (variable at tag name value) = rw (scalar_whole value) refl
 event_whole (recipe at name chart) = rw (roles_whole chart.roles, tree_whole chart.root) refl

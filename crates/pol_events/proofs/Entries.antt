@@ -19,7 +19,8 @@ use Rattle.pol_events.specs.Written.{bind_members}
 use Rattle.pol_events.proofs.Rising.{compared, first-before, leads, less, rise-first}
 
 -- the last of rising binds stands behind the first
-last-behind : (bind last : Bind) (binds rest : List Bind) → rise (bind ∷ (binds ++ last ∷ rest)) ≡ true → compared last bind ≡ Greater
+last-behind : (bind last : Bind) (binds rest : List Bind) → rise (bind ∷ (binds ++ last ∷ rest)) ≡ true
+    → compared last bind ≡ Greater
 last-behind bind last binds rest rising =
     let each : (list_all (stands_before bind) binds && list_all (stands_before bind) (last ∷ rest)) ≡ true =
     sym (list_all-append (stands_before bind) binds (last ∷ rest))
@@ -33,17 +34,20 @@ put-last : (binds : List Bind) (bind : Bind) (rest : List Bind) → rise (binds 
     → put bind.role (string bind.tag) (bind_members binds) ≡ bind_members (binds ++ bind ∷ [])
 put-last [] bind rest rising = refl
 put-last (first ∷ binds) bind rest rising =
-    let parts = and_parts (leads first (binds ++ bind ∷ rest)) (rise (binds ++ bind ∷ rest)) (sym (rise-first first (binds ++ bind ∷ rest)) ∙ rising) in
+    let parts = and_parts (leads first (binds ++ bind ∷ rest)) (rise (binds ++ bind ∷ rest))
+    (sym (rise-first first (binds ++ bind ∷ rest)) ∙ rising) in
     rw (last-behind first bind binds rest rising, put-last binds bind rest parts.1) refl
 
 -- the first i binds, the i-th one and the others
-cut : (binds : List Bind) (i : ℕ) (bind : Bind) → i < length binds → bind ≡ get_or binds i bind → take i binds ++ bind ∷ drop (suc i) binds ≡ binds
+cut : (binds : List Bind) (i : ℕ) (bind : Bind) → i < length binds → bind ≡ get_or binds i bind
+    → take i binds ++ bind ∷ drop (suc i) binds ≡ binds
 cut binds i bind inside is = let here : drop i binds ≡ bind ∷ drop (suc i) binds = drop-cons binds i bind inside
     ∙ ap (λ (x : Bind). x ∷ drop (suc i) binds) (sym is) in ap (λ xs. take i binds ++ xs) (sym here)
     ∙ take-append-drop i binds
 
 -- one bind more
-next : (binds : List Bind) (i : ℕ) (bind : Bind) → i < length binds → bind ≡ get_or binds i bind → take (i + 1) binds ≡ take i binds ++ bind ∷ []
+next : (binds : List Bind) (i : ℕ) (bind : Bind) → i < length binds → bind ≡ get_or binds i bind
+    → take (i + 1) binds ≡ take i binds ++ bind ∷ []
 next binds i bind inside is = let one : i + 1 ≡ suc i = omega arith in ap (λ k. take k binds) one
     ∙ (take-suc binds i bind inside ∙ ap (λ x. take i binds ++ x ∷ []) (sym is))
 
@@ -61,4 +65,10 @@ puts_next binds i bind old new key value rising inside is keyed valued put so_fa
 pub holds_next : (binds : List Bind) (i : ℕ) (bind : Bind) → i < length binds → bind ≡ get_or binds i bind
     → is_held_bind bind ≡ true → list_all is_held_bind (take i binds) ≡ true
     → list_all is_held_bind (take (i + 1) binds) ≡ true
-holds_next binds i bind inside is held so_far = rw (next binds i bind inside is, list_all-append is_held_bind (take i binds) (bind ∷ []), so_far, held) refl
+holds_next binds i bind inside is held so_far = rw (
+  next binds i bind inside is,
+  list_all-append is_held_bind
+      (take i binds) (bind ∷ []),
+  so_far,
+  held,
+) refl

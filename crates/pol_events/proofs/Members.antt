@@ -29,7 +29,8 @@ use Rattle.pol_events.specs.Orderly.{rise}
 use Rattle.pol_events.proofs.Rising.{by_role-rises, by_role-few}
 use Rattle.pol_events.specs.declared.event.Bind.{Bind}
 
-texts_of : (entries : List (String Global × Value)) → are_texts (members_view entries) ≡ list_all (λ value. is_some (as_str (view value))) (values_of entries)
+texts_of : (entries : List (String Global × Value)) → are_texts (members_view entries)
+    ≡ list_all (λ value. is_some (as_str (view value))) (values_of entries)
 texts_of [] = refl
 texts_of (entry ∷ entries) = ap (λ b. is_some (as_str (view entry.1)) && b) (texts_of entries)
 
@@ -46,7 +47,8 @@ as_many entries = members_len-members_view entries
 -- with_front binds (each_bind (members_view left)) ≡ total.
 
 -- one more member was read
-pub reads_next : (front new : List Bind) (left rest : List Entry) (entry : Entry) (bind : Bind) (total : Reading (List Bind)) → left ≡ entry ∷ rest
+pub reads_next : (front new : List Bind) (left rest : List Entry) (entry : Entry) (bind : Bind)
+    (total : Reading (List Bind)) → left ≡ entry ∷ rest
     → bind_of (string_bytes entry.0) (view entry.1) ≡ Ok bind → new ≡ front ++ bind ∷ []
     → with_front front (each_bind (members_view left)) ≡ total → with_front new (each_bind (members_view rest)) ≡ total
 unfolding each_bind
@@ -57,8 +59,10 @@ reads_next front new left rest entry bind total is read pushed so_far =
     rw pushed (sym one ∙ so_far)
 
 -- a member has a fault
-pub stops_at : (refusal : JsonRefusal) (front : List Bind) (left rest : List Entry) (entry : Entry) (total : Reading (List Bind)) → left ≡ entry ∷ rest
-    → Fails refusal (bind_of (string_bytes entry.0) (view entry.1)) → with_front front (each_bind (members_view left)) ≡ total → Fails refusal total
+pub stops_at : (refusal : JsonRefusal) (front : List Bind) (left rest : List Entry) (entry : Entry)
+    (total : Reading (List Bind)) → left ≡ entry ∷ rest
+    → Fails refusal (bind_of (string_bytes entry.0) (view entry.1))
+    → with_front front (each_bind (members_view left)) ≡ total → Fails refusal total
 unfolding each_bind
 stops_at Memory front left rest entry total is fails so_far = tt
 stops_at (Fault fault) front left rest entry total is fails so_far = sym so_far ∙ rw (is, fails) refl
@@ -90,9 +94,11 @@ keys-read (entry ∷ entries) =
     told_before (HasRole (string_bytes entry.0)) (AreKeys (entry ∷ entries))
     (bind_of (string_bytes entry.0) (view entry.1)) _
     (named-by (is_name (string_bytes entry.0)) (string_bytes entry.0) (view entry.1)) (λ bind role.
-    told_before (AreKeys entries) (AreKeys (entry ∷ entries)) (each_bind (members_view entries)) _ (keys-read entries) (λ binds keys. rw (role, keys) refl))
+    told_before (AreKeys entries) (AreKeys (entry ∷ entries)) (each_bind (members_view entries)) _ (keys-read entries)
+    (λ binds keys. rw (role, keys) refl))
 
-keys-rise : (entries : List Entry) (binds : List Bind) → AreKeys entries binds → IsStrictlySortedBy string_cmp (keys_of entries) → rise binds ≡ true
+keys-rise : (entries : List Entry) (binds : List Bind) → AreKeys entries binds
+    → IsStrictlySortedBy string_cmp (keys_of entries) → rise binds ≡ true
 unfolding IsStrictlySortedBy
 keys-rise entries [] same sorted = refl
 keys-rise entries (bind ∷ []) same sorted = refl
@@ -107,7 +113,8 @@ keys-rise (entry ∷ other ∷ entries) (bind ∷ next ∷ binds) same sorted =
 -- binds that were read of members whose keys ascend rise
 pub read_binds_rise : (entries : List Entry) (binds : List Bind) → IsStrictlySortedBy string_cmp (keys_of entries)
     → each_bind (members_view entries) ≡ Ok binds → rise binds ≡ true
-read_binds_rise entries binds sorted read = let keys : AreKeys entries binds = rw read at (keys-read entries) in keys-rise entries binds keys sorted
+read_binds_rise entries binds sorted read = let keys : AreKeys entries binds = rw read at (keys-read entries) in
+    keys-rise entries binds keys sorted
 
 -- there are as many binds as members
 abbrev AreAsMany : Members → List Bind → Type 0
@@ -118,13 +125,15 @@ unfolding each_bind
 length-read no_members = refl
 length-read (member key value members) =
     any_before (AreAsMany (member key value members)) (bind_of key value) _ (λ bind.
-    told_before (AreAsMany members) (AreAsMany (member key value members)) (each_bind members) _ (length-read members) (λ binds same. ap suc same))
+    told_before (AreAsMany members) (AreAsMany (member key value members)) (each_bind members) _ (length-read members)
+    (λ binds same. ap suc same))
 
 -- there are at most 64 members
 abbrev AreFew : Members → Type 0
 AreFew members = nat_le (members_len members) MOST_BINDS ≡ true
 
-few-by : (are_few : Bool) (members : Members) → nat_le (members_len members) MOST_BINDS ≡ are_few → IfOk (here (if are_few then Ok members else Err OutOfRange)) AreFew
+few-by : (are_few : Bool) (members : Members) → nat_le (members_len members) MOST_BINDS ≡ are_few
+    → IfOk (here (if are_few then Ok members else Err OutOfRange)) AreFew
 few-by true found is = is
 few-by false found is = tt
 
@@ -140,7 +149,8 @@ few-found (Some found) = few-of (are_texts found) found
 abbrev pub AreOrderly : List Bind → Type 0
 AreOrderly binds = (nat_le (length binds) MOST_BINDS && rise binds) ≡ true
 
-in-order : (members : Members) (binds : List Bind) → AreFew members → AreAsMany members binds → AreOrderly (by_role binds)
+in-order : (members : Members) (binds : List Bind) → AreFew members → AreAsMany members binds
+    → AreOrderly (by_role binds)
 in-order found binds few same =
     let fewer : nat_le (length (by_role binds)) 64 ≡ true = grind (arith, nat_tests, by_role-few binds) in
     rw (by_role-rises binds, fewer) refl
@@ -150,4 +160,5 @@ pub binds_orderly : (value : Data) → IfOk (binds_of value) AreOrderly
 unfolding binds_of
 binds_orderly value =
     told_before AreFew AreOrderly (here (few_texts (as_object value))) _ (few-found (as_object value)) (λ members few.
-    told_before (AreAsMany members) AreOrderly (each_bind members) _ (length-read members) (λ binds same. in-order members binds few same))
+    told_before (AreAsMany members) AreOrderly (each_bind members) _ (length-read members)
+    (λ binds same. in-order members binds few same))

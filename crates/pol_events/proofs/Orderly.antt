@@ -41,11 +41,13 @@ start-orderly value =
     any_before IsOrderly (nothing_but (codes "ev at batch recipe bind") value) _ (λ _ _. orderly)))))
 
 -- a chart that is formed and has no fault is orderly
-sound-chart : (chart : ChartPlan) → is_chart_form chart ≡ true → chart_fault chart ≡ None → (is_chart_form chart && is_valid chart) ≡ true
+sound-chart : (chart : ChartPlan) → is_chart_form chart ≡ true → chart_fault chart ≡ None
+    → (is_chart_form chart && is_valid chart) ≡ true
 sound-chart chart formed none = rw (formed, none) refl
 
 -- a chart of sized roles and a formed root is formed, where no role is named twice
-made-orderly : (at : ℕ) (named : List ℕ) (roles : List RolePlan) (root : Tree) → are_roles_sized roles ≡ true → is_tree_formed root ≡ true →
+made-orderly : (at : ℕ) (named : List ℕ) (roles : List RolePlan) (root : Tree) → are_roles_sized roles ≡ true
+    → is_tree_formed root ≡ true →
     IfOk (chart_from roles root >>= λ chart. Ok (recipe at named chart)) IsOrderly
 unfolding chart_from
 made-orderly at named roles root sized formed = go (repeats_by same_role roles) refl
@@ -54,7 +56,8 @@ made-orderly at named roles root sized formed = go (repeats_by same_role roles) 
         IfOk ((under (codes "roles") (refused_if broken Repeated) >>= λ _. Ok (record { roles = roles; root = root }))
         >>= λ chart. Ok (recipe at named chart)) IsOrderly
     go true is = tt
-    go false is = λ none. sound-chart (record { roles = roles; root = root }) (chart_formed roles root sized formed is) none
+    go false is = λ none. sound-chart (record { roles = roles; root = root })
+        (chart_formed roles root sized formed is) none
 
 recipe-orderly : (value : Data) → IfOk (recipe_in value) IsOrderly
 unfolding recipe_in
@@ -65,7 +68,8 @@ recipe-orderly value =
     (told_inside (λ roles. are_roles_sized roles ≡ true) (codes "roles") roles_of roles_sized value) (λ roles sized.
     told_before (λ root. is_tree_formed root ≡ true) IsOrderly (inside (codes "chart") tree_of value) _
     (told_inside (λ root. is_tree_formed root ≡ true) (codes "chart") tree_of tree_formed value) (λ root formed.
-    any_before IsOrderly (nothing_but (codes "ev at recipe roles chart") value) _ (λ _. made-orderly at named roles root sized formed)))))
+    any_before IsOrderly (nothing_but (codes "ev at recipe roles chart") value) _
+    (λ _. made-orderly at named roles root sized formed)))))
 
 -- an event of any kind is orderly, unless its chart has a fault
 kind-orderly : (value : Data) (kind : EventKind) → IfOk (event_by value kind) IsOrderly
@@ -95,7 +99,8 @@ valid-orderly : (found event : EventForm) (fault : Option ChartFault) → fault_
 valid-orderly found event None none orderly is = let same : found ≡ event = cc in rw (← same) (orderly none)
 valid-orderly found event (Some fault) some orderly is = absurd cc
 
-said-orderly : (read : Reading EventForm) (event : EventForm) → IfOk read IsOrderly → of_line read ≡ Ok event → is_orderly event ≡ true
+said-orderly : (read : Reading EventForm) (event : EventForm) → IfOk read IsOrderly → of_line read ≡ Ok event
+    → is_orderly event ≡ true
 said-orderly (Ok found) event orderly is = valid-orderly found event (fault_within found) refl orderly is
 said-orderly (Err fault) event orderly is = absurd cc
 

@@ -16,7 +16,8 @@ place_seen p seen [] = refl
 place_seen p seen (item ∷ items) = ap (λ n. cond (not (p (seen item))) (1 + n) 0) (place_seen p seen items)
 
 -- the first place where a test passes, or the length
-pub place_or_length : {X : Type 0} (p : X → Bool) (items : List X) → unwrap_or (position p items) (length items) ≡ position_or_len p items
+pub place_or_length : {X : Type 0} (p : X → Bool) (items : List X)
+    → unwrap_or (position p items) (length items) ≡ position_or_len p items
 place_or_length p items = go (nat_lt (position_or_len p items) (length items)) refl
   where
     go : (inside : Bool) → nat_lt (position_or_len p items) (length items) ≡ inside →

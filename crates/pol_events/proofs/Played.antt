@@ -88,7 +88,8 @@ plays binds tag role paired bound other = ends (same_name other role) refl (boun
         differs : (same : Bool) → same_name has tag ≡ same → same ≡ false
         differs false same = refl
         differs true same =
-            let one : other ≡ role = role-is binds tag role other paired bound (here ∙ ap Some (same-true has tag same)) in
+            let one : other ≡ role = role-is binds tag role other paired bound
+            (here ∙ ap Some (same-true has tag same)) in
             sym (same-refl role) ∙ ap (λ name. same_name name role) (sym one) ∙ apart
 
 -- where the tag is bound to no role, no step is on the module

@@ -39,15 +39,18 @@ by_role_rising (bind ∷ next ∷ binds) rising =
     let parts = and_parts (stands_before bind next) (rise (next ∷ binds)) rising in
     rw (by_role_rising (next ∷ binds) parts.1, less (compared bind next) parts.0) refl
 
-leads-placed : (bind other next : Bind) (binds : List Bind) (order : Ordering) → stands_before bind other ≡ true → stands_before bind next ≡ true
+leads-placed : (bind other next : Bind) (binds : List Bind) (order : Ordering) → stands_before bind other ≡ true
+    → stands_before bind next ≡ true
     → leads bind (match_ordering order (other ∷ next ∷ binds) (next ∷ binds) (next ∷ with_bind other binds)) ≡ true
 leads-placed bind other next binds Less before leading = before
 leads-placed bind other next binds Equal before leading = leading
 leads-placed bind other next binds Greater before leading = leading
 
-leads-with : (bind other : Bind) (binds : List Bind) → stands_before bind other ≡ true → leads bind binds ≡ true → leads bind (with_bind other binds) ≡ true
+leads-with : (bind other : Bind) (binds : List Bind) → stands_before bind other ≡ true → leads bind binds ≡ true
+    → leads bind (with_bind other binds) ≡ true
 leads-with bind other [] before leading = before
-leads-with bind other (next ∷ binds) before leading = leads-placed bind other next binds (compared other next) before leading
+leads-with bind other (next ∷ binds) before leading = leads-placed bind other next binds
+    (compared other next) before leading
 
 reversed : (bind next : Bind) → compared bind next ≡ Greater → stands_before next bind ≡ true
 reversed bind next after = rw (nat_list_cmp_total.antisymm next.role bind.role, after) refl
@@ -59,19 +62,27 @@ rise-placed bind next binds Less is rising rest = rw (is, rising) refl
 rise-placed bind next binds Equal is rising rest = rising
 rise-placed bind next binds Greater is rising rest =
     let parts = and_parts (leads next binds) (rise binds) (sym (rise-first next binds) ∙ rising) in
-    rw (rise-first next (with_bind bind binds), leads-with next bind binds (reversed bind next is) parts.0, rest parts.1) refl
+    rw (
+      rise-first next (with_bind bind binds),
+      leads-with next bind binds
+          (reversed bind next is) parts.0,
+      rest parts.1,
+    ) refl
 
 rise-with : (bind : Bind) (binds : List Bind) → rise binds ≡ true → rise (with_bind bind binds) ≡ true
 rise-with bind [] rising = refl
-rise-with bind (next ∷ binds) rising = rise-placed bind next binds (compared bind next) refl rising (rise-with bind binds)
+rise-with bind (next ∷ binds) rising = rise-placed bind next binds (compared bind next) refl rising
+    (rise-with bind binds)
 
 -- binds that were put in byte order of roles rise
 pub by_role-rises : (binds : List Bind) → rise (by_role binds) ≡ true
 by_role-rises [] = refl
 by_role-rises (bind ∷ binds) = rise-with bind (by_role binds) (by_role-rises binds)
 
-length-placed : (bind next : Bind) (binds : List Bind) (order : Ordering) → length (with_bind bind binds) ≤ length (bind ∷ binds)
-    → length (match_ordering order (bind ∷ next ∷ binds) (next ∷ binds) (next ∷ with_bind bind binds)) ≤ length (bind ∷ next ∷ binds)
+length-placed : (bind next : Bind) (binds : List Bind) (order : Ordering)
+    → length (with_bind bind binds) ≤ length (bind ∷ binds)
+    → length (match_ordering order (bind ∷ next ∷ binds) (next ∷ binds) (next ∷ with_bind bind binds)) ≤ length
+    (bind ∷ next ∷ binds)
 length-placed bind next binds Less few = omega arith
 length-placed bind next binds Equal few = omega arith
 length-placed bind next binds Greater few = omega arith
@@ -96,7 +107,8 @@ before-each bind next (other ∷ binds) before rising =
     rw (before, before-each bind other binds further parts.1) refl
 
 -- the first of rising binds stands before each of the others
-pub first-before : (bind : Bind) (binds : List Bind) → rise (bind ∷ binds) ≡ true → list_all (stands_before bind) binds ≡ true
+pub first-before : (bind : Bind) (binds : List Bind) → rise (bind ∷ binds) ≡ true
+    → list_all (stands_before bind) binds ≡ true
 first-before bind [] rising = refl
 first-before bind (next ∷ binds) rising = let parts =
     and_parts (stands_before bind next) (rise (next ∷ binds)) rising in before-each bind next binds parts.0 parts.1

@@ -14,7 +14,8 @@ role_unbound binds roles = option_map RoleUnbound (find (λ role. is_none (bound
 
 -- the first bind whose role the recipe lacks
 abbrev pub role_unknown : List Bind → List (List ℕ) → Option Rule
-role_unknown binds roles = option_map (λ bind. RoleUnknown bind.role) (find (λ bind. not (is_among roles bind.role)) binds)
+role_unknown binds roles = option_map (λ bind. RoleUnknown bind.role)
+    (find (λ bind. not (is_among roles bind.role)) binds)
 
 -- the tag is bound to one of these roles
 abbrev pub is_bound_before : List Bind → List (List ℕ) → List ℕ → Bool

@@ -44,7 +44,8 @@ each_bind (member key value rest) =
 abbrev pub with_bind : Bind → List Bind → List Bind
 with_bind bind [] = bind ∷ []
 with_bind bind (next ∷ binds) =
-    match_ordering (slice_cmp nat_cmp bind.role next.role) (bind ∷ next ∷ binds) (next ∷ binds) (next ∷ with_bind bind binds)
+    match_ordering (slice_cmp nat_cmp bind.role next.role) (bind ∷ next ∷ binds) (next ∷ binds)
+    (next ∷ with_bind bind binds)
 
 -- the binds in byte order of roles
 abbrev pub by_role : List Bind → List Bind

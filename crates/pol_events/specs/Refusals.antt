@@ -47,7 +47,8 @@ value_rule value.OutOfRange = OutOfRange
 -- the value is of another kind than the variable, or out of its range
 abbrev pub misfit : List ℕ → Value → DescriptionForm → Option Rule
 misfit name value description =
-    option_and_then (λ variable. option_map value_rule (view_fault variable.kind value)) (variable_named name description)
+    option_and_then (λ variable. option_map value_rule (view_fault variable.kind value))
+    (variable_named name description)
 
 -- why a command may not go to a service, as a rule
 abbrev pub forbid_rule : Forbid → Rule
@@ -78,7 +79,8 @@ abbrev pub wrong_ticket : ℕ → Option ℕ → Option Rule
 wrong_ticket given kept = option_and_then (λ kept. when (not (kept == given)) (WrongTicket kept given)) kept
 
 -- the rules of a report, by the ticket of the module's exchange, its description and what the service reported last
-abbrev pub report_rules : List ℕ → List ℕ → State → Option ℕ → Option DescriptionForm → Option ServiceControl → List (Option Rule)
+abbrev pub report_rules : List ℕ → List ℕ → State → Option ℕ → Option DescriptionForm → Option ServiceControl
+    → List (Option Rule)
 report_rules tag service state ticket description last =
     in_exchange tag ticket ∷ option_and_then (no_service service) description ∷ not_an_edge state last ∷ []
 

@@ -149,5 +149,6 @@ written_event (stop_batch at batch) = written_batch (codes "stop") at batch
 written_event (abandon at batch) = written_batch (codes "abandon") at batch
 written_event (desk at tag service command) = written_desk at tag service command
 written_event (exchange_begin at tag) = written_tag (codes "exchange_begin") at tag
-written_event (exchange_end at tag ticket description) = written_exchange_end at tag ticket (written_description description)
+written_event (exchange_end at tag ticket description) = written_exchange_end at tag ticket
+    (written_description description)
 written_event (exchange_cancel at tag ticket) = written_exchange_cancel at tag ticket

@@ -13,19 +13,22 @@ abbrev pub NoneHolds : List (Option Rule) → Type 0
 NoneHolds [] = Unit {0}
 NoneHolds (rule ∷ rules) = (rule ≡ None) × NoneHolds rules
 
-pub none-holds : (rules : List (Option Rule)) (answer : Answer) → is_accepted (first_rule rules answer) ≡ true → NoneHolds rules
+pub none-holds : (rules : List (Option Rule)) (answer : Answer) → is_accepted (first_rule rules answer) ≡ true
+    → NoneHolds rules
 none-holds [] answer accepted = tt
 none-holds (Some rule ∷ rules) answer accepted = cc
 none-holds (None ∷ rules) answer accepted = (refl, none-holds rules answer accepted)
 
 -- where no rule holds the answer is the other one
-pub otherwise-it-is : (rules : List (Option Rule)) (answer : Answer) → NoneHolds rules → first_rule rules answer ≡ answer
+pub otherwise-it-is : (rules : List (Option Rule)) (answer : Answer) → NoneHolds rules
+    → first_rule rules answer ≡ answer
 otherwise-it-is [] answer none = refl
 otherwise-it-is (Some rule ∷ rules) answer none = cc
 otherwise-it-is (None ∷ rules) answer none = otherwise-it-is rules answer none.1
 
 -- an accepted event meets none of the rules of its kind
-pub accepted-none : (history : History) (event : EventForm) → is_accepted (answer_of history event) ≡ true → NoneHolds (rules history event)
+pub accepted-none : (history : History) (event : EventForm) → is_accepted (answer_of history event) ≡ true
+    → NoneHolds (rules history event)
 accepted-none history event accepted =
     (none-holds (when (is_full history) HistoryFull ∷ rules history event) (otherwise history event) accepted).1
 

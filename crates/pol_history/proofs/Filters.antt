@@ -3,23 +3,30 @@ use Rattle.std.proofs.Common.{◌≡◌, ◌≤◌, Bool, true, false, cond, Lis
 use Rattle.std.specs.Prelude.{filter}
 use Rattle.std.specs.List.{AllByRecursion}
 
-kept-step : {X : Type 0} (takes : X → Bool) (x : X) (xs : List X) (kept taken : Bool) → takes x ≡ taken → (taken ≡ true → kept ≡ true) →
+kept-step : {X : Type 0} (takes : X → Bool) (x : X) (xs : List X) (kept taken : Bool) → takes x ≡ taken
+    → (taken ≡ true → kept ≡ true) →
     filter takes (cond kept (x ∷ xs) xs) ≡ cond taken (x ∷ filter takes xs) (filter takes xs)
 kept-step takes x xs true taken is keeps = rw is
 kept-step takes x xs false true is keeps = let clash : false ≡ true = keeps refl in cc
 kept-step takes x xs false false is keeps = refl
 
 -- a filter that keeps all that another takes changes nothing for that other
-pub filter-kept : {X : Type 0} (takes keeps : X → Bool) (xs : List X) → AllByRecursion (λ x. takes x ≡ true → keeps x ≡ true) xs →
+pub filter-kept : {X : Type 0} (takes keeps : X → Bool) (xs : List X)
+    → AllByRecursion (λ x. takes x ≡ true → keeps x ≡ true) xs →
     filter takes (filter keeps xs) ≡ filter takes xs
 filter-kept takes keeps [] all = refl
-filter-kept takes keeps (x ∷ xs) all = rw (kept-step takes x (filter keeps xs) (keeps x) (takes x) refl all.0, filter-kept takes keeps xs all.1)
+filter-kept takes keeps (x ∷ xs) all = rw (
+  kept-step takes x (filter keeps xs) (keeps x)
+      (takes x) refl all.0,
+  filter-kept takes keeps xs all.1,
+)
 
 pub length-filter : {X : Type 0} (keeps : X → Bool) (xs : List X) → length (filter keeps xs) ≤ length xs
 length-filter keeps [] = omega arith
 length-filter {X} keeps (x ∷ xs) = go (keeps x) (length-filter keeps xs)
   where
-    go : (kept : Bool) → length (filter keeps xs) ≤ length xs → length (cond kept (x ∷ filter keeps xs) (filter keeps xs)) ≤ length (x ∷ xs)
+    go : (kept : Bool) → length (filter keeps xs) ≤ length xs
+        → length (cond kept (x ∷ filter keeps xs) (filter keeps xs)) ≤ length (x ∷ xs)
     go true shorter = omega arith
     go false shorter = omega arith
 
@@ -37,7 +44,9 @@ filters-step first second x xs ys false true is also same = rw (is, same)
 filters-step first second x xs ys false false is also same = same
 
 -- two filters can change places
-pub filter-filter : {X : Type 0} (first second : X → Bool) (xs : List X) → filter first (filter second xs) ≡ filter second (filter first xs)
+pub filter-filter : {X : Type 0} (first second : X → Bool) (xs : List X)
+    → filter first (filter second xs) ≡ filter second (filter first xs)
 filter-filter first second [] = refl
 filter-filter first second (x ∷ xs) =
-    filters-step first second x (filter second xs) (filter first xs) (first x) (second x) refl refl (filter-filter first second xs)
+    filters-step first second x (filter second xs) (filter first xs) (first x) (second x) refl refl
+    (filter-filter first second xs)

@@ -54,7 +54,8 @@ pub holders-same : (history : History) (entry : EntryForm) (tag : List ℕ) → 
     (other : List ℕ) →
     holder_of (entry ∷ history) other ≡ holder_of history other
 holders-same history entry tag is other =
-    holders-stay history entry other (module-no-start entry.event tag is) (λ batch. batch-past-same history entry tag batch is)
+    holders-stay history entry other (module-no-start entry.event tag is)
+    (λ batch. batch-past-same history entry tag batch is)
 
 recipe-no-start : (event : EventForm) (name : List ℕ) → subject event ≡ of_recipe name → starting event ≡ None
 recipe-no-start (start at batch name binds) other is = cc
@@ -125,10 +126,12 @@ open-after history entry batch is accepted open' (Some other) = go (bytes_eq bat
     go : (same : Bool) → bytes_eq batch other ≡ same →
         if_open (entry ∷ history) (Some other) ≡ holder_if (closing entry.answer) batch (if_open history (Some other))
     go true same =
-        subst (λ other. if_open (entry ∷ history) (Some other) ≡ holder_if (closing entry.answer) batch (if_open history (Some other)))
+        subst (λ other. if_open (entry ∷ history) (Some other)
+        ≡ holder_if (closing entry.answer) batch (if_open history (Some other)))
         (same-true batch other same) own
     go false apart =
-        ap (λ past. cond (is_none (outcome_by past)) (Some other) None) (batch-past-apart history entry batch other is apart)
+        ap (λ past. cond (is_none (outcome_by past)) (Some other) None)
+        (batch-past-apart history entry batch other is apart)
         ∙ other-stays (closing entry.answer) batch other (outcome_of history other) apart
 
 -- the holders are those before, freed where the answer closes the batch
@@ -136,7 +139,8 @@ pub holders-after : (history : History) (entry : EntryForm) (batch : List ℕ) �
     starting entry.event ≡ None → is_accepted entry.answer ≡ true → outcome_of history batch ≡ None → (tag : List ℕ) →
     holder_of (entry ∷ history) tag ≡ holder_if (closing entry.answer) batch (holder_of history tag)
 holders-after history entry batch is no-start accepted open' tag =
-    ap (λ found. if_open (entry ∷ history) (option_or found (last_of (takes tag) history))) (takes-none tag entry no-start)
+    ap (λ found. if_open (entry ∷ history) (option_or found (last_of (takes tag) history)))
+    (takes-none tag entry no-start)
     ∙ open-after history entry batch is accepted open' (last_of (takes tag) history)
 
 -- ---- a start
@@ -149,7 +153,8 @@ started at batch name binds = paired (start at batch name binds) Done
 pub holders-started : (history : History) (at : ℕ) (batch name : List ℕ) (binds : List Bind) →
     past_of_batch batch history ≡ [] →
     (tag : List ℕ) →
-    holder_of (started at batch name binds ∷ history) tag ≡ (if is_among (tags_of binds) tag then Some batch else holder_of history tag)
+    holder_of (started at batch name binds ∷ history) tag ≡ (if is_among
+    (tags_of binds) tag then Some batch else holder_of history tag)
 holders-started history at batch name binds new tag = go (is_among (tags_of binds) tag)
   where
     entry : EntryForm
@@ -168,10 +173,12 @@ holders-started history at batch name binds new tag = go (is_among (tags_of bind
         which : (same : Bool) → bytes_eq batch name ≡ same →
             if_open (entry ∷ history) (Some name) ≡ if_open history (Some name)
         which true same =
-            subst (λ name. if_open (entry ∷ history) (Some name) ≡ if_open history (Some name)) (same-true batch name same)
+            subst (λ name. if_open (entry ∷ history) (Some name) ≡ if_open history (Some name))
+            (same-true batch name same)
             (ap (λ outcome. cond (is_none outcome) (Some batch) None) (own ∙ sym before))
         which false apart =
-            ap (λ past. cond (is_none (outcome_by past)) (Some name) None) (batch-past-apart history entry batch name refl apart)
+            ap (λ past. cond (is_none (outcome_by past)) (Some name) None)
+            (batch-past-apart history entry batch name refl apart)
 
     go : (among : Bool) →
         if_open (entry ∷ history) (option_or (cond among (Some batch) None) (last_of (takes tag) history))

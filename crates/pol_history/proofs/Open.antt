@@ -8,14 +8,17 @@ use Rattle.pol_history.specs.Looking.{History, is_accepted_of_batch, past_of_bat
 use Rattle.pol_history.specs.Batches.{closing, outcome_by, outcome_of, if_open}
 
 -- a batch is open only where it was open before
-pub open-before : (history : History) (entry : EntryForm) (batch : List ℕ) → outcome_of (entry ∷ history) batch ≡ None → outcome_of history batch ≡ None
+pub open-before : (history : History) (entry : EntryForm) (batch : List ℕ) → outcome_of (entry ∷ history) batch ≡ None
+    → outcome_of history batch ≡ None
 open-before history entry batch is = go (is_accepted_of_batch batch entry) is
   where
-    later : (outcome : Option Outcome) → option_or outcome (outcome_of history batch) ≡ None → outcome_of history batch ≡ None
+    later : (outcome : Option Outcome) → option_or outcome (outcome_of history batch) ≡ None
+        → outcome_of history batch ≡ None
     later None is = is
     later (Some outcome) is = cc
 
-    go : (of_it : Bool) → outcome_by (cond of_it (entry ∷ past_of_batch batch history) (past_of_batch batch history)) ≡ None → outcome_of history batch ≡ None
+    go : (of_it : Bool) → outcome_by (cond of_it (entry ∷ past_of_batch batch history) (past_of_batch batch history))
+        ≡ None → outcome_of history batch ≡ None
     go true is = later (closing entry.answer) is
     go false is = is
 
@@ -25,7 +28,8 @@ pub open-some : (history : History) (found : Option (List ℕ)) (batch : List �
 open-some history None batch is = cc
 open-some history (Some other) batch is = go (outcome_of history other) refl is
   where
-    go : (outcome : Option Outcome) → outcome_of history other ≡ outcome → (if is_none outcome then Some other else None) ≡ Some batch →
+    go : (outcome : Option Outcome) → outcome_of history other ≡ outcome
+        → (if is_none outcome then Some other else None) ≡ Some batch →
         (Some other ≡ Some batch) × (outcome_of history batch ≡ None)
     go None open' is = let same : other ≡ batch = cc in (is, ap (outcome_of history) (sym same) ∙ open')
     go (Some outcome) open' is = cc

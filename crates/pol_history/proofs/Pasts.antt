@@ -25,7 +25,8 @@ past-own history entry tag is accepted =
 pub past-apart : (history : History) (entry : EntryForm) (tag other : List ℕ) → subject entry.event ≡ of_module tag →
     bytes_eq tag other ≡ false → past other (entry ∷ history) ≡ past other history
 past-apart history entry tag other is apart =
-    ap (λ of. cond (is_module other of && is_accepted entry.answer) (entry ∷ past other history) (past other history)) is
+    ap (λ of. cond (is_module other of && is_accepted entry.answer) (entry ∷ past other history)
+    (past other history)) is
     ∙ ap (λ same. cond (same && is_accepted entry.answer) (entry ∷ past other history) (past other history)) apart
 
 -- it changes the past of no batch

@@ -34,20 +34,25 @@ comes_after (Some control) state = may_follow control.state state
 
 -- a state that may come after the last one makes the path longer
 longer : (service : List ℕ) (state : State) (entries : History) →
-    comes_after (last_of (λ entry. reported service entry.event) entries) state ≡ true → is_path_back (states_in service entries) ≡ true →
+    comes_after (last_of (λ entry. reported service entry.event) entries) state ≡ true
+    → is_path_back (states_in service entries) ≡ true →
     is_path_back (state ∷ states_in service entries) ≡ true
 longer service state [] next path = refl
-longer service state (entry ∷ older) next path = go (reported service entry.event) refl next path (longer service state older)
+longer service state (entry ∷ older) next path = go (reported service entry.event) refl next path
+    (longer service state older)
   where
     go : (control : Option ServiceControl) → reported service entry.event ≡ control →
-        comes_after (option_or (reported service entry.event) (last_of (λ entry. reported service entry.event) older)) state ≡ true →
+        comes_after (option_or (reported service entry.event)
+        (last_of (λ entry. reported service entry.event) older)) state ≡ true →
         is_path_back (states_in service (entry ∷ older)) ≡ true →
-        (comes_after (last_of (λ entry. reported service entry.event) older) state ≡ true → is_path_back (states_in service older) ≡ true →
+        (comes_after (last_of (λ entry. reported service entry.event) older) state ≡ true
+        → is_path_back (states_in service older) ≡ true →
         is_path_back (state ∷ states_in service older) ≡ true) →
         is_path_back (state ∷ states_in service (entry ∷ older)) ≡ true
     go None is next path rest = rw is (rest (rw is at next) (rw is at path))
     go (Some control) is next path rest =
-        rw is (and_from (may_follow control.state state) (is_path_back (control.state ∷ states_in service older)) (rw is at next) (rw is at path))
+        rw is (and_from (may_follow control.state state) (is_path_back (control.state ∷ states_in service older))
+        (rw is at next) (rw is at path))
 
 allowed : (state : State) (last : Option ServiceControl) → not_an_edge state last ≡ None → comes_after last state ≡ true
 allowed state None none = refl
@@ -58,21 +63,25 @@ allowed state (Some control) none = go (may_follow control.state state) none
     go false none = cc
 
 -- a module that is neither absent nor away is docked
-is-docked : (tag : List ℕ) (docking : Docking) → no_module tag docking ≡ None → in_exchange tag (ticket_of docking) ≡ None →
+is-docked : (tag : List ℕ) (docking : Docking) → no_module tag docking ≡ None
+    → in_exchange tag (ticket_of docking) ≡ None →
     (count : ℕ) × (docking ≡ docked count)
 is-docked tag absent there still = cc
 is-docked tag (docked count) there still = (count, refl)
 is-docked tag (away ticket) there still = cc
 
 -- where the last move is a docking, nothing moved after the last docking
-docked-last : (all older : History) (count : ℕ) → last_of (λ entry. docking_after all entry.event entry.answer) older ≡ Some (docked count) →
+docked-last : (all older : History) (count : ℕ) → last_of (λ entry. docking_after all entry.event entry.answer) older
+    ≡ Some (docked count) →
     after_last (λ entry. is_moving entry.event) older ≡ after_last (λ entry. is_docking entry.event) older
 docked-last all [] count last = refl
 docked-last all (entry ∷ older) count last = by_kind (docked-last all older count) entry.event last
   where
     by_kind : (last_of (λ entry. docking_after all entry.event entry.answer) older ≡ Some (docked count) →
-        after_last (λ entry. is_moving entry.event) older ≡ after_last (λ entry. is_docking entry.event) older) → (event : EventForm) →
-        option_or (docking_after all event entry.answer) (last_of (λ entry. docking_after all entry.event entry.answer) older) ≡ Some (docked count) →
+        after_last (λ entry. is_moving entry.event) older ≡ after_last (λ entry. is_docking entry.event) older)
+        → (event : EventForm) →
+        option_or (docking_after all event entry.answer) (last_of
+        (λ entry. docking_after all entry.event entry.answer) older) ≡ Some (docked count) →
         cond (is_moving event) [] (entry ∷ after_last (λ entry. is_moving entry.event) older)
         ≡ cond (is_docking event) [] (entry ∷ after_last (λ entry. is_docking entry.event) older)
     by_kind rest (plug at tag description) last = refl
@@ -93,7 +102,8 @@ since-docked past count is = last (last_of (λ entry. docking_after past entry.e
 
 -- an accepted event of the module keeps the path
 step : (history : History) (tag service : List ℕ) (event : EventForm) → is_module tag (subject event) ≡ true →
-    is_accepted (answer_of history event) ≡ true → is_path_back (states_in service (after_docking (past tag history))) ≡ true →
+    is_accepted (answer_of history event) ≡ true → is_path_back
+    (states_in service (after_docking (past tag history))) ≡ true →
     is_path_back (states_in service (after_docking (entry_of history event ∷ past tag history))) ≡ true
 step history tag service (plug at other description) of_tag accepted path = refl
 step history tag service (unplug at other) of_tag accepted path = path
@@ -120,7 +130,8 @@ step history tag service (report at other named control) of_tag accepted path = 
     docked-here : since_docking (past tag history) ≡ after_docking (past tag history)
     docked-here =
         let docked = is-docked other (docking_by (past other history)) free.0 free.1.0 in
-        ap (λ name. since_docking (past name history)) (sym (same-true other tag of_tag)) ∙ since-docked (past other history) docked.0 docked.1
+        ap (λ name. since_docking (past name history)) (sym (same-true other tag of_tag))
+        ∙ since-docked (past other history) docked.0 docked.1
         ∙ ap (λ name. after_docking (past name history)) (same-true other tag of_tag)
 
     go : (same : Bool) → bytes_eq named service ≡ same
@@ -129,28 +140,37 @@ step history tag service (report at other named control) of_tag accepted path = 
     go false is = rw is path
     go true is =
         let here : comes_after (control_by service (past tag history)) control.state ≡ true =
-        ap (λ name. comes_after (control_by service (past name history)) control.state) (sym (same-true other tag of_tag))
-        ∙ ap (λ name. comes_after (control_by name (past other history)) control.state) (sym (same-true named service is)) ∙ passed in
-        let last : comes_after (last_of (λ entry. reported service entry.event) (after_docking (past tag history))) control.state ≡ true =
-        ap (λ entries. comes_after (last_of (λ entry. reported service entry.event) entries) control.state) (sym docked-here) ∙ here in
+        ap (λ name. comes_after (control_by service (past name history)) control.state)
+        (sym (same-true other tag of_tag))
+        ∙ ap (λ name. comes_after (control_by name (past other history)) control.state)
+        (sym (same-true named service is)) ∙ passed in
+        let last : comes_after (last_of (λ entry. reported service entry.event) (after_docking (past tag history)))
+        control.state ≡ true =
+        ap (λ entries. comes_after (last_of (λ entry. reported service entry.event) entries) control.state)
+        (sym docked-here) ∙ here in
         rw is (longer service control.state (after_docking (past tag history)) last path)
 
-more : (history : History) (tag service : List ℕ) (event : EventForm) → is_path_back (states_in service (after_docking (past tag history))) ≡ true →
+more : (history : History) (tag service : List ℕ) (event : EventForm)
+    → is_path_back (states_in service (after_docking (past tag history))) ≡ true →
     is_path_back (states_in service (after_docking (past tag (entry_of history event ∷ history)))) ≡ true
 more history tag service event path = go (is_accepted_of tag (entry_of history event)) refl
   where
     go : (kept : Bool) → is_accepted_of tag (entry_of history event) ≡ kept →
-        is_path_back (states_in service (after_docking (cond kept (entry_of history event ∷ past tag history) (past tag history)))) ≡ true
+        is_path_back (states_in service
+        (after_docking (cond kept (entry_of history event ∷ past tag history) (past tag history)))) ≡ true
     go true is =
         let parts = and_parts (is_module tag (subject event)) (is_accepted (answer_of history event)) is in
         step history tag service event parts.0 parts.1 path
     go false is = path
 
-paths-back : (history : History) → IsLegal history → (tag service : List ℕ) → is_path_back (states_in service (after_docking (past tag history))) ≡ true
+paths-back : (history : History) → IsLegal history → (tag service : List ℕ)
+    → is_path_back (states_in service (after_docking (past tag history))) ≡ true
 paths-back [] legal tag service = refl
 paths-back (entry ∷ history) legal tag service =
-    let P : EntryForm → Type 0 = λ newest. is_path_back (states_in service (after_docking (past tag (newest ∷ history)))) ≡ true in
-    subst P (ap (paired entry.event) (sym legal.0)) (more history tag service entry.event (paths-back history legal.2 tag service))
+    let P : EntryForm → Type 0 = λ newest. is_path_back (states_in service
+    (after_docking (past tag (newest ∷ history)))) ≡ true in
+    subst P (ap (paired entry.event) (sym legal.0)) (more history tag service entry.event
+    (paths-back history legal.2 tag service))
 
 -- the last of the states may be followed by this one
 abbrev ends_before : List State → State → Bool
@@ -158,14 +178,17 @@ ends_before [] state = true
 ends_before (last ∷ []) state = may_follow last state
 ends_before (first ∷ next ∷ states) state = ends_before (next ∷ states) state
 
-path-pushed : (states : List State) (state : State) → is_path states ≡ true → ends_before states state ≡ true → is_path (states ++ state ∷ []) ≡ true
+path-pushed : (states : List State) (state : State) → is_path states ≡ true → ends_before states state ≡ true
+    → is_path (states ++ state ∷ []) ≡ true
 path-pushed [] state path ends = refl
 path-pushed (last ∷ []) state path ends = and_from (may_follow last state) true ends refl
 path-pushed (first ∷ next ∷ states) state path ends =
     let parts = and_parts (may_follow first next) (is_path (next ∷ states)) path in
-    and_from (may_follow first next) (is_path (next ∷ states ++ state ∷ [])) parts.0 (path-pushed (next ∷ states) state parts.1 ends)
+    and_from (may_follow first next) (is_path (next ∷ states ++ state ∷ [])) parts.0
+    (path-pushed (next ∷ states) state parts.1 ends)
 
-ends-pushed : (states : List State) (last state : State) → ends_before (states ++ last ∷ []) state ≡ may_follow last state
+ends-pushed : (states : List State) (last state : State) → ends_before (states ++ last ∷ []) state
+    ≡ may_follow last state
 ends-pushed [] last state = refl
 ends-pushed (first ∷ []) last state = refl
 ends-pushed (first ∷ next ∷ states) last state = ends-pushed (next ∷ states) last state
@@ -184,4 +207,5 @@ path-reversed (new ∷ old ∷ older) path =
     rw (reversed new (old ∷ older)) (path-pushed (reverse (old ∷ older)) new (path-reversed (old ∷ older) parts.1) ends)
 
 pub reports_follow_paths : ReportsArePaths
-reports_follow_paths history legal tag service = path-reversed (states_in service (after_docking (past tag history))) (paths-back history legal tag service)
+reports_follow_paths history legal tag service = path-reversed (states_in service (after_docking (past tag history)))
+    (paths-back history legal tag service)

@@ -139,7 +139,8 @@ idle-records tag service (Some view) =
 
 rest-records : (service : List ℕ) (last : Option ServiceControl) → Records (service_not_at_rest service last)
 rest-records service None = tt
-rest-records service (Some control) = when-records (not (is_at_rest control.state)) (NotAtRest service control.state) refl
+rest-records service (Some control) = when-records (not (is_at_rest control.state))
+    (NotAtRest service control.state) refl
 
 -- ---- rules of a start
 
@@ -177,7 +178,8 @@ unfit-records history chart role (Some tag) =
     (or-records (in_exchange tag (ticket_of (docking_by (past tag history)))) _ (exchange-records tag _)
     (or-records (not_covered chart role (description_by (past tag history))) _ (covered-records chart role _)
     (or-records (not_ready tag (past tag history) (services_of chart role)) None
-    (each-records (unready tag (past tag history)) (ready-records tag (past tag history)) (services_of chart role)) tt)))
+    (each-records (unready tag (past tag history)) (ready-records tag (past tag history))
+    (services_of chart role)) tt)))
 
 busy-records : (history : History) (tag : Option (List ℕ)) → Records (busy_role history tag)
 busy-records history None = tt
@@ -227,7 +229,8 @@ back-records : (history : History) (tag : List ℕ) (description : DescriptionFo
 back-records history tag description =
     then-records _ (λ batch. then-records _ (λ started. then-records _
     (λ chart. then-records _
-    (λ role. mapped-records (λ fault. HeldBack batch (missing_by role fault)) (λ fault. refl) (cover_fault chart role description))
+    (λ role. mapped-records (λ fault. HeldBack batch (missing_by role fault)) (λ fault. refl)
+    (cover_fault chart role description))
     (bound_role started.binds tag))
     (chart_by (recipes history) (Some started))) (start_by (past_of_batch batch history))) (holder_of history tag)
 
@@ -255,14 +258,16 @@ rules-record history (variable at tag name value) = (
       then-records (no_variable name) (λ description. when-records _ NoVariable refl) _,
       (
         then-records (misfit name value) (λ description. then-records _
-            (λ variable. mapped-records value_rule value-recorded (view_fault variable.kind value)) (variable_named name description)) _,
+            (λ variable. mapped-records value_rule value-recorded (view_fault variable.kind value))
+            (variable_named name description)) _,
         tt,
       ),
     ),
   ),
 )
 rules-record history (recipe at name chart) = (when-records _ RecipeKnown refl, (when-records _ RecipesFull refl, tt))
-rules-record history (start at batch name binds) = start-records history batch binds (chart_named name (recipes history))
+rules-record history (start at batch name binds) = start-records history batch binds
+    (chart_named name (recipes history))
 rules-record history (advance at batch) = (when-records _ NoBatch refl, (when-records _ BatchClosed refl, tt))
 rules-record history (freeze at batch) =
     (when-records _ NoBatch refl, (when-records _ BatchClosed refl, (when-records _ AlreadyFrozen refl, tt)))
@@ -280,7 +285,8 @@ rules-record history (desk at tag service command) = (
         reported-records tag service (view_by service (past tag history)),
         (
           then-records (forbidden command)
-              (λ view. mapped-records forbid_rule forbid-recorded (forbidden_by view Operator command)) (view_by service (past tag history)),
+              (λ view. mapped-records forbid_rule forbid-recorded (forbidden_by view Operator command))
+              (view_by service (past tag history)),
           tt,
         ),
       ),
@@ -320,7 +326,8 @@ stop-recorded false = refl
 otherwise-recorded : (history : History) (event : EventForm) → is_recorded (otherwise history event) ≡ true
 otherwise-recorded history (advance at batch) = next-recorded _
 otherwise-recorded history (stop_batch at batch) =
-    stop-recorded (has_broken (log_by (past_of_batch batch history)) || was_stopped (log_by (past_of_batch batch history)))
+    stop-recorded (has_broken (log_by (past_of_batch batch history)) || was_stopped
+    (log_by (past_of_batch batch history)))
 otherwise-recorded history _ = refl
 
 -- an event that comes where the history has room is recorded with its answer
@@ -328,4 +335,5 @@ pub recorded-with-room : (history : History) (event : EventForm) → is_full his
     is_recorded (answer_of history event) ≡ true
 recorded-with-room history event room =
     ap is_recorded (with-room history event room)
-    ∙ first-records (rules history event) (otherwise history event) (rules-record history event) (otherwise-recorded history event)
+    ∙ first-records (rules history event) (otherwise history event) (rules-record history event)
+    (otherwise-recorded history event)

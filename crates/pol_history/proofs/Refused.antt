@@ -32,7 +32,8 @@ refused-nothing entry history refused =
       recipes = ap (λ kept. cond kept (entry ∷ recipes history) (recipes history))
           (and_right (is_recipe (subject entry.event)) (is_accepted entry.answer) refused);
       holders = λ tag.
-          ap (λ kept. if_open (entry ∷ history) (option_or (cond kept (taking tag entry.event) None) (last_of (takes tag) history)))
+          ap (λ kept. if_open (entry ∷ history) (option_or (cond kept (taking tag entry.event) None)
+          (last_of (takes tag) history)))
           refused
           ∙ open-refused entry history batch_pasts (last_of (takes tag) history);
       present =

@@ -128,4 +128,5 @@ is_full history = nat_le LONGEST_HISTORY (length history)
 
 -- the answer to an event after a history
 abbrev pub answer_of : History → EventForm → Answer
-answer_of history event = first_rule (when (is_full history) HistoryFull ∷ rules history event) (otherwise history event)
+answer_of history event = first_rule (when (is_full history) HistoryFull ∷ rules history event)
+    (otherwise history event)

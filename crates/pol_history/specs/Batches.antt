@@ -122,4 +122,5 @@ started_batch _ = None
 
 -- the batches that were started, in the order of their starts
 abbrev pub batches : History → List (List ℕ)
-batches history = reverse (filter_map (λ entry. if is_accepted entry.answer then started_batch entry.event else None) history)
+batches history = reverse
+    (filter_map (λ entry. if is_accepted entry.answer then started_batch entry.event else None) history)

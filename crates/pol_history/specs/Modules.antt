@@ -135,7 +135,8 @@ value_by name past = last_of (λ entry. reported_value name entry.event) (since_
 
 -- the states that the service reported in these entries
 abbrev pub states_in : List ℕ → History → List State
-states_in service entries = filter_map (λ entry. option_map (λ control. control.state) (reported service entry.event)) entries
+states_in service entries = filter_map (λ entry. option_map (λ control. control.state)
+    (reported service entry.event)) entries
 
 -- the states that the service reported after the module's last docking, the oldest first
 abbrev pub reported_states : History → List ℕ → List ℕ → List State

@@ -7,4 +7,5 @@ use Rattle.pol_history.specs.Runs.{IsLegal}
 
 -- in every legal history the reports of a service after its module's last docking are a path
 abbrev pub ReportsArePaths : Type 0
-ReportsArePaths = (history : History) → IsLegal history → (tag service : List ℕ) → IsPath (reported_states history tag service)
+ReportsArePaths = (history : History) → IsLegal history → (tag service : List ℕ)
+    → IsPath (reported_states history tag service)

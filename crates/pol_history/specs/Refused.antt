@@ -5,7 +5,8 @@ use Rattle.pol_history.specs.Looking.{History, past, past_of_batch, recipes, is_
 use Rattle.pol_history.specs.Modules.{present_tags}
 use Rattle.pol_history.specs.Batches.{holder_of, batches}
 
--- after a refused event each module, each batch and the recipes have the past that they had, and with it everything that
+-- after a refused event each module, each batch and the recipes have the past that they had, and with it everything
+-- that
 -- is found there; and so are the holders, the tags that are there and the batches
 pub record ChangesNothing (entry : EntryForm) (history : History) : Type 0 where
   pub modules : (tag : List ℕ) → past tag (entry ∷ history) ≡ past tag history
@@ -17,4 +18,5 @@ pub record ChangesNothing (entry : EntryForm) (history : History) : Type 0 where
 
 -- A refused event changes nothing that is looked back at.
 abbrev pub RefusedChangesNothing : Type 0
-RefusedChangesNothing = (entry : EntryForm) (history : History) → is_accepted entry.answer ≡ false → ChangesNothing entry history
+RefusedChangesNothing = (entry : EntryForm) (history : History) → is_accepted entry.answer ≡ false
+    → ChangesNothing entry history

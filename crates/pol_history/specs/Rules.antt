@@ -116,11 +116,13 @@ not_covered chart role description =
 -- the services of the steps of a role, in chart order
 abbrev pub services_of : ChartPlan → List ℕ → List (List ℕ)
 services_of chart role =
-    map (λ step. step.service) (filter (λ step. same_name step.role role) (map (λ placed. placed.step) (steps chart.root 0)))
+    map (λ step. step.service) (filter (λ step. same_name step.role role)
+    (map (λ placed. placed.step) (steps chart.root 0)))
 
 -- the service wasn't reported, or isn't idle
 abbrev pub unready : List ℕ → History → List ℕ → Option Rule
-unready tag past service = option_or (not_reported tag service (view_by service past)) (not_idle tag service (view_by service past))
+unready tag past service = option_or (not_reported tag service (view_by service past))
+    (not_idle tag service (view_by service past))
 
 -- the first of these services that wasn't reported or isn't idle
 abbrev pub not_ready : List ℕ → History → List (List ℕ) → Option Rule
@@ -142,7 +144,8 @@ module_rule history chart role tag =
 
 -- the first thing that is wrong with a module, over these roles
 abbrev pub modules_unfit : History → ChartPlan → List Bind → List (List ℕ) → Option Rule
-modules_unfit history chart binds roles = first_of (map (λ role. module_rule history chart role (bound_tag binds role)) roles)
+modules_unfit history chart binds roles =
+    first_of (map (λ role. module_rule history chart role (bound_tag binds role)) roles)
 
 -- the module is held by a batch
 abbrev pub busy_module : List ℕ → Option (List ℕ) → Option Rule
@@ -171,7 +174,8 @@ active_step_on recipes tag batch past =
 -- the batch that holds the module has an active step on it
 abbrev pub active_step : History → List ℕ → Option Rule
 active_step history tag =
-    option_and_then (λ batch. active_step_on (recipes history) tag batch (past_of_batch batch history)) (holder_of history tag)
+    option_and_then (λ batch. active_step_on (recipes history) tag batch (past_of_batch batch history))
+    (holder_of history tag)
 
 -- what of the chart the new module doesn't cover, for the role that the tag plays in the batch
 abbrev pub uncovered_by : History → List ℕ → DescriptionForm → List ℕ → History → Option Rule

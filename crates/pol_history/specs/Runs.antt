@@ -25,7 +25,8 @@ recorded entry history = if is_recorded entry.answer then entry ∷ history else
 -- the entries of the events in their order, after a history
 abbrev pub run_after : History → List EventForm → List EntryForm
 run_after history [] = []
-run_after history (event ∷ events) = entry_of history event ∷ run_after (recorded (entry_of history event) history) events
+run_after history (event ∷ events) = entry_of history event ∷ run_after
+    (recorded (entry_of history event) history) events
 
 -- the entries of the events in their order
 abbrev pub run_of : List EventForm → List EntryForm
@@ -43,7 +44,8 @@ history_after history events = recorded_all history (run_after history events)
 -- each answer is the one that the entries before it give
 abbrev pub IsLegal : History → Type 0
 IsLegal [] = Unit {0}
-IsLegal (entry ∷ history) = (entry.answer ≡ answer_of history entry.event) × (is_recorded entry.answer ≡ true) × IsLegal history
+IsLegal (entry ∷ history) = (entry.answer ≡ answer_of history entry.event) × (is_recorded entry.answer ≡ true)
+    × IsLegal history
 
 -- each event is as a line says it: a recipe's chart is valid, a start's binds stand in order
 abbrev pub AreOrderly : List EventForm → Type 0
@@ -56,4 +58,5 @@ IsOrderly history = AllByRecursion (λ entry. is_orderly entry.event ≡ true) h
 -- whatever events come, the history that they leave is legal, and it has no event that didn't come
 abbrev pub RunsAreLegal : Type 0
 RunsAreLegal =
-    (events : List EventForm) → IsLegal (history_after [] events) × (AreOrderly events → IsOrderly (history_after [] events))
+    (events : List EventForm) → IsLegal (history_after [] events)
+    × (AreOrderly events → IsOrderly (history_after [] events))

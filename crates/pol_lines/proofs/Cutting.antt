@@ -7,11 +7,18 @@ use Rattle.std.proofs.Math.Seq.{drop-append_seam}
 use Rattle.pol_lines.specs.Begins.{last_of}
 
 -- a text is its front and the rest
-pub front_and_rest : (text piece : List ℕ) → length piece ≤ length text → bytes_eq (take (length piece) text) piece ≡ true
+pub front_and_rest : (text piece : List ℕ) → length piece ≤ length text
+    → bytes_eq (take (length piece) text) piece ≡ true
     → text ≡ piece ++ take (length text - length piece) (drop (length piece) text)
 front_and_rest text piece shorter same =
-    let front : take (length piece) text ≡ piece = grind (arith, bytes_eq-Decides (take (length piece) text) piece, same) in
-    let rest : take (length text - length piece) (drop (length piece) text) ≡ drop (length piece) text = take_all _ _ (omega (arith, length-drop (length piece) text)) in
+    let front : take (length piece) text ≡ piece = grind (
+      arith,
+      bytes_eq-Decides
+          (take (length piece) text) piece,
+      same,
+    ) in
+    let rest : take (length text - length piece) (drop (length piece) text) ≡ drop (length piece) text =
+    take_all _ _ (omega (arith, length-drop (length piece) text)) in
     rw rest (sym (take-append-drop (length piece) text) ∙ ap (λ s. s ++ drop (length piece) text) front)
 
 -- what a text has from a place on is all that is left of it there

@@ -20,7 +20,8 @@ then_tree json.no_items tree = json.item tree json.no_items
 then_tree (json.item first others) tree = json.item first (then_tree others tree)
 
 -- a value behind another has a comma before it
-starts : (tree : json.Json) (more : List token.Token) → print_from true (json_tokens tree ++ more) ≡ 44 ∷ print_from false (json_tokens tree ++ more)
+starts : (tree : json.Json) (more : List token.Token) → print_from true (json_tokens tree ++ more)
+    ≡ 44 ∷ print_from false (json_tokens tree ++ more)
 unfolding print_from
 starts json.null more = refl
 starts (json.boolean bit) more = refl
@@ -31,7 +32,8 @@ starts (json.object trees) more = refl
 
 -- a comma stands before an item that follows another
 comma-before : (trees : json.Items) (tree : json.Json)
-    → print_from true (items_tokens (then_tree trees tree)) ≡ 44 ∷ print_from false (items_tokens (then_tree trees tree))
+    → print_from true (items_tokens (then_tree trees tree)) ≡ 44 ∷ print_from false
+    (items_tokens (then_tree trees tree))
 unfolding print_from
 comma-before json.no_items tree = starts tree (items_tokens json.no_items)
 comma-before (json.item first others) tree = starts first (items_tokens (then_tree others tree))
@@ -46,17 +48,20 @@ items-close (json.item first others) tree =
     let held = print (json_tokens first) in
     tree-before first (items_tokens (then_tree others tree))
     ∙ ap (λ s. held ++ s) (comma-before others tree ∙ ap (λ s. 44 ∷ s) (items-close others tree))
-    ∙ sym (append_assoc (held ++ 44 ∷ []) (item_pieces others) behind ∙ append_assoc held (44 ∷ []) (item_pieces others ++ behind))
+    ∙ sym (append_assoc (held ++ 44 ∷ []) (item_pieces others) behind
+    ∙ append_assoc held (44 ∷ []) (item_pieces others ++ behind))
 
 -- items and one more, each with its comma
-pieces-then : (trees : json.Items) (tree : json.Json) → item_pieces (then_tree trees tree) ≡ item_pieces trees ++ (print (json_tokens tree) ++ 44 ∷ [])
+pieces-then : (trees : json.Items) (tree : json.Json) → item_pieces (then_tree trees tree)
+    ≡ item_pieces trees ++ (print (json_tokens tree) ++ 44 ∷ [])
 pieces-then json.no_items tree = append-nil _
 pieces-then (json.item first others) tree =
     let piece = print (json_tokens first) ++ 44 ∷ [] in
     ap (λ s. piece ++ s) (pieces-then others tree) ∙ sym (append_assoc piece (item_pieces others) _)
 
 -- their numbers are numbers
-numbers-then : (trees : json.Items) (tree : json.Json) → ItemsHaveNumbers trees → HasNumbers tree → ItemsHaveNumbers (then_tree trees tree)
+numbers-then : (trees : json.Items) (tree : json.Json) → ItemsHaveNumbers trees → HasNumbers tree
+    → ItemsHaveNumbers (then_tree trees tree)
 numbers-then json.no_items tree numbers here = (here, tt)
 numbers-then (json.item first others) tree numbers here = (numbers.0, numbers-then others tree numbers.1 here)
 
@@ -64,7 +69,8 @@ numbers-then (json.item first others) tree numbers here = (numbers.0, numbers-th
 depth-then : (deep : ℕ) (trees : json.Items) (tree : json.Json) → items_depth trees ≤ deep → depth tree ≤ deep
     → items_depth (then_tree trees tree) ≤ deep
 depth-then deep json.no_items tree shallow here = omega (arith)
-depth-then deep (json.item first others) tree shallow here = omega (arith, depth-then deep others tree (omega arith) here)
+depth-then deep (json.item first others) tree shallow here =
+    omega (arith, depth-then deep others tree (omega arith) here)
 
 -- ---- values
 
@@ -74,15 +80,18 @@ then_value no_items value = item value no_items
 then_value (item first others) value = item first (then_value others value)
 
 -- what one more tree means stands last
-means-then : (trees : json.Items) (tree : json.Json) (values : Items) (value : Data) → of_items trees ≡ Some values → of_json tree ≡ Some value
+means-then : (trees : json.Items) (tree : json.Json) (values : Items) (value : Data) → of_items trees ≡ Some values
+    → of_json tree ≡ Some value
     → of_items (then_tree trees tree) ≡ Some (then_value values value)
 means-then json.no_items tree values value is here = rw here (let same : no_items ≡ values = cc in rw (← same) refl)
 means-then (json.item first others) tree values value is here =
     go (of_json first) (of_items others) is (λ held read. means-then others tree held value read here)
   where
-    go : (read : Option Data) (behind : Option Items) → option_and_then (λ held. option_map (item held) behind) read ≡ Some values
+    go : (read : Option Data) (behind : Option Items) → option_and_then
+        (λ held. option_map (item held) behind) read ≡ Some values
         → ((held : Items) → behind ≡ Some held → of_items (then_tree others tree) ≡ Some (then_value held value))
-        → option_and_then (λ held. option_map (item held) (of_items (then_tree others tree))) read ≡ Some (then_value values value)
+        → option_and_then (λ held. option_map (item held) (of_items (then_tree others tree))) read
+        ≡ Some (then_value values value)
     go None behind none next = absurd cc
     go (Some held) None none next = absurd cc
     go (Some held) (Some rest) some next = let same : item held rest ≡ values = cc in rw (next rest refl, ← same) refl
@@ -93,16 +102,22 @@ many-then no_items value = refl
 many-then (item first others) value = ap suc (many-then others value)
 
 -- what the form gives of one more stands last
-gives-then : {A : Type 0} (form : Data → Reading A) (place : ℕ) (values : Items) (value : Data) (found : List A) (last : A)
-    → each form place values ≡ Ok found → form value ≡ Ok last → each form place (then_value values value) ≡ Ok (found ++ last ∷ [])
+gives-then : {A : Type 0} (form : Data → Reading A) (place : ℕ) (values : Items) (value : Data)
+    (found : List A) (last : A)
+    → each form place values ≡ Ok found → form value ≡ Ok last
+    → each form place (then_value values value) ≡ Ok (found ++ last ∷ [])
 unfolding each
 gives-then form place no_items value found last is here = rw here (let same : [] ≡ found = cc in rw (← same) refl)
 gives-then {A = A} form place (item first others) value found last is here =
-    go (form first) (each form (suc place) others) is (λ held read. gives-then form (suc place) others value held last read here)
+    go (form first) (each form (suc place) others) is (λ held read. gives-then form
+    (suc place) others value held last read here)
   where
-    go : (read : Reading A) (behind : Reading (List A)) → (in_place place read >>= λ one. behind >>= λ more. Ok (one ∷ more)) ≡ Ok found
-        → ((held : List A) → behind ≡ Ok held → each form (suc place) (then_value others value) ≡ Ok (held ++ last ∷ []))
-        → (in_place place read >>= λ one. each form (suc place) (then_value others value) >>= λ more. Ok (one ∷ more)) ≡ Ok (found ++ last ∷ [])
+    go : (read : Reading A) (behind : Reading (List A)) → (in_place place read >>= λ one. behind >>= λ more. Ok
+        (one ∷ more)) ≡ Ok found
+        → ((held : List A) → behind ≡ Ok held → each form (suc place) (then_value others value)
+        ≡ Ok (held ++ last ∷ []))
+        → (in_place place read >>= λ one. each form (suc place) (then_value others value) >>= λ more. Ok (one ∷ more))
+        ≡ Ok (found ++ last ∷ [])
     go (Err fault) behind none next = absurd cc
     go (Ok held) (Err fault) none next = absurd cc
     go (Ok held) (Ok rest) some next = let same : held ∷ rest ≡ found = cc in rw (next rest refl, ← same) refl
@@ -110,13 +125,25 @@ gives-then {A = A} form place (item first others) value found last is here =
 -- ---- what a text begins with
 
 -- a bracket opens a list
-pub list_opens : {A : Type 0} (form : Data → Reading A) (deep : ℕ) (text rest : List ℕ) → text ≡ 91 ∷ rest → OpensList form deep text [] rest
+pub list_opens : {A : Type 0} (form : Data → Reading A) (deep : ℕ) (text rest : List ℕ) → text ≡ 91 ∷ rest
+    → OpensList form deep text [] rest
 unfolding each
 list_opens form deep text rest is =
-    record { trees = json.no_items; piece = is; numbers = tt; shallow = omega arith; values = no_items; means = refl; gives = refl; many = refl }
+    record {
+      trees = json.no_items;
+      piece = is;
+      numbers = tt;
+      shallow = omega arith;
+      values = no_items;
+      means =
+          refl;
+      gives = refl;
+      many = refl;
+    }
 
 -- a list of nothing
-pub list_empty : {A : Type 0} (form : Data → Reading A) (deep : ℕ) (text rest : List ℕ) → text ≡ 91 ∷ 93 ∷ rest → ReadsList form (suc deep) text [] rest
+pub list_empty : {A : Type 0} (form : Data → Reading A) (deep : ℕ) (text rest : List ℕ) → text ≡ 91 ∷ 93 ∷ rest
+    → ReadsList form (suc deep) text [] rest
 unfolding each print_from
 list_empty form deep text rest is = record {
   values = no_items;
@@ -126,14 +153,18 @@ list_empty form deep text rest is = record {
 }
 
 -- an item with a comma behind those before
-pub list_more : {A : Type 0} (form : Data → Reading A) (deep : ℕ) (text between after : List ℕ) (found : List A) (last : A)
-    → OpensList form deep text found between → Reads form deep between last (44 ∷ after) → OpensList form deep text (found ++ last ∷ []) after
+pub list_more : {A : Type 0} (form : Data → Reading A) (deep : ℕ) (text between after : List ℕ)
+    (found : List A) (last : A)
+    → OpensList form deep text found between → Reads form deep between last (44 ∷ after)
+    → OpensList form deep text (found ++ last ∷ []) after
 list_more form deep text between after found last opens reads =
     let tree = reads.begins.tree in
     let held = print (json_tokens tree) in record {
       trees = then_tree opens.trees tree;
-      piece = opens.piece ∙ ap (λ s. 91 ∷ (item_pieces opens.trees ++ s)) (reads.begins.piece ∙ sym (append_assoc held (44 ∷ []) after))
-          ∙ ap (λ s. 91 ∷ s) (sym (append_assoc (item_pieces opens.trees) (held ++ 44 ∷ []) after) ∙ ap (λ s. s ++ after) (sym (pieces-then opens.trees tree)));
+      piece = opens.piece ∙ ap (λ s. 91 ∷ (item_pieces opens.trees ++ s))
+          (reads.begins.piece ∙ sym (append_assoc held (44 ∷ []) after))
+          ∙ ap (λ s. 91 ∷ s) (sym (append_assoc (item_pieces opens.trees) (held ++ 44 ∷ []) after)
+          ∙ ap (λ s. s ++ after) (sym (pieces-then opens.trees tree)));
       numbers = numbers-then opens.trees tree opens.numbers reads.begins.numbers;
       shallow = depth-then deep opens.trees tree opens.shallow reads.begins.shallow;
       values = then_value opens.values reads.value;
@@ -143,8 +174,10 @@ list_more form deep text between after found last opens reads =
     }
 
 -- the last item and the closing bracket
-pub list_closes : {A : Type 0} (form : Data → Reading A) (deep : ℕ) (text between after : List ℕ) (found : List A) (last : A)
-    → OpensList form deep text found between → Reads form deep between last (93 ∷ after) → ReadsList form (suc deep) text (found ++ last ∷ []) after
+pub list_closes : {A : Type 0} (form : Data → Reading A) (deep : ℕ) (text between after : List ℕ)
+    (found : List A) (last : A)
+    → OpensList form deep text found between → Reads form deep between last (93 ∷ after)
+    → ReadsList form (suc deep) text (found ++ last ∷ []) after
 unfolding print_from
 list_closes form deep text between after found last opens reads =
     let tree = reads.begins.tree in
@@ -152,11 +185,14 @@ list_closes form deep text between after found last opens reads =
       values = then_value opens.values reads.value;
       begins = record {
         tree = json.array (then_tree opens.trees tree);
-        piece = opens.piece ∙ ap (λ s. 91 ∷ (item_pieces opens.trees ++ s)) (reads.begins.piece ∙ sym (append_assoc held (93 ∷ []) after))
-            ∙ ap (λ s. 91 ∷ s) (sym (append_assoc (item_pieces opens.trees) (held ++ 93 ∷ []) after) ∙ ap (λ s. s ++ after) (sym (items-close opens.trees tree)));
+        piece = opens.piece ∙ ap (λ s. 91 ∷ (item_pieces opens.trees ++ s))
+            (reads.begins.piece ∙ sym (append_assoc held (93 ∷ []) after))
+            ∙ ap (λ s. 91 ∷ s) (sym (append_assoc (item_pieces opens.trees) (held ++ 93 ∷ []) after)
+            ∙ ap (λ s. s ++ after) (sym (items-close opens.trees tree)));
         numbers = numbers-then opens.trees tree opens.numbers reads.begins.numbers;
         shallow = omega (arith, depth-then deep opens.trees tree opens.shallow reads.begins.shallow);
-        means = ap (option_map array) (means-then opens.trees tree opens.values reads.value opens.means reads.begins.means);
+        means = ap (option_map array) (means-then opens.trees tree opens.values reads.value opens.means
+            reads.begins.means);
       };
       gives = gives-then form 0 opens.values reads.value found last opens.gives reads.gives;
       many = omega (arith, many-then opens.values reads.value, length-append found (last ∷ []), opens.many);

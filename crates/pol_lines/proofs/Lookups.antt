@@ -27,7 +27,8 @@ key_rows =
     (key_text At, At) ∷ (key_text Ev, Ev) ∷ (key_text Tag, Tag) ∷ (key_text Name, Name) ∷ (key_text Value, Value)
     ∷ (key_text Service, Service) ∷ (key_text Batch, Batch) ∷ (key_text Ticket, Ticket) ∷ (key_text StateCur, StateCur)
     ∷ (key_text CommandEn, CommandEn) ∷ (key_text CommandOp, CommandOp) ∷ (key_text Mode, Mode) ∷ (key_text Src, Src)
-    ∷ (key_text ProcedureCur, ProcedureCur) ∷ (key_text Role, Role) ∷ (key_text TypeName, TypeName) ∷ (key_text Version, Version)
+    ∷ (key_text ProcedureCur, ProcedureCur) ∷ (key_text Role, Role) ∷ (key_text TypeName, TypeName) ∷
+    (key_text Version, Version)
     ∷ (key_text Step, Step) ∷ (key_text Procedure, Procedure) ∷ (key_text Recipe, Recipe) ∷ []
 
 -- a text names one key
@@ -56,14 +57,17 @@ key-by_text Recipe = refl
 -- keys of one text are one key
 same_text_same_key : (key other : Key) → key_text key ≡ key_text other → key ≡ other
 same_text_same_key key other same =
-    let both : Some key ≡ Some other = sym (key-by_text key) ∙ ap (λ text. meaning_of text key_rows) same ∙ key-by_text other in cc
+    let both : Some key ≡ Some other = sym (key-by_text key) ∙ ap (λ text. meaning_of text key_rows) same
+    ∙ key-by_text other in cc
 
 -- ---- one member after another
 
 -- what is put after other members is put into what they gave
-pub put_all-append : (members others : List Member) (found : Members) → put_all (members ++ others) found ≡ put_all others (put_all members found)
+pub put_all-append : (members others : List Member) (found : Members)
+    → put_all (members ++ others) found ≡ put_all others (put_all members found)
 put_all-append [] others found = refl
-put_all-append (first ∷ members) others found = put_all-append members others (put (key_text first.key) (leaf_data first.leaf) found)
+put_all-append (first ∷ members) others found = put_all-append members others
+    (put (key_text first.key) (leaf_data first.leaf) found)
 
 -- the key of the member put last has its value
 pub found_here : (members : List Member) (place : ℕ) (default : Member) (key : Key) → place < length members
@@ -83,7 +87,8 @@ found_before members place default key within other =
     let last = get_or members place default in
     let front = take place members in
     rw (take_more members place default within, put_all-append front (last ∷ []) no_members)
-    (get_member-put_other (key_text key) (key_text last.key) (leaf_data last.leaf) (put_all front no_members) (λ same. other (sym (same_text_same_key key last.key same))))
+    (get_member-put_other (key_text key) (key_text last.key) (leaf_data last.leaf) (put_all front no_members)
+    (λ same. other (sym (same_text_same_key key last.key same))))
 
 -- a name that is no key's
 abbrev pub IsNoKey : List ℕ → Type 0
@@ -96,7 +101,8 @@ absent name [] found none = refl
 absent name (first ∷ members) found none =
     absent name members (put (key_text first.key) (leaf_data first.leaf) found) none
     ∙ get_member-put_other name (key_text first.key) (leaf_data first.leaf) found
-    (λ same. let both : None ≡ Some first.key = sym none ∙ ap (λ text. meaning_of text key_rows) same ∙ key-by_text first.key in cc)
+    (λ same. let both : None ≡ Some first.key = sym none ∙ ap (λ text. meaning_of text key_rows) same
+    ∙ key-by_text first.key in cc)
 
 -- what is put at a key leaves the others
 pub put_aside : (key other : List ℕ) (value : Data) (members : Members) → bytes_eq key other ≡ false
@@ -107,30 +113,38 @@ put_aside key other value members differs =
 -- ---- the keys of an object
 
 -- a key that may stand there, put before, at or behind a member whose key may
-listed-put_at : (order : Ordering) (keys name key : List ℕ) (value held : Data) (members : Members) → is_listed keys name ≡ true
+listed-put_at : (order : Ordering) (keys name key : List ℕ) (value held : Data) (members : Members)
+    → is_listed keys name ≡ true
     → is_listed keys key ≡ true → all_listed keys members ≡ true → all_listed keys (put name value members) ≡ true
-    → all_listed keys (match_ordering order (member name value (member key held members)) (member key value members) (member key held (put name value members))) ≡ true
+    → all_listed keys (match_ordering order (member name value (member key held members)) (member key value members)
+    (member key held (put name value members))) ≡ true
 listed-put_at Less keys name key value held rest here first others later = rw (here, first, others) refl
 listed-put_at Equal keys name key value held rest here first others later = rw (first, others) refl
 listed-put_at Greater keys name key value held rest here first others later = rw (first, later) refl
 
 -- a key that may stand there, put among others that may
-pub listed-put : (keys name : List ℕ) (value : Data) (members : Members) → is_listed keys name ≡ true → all_listed keys members ≡ true
+pub listed-put : (keys name : List ℕ) (value : Data) (members : Members) → is_listed keys name ≡ true
+    → all_listed keys members ≡ true
     → all_listed keys (put name value members) ≡ true
 listed-put keys name value no_members here others = rw here refl
 listed-put keys name value (member key held members) here others =
     let parts = and_parts (is_listed keys key) (all_listed keys members) others in
-    listed-put_at (slice_cmp nat_cmp name key) keys name key value held members here parts.0 parts.1 (listed-put keys name value members here parts.1)
+    listed-put_at (slice_cmp nat_cmp name key) keys name key value held members here parts.0 parts.1
+    (listed-put keys name value members here parts.1)
 
 -- keys that may stand there, put one after another
-pub listed-put_all : (keys : List ℕ) (members : List Member) (found : Members) → list_all (λ each. is_listed keys (key_text each.key)) members ≡ true
+pub listed-put_all : (keys : List ℕ) (members : List Member) (found : Members)
+    → list_all (λ each. is_listed keys (key_text each.key)) members ≡ true
     → all_listed keys found ≡ true → all_listed keys (put_all members found) ≡ true
 listed-put_all keys [] found here others = others
 listed-put_all keys (first ∷ members) found here others =
-    let parts = and_parts (is_listed keys (key_text first.key)) (list_all (λ each. is_listed keys (key_text each.key)) members) here in
-    listed-put_all keys members (put (key_text first.key) (leaf_data first.leaf) found) parts.1 (listed-put keys (key_text first.key) (leaf_data first.leaf) found parts.0 others)
+    let parts = and_parts (is_listed keys (key_text first.key))
+    (list_all (λ each. is_listed keys (key_text each.key)) members) here in
+    listed-put_all keys members (put (key_text first.key) (leaf_data first.leaf) found) parts.1
+    (listed-put keys (key_text first.key) (leaf_data first.leaf) found parts.0 others)
 
 -- an object of members whose keys may all stand there has no other key
-pub only_listed : (keys : List ℕ) (members : List Member) → list_all (λ each. is_listed keys (key_text each.key)) members ≡ true
+pub only_listed : (keys : List ℕ) (members : List Member) → list_all
+    (λ each. is_listed keys (key_text each.key)) members ≡ true
     → only_keys keys (flat_data members) ≡ Ok tt
 only_listed keys members listed = rw (listed-put_all keys members no_members listed refl) refl

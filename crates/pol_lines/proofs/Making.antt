@@ -45,30 +45,37 @@ known : {A : Type 0} (P : A → Type 0) (read : Reading A) (found : A) → read 
 known P read found is told = rw is at told
 
 -- a node that was read is formed
-pub node_formed : (deep : ℕ) (text : List ℕ) (root : Tree) (rest : List ℕ) → Reads tree_of deep text root rest → is_tree_formed root ≡ true
-node_formed deep text root rest reads = known (λ node. is_tree_formed node ≡ true) (tree_of reads.value) root reads.gives (tree_formed reads.value)
+pub node_formed : (deep : ℕ) (text : List ℕ) (root : Tree) (rest : List ℕ) → Reads tree_of deep text root rest
+    → is_tree_formed root ≡ true
+node_formed deep text root rest reads = known (λ node. is_tree_formed node ≡ true)
+    (tree_of reads.value) root reads.gives (tree_formed reads.value)
 
 -- a list of 1 to 64 roles is the roles of a chart
-roles-of : (values : Items) (roles : List RolePlan) → each role_of 0 values ≡ Ok roles → is_between 1 64 (items_len values) ≡ true
+roles-of : (values : Items) (roles : List RolePlan) → each role_of 0 values ≡ Ok roles
+    → is_between 1 64 (items_len values) ≡ true
     → roles_of (array values) ≡ Ok roles
 unfolding roles_of
 roles-of values roles gives sized = rw sized gives
 
 -- so they are sized
-pub roles_fit : (deep : ℕ) (text : List ℕ) (roles : List RolePlan) (rest : List ℕ) → ReadsList role_of deep text roles rest
+pub roles_fit : (deep : ℕ) (text : List ℕ) (roles : List RolePlan) (rest : List ℕ)
+    → ReadsList role_of deep text roles rest
     → 0 < length roles → length roles ≤ 64 → are_roles_sized roles ≡ true
 roles_fit deep text roles rest list some few =
     known (λ found. are_roles_sized found ≡ true) (roles_of (array list.values)) roles
-    (roles-of list.values roles list.gives (grind (arith, common_steps, list.many, some, few))) (roles_sized (array list.values))
+    (roles-of list.values roles list.gives (grind (arith, common_steps, list.many, some, few)))
+    (roles_sized (array list.values))
 
 -- a recipe of these members, roles and root
-recipe-of : (members : List Member) (values : Items) (chart : Data) (at : ℕ) (named : List ℕ) (roles : List RolePlan) (root : Tree) (made : ChartPlan)
+recipe-of : (members : List Member) (values : Items) (chart : Data) (at : ℕ) (named : List ℕ) (roles : List RolePlan)
+    (root : Tree) (made : ChartPlan)
     → field (codes "ev") (word kind_words) (flat_data members) ≡ Ok Recipe
     → field (codes "at") (count 0 greatest_u64) (flat_data members) ≡ Ok at
     → field (codes "recipe") name (flat_data members) ≡ Ok named
     → list_all (λ each. is_listed (codes "ev at recipe roles chart") (key_text each.key)) members ≡ true
     → roles_of (array values) ≡ Ok roles → tree_of chart ≡ Ok root → chart_from roles root ≡ Ok made
-    → event_in (object (put (codes "chart") chart (put (codes "roles") (array values) (put_all members no_members)))) ≡ Ok (recipe at named made)
+    → event_in (object (put (codes "chart") chart (put (codes "roles") (array values) (put_all members no_members))))
+    ≡ Ok (recipe at named made)
 unfolding event_in recipe_in
 recipe-of members values chart at named roles root made is_kind is_at is_named listed is_roles is_root is_made =
     let held = put_all members no_members in
@@ -76,11 +83,14 @@ recipe-of members values chart at named roles root made is_kind is_at is_named l
     let between = put (codes "roles") (array values) held in
     let found = put (codes "chart") chart between in
     let e1 : present (word kind_words) (get_member (codes "ev") found) ≡ Ok Recipe =
-    ap (present (word kind_words)) (put_aside (codes "ev") (codes "chart") chart between refl ∙ put_aside (codes "ev") (codes "roles") (array values) held refl) ∙ is_kind in
+    ap (present (word kind_words)) (put_aside (codes "ev") (codes "chart") chart between refl
+    ∙ put_aside (codes "ev") (codes "roles") (array values) held refl) ∙ is_kind in
     let e2 : present (count 0 greatest_u64) (get_member (codes "at") found) ≡ Ok at =
-    ap (present (count 0 greatest_u64)) (put_aside (codes "at") (codes "chart") chart between refl ∙ put_aside (codes "at") (codes "roles") (array values) held refl) ∙ is_at in
+    ap (present (count 0 greatest_u64)) (put_aside (codes "at") (codes "chart") chart between refl
+    ∙ put_aside (codes "at") (codes "roles") (array values) held refl) ∙ is_at in
     let e3 : present name (get_member (codes "recipe") found) ≡ Ok named =
-    ap (present name) (put_aside (codes "recipe") (codes "chart") chart between refl ∙ put_aside (codes "recipe") (codes "roles") (array values) held refl) ∙ is_named in
+    ap (present name) (put_aside (codes "recipe") (codes "chart") chart between refl
+    ∙ put_aside (codes "recipe") (codes "roles") (array values) held refl) ∙ is_named in
     let e4 : get_member (codes "roles") found ≡ Some (array values) =
     put_aside (codes "roles") (codes "chart") chart between refl ∙ get_member-put (codes "roles") (array values) held in
     let e5 : get_member (codes "chart") found ≡ Some chart = get_member-put (codes "chart") chart between in
@@ -89,7 +99,8 @@ recipe-of members values chart at named roles root made is_kind is_at is_named l
     rw (e1, e2, e3, e4, is_roles, e5, is_root, e6, is_made) refl
 
 -- so a line of them says the recipe
-pub recipe_line : (line between inner behind chart rest : List ℕ) (members : List Member) (at : ℕ) (named : List ℕ) (roles : List RolePlan) (root : Tree) (made : ChartPlan)
+pub recipe_line : (line between inner behind chart rest : List ℕ) (members : List Member) (at : ℕ) (named : List ℕ)
+    (roles : List RolePlan) (root : Tree) (made : ChartPlan)
     → IsUtf8 line → Opens 0 line (put_all members no_members) between → between ≡ codes "\"roles\":" ++ inner
     → ReadsList role_of 2 inner roles behind → behind ≡ codes ",\"chart\":" ++ chart
     → Reads tree_of 35 chart root rest → rest ≡ 125 ∷ []
@@ -99,7 +110,8 @@ pub recipe_line : (line between inner behind chart rest : List ℕ) (members : L
     → list_all (λ each. is_listed (codes "ev at recipe roles chart") (key_text each.key)) members ≡ true
     → 0 < length roles → length roles ≤ 64 → chart_from roles root ≡ Ok made → chart_fault made ≡ None
     → event_of line ≡ Ok (recipe at named made)
-recipe_line line between inner behind chart rest members at named roles root made utf8 opens key_roles list key_chart node closing is_kind is_at is_named listed some few is_made valid =
+recipe_line line between inner behind chart rest members at named roles root made utf8 opens key_roles list key_chart
+    node closing is_kind is_at is_named listed some few is_made valid =
     let held = put_all members no_members in
     let with_roles = put (codes "roles") (array list.values) held in
     let value = object (put (codes "chart") node.value with_roles) in
@@ -115,7 +127,8 @@ recipe_line line between inner behind chart rest members at named roles root mad
     (subst (λ s. Begins 35 chart node.value s) closing node.begins) in
     line_says line value (recipe at named made) utf8 (begins_all 36 line value (omega arith) begins)
     (recipe-of members list.values node.value at named roles root made is_kind is_at is_named listed
-    (roles-of list.values roles list.gives (grind (arith, common_steps, list.many, some, few))) node.gives is_made) valid
+    (roles-of list.values roles list.gives (grind (arith, common_steps, list.many, some, few)))
+    node.gives is_made) valid
 
 -- where nothing was found there is no fault
 pub no_fault : {A : Type 0} (found : Option A) → is_some found ≡ false → found ≡ None

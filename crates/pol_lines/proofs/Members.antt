@@ -33,11 +33,13 @@ escape-plain : (bytes : List ℕ) → list_all is_plain bytes ≡ true → escap
 escape-plain [] plain = refl
 escape-plain (byte ∷ bytes) plain =
     let parts = and_parts (is_plain byte) (list_all is_plain bytes) plain in
-    let here : escape_byte byte ≡ byte ∷ [] = escape_byte_plain byte (grind (arith, common_steps, parts.0)) (grind (arith, common_steps, parts.0)) (grind (arith, common_steps, parts.0)) in
+    let here : escape_byte byte ≡ byte ∷ [] = escape_byte_plain byte (grind (arith, common_steps, parts.0))
+    (grind (arith, common_steps, parts.0)) (grind (arith, common_steps, parts.0)) in
     rw (here, escape-plain bytes parts.1) refl
 
 -- a plain key is printed in quotes, with a colon
-pub plain_key : (name : List ℕ) → list_all is_plain name ≡ true → token_text (token.key name) ≡ 34 ∷ (name ++ 34 ∷ 58 ∷ [])
+pub plain_key : (name : List ℕ) → list_all is_plain name ≡ true
+    → token_text (token.key name) ≡ 34 ∷ (name ++ 34 ∷ 58 ∷ [])
 plain_key name plain = rw (escape-plain name plain) (ap (λ s. 34 ∷ s) (append_assoc name (34 ∷ []) (58 ∷ [])))
 
 -- a key is printed as its piece
@@ -99,7 +101,8 @@ leaf-shallow (Whole z) = refl
 leaf-shallow (Bit bit) = refl
 
 -- so a text that begins with the piece begins with the value
-pub begins_leaf : (text rest : List ℕ) (leaf : Leaf) → text ≡ leaf_piece leaf ++ rest → is_held_leaf leaf ≡ true → Begins 0 text (leaf_data leaf) rest
+pub begins_leaf : (text rest : List ℕ) (leaf : Leaf) → text ≡ leaf_piece leaf ++ rest → is_held_leaf leaf ≡ true
+    → Begins 0 text (leaf_data leaf) rest
 begins_leaf text rest leaf is held = record {
   tree = leaf_json leaf;
   piece = is ∙ ap (λ s. s ++ rest) (leaf-printed leaf held);
@@ -114,20 +117,29 @@ begins_leaf text rest leaf is held = record {
 member-parts : (member : Member) (text rest : List ℕ) → text ≡ member_piece member ++ rest
     → text ≡ token_text (token.key (key_text member.key)) ++ (leaf_piece member.leaf ++ rest)
 member-parts member text rest is =
-    is ∙ append_assoc (key_piece member.key) (leaf_piece member.leaf) rest ∙ ap (λ s. s ++ (leaf_piece member.leaf ++ rest)) (sym (key-printed member.key))
+    is ∙ append_assoc (key_piece member.key) (leaf_piece member.leaf) rest
+    ∙ ap (λ s. s ++ (leaf_piece member.leaf ++ rest)) (sym (key-printed member.key))
 
 -- a member with a comma behind flat members
-pub goes_on : (text between after : List ℕ) (members : List Member) (last : Member) → Opens 0 text (put_all members no_members) between
-    → between ≡ member_piece last ++ 44 ∷ after → is_held_member last ≡ true → Opens 0 text (put_all (members ++ last ∷ []) no_members) after
+pub goes_on : (text between after : List ℕ) (members : List Member) (last : Member)
+    → Opens 0 text (put_all members no_members) between
+    → between ≡ member_piece last ++ 44 ∷ after → is_held_member last ≡ true
+    → Opens 0 text (put_all (members ++ last ∷ []) no_members) after
 goes_on text between after members last opens piece held =
     rw (put_all-append members (last ∷ []) no_members)
-    (opens_more 0 text (key_text last.key) between (leaf_piece last.leaf ++ 44 ∷ after) after (put_all members no_members) (leaf_data last.leaf) opens
-    (member-parts last between (44 ∷ after) piece) (begins_leaf (leaf_piece last.leaf ++ 44 ∷ after) (44 ∷ after) last.leaf refl held))
+    (opens_more 0 text (key_text last.key) between (leaf_piece last.leaf ++ 44 ∷ after) after
+    (put_all members no_members) (leaf_data last.leaf) opens
+    (member-parts last between (44 ∷ after) piece) (begins_leaf (leaf_piece last.leaf ++ 44 ∷ after)
+    (44 ∷ after) last.leaf refl held))
 
 -- a last member and the closing brace behind flat members
-pub closes : (text between after : List ℕ) (members : List Member) (last : Member) → Opens 0 text (put_all members no_members) between
-    → between ≡ member_piece last ++ 125 ∷ after → is_held_member last ≡ true → Begins 1 text (flat_data (members ++ last ∷ [])) after
+pub closes : (text between after : List ℕ) (members : List Member) (last : Member)
+    → Opens 0 text (put_all members no_members) between
+    → between ≡ member_piece last ++ 125 ∷ after → is_held_member last ≡ true
+    → Begins 1 text (flat_data (members ++ last ∷ [])) after
 closes text between after members last opens piece held =
     rw (put_all-append members (last ∷ []) no_members)
-    (begins_object 0 text (key_text last.key) between (leaf_piece last.leaf ++ 125 ∷ after) after (put_all members no_members) (leaf_data last.leaf) opens
-    (member-parts last between (125 ∷ after) piece) (begins_leaf (leaf_piece last.leaf ++ 125 ∷ after) (125 ∷ after) last.leaf refl held))
+    (begins_object 0 text (key_text last.key) between (leaf_piece last.leaf ++ 125 ∷ after) after
+    (put_all members no_members) (leaf_data last.leaf) opens
+    (member-parts last between (125 ∷ after) piece) (begins_leaf (leaf_piece last.leaf ++ 125 ∷ after)
+    (125 ∷ after) last.leaf refl held))

@@ -18,7 +18,8 @@ use Rattle.pol_lines.proofs.Printed.{begins_object, opens_none}
 use Rattle.pol_lines.proofs.Stepping.{reads_last}
 
 -- what nests less deep does so too
-pub reads_within : {A : Type 0} (form : Data → Reading A) (deep more : ℕ) (text : List ℕ) (found : A) (rest : List ℕ) → deep ≤ more
+pub reads_within : {A : Type 0} (form : Data → Reading A) (deep more : ℕ) (text : List ℕ) (found : A)
+    (rest : List ℕ) → deep ≤ more
     → Reads form deep text found rest → Reads form more text found rest
 reads_within form deep more text found rest fits reads = record {
   value = reads.value;
@@ -33,7 +34,8 @@ reads_within form deep more text found rest fits reads = record {
 }
 
 -- what reads as a step has the key `step`
-has-step : (held : Members) (step : StepPlan) → step_of (object held) ≡ Ok step → is_some (get_member (codes "step") held) ≡ true
+has-step : (held : Members) (step : StepPlan) → step_of (object held) ≡ Ok step
+    → is_some (get_member (codes "step") held) ≡ true
 unfolding step_of
 has-step held step is = go (get_member (codes "step") held) refl
   where
@@ -49,20 +51,24 @@ step-node (boolean bit) step is = absurd cc
 step-node (number held) step is = absurd cc
 step-node (string text) step is = absurd cc
 step-node (array values) step is = absurd cc
-step-node (object held) step is = tree_steps (object held) ∙ rw (has-step held step is) (by_step (step_of (object held)) is)
+step-node (object held) step is = tree_steps (object held) ∙ rw (has-step held step is)
+    (by_step (step_of (object held)) is)
   where
     by_step : (read : Reading StepPlan) → read ≡ Ok step → (read >>= λ found. Ok (leaf found)) ≡ Ok (leaf step)
     by_step read is_step = rw is_step refl
 
 -- so does the front of a text
-pub step_node : (deep : ℕ) (text rest : List ℕ) (step : StepPlan) → 3 ≤ deep → Reads step_of 3 text step rest → Reads tree_of deep text (leaf step) rest
+pub step_node : (deep : ℕ) (text rest : List ℕ) (step : StepPlan) → 3 ≤ deep → Reads step_of 3 text step rest
+    → Reads tree_of deep text (leaf step) rest
 step_node deep text rest step fits reads =
-    reads_within tree_of 3 deep text (leaf step) rest fits (record { value = reads.value; begins = reads.begins; gives = step-node reads.value step reads.gives })
+    reads_within tree_of 3 deep text (leaf step) rest fits (record
+    { value = reads.value; begins = reads.begins; gives = step-node reads.value step reads.gives })
 
 -- a list at one key, and the closing brace
 one-list : (deep : ℕ) (text key inner after : List ℕ) (values : Items) → list_all is_plain key ≡ true
     → text ≡ 123 ∷ (34 ∷ (key ++ 34 ∷ 58 ∷ []) ++ inner)
-    → Begins deep inner (array values) (125 ∷ after) → Begins (suc deep) text (object (member key (array values) no_members)) after
+    → Begins deep inner (array values) (125 ∷ after) → Begins (suc deep) text
+    (object (member key (array values) no_members)) after
 one-list deep text key inner after values plain piece begins =
     begins_object deep text key (34 ∷ (key ++ 34 ∷ 58 ∷ []) ++ inner) inner after no_members (array values)
     (opens_none deep text (34 ∷ (key ++ 34 ∷ 58 ∷ []) ++ inner) piece)
@@ -72,13 +78,15 @@ one-list deep text key inner after values plain piece begins =
 seq-value : (values : Items) (nodes : List Tree) → each tree_of 0 values ≡ Ok nodes → nat_le 1 (items_len values) ≡ true
     → tree_of (object (member (codes "seq") (array values) no_members)) ≡ Ok (seq (trees_of nodes))
 unfolding node_by_key seq_form
-seq-value values nodes gives some = tree_steps (object (member (codes "seq") (array values) no_members)) ∙ rw (some, gives) refl
+seq-value values nodes gives some = tree_steps (object (member (codes "seq") (array values) no_members))
+    ∙ rw (some, gives) refl
 
 -- nodes in parallel
 par-value : (values : Items) (nodes : List Tree) → each tree_of 0 values ≡ Ok nodes → nat_le 2 (items_len values) ≡ true
     → tree_of (object (member (codes "par") (array values) no_members)) ≡ Ok (par (trees_of nodes))
 unfolding node_by_key par_form
-par-value values nodes gives some = tree_steps (object (member (codes "par") (array values) no_members)) ∙ rw (some, gives) refl
+par-value values nodes gives some = tree_steps (object (member (codes "par") (array values) no_members))
+    ∙ rw (some, gives) refl
 
 -- the front of a text behind the key of a sequence
 pub seq_node : (deep : ℕ) (text inner behind after : List ℕ) (nodes : List Tree) → text ≡ codes "{\"seq\":" ++ inner
@@ -87,7 +95,8 @@ pub seq_node : (deep : ℕ) (text inner behind after : List ℕ) (nodes : List T
 seq_node deep text inner behind after nodes piece list closing some =
     reads_last tree_of (suc deep) text (seq (trees_of nodes)) after (record {
       value = object (member (codes "seq") (array list.values) no_members);
-      begins = one-list deep text (codes "seq") inner after list.values refl piece (subst (λ s. Begins deep inner (array list.values) s) closing list.begins);
+      begins = one-list deep text (codes "seq") inner after list.values refl piece
+          (subst (λ s. Begins deep inner (array list.values) s) closing list.begins);
       gives = seq-value list.values nodes list.gives (grind (arith, common_steps, list.many, some));
     })
 
@@ -98,6 +107,7 @@ pub par_node : (deep : ℕ) (text inner behind after : List ℕ) (nodes : List T
 par_node deep text inner behind after nodes piece list closing some =
     reads_last tree_of (suc deep) text (par (trees_of nodes)) after (record {
       value = object (member (codes "par") (array list.values) no_members);
-      begins = one-list deep text (codes "par") inner after list.values refl piece (subst (λ s. Begins deep inner (array list.values) s) closing list.begins);
+      begins = one-list deep text (codes "par") inner after list.values refl piece
+          (subst (λ s. Begins deep inner (array list.values) s) closing list.begins);
       gives = par-value list.values nodes list.gives (grind (arith, common_steps, list.many, some));
     })

@@ -34,12 +34,15 @@ mutual
 
   members-end : (state : Bool) (trees : json.Members) → fold (λ _ each. ends each) state (members_tokens trees) ≡ true
   members-end state json.no_members = refl
-  members-end state (json.member key tree trees) = fold-behind false (json_tokens tree) (members_tokens trees) ∙ members-end _ trees
+  members-end state (json.member key tree trees) = fold-behind false (json_tokens tree) (members_tokens trees)
+      ∙ members-end _ trees
 
 -- what follows a value is printed behind it
-pub tree-before : (tree : json.Json) (more : List token.Token) → print_from false (json_tokens tree ++ more) ≡ print (json_tokens tree) ++ print_from true more
+pub tree-before : (tree : json.Json) (more : List token.Token)
+    → print_from false (json_tokens tree ++ more) ≡ print (json_tokens tree) ++ print_from true more
 tree-before tree more =
-    print_from-append false (json_tokens tree) more ∙ ap (λ state. print (json_tokens tree) ++ print_from state more) (tree-ends false tree)
+    print_from-append false (json_tokens tree) more ∙ ap (λ state. print (json_tokens tree) ++ print_from state more)
+    (tree-ends false tree)
 
 -- ---- members one after another
 
@@ -50,19 +53,22 @@ then_member (json.member first inner others) key tree = json.member first inner 
 
 -- a comma stands before a member that follows another
 comma-before : (trees : json.Members) (key : List ℕ) (tree : json.Json)
-    → print_from true (members_tokens (then_member trees key tree)) ≡ 44 ∷ print_from false (members_tokens (then_member trees key tree))
+    → print_from true (members_tokens (then_member trees key tree))
+    ≡ 44 ∷ print_from false (members_tokens (then_member trees key tree))
 unfolding print_from
 comma-before json.no_members key tree = refl
 comma-before (json.member first inner others) key tree = refl
 
 -- a key, its value and what follows
 member-before : (key : List ℕ) (tree : json.Json) (others : json.Members)
-    → print_from false (members_tokens (json.member key tree others)) ≡ token_text (token.key key) ++ (print (json_tokens tree) ++ print_from true (members_tokens others))
+    → print_from false (members_tokens (json.member key tree others))
+    ≡ token_text (token.key key) ++ (print (json_tokens tree) ++ print_from true (members_tokens others))
 unfolding print_from
 member-before key tree others = ap (λ s. token_text (token.key key) ++ s) (tree-before tree (members_tokens others))
 
 -- members, a last one and the closing brace
-members-close : (trees : json.Members) (key : List ℕ) (tree : json.Json) → print_from false (members_tokens (then_member trees key tree))
+members-close : (trees : json.Members) (key : List ℕ) (tree : json.Json)
+    → print_from false (members_tokens (then_member trees key tree))
     ≡ member_pieces trees ++ (token_text (token.key key) ++ (print (json_tokens tree) ++ 125 ∷ []))
 unfolding print_from
 members-close json.no_members key tree = member-before key tree json.no_members
@@ -78,7 +84,8 @@ members-close (json.member first inner others) key tree =
 
 -- members and one more, each with its comma
 pieces-then : (trees : json.Members) (key : List ℕ) (tree : json.Json)
-    → member_pieces (then_member trees key tree) ≡ member_pieces trees ++ (token_text (token.key key) ++ (print (json_tokens tree) ++ 44 ∷ []))
+    → member_pieces (then_member trees key tree) ≡ member_pieces trees ++
+    (token_text (token.key key) ++ (print (json_tokens tree) ++ 44 ∷ []))
 pieces-then json.no_members key tree = append-nil _
 pieces-then (json.member first inner others) key tree =
     let piece = token_text (token.key first) ++ (print (json_tokens inner) ++ 44 ∷ []) in
@@ -88,10 +95,12 @@ pieces-then (json.member first inner others) key tree =
 numbers-then : (trees : json.Members) (key : List ℕ) (tree : json.Json) → MembersHaveNumbers trees → HasNumbers tree
     → MembersHaveNumbers (then_member trees key tree)
 numbers-then json.no_members key tree numbers here = (here, tt)
-numbers-then (json.member first inner others) key tree numbers here = (numbers.0, numbers-then others key tree numbers.1 here)
+numbers-then (json.member first inner others) key tree numbers here =
+    (numbers.0, numbers-then others key tree numbers.1 here)
 
 -- they nest no deeper
-depth-then : (deep : ℕ) (trees : json.Members) (key : List ℕ) (tree : json.Json) → members_depth trees ≤ deep → depth tree ≤ deep
+depth-then : (deep : ℕ) (trees : json.Members) (key : List ℕ) (tree : json.Json) → members_depth trees ≤ deep
+    → depth tree ≤ deep
     → members_depth (then_member trees key tree) ≤ deep
 depth-then deep json.no_members key tree shallow here = omega (arith)
 depth-then deep (json.member first inner others) key tree shallow here =
@@ -99,14 +108,18 @@ depth-then deep (json.member first inner others) key tree shallow here =
 
 -- what one more member means is put last
 means-then : (trees : json.Members) (key : List ℕ) (tree : json.Json) (before found : Members) (value : Data)
-    → of_members trees before ≡ Some found → of_json tree ≡ Some value → of_members (then_member trees key tree) before ≡ Some (put key value found)
-means-then json.no_members key tree before found value is here = rw here (let same : before ≡ found = cc in rw same refl)
+    → of_members trees before ≡ Some found → of_json tree ≡ Some value
+    → of_members (then_member trees key tree) before ≡ Some (put key value found)
+means-then json.no_members key tree before found value is here =
+    rw here (let same : before ≡ found = cc in rw same refl)
 means-then (json.member first inner others) key tree before found value is here =
     go (of_json inner) is (λ held read. means-then others key tree (put first held before) found value read here)
   where
     go : (read : Option Data) → option_and_then (λ held. of_members others (put first held before)) read ≡ Some found
-        → ((held : Data) → of_members others (put first held before) ≡ Some found → of_members (then_member others key tree) (put first held before) ≡ Some (put key value found))
-        → option_and_then (λ held. of_members (then_member others key tree) (put first held before)) read ≡ Some (put key value found)
+        → ((held : Data) → of_members others (put first held before) ≡ Some found
+        → of_members (then_member others key tree) (put first held before) ≡ Some (put key value found))
+        → option_and_then (λ held. of_members (then_member others key tree) (put first held before)) read
+        ≡ Some (put key value found)
     go None none next = absurd cc
     go (Some held) some next = next held some
 
@@ -114,25 +127,37 @@ means-then (json.member first inner others) key tree before found value is here 
 
 -- a brace opens an object
 pub opens_none : (deep : ℕ) (text rest : List ℕ) → text ≡ 123 ∷ rest → Opens deep text no_members rest
-opens_none deep text rest is = record { trees = json.no_members; piece = is; numbers = tt; shallow = omega arith; means = refl }
+opens_none deep text rest is = record {
+  trees = json.no_members;
+  piece = is;
+  numbers = tt;
+  shallow =
+      omega arith;
+  means = refl;
+}
 
 -- a member with a comma behind those before
 pub opens_more : (deep : ℕ) (text key between inner after : List ℕ) (found : Members) (value : Data)
-    → Opens deep text found between → between ≡ token_text (token.key key) ++ inner → Begins deep inner value (44 ∷ after)
+    → Opens deep text found between → between ≡ token_text (token.key key) ++ inner
+    → Begins deep inner value (44 ∷ after)
     → Opens deep text (put key value found) after
 opens_more deep text key between inner after found value opens piece begins = record {
   trees = then_member opens.trees key begins.tree;
   piece = let name = token_text (token.key key) in
       let held = print (json_tokens begins.tree) in
-      opens.piece ∙ ap (λ s. 123 ∷ (member_pieces opens.trees ++ s)) (piece ∙ ap (λ s. name ++ s) (begins.piece ∙ sym (append_assoc held (44 ∷ []) after)) ∙ sym (append_assoc name (held ++ 44 ∷ []) after))
-      ∙ ap (λ s. 123 ∷ s) (sym (append_assoc (member_pieces opens.trees) (name ++ (held ++ 44 ∷ [])) after) ∙ ap (λ s. s ++ after) (sym (pieces-then opens.trees key begins.tree)));
+      opens.piece ∙ ap (λ s. 123 ∷ (member_pieces opens.trees ++ s))
+      (piece ∙ ap (λ s. name ++ s) (begins.piece ∙ sym (append_assoc held (44 ∷ []) after))
+      ∙ sym (append_assoc name (held ++ 44 ∷ []) after))
+      ∙ ap (λ s. 123 ∷ s) (sym (append_assoc (member_pieces opens.trees) (name ++ (held ++ 44 ∷ [])) after)
+      ∙ ap (λ s. s ++ after) (sym (pieces-then opens.trees key begins.tree)));
   numbers = numbers-then opens.trees key begins.tree opens.numbers begins.numbers;
   shallow = depth-then deep opens.trees key begins.tree opens.shallow begins.shallow;
   means = means-then opens.trees key begins.tree no_members found value opens.means begins.means;
 }
 
 -- what nests less deep does so too
-pub opens_within : (deep more : ℕ) (text : List ℕ) (found : Members) (rest : List ℕ) → deep ≤ more → Opens deep text found rest → Opens more text found rest
+pub opens_within : (deep more : ℕ) (text : List ℕ) (found : Members) (rest : List ℕ) → deep ≤ more
+    → Opens deep text found rest → Opens more text found rest
 opens_within deep more text found rest fits opens = record {
   trees = opens.trees;
   piece = opens.piece;
@@ -143,18 +168,23 @@ opens_within deep more text found rest fits opens = record {
 
 -- the last member and the closing brace
 pub begins_object : (deep : ℕ) (text key between inner after : List ℕ) (found : Members) (value : Data)
-    → Opens deep text found between → between ≡ token_text (token.key key) ++ inner → Begins deep inner value (125 ∷ after)
+    → Opens deep text found between → between ≡ token_text (token.key key) ++ inner
+    → Begins deep inner value (125 ∷ after)
     → Begins (suc deep) text (object (put key value found)) after
 unfolding print_from
 begins_object deep text key between inner after found value opens piece begins = record {
   tree = json.object (then_member opens.trees key begins.tree);
   piece = let name = token_text (token.key key) in
       let held = print (json_tokens begins.tree) in
-      opens.piece ∙ ap (λ s. 123 ∷ (member_pieces opens.trees ++ s)) (piece ∙ ap (λ s. name ++ s) (begins.piece ∙ sym (append_assoc held (125 ∷ []) after)) ∙ sym (append_assoc name (held ++ 125 ∷ []) after))
-      ∙ ap (λ s. 123 ∷ s) (sym (append_assoc (member_pieces opens.trees) (name ++ (held ++ 125 ∷ [])) after) ∙ ap (λ s. s ++ after) (sym (members-close opens.trees key begins.tree)));
+      opens.piece ∙ ap (λ s. 123 ∷ (member_pieces opens.trees ++ s))
+      (piece ∙ ap (λ s. name ++ s) (begins.piece ∙ sym (append_assoc held (125 ∷ []) after))
+      ∙ sym (append_assoc name (held ++ 125 ∷ []) after))
+      ∙ ap (λ s. 123 ∷ s) (sym (append_assoc (member_pieces opens.trees) (name ++ (held ++ 125 ∷ [])) after)
+      ∙ ap (λ s. s ++ after) (sym (members-close opens.trees key begins.tree)));
   numbers = numbers-then opens.trees key begins.tree opens.numbers begins.numbers;
   shallow = omega (arith, depth-then deep opens.trees key begins.tree opens.shallow begins.shallow);
-  means = ap (option_map object) (means-then opens.trees key begins.tree no_members found value opens.means begins.means);
+  means = ap (option_map object) (means-then opens.trees key begins.tree no_members found value
+      opens.means begins.means);
 }
 
 -- ---- what is read
@@ -163,10 +193,13 @@ begins_object deep text key between inner after found value opens piece begins =
 read-print : (tree : json.Json) → HasNumbers tree → depth tree ≤ 127 → read (print (json_tokens tree)) ≡ of_json tree
 read-print tree numbers shallow =
     ap (λ found. option_and_then of_json (option_and_then (λ p. json.if_last p.0 p.1) found))
-    (ap (json.value 127) (tokens-print (json_tokens tree) (ArePrintable-json_tokens tree numbers) ∙ sym (append-nil (json_tokens tree)))
+    (ap (json.value 127) (tokens-print (json_tokens tree) (ArePrintable-json_tokens tree numbers)
+    ∙ sym (append-nil (json_tokens tree)))
     ∙ value-json_tokens tree 127 [] shallow)
 
 -- a text that is what is written of a value reads as the value
-pub begins_all : (deep : ℕ) (text : List ℕ) (value : Data) → deep ≤ 127 → Begins deep text value [] → read text ≡ Some value
+pub begins_all : (deep : ℕ) (text : List ℕ) (value : Data) → deep ≤ 127 → Begins deep text value []
+    → read text ≡ Some value
 begins_all deep text value fits begins =
-    ap read (begins.piece ∙ append-nil (print (json_tokens begins.tree))) ∙ read-print begins.tree begins.numbers (omega (arith, begins.shallow)) ∙ begins.means
+    ap read (begins.piece ∙ append-nil (print (json_tokens begins.tree)))
+    ∙ read-print begins.tree begins.numbers (omega (arith, begins.shallow)) ∙ begins.means

@@ -19,7 +19,8 @@ pub record Begins (deep : ℕ) (text : List ℕ) (value : Data) (rest : List ℕ
   pub means : of_json tree ≡ Some value
 
 -- a text begins with a value of which the form gives what was found
-pub record Reads {A : Type 0} (form : Data → Reading A) (deep : ℕ) (text : List ℕ) (found : A) (rest : List ℕ) : Type 0 where
+pub record Reads {A : Type 0} (form : Data → Reading A) (deep : ℕ) (text : List ℕ) (found : A)
+    (rest : List ℕ) : Type 0 where
   pub value : Data
   pub begins : Begins deep text value rest
   pub gives : form value ≡ Ok found
@@ -27,9 +28,11 @@ pub record Reads {A : Type 0} (form : Data → Reading A) (deep : ℕ) (text : L
 -- members as a line writes them, each with a comma
 abbrev pub member_pieces : json.Members → List ℕ
 member_pieces json.no_members = []
-member_pieces (json.member key tree others) = (token_text (token.key key) ++ (print (json_tokens tree) ++ 44 ∷ [])) ++ member_pieces others
+member_pieces (json.member key tree others) = (token_text (token.key key) ++ (print (json_tokens tree) ++ 44 ∷ [])) ++
+    member_pieces others
 
--- a text begins with a brace and members, each with a comma, that give these members when they are put one after another
+-- a text begins with a brace and members, each with a comma, that give these members when they are put one after
+-- another
 pub record Opens (deep : ℕ) (text : List ℕ) (found : Members) (rest : List ℕ) : Type 0 where
   pub trees : json.Members
   pub piece : text ≡ 123 ∷ (member_pieces trees ++ rest)
@@ -43,7 +46,8 @@ item_pieces json.no_items = []
 item_pieces (json.item tree others) = (print (json_tokens tree) ++ 44 ∷ []) ++ item_pieces others
 
 -- a text begins with a bracket and items, each with a comma, of each of which the form gives what was found
-pub record OpensList {A : Type 0} (form : Data → Reading A) (deep : ℕ) (text : List ℕ) (found : List A) (rest : List ℕ) : Type 0 where
+pub record OpensList {A : Type 0} (form : Data → Reading A) (deep : ℕ) (text : List ℕ) (found : List A)
+    (rest : List ℕ) : Type 0 where
   pub trees : json.Items
   pub piece : text ≡ 91 ∷ (item_pieces trees ++ rest)
   pub numbers : ItemsHaveNumbers trees
@@ -54,7 +58,8 @@ pub record OpensList {A : Type 0} (form : Data → Reading A) (deep : ℕ) (text
   pub many : items_len values ≡ length found
 
 -- a text begins with a list, of each item of which the form gives what was found
-pub record ReadsList {A : Type 0} (form : Data → Reading A) (deep : ℕ) (text : List ℕ) (found : List A) (rest : List ℕ) : Type 0 where
+pub record ReadsList {A : Type 0} (form : Data → Reading A) (deep : ℕ) (text : List ℕ) (found : List A)
+    (rest : List ℕ) : Type 0 where
   pub values : Items
   pub begins : Begins deep text (array values) rest
   pub gives : each form 0 values ≡ Ok found

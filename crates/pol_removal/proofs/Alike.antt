@@ -20,14 +20,17 @@ use Rattle.pol_removal.proofs.Owned.{Owned, takes-parts}
 -- after the smaller history nobody holds the module, or the batch that holds it after the whole one and isn't taken out
 abbrev pub HolderAlike : List (List ℕ) → History → History → List ℕ → Type 0
 HolderAlike bound whole less tag =
-    (holder_of less tag ≡ None) ⊎ ((batch : List ℕ) × (is_among bound batch ≡ false) × (holder_of less tag ≡ Some batch) × (holder_of whole tag ≡ Some batch))
+    (holder_of less tag ≡ None) ⊎ ((batch : List ℕ) × (is_among bound batch ≡ false)
+    × (holder_of less tag ≡ Some batch) × (holder_of whole tag ≡ Some batch))
 
 -- the facts on the whole history and a smaller one
 pub record Alike (tags bound : List (List ℕ)) (whole less : History) : Type 0 where
   pub pasts : (tag : List ℕ) → is_among tags tag ≡ false → past tag less ≡ past tag whole
-  pub batch_pasts : (batch : List ℕ) → is_among bound batch ≡ false → past_of_batch batch less ≡ past_of_batch batch whole
+  pub batch_pasts : (batch : List ℕ) → is_among bound batch ≡ false
+      → past_of_batch batch less ≡ past_of_batch batch whole
   pub same_recipes : recipes less ≡ recipes whole
-  pub apart : (batch : List ℕ) (started : Started) → is_among bound batch ≡ false → start_of whole batch ≡ Some started →
+  pub apart : (batch : List ℕ) (started : Started) → is_among bound batch ≡ false
+      → start_of whole batch ≡ Some started →
       is_some_among tags (tags_of started.binds) ≡ false
   pub holders : (tag : List ℕ) → HolderAlike bound whole less tag
   pub fewer_tags : length (present_tags less) ≤ length (present_tags whole)
@@ -44,12 +47,14 @@ taking-batch tag batch (start at other name binds) is = go (is_among (tags_of bi
     go false is = cc
 taking-batch tag batch _ is = cc
 
-batch-outside : (tags bound : List (List ℕ)) (batch : List ℕ) (entry : EntryForm) → stays tags bound entry ≡ true → subject entry.event ≡ of_batch batch →
+batch-outside : (tags bound : List (List ℕ)) (batch : List ℕ) (entry : EntryForm) → stays tags bound entry ≡ true
+    → subject entry.event ≡ of_batch batch →
     is_among bound batch ≡ false
 batch-outside tags bound batch entry stay is = ap (is_of tags bound) (sym is) ∙ (stays-parts tags bound entry stay).0
 
 -- a batch is closed, or holds what it held
-open-or-none : (less : History) (batch : List ℕ) (holder : Option (List ℕ)) → (outcome_of less batch ≡ None → holder ≡ Some batch) →
+open-or-none : (less : History) (batch : List ℕ) (holder : Option (List ℕ))
+    → (outcome_of less batch ≡ None → holder ≡ Some batch) →
     (if_open less (Some batch) ≡ None) ⊎ ((if_open less (Some batch) ≡ Some batch) × (holder ≡ Some batch))
 open-or-none less batch holder held = go (outcome_of less batch) refl
   where
@@ -59,12 +64,16 @@ open-or-none less batch holder held = go (outcome_of less batch) refl
     go None is = inr (rw is, held is)
     go (Some outcome) is = inl (rw is)
 
-holder-found : (bound : List (List ℕ)) (whole less : History) (tag batch : List ℕ) → is_among bound batch ≡ false → last_of (takes tag) less ≡ Some batch →
-    (if_open less (Some batch) ≡ None) ⊎ ((if_open less (Some batch) ≡ Some batch) × (holder_of whole tag ≡ Some batch)) → HolderAlike bound whole less tag
+holder-found : (bound : List (List ℕ)) (whole less : History) (tag batch : List ℕ) → is_among bound batch ≡ false
+    → last_of (takes tag) less ≡ Some batch →
+    (if_open less (Some batch) ≡ None) ⊎ ((if_open less (Some batch) ≡ Some batch)
+    × (holder_of whole tag ≡ Some batch)) → HolderAlike bound whole less tag
 holder-found bound whole less tag batch outside is (inl closed) = inl (ap (if_open less) is ∙ closed)
-holder-found bound whole less tag batch outside is (inr held) = inr (batch, outside, ap (if_open less) is ∙ held.0, held.1)
+holder-found bound whole less tag batch outside is (inr held) =
+    inr (batch, outside, ap (if_open less) is ∙ held.0, held.1)
 
-holders-alike : (tags bound : List (List ℕ)) (history : History) → AllByRecursion (Covered tags bound) history → AllByRecursion (Owned history) history →
+holders-alike : (tags bound : List (List ℕ)) (history : History) → AllByRecursion (Covered tags bound) history
+    → AllByRecursion (Owned history) history →
     (tag : List ℕ) → HolderAlike bound history (filter (stays tags bound) history) tag
 holders-alike tags bound history covered owned tag = go (last_of (takes tag) (filter (stays tags bound) history)) refl
   where
@@ -80,7 +89,8 @@ holders-alike tags bound history covered owned tag = go (last_of (takes tag) (fi
         let outside = batch-outside tags bound batch entry stay (taking-batch tag batch entry.event parts.1) in
         holder-found bound history (filter (stays tags bound) history) tag batch outside is
         (open-or-none (filter (stays tags bound) history) batch (holder_of history tag)
-        (λ none. holds batch tag took (ap (λ past. outcome_by past) (sym (past-of-batch-stays tags bound history covered batch outside)) ∙ none)))
+        (λ none. holds batch tag took (ap (λ past. outcome_by past)
+        (sym (past-of-batch-stays tags bound history covered batch outside)) ∙ none)))
 
 -- ---- starts
 
@@ -89,20 +99,25 @@ start-binds (start at batch name binds) started is = cc
 start-binds _ started is = cc
 
 -- a started batch that isn't taken out binds no module that is taken out
-starts-apart : (tags bound : List (List ℕ)) (history : History) → AllByRecursion (Covered tags bound) history → (batch : List ℕ) (started : Started) →
-    is_among bound batch ≡ false → start_of history batch ≡ Some started → is_some_among tags (tags_of started.binds) ≡ false
+starts-apart : (tags bound : List (List ℕ)) (history : History) → AllByRecursion (Covered tags bound) history
+    → (batch : List ℕ) (started : Started) →
+    is_among bound batch ≡ false → start_of history batch ≡ Some started
+    → is_some_among tags (tags_of started.binds) ≡ false
 starts-apart tags bound history covered batch started outside is =
     let (entry, (covers, of_it), said) =
     last_of-all (λ entry. Covered tags bound entry × (is_accepted_of_batch batch entry ≡ true))
     (λ entry. starting entry.event)
-    (past_of_batch batch history) started (all-kept (Covered tags bound) (is_accepted_of_batch batch) history covered) is in
+    (past_of_batch batch history) started (all-kept (Covered tags bound)
+    (is_accepted_of_batch batch) history covered) is in
     let parts = and_parts (is_batch batch (subject entry.event)) (is_accepted entry.answer) of_it in
     ap (λ binds. is_some_among tags (tags_of binds)) (sym (start-binds entry.event started said))
-    ∙ other-batch-apart tags bound entry covers (other-batch tags bound batch (subject entry.event) parts.0 outside) parts.1
+    ∙ other-batch-apart tags bound entry covers (other-batch tags bound batch
+    (subject entry.event) parts.0 outside) parts.1
 
 -- ---- all of them
 
-pub alike-without : (tags bound : List (List ℕ)) (history : History) → AllByRecursion (Covered tags bound) history → AllByRecursion (Owned history) history →
+pub alike-without : (tags bound : List (List ℕ)) (history : History) → AllByRecursion (Covered tags bound) history
+    → AllByRecursion (Owned history) history →
     Alike tags bound history (filter (stays tags bound) history)
 alike-without tags bound history covered owned = record {
   pasts = past-stays tags bound history;
@@ -111,6 +126,7 @@ alike-without tags bound history covered owned = record {
   apart = starts-apart tags bound history covered;
   holders = holders-alike tags bound history covered owned;
   fewer_tags = fewer-present tags bound history;
-  fewer_starts = rw (filter-filter is_start (stays tags bound) history) (length-filter (stays tags bound) (filter is_start history));
+  fewer_starts = rw (filter-filter is_start (stays tags bound) history)
+      (length-filter (stays tags bound) (filter is_start history));
   fewer = length-filter (stays tags bound) history;
 }

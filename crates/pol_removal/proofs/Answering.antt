@@ -30,15 +30,18 @@ use Rattle.pol_removal.proofs.Roles.{played-outside}
 use Rattle.pol_removal.proofs.Falling.{Falls, AllFall, IsForAnother, first-falls, all-same, when-falls, fewer-reach, first-of-falls, map-another, then-another, holder-falls}
 
 -- the rules of an active step and of an uncovered role are for another's sake
-active-another : (recipes : History) (tag batch : List ℕ) (past : History) → IsForAnother (active_step_on recipes tag batch past)
+active-another : (recipes : History) (tag batch : List ℕ) (past : History)
+    → IsForAnother (active_step_on recipes tag batch past)
 active-another recipes tag batch past =
-    then-another _ (λ started. then-another _ (λ chart. map-another _ (λ step. refl) (step_on started.binds tag (active chart (log_by past))))
+    then-another _ (λ started. then-another _ (λ chart. map-another _ (λ step. refl)
+    (step_on started.binds tag (active chart (log_by past))))
     (chart_by recipes (Some started))) (start_by past)
 
 back-another : (recipes : History) (tag : List ℕ) (description : DescriptionForm) (batch : List ℕ) (past : History)
     → IsForAnother (uncovered_by recipes tag description batch past)
 back-another recipes tag description batch past =
-    then-another _ (λ started. then-another _ (λ chart. then-another _ (λ role. map-another _ (λ fault. refl) (cover_fault chart role description))
+    then-another _ (λ started. then-another _ (λ chart. then-another _
+    (λ role. map-another _ (λ fault. refl) (cover_fault chart role description))
     (bound_role started.binds tag)) (chart_by recipes (Some started))) (start_by past)
 
 module _ (tags bound : List (List ℕ)) (whole less : History) (alike : Alike tags bound whole less) where
@@ -51,43 +54,54 @@ module _ (tags bound : List (List ℕ)) (whole less : History) (alike : Alike ta
 
   active-falls : (tag : List ℕ) → Falls (active_step whole tag) (active_step less tag)
   active-falls tag =
-      holder-falls bound whole less tag _ _ (λ batch. active-another (recipes whole) tag batch (past_of_batch batch whole))
+      holder-falls bound whole less tag _ _ (λ batch. active-another (recipes whole) tag batch
+      (past_of_batch batch whole))
       (λ batch out. rw (alike.batch_pasts batch out, alike.same_recipes)) (alike.holders tag)
 
-  back-falls : (tag : List ℕ) (description : DescriptionForm) → Falls (held_back whole tag description) (held_back less tag description)
+  back-falls : (tag : List ℕ) (description : DescriptionForm)
+      → Falls (held_back whole tag description) (held_back less tag description)
   back-falls tag description =
-      holder-falls bound whole less tag _ _ (λ batch. back-another (recipes whole) tag description batch (past_of_batch batch whole))
+      holder-falls bound whole less tag _ _ (λ batch. back-another (recipes whole) tag description batch
+      (past_of_batch batch whole))
       (λ batch out. rw (alike.batch_pasts batch out, alike.same_recipes)) (alike.holders tag)
 
   plant-falls : Falls (plant_full whole) (plant_full less)
-  plant-falls = when-falls PlantFull refl (nat_le MOST_MODULES (length (present_tags whole))) (nat_le MOST_MODULES (length (present_tags less)))
+  plant-falls = when-falls PlantFull refl (nat_le MOST_MODULES (length (present_tags whole)))
+      (nat_le MOST_MODULES (length (present_tags less)))
       (fewer-reach MOST_MODULES (length (present_tags less)) (length (present_tags whole)) alike.fewer_tags)
 
   batches-fall : Falls (batches_full whole) (batches_full less)
-  batches-fall = when-falls BatchesFull refl (nat_le MOST_BATCHES (length (filter is_start whole))) (nat_le MOST_BATCHES (length (filter is_start less)))
+  batches-fall = when-falls BatchesFull refl (nat_le MOST_BATCHES (length (filter is_start whole)))
+      (nat_le MOST_BATCHES (length (filter is_start less)))
       (fewer-reach MOST_BATCHES (length (filter is_start less)) (length (filter is_start whole)) alike.fewer_starts)
 
   -- ---- starts
 
-  module-same : (chart : ChartPlan) (role : List ℕ) (played : Option (List ℕ)) → ((tag : List ℕ) → played ≡ Some tag → is_among tags tag ≡ false) →
+  module-same : (chart : ChartPlan) (role : List ℕ) (played : Option (List ℕ))
+      → ((tag : List ℕ) → played ≡ Some tag → is_among tags tag ≡ false) →
       module_rule less chart role played ≡ module_rule whole chart role played
   module-same chart role None outside = refl
-  module-same chart role (Some tag) outside = ap (λ past. first_of (module_rules chart role tag past)) (alike.pasts tag (outside tag refl))
+  module-same chart role (Some tag) outside = ap (λ past. first_of (module_rules chart role tag past))
+      (alike.pasts tag (outside tag refl))
 
-  modules-same : (chart : ChartPlan) (binds : List Bind) → is_some_among tags (tags_of binds) ≡ false → (roles : List (List ℕ)) →
+  modules-same : (chart : ChartPlan) (binds : List Bind) → is_some_among tags (tags_of binds) ≡ false
+      → (roles : List (List ℕ)) →
       modules_unfit less chart binds roles ≡ modules_unfit whole chart binds roles
   modules-same chart binds apart roles =
       ap (λ rule. first_of (map rule roles))
-      (fun_ext (λ role. module-same chart role (bound_tag binds role) (λ tag is. played-outside tags binds role tag apart is)))
+      (fun_ext (λ role. module-same chart role (bound_tag binds role)
+      (λ tag is. played-outside tags binds role tag apart is)))
 
   busy-role-falls : (played : Option (List ℕ)) → Falls (busy_role whole played) (busy_role less played)
   busy-role-falls None = inr refl
-  busy-role-falls (Some tag) = holder-falls bound whole less tag _ _ (λ batch. inl refl) (λ batch out. refl) (alike.holders tag)
+  busy-role-falls (Some tag) = holder-falls bound whole less tag _ _ (λ batch. inl refl) (λ batch out. refl)
+      (alike.holders tag)
 
   busy-falls : (binds : List Bind) (roles : List (List ℕ)) → Falls (busy whole binds roles) (busy less binds roles)
   busy-falls binds roles = first-of-falls _ _ (λ role. busy-role-falls (bound_tag binds role)) roles
 
-  start-falls : (batch : List ℕ) (binds : List Bind) → is_among bound batch ≡ false → is_some_among tags (tags_of binds) ≡ false → (chart : Option ChartPlan) →
+  start-falls : (batch : List ℕ) (binds : List Bind) → is_among bound batch ≡ false
+      → is_some_among tags (tags_of binds) ≡ false → (chart : Option ChartPlan) →
       AllFall (start_rules whole batch binds chart) (start_rules less batch binds chart)
   start-falls batch binds out apart None = (inr refl, tt)
   start-falls batch binds out apart (Some chart) =
@@ -118,16 +132,21 @@ module _ (tags bound : List (List ℕ)) (whole less : History) (alike : Alike ta
   unfolding sees
   sights-same binds apart =
       ap (λ views. sees binds views (λ role name. variable_sight (λ tag. past tag less) name (bound_tag binds role)))
-      (fun_ext (λ role. fun_ext (λ service. view-same service (bound_tag binds role) (λ tag is. played-outside tags binds role tag apart is))))
-      ∙ ap (λ readings. sees binds (λ role service. service_sight (λ tag. past tag whole) service (bound_tag binds role)) readings)
-      (fun_ext (λ role. fun_ext (λ name. reading-same name (bound_tag binds role) (λ tag is. played-outside tags binds role tag apart is))))
+      (fun_ext (λ role. fun_ext (λ service. view-same service (bound_tag binds role)
+      (λ tag is. played-outside tags binds role tag apart is))))
+      ∙ ap (λ readings. sees binds (λ role service. service_sight (λ tag. past tag whole) service
+      (bound_tag binds role)) readings)
+      (fun_ext (λ role. fun_ext (λ name. reading-same name (bound_tag binds role)
+      (λ tag is. played-outside tags binds role tag apart is))))
     where
-      view-same : (service : List ℕ) (played : Option (List ℕ)) → ((tag : List ℕ) → played ≡ Some tag → is_among tags tag ≡ false) →
+      view-same : (service : List ℕ) (played : Option (List ℕ))
+          → ((tag : List ℕ) → played ≡ Some tag → is_among tags tag ≡ false) →
           service_sight (λ tag. past tag less) service played ≡ service_sight (λ tag. past tag whole) service played
       view-same service None outside = refl
       view-same service (Some tag) outside = rw (alike.pasts tag (outside tag refl))
 
-      reading-same : (name : List ℕ) (played : Option (List ℕ)) → ((tag : List ℕ) → played ≡ Some tag → is_among tags tag ≡ false) →
+      reading-same : (name : List ℕ) (played : Option (List ℕ))
+          → ((tag : List ℕ) → played ≡ Some tag → is_among tags tag ≡ false) →
           variable_sight (λ tag. past tag less) name played ≡ variable_sight (λ tag. past tag whole) name played
       reading-same name None outside = refl
       reading-same name (Some tag) outside = rw (alike.pasts tag (outside tag refl))
@@ -137,7 +156,8 @@ module _ (tags bound : List (List ℕ)) (whole less : History) (alike : Alike ta
     where
       go : (started : Option Started) → start_of whole batch ≡ started →
           option_and_then (next_of_started (recipes whole) (past_of_batch batch whole) (λ tag. past tag less)) started
-          ≡ option_and_then (next_of_started (recipes whole) (past_of_batch batch whole) (λ tag. past tag whole)) started
+          ≡ option_and_then (next_of_started (recipes whole) (past_of_batch batch whole)
+          (λ tag. past tag whole)) started
       go None is = refl
       go (Some started) is =
           ap (λ seen. option_map
@@ -147,25 +167,34 @@ module _ (tags bound : List (List ℕ)) (whole less : History) (alike : Alike ta
 
   -- ---- all kinds
 
-  rules-fall : (event : EventForm) → is_of tags bound (subject event) ≡ false → binds_one tags event ≡ false → AllFall (rules whole event) (rules less event)
+  rules-fall : (event : EventForm) → is_of tags bound (subject event) ≡ false → binds_one tags event ≡ false
+      → AllFall (rules whole event) (rules less event)
   rules-fall (plug at tag description) out apart = rw (alike.pasts tag out) (inr refl, (plant-falls, tt))
   rules-fall (unplug at tag) out apart = rw (alike.pasts tag out) (inr refl, (inr refl, (held-falls tag, tt)))
-  rules-fall (report at tag service control) out apart = rw (alike.pasts tag out) (all-same (rules whole (report at tag service control)))
-  rules-fall (variable at tag name value) out apart = rw (alike.pasts tag out) (all-same (rules whole (variable at tag name value)))
+  rules-fall (report at tag service control) out apart = rw (alike.pasts tag out)
+      (all-same (rules whole (report at tag service control)))
+  rules-fall (variable at tag name value) out apart = rw (alike.pasts tag out)
+      (all-same (rules whole (variable at tag name value)))
   rules-fall (recipe at name chart) out apart = rw alike.same_recipes (all-same (rules whole (recipe at name chart)))
-  rules-fall (start at batch name binds) out apart = rw alike.same_recipes (start-falls batch binds out apart (chart_named name (recipes whole)))
+  rules-fall (start at batch name binds) out apart = rw alike.same_recipes
+      (start-falls batch binds out apart (chart_named name (recipes whole)))
   rules-fall (advance at batch) out apart = rw (alike.batch_pasts batch out) (all-same (rules whole (advance at batch)))
   rules-fall (freeze at batch) out apart = rw (alike.batch_pasts batch out) (all-same (rules whole (freeze at batch)))
   rules-fall (thaw at batch) out apart = rw (alike.batch_pasts batch out) (all-same (rules whole (thaw at batch)))
-  rules-fall (stop_batch at batch) out apart = rw (alike.batch_pasts batch out) (all-same (rules whole (stop_batch at batch)))
+  rules-fall (stop_batch at batch) out apart = rw (alike.batch_pasts batch out)
+      (all-same (rules whole (stop_batch at batch)))
   rules-fall (abandon at batch) out apart = rw (alike.batch_pasts batch out) (all-same (rules whole (abandon at batch)))
-  rules-fall (desk at tag service command) out apart = rw (alike.pasts tag out) (all-same (rules whole (desk at tag service command)))
-  rules-fall (exchange_begin at tag) out apart = rw (alike.pasts tag out) (inr refl, (inr refl, (active-falls tag, (inr refl, tt))))
+  rules-fall (desk at tag service command) out apart = rw (alike.pasts tag out)
+      (all-same (rules whole (desk at tag service command)))
+  rules-fall (exchange_begin at tag) out apart = rw (alike.pasts tag out)
+      (inr refl, (inr refl, (active-falls tag, (inr refl, tt))))
   rules-fall (exchange_end at tag ticket description) out apart =
       rw (alike.pasts tag out) (inr refl, (inr refl, (inr refl, (back-falls tag description, tt))))
-  rules-fall (exchange_cancel at tag ticket) out apart = rw (alike.pasts tag out) (all-same (rules whole (exchange_cancel at tag ticket)))
+  rules-fall (exchange_cancel at tag ticket) out apart = rw (alike.pasts tag out)
+      (all-same (rules whole (exchange_cancel at tag ticket)))
 
-  otherwise-same : (event : EventForm) → is_of tags bound (subject event) ≡ false → otherwise less event ≡ otherwise whole event
+  otherwise-same : (event : EventForm) → is_of tags bound (subject event) ≡ false
+      → otherwise less event ≡ otherwise whole event
   otherwise-same (advance at batch) out = ap advanced (next-same batch out)
   otherwise-same (stop_batch at batch) out = ap stopped (alike.batch_pasts batch out)
   otherwise-same (exchange_begin at tag) out = ap (λ past. Ticket (next_ticket past)) (alike.pasts tag out)
@@ -175,6 +204,9 @@ module _ (tags bound : List (List ℕ)) (whole less : History) (alike : Alike ta
       is_refused_for_another (answer_of whole event) ≡ false → answer_of less event ≡ answer_of whole event
   answered-alike event out apart own =
       first-falls (when (is_full whole) HistoryFull ∷ rules whole event)
-      (when (is_full less) HistoryFull ∷ rules less event) (otherwise whole event) (otherwise less event)
-      (when-falls HistoryFull refl (is_full whole) (is_full less) (fewer-reach LONGEST_HISTORY (length less) (length whole) alike.fewer), rules-fall event out apart)
+      (when (is_full less) HistoryFull ∷ rules less event) (otherwise whole event) (otherwise less event) (
+        when-falls HistoryFull refl (is_full whole) (is_full less)
+            (fewer-reach LONGEST_HISTORY (length less) (length whole) alike.fewer),
+        rules-fall event out apart,
+      )
       (otherwise-same event out) own

@@ -20,17 +20,21 @@ use Rattle.pol_removal.proofs.Induction.{dropped, grown, events-removed}
 -- ---- the history
 
 recorded-stay : (tags bound : List (List ℕ)) (entries : List EntryForm) (history : History) →
-    recorded_all (filter (stays tags bound) history) (filter (stays tags bound) entries) ≡ filter (stays tags bound) (recorded_all history entries)
+    recorded_all (filter (stays tags bound) history) (filter (stays tags bound) entries)
+    ≡ filter (stays tags bound) (recorded_all history entries)
 recorded-stay tags bound [] history = refl
-recorded-stay tags bound (entry ∷ entries) history = go (stays tags bound entry) refl (recorded-stay tags bound entries (recorded entry history))
+recorded-stay tags bound (entry ∷ entries) history = go (stays tags bound entry) refl
+    (recorded-stay tags bound entries (recorded entry history))
   where
     go : (stay : Bool) → stays tags bound entry ≡ stay →
         recorded_all (filter (stays tags bound) (recorded entry history)) (filter (stays tags bound) entries)
         ≡ filter (stays tags bound) (recorded_all (recorded entry history) entries) →
-        recorded_all (filter (stays tags bound) history) (if stay then entry ∷ filter (stays tags bound) entries else filter (stays tags bound) entries)
+        recorded_all (filter (stays tags bound) history) (if stay then entry ∷ filter
+        (stays tags bound) entries else filter (stays tags bound) entries)
         ≡ filter (stays tags bound) (recorded_all (recorded entry history) entries)
     go false is rest = rw (← dropped tags bound entry history is) rest
-    go true is rest = ap (λ history. recorded_all history (filter (stays tags bound) entries)) (sym (grown tags bound entry history is)) ∙ rest
+    go true is rest = ap (λ history. recorded_all history (filter (stays tags bound) entries))
+        (sym (grown tags bound entry history is)) ∙ rest
 
 -- the history that the events that stay leave is the history without the concerned entries
 pub history-without : (tags : List (List ℕ)) (events : List EventForm) → AreOrderly events →
@@ -40,11 +44,13 @@ history-without tags events orderly =
     ap (recorded_all []) (events-removed tags events orderly)
     ∙ recorded-stay tags (bound_batches tags (run_of events)) (run_of events) []
 
-covered-all : (tags bound : List (List ℕ)) (entries : List EntryForm) (history : History) → AllByRecursion (Covered tags bound) entries →
+covered-all : (tags bound : List (List ℕ)) (entries : List EntryForm) (history : History)
+    → AllByRecursion (Covered tags bound) entries →
     AllByRecursion (Covered tags bound) history → AllByRecursion (Covered tags bound) (recorded_all history entries)
 covered-all tags bound [] history covers covered = covered
 covered-all tags bound (entry ∷ entries) history covers covered =
-    covered-all tags bound entries (recorded entry history) covers.1 (covered-recorded tags bound entry history covers.0 covered)
+    covered-all tags bound entries (recorded entry history) covers.1
+    (covered-recorded tags bound entry history covers.0 covered)
 
 pub covered-after : (tags : List (List ℕ)) (events : List EventForm)
     → AllByRecursion (Covered tags (bound_batches tags (run_of events))) (history_after [] events)
@@ -62,7 +68,8 @@ start-subject (start at other name binds) batch is = cc
 start-subject _ batch is = cc
 
 -- an accepted start stays just if its batch isn't bound
-start-stays : (tags bound : List (List ℕ)) (entry : EntryForm) → Covered tags bound entry → (batch : List ℕ) → newly_started entry ≡ Some batch →
+start-stays : (tags bound : List (List ℕ)) (entry : EntryForm) → Covered tags bound entry → (batch : List ℕ)
+    → newly_started entry ≡ Some batch →
     stays tags bound entry ≡ not (is_among bound batch)
 start-stays tags bound entry covers batch started = go (is_among bound batch) refl
   where
@@ -74,13 +81,15 @@ start-stays tags bound entry covers batch started = go (is_among bound batch) re
 
     go : (inside : Bool) → is_among bound batch ≡ inside → stays tags bound entry ≡ not inside
     go true is = rw (named, is)
-    go false is = unnamed-stays tags bound entry (named ∙ is) (other-batch-apart tags bound entry covers (named ∙ is) parts.0) parts.0
+    go false is = unnamed-stays tags bound entry (named ∙ is)
+        (other-batch-apart tags bound entry covers (named ∙ is) parts.0) parts.0
 
 batches-stay : (tags bound : List (List ℕ)) (history : History) → AllByRecursion (Covered tags bound) history →
     batches (filter (stays tags bound) history) ≡ filter (λ batch. not (is_among bound batch)) (batches history)
 batches-stay tags bound history covered =
     ap reverse (filter_map-kept newly_started (stays tags bound) (λ batch. not (is_among bound batch)) history
-    (all-map (Covered tags bound) (λ entry. (batch : List ℕ) → newly_started entry ≡ Some batch → stays tags bound entry ≡ not (is_among bound batch))
+    (all-map (Covered tags bound) (λ entry. (batch : List ℕ) → newly_started entry ≡ Some batch
+    → stays tags bound entry ≡ not (is_among bound batch))
     (start-stays tags bound) history covered))
     ∙ filter-reverse (λ batch. not (is_among bound batch)) (filter_map newly_started history)
 
@@ -92,8 +101,11 @@ text_by batch past = started_text batch (start_by past) (log_by past) (outcome_b
 
 -- the lines of the batches that stay are those of the batches that aren't bound
 pub batch-lines-stay : (tags bound : List (List ℕ)) (history : History) → AllByRecursion (Covered tags bound) history →
-    batches_text (filter (stays tags bound) history) ≡ batch_lines history (filter (λ batch. not (is_among bound batch)) (batches history))
+    batches_text (filter (stays tags bound) history) ≡ batch_lines history
+    (filter (λ batch. not (is_among bound batch)) (batches history))
 batch-lines-stay tags bound history covered =
     ap (batch_lines (filter (stays tags bound) history)) (batches-stay tags bound history covered)
-    ∙ flat_map-kept (batch_text (filter (stays tags bound) history)) (batch_text history) (λ batch. not (is_among bound batch))
-    (λ batch free. ap (text_by batch) (past-of-batch-stays tags bound history covered batch (not-true (is_among bound batch) free))) (batches history)
+    ∙ flat_map-kept (batch_text (filter (stays tags bound) history)) (batch_text history)
+    (λ batch. not (is_among bound batch))
+    (λ batch free. ap (text_by batch) (past-of-batch-stays tags bound history covered batch
+    (not-true (is_among bound batch) free))) (batches history)

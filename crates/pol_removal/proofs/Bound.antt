@@ -13,7 +13,8 @@ use Rattle.pol_removal.specs.Removal.{binds_one, bound_batch, bound_batches, is_
 use Rattle.pol_removal.proofs.Each.{all-map}
 use Rattle.pol_removal.proofs.Sparing.{Covered}
 
-of-more : (tags bound : List (List ℕ)) (batch : Option (List ℕ)) (of : Subject) → is_of tags bound of ≡ true → is_of tags (cons_option batch bound) of ≡ true
+of-more : (tags bound : List (List ℕ)) (batch : Option (List ℕ)) (of : Subject) → is_of tags bound of ≡ true
+    → is_of tags (cons_option batch bound) of ≡ true
 of-more tags bound None of is = is
 of-more tags bound (Some batch) (of_module tag) is = is
 of-more tags bound (Some batch) (of_batch other) is = or_right (bytes_eq batch other) (is_among bound other) is
@@ -21,13 +22,17 @@ of-more tags bound (Some batch) (of_recipe name) is = is
 
 of-started : (tags bound : List (List ℕ)) (event : EventForm) → binds_one tags event ≡ true
     → is_of tags (cons_option (started_batch event) bound) (subject event) ≡ true
-of-started tags bound (start at batch name binds) one = or_left (bytes_eq batch batch) (is_among bound batch) (same-refl batch)
+of-started tags bound (start at batch name binds) one = or_left (bytes_eq batch batch) (is_among bound batch)
+    (same-refl batch)
 of-started tags bound _ one = cc
 
-covered-first : (tags bound : List (List ℕ)) (entry : EntryForm) → Covered tags (cons_option (bound_batch tags entry) bound) entry
-covered-first tags bound entry is = rw is (of-started tags bound entry.event (and_parts (binds_one tags entry.event) (is_accepted entry.answer) is).0)
+covered-first : (tags bound : List (List ℕ)) (entry : EntryForm)
+    → Covered tags (cons_option (bound_batch tags entry) bound) entry
+covered-first tags bound entry is = rw is (of-started tags bound entry.event
+    (and_parts (binds_one tags entry.event) (is_accepted entry.answer) is).0)
 
-pub bound-covers : (tags : List (List ℕ)) (entries : List EntryForm) → AllByRecursion (Covered tags (bound_batches tags entries)) entries
+pub bound-covers : (tags : List (List ℕ)) (entries : List EntryForm)
+    → AllByRecursion (Covered tags (bound_batches tags entries)) entries
 bound-covers tags [] = tt
 bound-covers tags (entry ∷ entries) = (
   covered-first tags (bound_batches tags entries) entry,

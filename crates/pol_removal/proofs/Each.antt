@@ -6,7 +6,8 @@ use Rattle.std.specs.Option.{option_or}
 use Rattle.pol_events.specs.Events.{EntryForm}
 use Rattle.pol_history.specs.Looking.{History, last_of}
 
-pub all-map : {X : Type 0} (P Q : X → Type 0) → ((x : X) → P x → Q x) → (xs : List X) → AllByRecursion P xs → AllByRecursion Q xs
+pub all-map : {X : Type 0} (P Q : X → Type 0) → ((x : X) → P x → Q x) → (xs : List X) → AllByRecursion P xs
+    → AllByRecursion Q xs
 all-map P Q next [] all = tt
 all-map P Q next (x ∷ xs) all = (next x all.0, all-map P Q next xs all.1)
 

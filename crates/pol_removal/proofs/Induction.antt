@@ -25,7 +25,8 @@ pub dropped : (tags bound : List (List ℕ)) (entry : EntryForm) (history : Hist
     filter (stays tags bound) (recorded entry history) ≡ filter (stays tags bound) history
 dropped tags bound entry history gone = go (is_recorded entry.answer)
   where
-    go : (kept : Bool) → filter (stays tags bound) (cond kept (entry ∷ history) history) ≡ filter (stays tags bound) history
+    go : (kept : Bool) → filter (stays tags bound) (cond kept (entry ∷ history) history)
+        ≡ filter (stays tags bound) history
     go true = rw gone
     go false = refl
 
@@ -35,39 +36,49 @@ pub grown : (tags bound : List (List ℕ)) (entry : EntryForm) (history : Histor
 grown tags bound entry history stay = rw (own-recorded entry.answer (stays-parts tags bound entry stay).2, stay)
 
 -- and is the same entry
-same-entry : (tags bound : List (List ℕ)) (history : History) → AllByRecursion (Covered tags bound) history → AllByRecursion (Owned history) history →
-    (event : EventForm) → stays tags bound (entry_of history event) ≡ true → entry_of (filter (stays tags bound) history) event ≡ entry_of history event
+same-entry : (tags bound : List (List ℕ)) (history : History) → AllByRecursion (Covered tags bound) history
+    → AllByRecursion (Owned history) history →
+    (event : EventForm) → stays tags bound (entry_of history event) ≡ true
+    → entry_of (filter (stays tags bound) history) event ≡ entry_of history event
 same-entry tags bound history covered owned event stay =
     let parts = stays-parts tags bound (entry_of history event) stay in
     ap (paired event)
-    (answered-alike tags bound history (filter (stays tags bound) history) (alike-without tags bound history covered owned) event parts.0 parts.1 parts.2)
+    (answered-alike tags bound history (filter (stays tags bound) history)
+    (alike-without tags bound history covered owned) event parts.0 parts.1 parts.2)
 
 -- an entry in front of those that stay, if it stays
 abbrev kept_first : Bool → EntryForm → List EntryForm → List EntryForm
 kept_first stay entry rest = cond stay (entry ∷ rest) rest
 
 run-stays : (tags bound : List (List ℕ)) (events : List EventForm) (history : History) → AreOrderly events →
-    AllByRecursion (Covered tags bound) history → AllByRecursion (Owned history) history → AllByRecursion (Covered tags bound) (run_after history events) →
-    run_after (filter (stays tags bound) history) (map (λ entry. entry.event) (filter (stays tags bound) (run_after history events)))
+    AllByRecursion (Covered tags bound) history → AllByRecursion (Owned history) history
+    → AllByRecursion (Covered tags bound) (run_after history events) →
+    run_after (filter (stays tags bound) history) (map (λ entry. entry.event)
+    (filter (stays tags bound) (run_after history events)))
     ≡ filter (stays tags bound) (run_after history events)
 run-stays tags bound [] history orderly covered owned covers = refl
 run-stays tags bound (event ∷ events) history orderly covered owned covers =
     go (stays tags bound (entry_of history event)) refl
     (run-stays tags bound events (recorded (entry_of history event) history) orderly.1
-    (covered-recorded tags bound (entry_of history event) history covers.0 covered) (owned-recorded history event orderly.0 owned) covers.1)
+    (covered-recorded tags bound (entry_of history event) history covers.0 covered)
+    (owned-recorded history event orderly.0 owned) covers.1)
   where
     rest : List EntryForm
     rest = filter (stays tags bound) (run_after (recorded (entry_of history event) history) events)
 
     go : (stay : Bool) → stays tags bound (entry_of history event) ≡ stay →
-        run_after (filter (stays tags bound) (recorded (entry_of history event) history)) (map (λ entry. entry.event) rest) ≡ rest →
-        run_after (filter (stays tags bound) history) (map (λ entry. entry.event) (kept_first stay (entry_of history event) rest))
+        run_after (filter (stays tags bound) (recorded (entry_of history event) history))
+        (map (λ entry. entry.event) rest) ≡ rest →
+        run_after (filter (stays tags bound) history) (map (λ entry. entry.event)
+        (kept_first stay (entry_of history event) rest))
         ≡ kept_first stay (entry_of history event) rest
     go false is later = rw (← dropped tags bound (entry_of history event) history is) later
     go true is later =
-        ap (λ entry. entry ∷ run_after (recorded entry (filter (stays tags bound) history)) (map (λ entry. entry.event) rest))
+        ap (λ entry. entry ∷ run_after (recorded entry (filter (stays tags bound) history))
+        (map (λ entry. entry.event) rest))
         (same-entry tags bound history covered owned event is)
-        ∙ ap (λ entries. entry_of history event ∷ entries) (rw (grown tags bound (entry_of history event) history is) at later)
+        ∙ ap (λ entries. entry_of history event ∷ entries) (rw
+        (grown tags bound (entry_of history event) history is) at later)
 
 pub events-removed : RemovalOfEvents
 events-removed tags events orderly =

@@ -24,27 +24,33 @@ kept-read-back keeps (row ∷ rows) all = go (keeps row) (kept-read-back keeps r
     go false rest = rest
 
 -- the lines of the input that is left are the lines that stay
-items-without : (tags : List (List ℕ)) (bytes : List ℕ) → items_of (without tags bytes) ≡ map item_in (rows_without tags bytes)
+items-without : (tags : List (List ℕ)) (bytes : List ℕ) → items_of (without tags bytes)
+    ≡ map item_in (rows_without tags bytes)
 items-without tags bytes =
     let keeps : Row → Bool = row_stays tags (bound_batches tags (run_of (events_in (items_of bytes)))) in
     let read = read-back (pieces bytes) (rows_after [] (items_of bytes)) (items-of-rows (items_of bytes) []) in
     let cut : AreCut (map piece_of (rows_after [] (items_of bytes))) = rw read.0 (pieces-cut bytes) in
-    ap (map item_of) (pieces-joined piece_of (rows_without tags bytes) (filter-cut piece_of keeps (rows_after [] (items_of bytes)) cut))
+    ap (map item_of) (pieces-joined piece_of (rows_without tags bytes)
+    (filter-cut piece_of keeps (rows_after [] (items_of bytes)) cut))
     ∙ kept-read-back keeps (rows_after [] (items_of bytes)) read.1
 
 -- what ends the output of the lines that stay
 closing-stays : (tags : List (List ℕ)) (items : List Item) → AreOrderly (events_in items) →
     history_after [] (events_in (map item_in (staying_rows tags items)))
     ≡ filter (stays tags (bound_batches tags (run_of (events_in items)))) (history_after [] (events_in items))
-closing-stays tags items orderly = ap (history_after []) (staying-events tags items) ∙ history-without tags (events_in items) orderly
+closing-stays tags items orderly = ap (history_after []) (staying-events tags items)
+    ∙ history-without tags (events_in items) orderly
 
 pub lines-removed : RemovalOfLines
 lines-removed tags bytes =
     let orderly = events-orderly (pieces bytes) in
     let bound = bound_batches tags (run_of (events_in (items_of bytes))) in
-    ap (λ items. rows_text (rows_after [] items) ++ closing_text (history_after [] (events_in items))) (items-without tags bytes)
+    ap (λ items. rows_text (rows_after [] items) ++ closing_text (history_after [] (events_in items)))
+    (items-without tags bytes)
     ∙ ap (λ rows. rows_text rows ++ closing_text (history_after [] (events_in (map item_in (rows_without tags bytes)))))
     (rows-stay tags (items_of bytes) orderly)
-    ∙ ap (λ history. rows_text (rows_without tags bytes) ++ closing_text history) (closing-stays tags (items_of bytes) orderly)
+    ∙ ap (λ history. rows_text (rows_without tags bytes) ++ closing_text history)
+    (closing-stays tags (items_of bytes) orderly)
     ∙ ap (λ lines. rows_text (rows_without tags bytes) ++ (lines ++ end_text))
-    (batch-lines-stay tags bound (history_after [] (events_in (items_of bytes))) (covered-after tags (events_in (items_of bytes))))
+    (batch-lines-stay tags bound (history_after [] (events_in (items_of bytes)))
+    (covered-after tags (events_in (items_of bytes))))

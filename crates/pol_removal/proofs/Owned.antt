@@ -25,7 +25,8 @@ use Rattle.pol_removal.proofs.Each.{all-map}
 
 -- the batch whose accepted start the entry is holds each module that the start binds, while it is open
 abbrev pub Owned : History → EntryForm → Type 0
-Owned history entry = (batch tag : List ℕ) → takes tag entry ≡ Some batch → outcome_of history batch ≡ None → holder_of history tag ≡ Some batch
+Owned history entry = (batch tag : List ℕ) → takes tag entry ≡ Some batch → outcome_of history batch ≡ None
+    → holder_of history tag ≡ Some batch
 
 -- an entry that takes a module is accepted, and its event takes the module
 pub takes-parts : (accepted : Bool) (taken : Option (List ℕ)) (batch : List ℕ) → cond accepted taken None ≡ Some batch
@@ -39,7 +40,8 @@ not-held : (tag : List ℕ) (holder : Option (List ℕ)) → busy_module tag hol
 not-held tag None none = refl
 not-held tag (Some batch) none = cc
 
-bound-free : (history : History) (binds : List Bind) (roles : List (List ℕ)) (tag : List ℕ) → roles_once binds ≡ true → is_among (tags_of binds) tag ≡ true →
+bound-free : (history : History) (binds : List Bind) (roles : List (List ℕ)) (tag : List ℕ) → roles_once binds ≡ true
+    → is_among (tags_of binds) tag ≡ true →
     role_unknown binds roles ≡ None → busy history binds roles ≡ None → holder_of history tag ≡ None
 bound-free history binds roles tag once inside known free =
     let (bind, within, tag_is) = member-image (λ bind. bind.tag) binds tag (among-member (tags_of binds) tag inside) in
@@ -48,8 +50,10 @@ bound-free history binds roles tag once inside known free =
     (binds-known binds roles bind known within) in
     not-held tag (holder_of history tag) (ap (busy_role history) (sym is) ∙ none)
 
-started-free : (history : History) (batch : List ℕ) (binds : List Bind) (chart : Option ChartPlan) (tag : List ℕ) → roles_once binds ≡ true →
-    is_among (tags_of binds) tag ≡ true → NoneHolds (start_rules history batch binds chart) → holder_of history tag ≡ None
+started-free : (history : History) (batch : List ℕ) (binds : List Bind) (chart : Option ChartPlan) (tag : List ℕ)
+    → roles_once binds ≡ true →
+    is_among (tags_of binds) tag ≡ true → NoneHolds (start_rules history batch binds chart)
+    → holder_of history tag ≡ None
 started-free history batch binds None tag once inside none = let clash = none.0 in cc
 started-free history batch binds (Some chart) tag once inside none =
     bound-free history binds (role_names chart) tag once inside none.1.1.0 none.1.1.1.1.1.0
@@ -58,17 +62,20 @@ bound-by : (inside : Bool) (named batch : List ℕ) → cond inside (Some named)
 bound-by true named batch is = refl
 bound-by false named batch is = cc
 
-pub taken-free : (history : History) (event : EventForm) (tag batch : List ℕ) → is_orderly event ≡ true → is_accepted (answer_of history event) ≡ true →
+pub taken-free : (history : History) (event : EventForm) (tag batch : List ℕ) → is_orderly event ≡ true
+    → is_accepted (answer_of history event) ≡ true →
     taking tag event ≡ Some batch → holder_of history tag ≡ None
 taken-free history (start at named recipe binds) tag batch orderly accepted taken =
     started-free history named binds (chart_named recipe (recipes history)) tag
     (rising_distinct binds (and_parts (nat_le (length binds) MOST_BINDS) (rise binds) orderly).1)
-    (bound-by (is_among (tags_of binds) tag) named batch taken) (accepted-none history (start at named recipe binds) accepted)
+    (bound-by (is_among (tags_of binds) tag) named batch taken)
+    (accepted-none history (start at named recipe binds) accepted)
 taken-free history _ tag batch orderly accepted taken = cc
 
 -- ---- one more entry
 
-still-open : (history : History) (batch : List ℕ) → outcome_of history batch ≡ None → if_open history (Some batch) ≡ Some batch
+still-open : (history : History) (batch : List ℕ) → outcome_of history batch ≡ None
+    → if_open history (Some batch) ≡ Some batch
 still-open history batch is = rw is
 
 clash : {A : Type 0} (holder : Option (List ℕ)) (batch : List ℕ) → holder ≡ None → holder ≡ Some batch → A
@@ -83,8 +90,10 @@ owned-more history event orderly entry owned batch tag took is = go (takes tag (
     held = owned batch tag took (open-before history (entry_of history event) batch is)
 
     go : (taken : Option (List ℕ)) → takes tag (entry_of history event) ≡ taken →
-        if_open (entry_of history event ∷ history) (option_or (takes tag (entry_of history event)) (last_of (takes tag) history)) ≡ Some batch
-    go None none = rw (none, (open-some history (last_of (takes tag) history) batch held).0) (still-open (entry_of history event ∷ history) batch is)
+        if_open (entry_of history event ∷ history) (option_or (takes tag (entry_of history event))
+        (last_of (takes tag) history)) ≡ Some batch
+    go None none = rw (none, (open-some history (last_of (takes tag) history) batch held).0)
+        (still-open (entry_of history event ∷ history) batch is)
     go (Some other) some =
         let parts = takes-parts (is_accepted (answer_of history event)) (taking tag event) other some in
         clash (holder_of history tag) batch (taken-free history event tag other orderly parts.0 parts.1) held
@@ -92,13 +101,16 @@ owned-more history event orderly entry owned batch tag took is = go (takes tag (
 owned-new : (history : History) (entry : EntryForm) → Owned (entry ∷ history) entry
 owned-new history entry batch tag took is = rw took (still-open (entry ∷ history) batch is)
 
-pub owned-recorded : (history : History) (event : EventForm) → is_orderly event ≡ true → AllByRecursion (Owned history) history →
+pub owned-recorded : (history : History) (event : EventForm) → is_orderly event ≡ true
+    → AllByRecursion (Owned history) history →
     AllByRecursion (Owned (recorded (entry_of history event) history)) (recorded (entry_of history event) history)
 owned-recorded history event orderly owned = go (is_recorded (answer_of history event))
   where
-    go : (kept : Bool) → AllByRecursion (Owned (cond kept (entry_of history event ∷ history) history)) (cond kept (entry_of history event ∷ history) history)
+    go : (kept : Bool) → AllByRecursion (Owned (cond kept (entry_of history event ∷ history) history))
+        (cond kept (entry_of history event ∷ history) history)
     go true = (
       owned-new history (entry_of history event),
-      all-map (Owned history) (Owned (entry_of history event ∷ history)) (owned-more history event orderly) history owned,
+      all-map (Owned history) (Owned (entry_of history event ∷ history))
+          (owned-more history event orderly) history owned,
     )
     go false = owned

@@ -19,12 +19,14 @@ pub pieces-cut : (bytes : List ℕ) → AreCut (pieces bytes)
 pieces-cut [] = tt
 pieces-cut (byte ∷ bytes) = go (byte == 10) refl (pieces-cut bytes)
   where
-    go : (feed : Bool) → (byte == 10) ≡ feed → AreCut (pieces bytes) → AreCut (cond feed ((byte ∷ []) ∷ pieces bytes) (onto_first byte (pieces bytes)))
+    go : (feed : Bool) → (byte == 10) ≡ feed → AreCut (pieces bytes)
+        → AreCut (cond feed ((byte ∷ []) ∷ pieces bytes) (onto_first byte (pieces bytes)))
     go true is cut = (rw is, inl is, cut)
     go false is cut = cut-front byte (pieces bytes) is cut
 
 -- some of them are cut too
-pub filter-cut : {X : Type 0} (piece_of : X → List ℕ) (keeps : X → Bool) (xs : List X) → AreCut (map piece_of xs) → AreCut (map piece_of (filter keeps xs))
+pub filter-cut : {X : Type 0} (piece_of : X → List ℕ) (keeps : X → Bool) (xs : List X) → AreCut (map piece_of xs)
+    → AreCut (map piece_of (filter keeps xs))
 filter-cut piece_of keeps [] cut = tt
 filter-cut {X} piece_of keeps (x ∷ xs) cut = go (keeps x) (filter-cut piece_of keeps xs cut.2)
   where
@@ -32,19 +34,23 @@ filter-cut {X} piece_of keeps (x ∷ xs) cut = go (keeps x) (filter-cut piece_of
     last [] none = refl
     last (y ∷ ys) none = cc
 
-    ended : IsTrue (is_whole (piece_of x)) ⊎ (map piece_of xs ≡ []) → IsTrue (is_whole (piece_of x)) ⊎ (map piece_of (filter keeps xs) ≡ [])
+    ended : IsTrue (is_whole (piece_of x)) ⊎ (map piece_of xs ≡ [])
+        → IsTrue (is_whole (piece_of x)) ⊎ (map piece_of (filter keeps xs) ≡ [])
     ended (inl whole) = inl whole
     ended (inr none) = inr (last xs none)
 
-    go : (kept : Bool) → AreCut (map piece_of (filter keeps xs)) → AreCut (map piece_of (cond kept (x ∷ filter keeps xs) (filter keeps xs)))
+    go : (kept : Bool) → AreCut (map piece_of (filter keeps xs))
+        → AreCut (map piece_of (cond kept (x ∷ filter keeps xs) (filter keeps xs)))
     go true rest = (cut.0, ended cut.1, rest)
     go false rest = rest
 
-pub pieces-joined : {X : Type 0} (piece_of : X → List ℕ) (xs : List X) → AreCut (map piece_of xs) → pieces (flat_map piece_of xs) ≡ map piece_of xs
+pub pieces-joined : {X : Type 0} (piece_of : X → List ℕ) (xs : List X) → AreCut (map piece_of xs)
+    → pieces (flat_map piece_of xs) ≡ map piece_of xs
 pieces-joined piece_of [] cut = refl
 pieces-joined {X} piece_of (x ∷ xs) cut = go xs cut.1 (pieces-joined piece_of xs cut.2)
   where
-    go : (xs : List X) → IsTrue (is_whole (piece_of x)) ⊎ (map piece_of xs ≡ []) → pieces (flat_map piece_of xs) ≡ map piece_of xs →
+    go : (xs : List X) → IsTrue (is_whole (piece_of x)) ⊎ (map piece_of xs ≡ [])
+        → pieces (flat_map piece_of xs) ≡ map piece_of xs →
         pieces (piece_of x ++ flat_map piece_of xs) ≡ piece_of x ∷ map piece_of xs
     go xs (inl whole) rest =
         pieces-append (piece_of x) (flat_map piece_of xs) whole

@@ -16,7 +16,8 @@ use Rattle.pol_removal.specs.Removal.{piece_of}
 
 said-orderly : (line : List ℕ) (event : EventForm) → saying_of line ≡ an_event event → is_orderly event ≡ true
 unfolding saying_of
-said-orderly line event says = go (nat_lt LONGEST_LINE (length line)) (list_all is_blank_byte line) (event_of line) refl says
+said-orderly line event says = go (nat_lt LONGEST_LINE (length line)) (list_all is_blank_byte line)
+    (event_of line) refl says
   where
     go : (long empty : Bool) (read : Result EventForm LineFault) → event_of line ≡ read →
         cond long (a_fault TooLong) (cond empty nothing (saying_from read)) ≡ an_event event → is_orderly event ≡ true
@@ -71,6 +72,7 @@ read-back (piece ∷ pieces) [] is = cc
 read-back (piece ∷ pieces) (row ∷ rows) is =
     let first : item_in row ≡ item_of piece = cc in
     let others : map item_in rows ≡ map item_of pieces = cc in
-    let same : piece_of row ≡ piece = sym (row-piece row) ∙ ap item_piece first ∙ item-piece piece (saying_of (line_of piece)) in
+    let same : piece_of row ≡ piece = sym (row-piece row) ∙ ap item_piece first
+    ∙ item-piece piece (saying_of (line_of piece)) in
     let rest = read-back pieces rows others in
     (rw (same, rest.0), (ap item_of same ∙ sym first, rest.1))

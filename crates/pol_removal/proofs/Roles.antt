@@ -9,15 +9,18 @@ use Rattle.pol_events.specs.Bound.{bound_tag, tags_of}
 use Rattle.pol_removal.specs.Removal.{is_some_among}
 
 -- a module that plays a role isn't taken out, where none of the bound ones is
-pub played-outside : (tags : List (List ℕ)) (binds : List Bind) (role tag : List ℕ) → is_some_among tags (tags_of binds) ≡ false →
+pub played-outside : (tags : List (List ℕ)) (binds : List Bind) (role tag : List ℕ)
+    → is_some_among tags (tags_of binds) ≡ false →
     bound_tag binds role ≡ Some tag → is_among tags tag ≡ false
 played-outside tags [] role tag apart is = cc
-played-outside tags (bind ∷ binds) role tag apart is = go (bytes_eq bind.role role) is (played-outside tags binds role tag parts.1)
+played-outside tags (bind ∷ binds) role tag apart is = go (bytes_eq bind.role role) is
+    (played-outside tags binds role tag parts.1)
   where
     parts : (is_among tags bind.tag ≡ false) × (is_some_among tags (tags_of binds) ≡ false)
     parts = or_parts (is_among tags bind.tag) (is_some_among tags (tags_of binds)) apart
 
-    go : (same : Bool) → option_map (λ bind. bind.tag) (cond same (Some bind) (find (λ bind. bytes_eq bind.role role) binds)) ≡ Some tag →
+    go : (same : Bool) → option_map (λ bind. bind.tag) (cond same (Some bind)
+        (find (λ bind. bytes_eq bind.role role) binds)) ≡ Some tag →
         (bound_tag binds role ≡ Some tag → is_among tags tag ≡ false) → is_among tags tag ≡ false
     go true is rest = let same : bind.tag ≡ tag = cc in ap (is_among tags) (sym same) ∙ parts.0
     go false is rest = rest is

@@ -20,11 +20,13 @@ entries_in (answered piece entry ∷ rows) = entry ∷ entries_in rows
 pub items-of-rows : (items : List Item) (history : History) → map item_in (rows_after history items) ≡ items
 items-of-rows [] history = refl
 items-of-rows (blank piece ∷ items) history = ap (λ items. blank piece ∷ items) (items-of-rows items history)
-items-of-rows (faulty piece fault ∷ items) history = ap (λ items. faulty piece fault ∷ items) (items-of-rows items history)
+items-of-rows (faulty piece fault ∷ items) history = ap (λ items. faulty piece fault ∷ items)
+    (items-of-rows items history)
 items-of-rows (happening piece event ∷ items) history =
     ap (λ items. happening piece event ∷ items) (items-of-rows items (recorded (entry_of history event) history))
 
-entries-of-rows : (items : List Item) (history : History) → entries_in (rows_after history items) ≡ run_after history (events_in items)
+entries-of-rows : (items : List Item) (history : History) → entries_in (rows_after history items)
+    ≡ run_after history (events_in items)
 entries-of-rows [] history = refl
 entries-of-rows (blank piece ∷ items) history = entries-of-rows items history
 entries-of-rows (faulty piece fault ∷ items) history = entries-of-rows items history
@@ -44,14 +46,16 @@ rows-again (skipped piece ∷ list) = ap (λ list. skipped piece ∷ list) (rows
 rows-again (bad piece fault ∷ list) = ap (λ list. bad piece fault ∷ list) (rows-again list)
 rows-again (answered piece entry ∷ list) = ap (λ list. answered piece entry ∷ list) (rows-again list)
 
-entries-stay : (tags bound : List (List ℕ)) (list : List Row) → entries_in (filter (row_stays tags bound) list) ≡ filter (stays tags bound) (entries_in list)
+entries-stay : (tags bound : List (List ℕ)) (list : List Row)
+    → entries_in (filter (row_stays tags bound) list) ≡ filter (stays tags bound) (entries_in list)
 entries-stay tags bound [] = refl
 entries-stay tags bound (skipped piece ∷ list) = entries-stay tags bound list
 entries-stay tags bound (bad piece fault ∷ list) = entries-stay tags bound list
 entries-stay tags bound (answered piece entry ∷ list) = go (stays tags bound entry) (entries-stay tags bound list)
   where
     go : (stay : Bool) → entries_in (filter (row_stays tags bound) list) ≡ filter (stays tags bound) (entries_in list) →
-        entries_in (cond stay (answered piece entry ∷ filter (row_stays tags bound) list) (filter (row_stays tags bound) list))
+        entries_in (cond stay (answered piece entry ∷ filter (row_stays tags bound) list)
+        (filter (row_stays tags bound) list))
         ≡ cond stay (entry ∷ filter (stays tags bound) (entries_in list)) (filter (stays tags bound) (entries_in list))
     go true rest = ap (λ entries. entry ∷ entries) rest
     go false rest = rest
@@ -60,20 +64,24 @@ entries-stay tags bound (answered piece entry ∷ list) = go (stays tags bound e
 abbrev pub staying_rows : List (List ℕ) → List Item → List Row
 staying_rows tags items = filter (row_stays tags (bound_batches tags (run_of (events_in items)))) (rows_after [] items)
 
-staying-entries : (tags : List (List ℕ)) (items : List Item) → entries_in (staying_rows tags items) ≡ entries_without tags (events_in items)
+staying-entries : (tags : List (List ℕ)) (items : List Item)
+    → entries_in (staying_rows tags items) ≡ entries_without tags (events_in items)
 staying-entries tags items =
     entries-stay tags (bound_batches tags (run_of (events_in items))) (rows_after [] items)
     ∙ ap (filter (stays tags (bound_batches tags (run_of (events_in items))))) (entries-of-rows items [])
 
 -- the events that they have are those of the entries that stay
 pub staying-events : (tags : List (List ℕ)) (items : List Item) →
-    events_in (map item_in (staying_rows tags items)) ≡ map (λ entry. entry.event) (entries_without tags (events_in items))
-staying-events tags items = events-of-items (staying_rows tags items) ∙ ap (map (λ entry. entry.event)) (staying-entries tags items)
+    events_in (map item_in (staying_rows tags items)) ≡ map (λ entry. entry.event)
+    (entries_without tags (events_in items))
+staying-events tags items = events-of-items (staying_rows tags items)
+    ∙ ap (map (λ entry. entry.event)) (staying-entries tags items)
 
 -- and their own rows are these
 pub rows-stay : (tags : List (List ℕ)) (items : List Item) → AreOrderly (events_in items) →
     rows_after [] (map item_in (staying_rows tags items)) ≡ staying_rows tags items
 rows-stay tags items orderly =
     ap (λ events. rows (map item_in (staying_rows tags items)) (run_of events)) (staying-events tags items)
-    ∙ ap (rows (map item_in (staying_rows tags items))) (events-removed tags (events_in items) orderly ∙ sym (staying-entries tags items))
+    ∙ ap (rows (map item_in (staying_rows tags items))) (events-removed tags (events_in items) orderly
+    ∙ sym (staying-entries tags items))
     ∙ rows-again (staying_rows tags items)

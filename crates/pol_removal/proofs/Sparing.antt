@@ -16,7 +16,8 @@ use Rattle.pol_removal.proofs.Each.{all-map}
 
 -- where the entry is an accepted start that binds one of the modules, it is of one of the batches
 abbrev pub Covered : List (List ℕ) → List (List ℕ) → EntryForm → Type 0
-Covered tags bound entry = (binds_one tags entry.event && is_accepted entry.answer) ≡ true → is_of tags bound (subject entry.event) ≡ true
+Covered tags bound entry = (binds_one tags entry.event && is_accepted entry.answer) ≡ true
+    → is_of tags bound (subject entry.event) ≡ true
 
 accepted-own : (answer : Answer) → is_accepted answer ≡ true → is_refused_for_another answer ≡ false
 accepted-own (Refused rule) accepted = cc
@@ -26,14 +27,18 @@ accepted-own _ accepted = refl
 pub unnamed-stays : (tags bound : List (List ℕ)) (entry : EntryForm) → is_of tags bound (subject entry.event) ≡ false →
     binds_one tags entry.event ≡ false → is_accepted entry.answer ≡ true → stays tags bound entry ≡ true
 unnamed-stays tags bound entry out apart accepted =
-    not_from_false (is_concerned tags bound entry) (or_from (is_named tags bound entry.event) (is_refused_for_another entry.answer)
-    (or_from (is_of tags bound (subject entry.event)) (binds_one tags entry.event) out apart) (accepted-own entry.answer accepted))
+    not_from_false (is_concerned tags bound entry) (or_from (is_named tags bound entry.event)
+    (is_refused_for_another entry.answer)
+    (or_from (is_of tags bound (subject entry.event)) (binds_one tags entry.event) out apart)
+    (accepted-own entry.answer accepted))
 
 -- what an entry that stays is
 pub stays-parts : (tags bound : List (List ℕ)) (entry : EntryForm) → stays tags bound entry ≡ true →
-    (is_of tags bound (subject entry.event) ≡ false) × (binds_one tags entry.event ≡ false) × (is_refused_for_another entry.answer ≡ false)
+    (is_of tags bound (subject entry.event) ≡ false) × (binds_one tags entry.event ≡ false)
+    × (is_refused_for_another entry.answer ≡ false)
 stays-parts tags bound entry stay =
-    let outer = or_parts (is_named tags bound entry.event) (is_refused_for_another entry.answer) (not-true (is_concerned tags bound entry) stay) in
+    let outer = or_parts (is_named tags bound entry.event) (is_refused_for_another entry.answer)
+    (not-true (is_concerned tags bound entry) stay) in
     let inner = or_parts (is_of tags bound (subject entry.event)) (binds_one tags entry.event) outer.0 in
     (inner.0, inner.1, outer.1)
 
@@ -43,7 +48,8 @@ module-binds-none : (tag : List ℕ) (event : EventForm) → is_module tag (subj
 module-binds-none tag (start at batch name binds) of_tag = cc
 module-binds-none tag _ of_tag = refl
 
-other-module : (tags bound : List (List ℕ)) (tag : List ℕ) (of : Subject) → is_module tag of ≡ true → is_among tags tag ≡ false → is_of tags bound of ≡ false
+other-module : (tags bound : List (List ℕ)) (tag : List ℕ) (of : Subject) → is_module tag of ≡ true
+    → is_among tags tag ≡ false → is_of tags bound of ≡ false
 other-module tags bound tag (of_module other) same outside = rw (same-true other tag same) outside
 other-module tags bound tag (of_batch batch) same outside = cc
 other-module tags bound tag (of_recipe name) same outside = cc
@@ -60,7 +66,8 @@ pub past-stays : (tags bound : List (List ℕ)) (history : History) (tag : List 
     past tag (filter (stays tags bound) history) ≡ past tag history
 past-stays tags bound history tag outside =
     filter-kept (is_accepted_of tag) (stays tags bound) history
-    (all-of (λ entry. is_accepted_of tag entry ≡ true → stays tags bound entry ≡ true) (of-module-stays tags bound tag outside) history)
+    (all-of (λ entry. is_accepted_of tag entry ≡ true → stays tags bound entry ≡ true)
+    (of-module-stays tags bound tag outside) history)
 
 -- ---- batches
 
@@ -71,21 +78,26 @@ other-batch tags bound batch (of_batch other) same outside = rw (same-true other
 other-batch tags bound batch (of_recipe name) same outside = cc
 
 -- an accepted event of another batch binds none of the modules
-pub other-batch-apart : (tags bound : List (List ℕ)) (entry : EntryForm) → Covered tags bound entry → is_of tags bound (subject entry.event) ≡ false →
+pub other-batch-apart : (tags bound : List (List ℕ)) (entry : EntryForm) → Covered tags bound entry
+    → is_of tags bound (subject entry.event) ≡ false →
     is_accepted entry.answer ≡ true → binds_one tags entry.event ≡ false
 other-batch-apart tags bound entry covers out accepted =
     false_from_ne_true (binds_one tags entry.event)
-    (λ one. both_ways (is_of tags bound (subject entry.event)) out (covers (and_from (binds_one tags entry.event) (is_accepted entry.answer) one accepted)))
+    (λ one. both_ways (is_of tags bound (subject entry.event)) out
+    (covers (and_from (binds_one tags entry.event) (is_accepted entry.answer) one accepted)))
 
-of-batch-stays : (tags bound : List (List ℕ)) (batch : List ℕ) → is_among bound batch ≡ false → (entry : EntryForm) → Covered tags bound entry →
+of-batch-stays : (tags bound : List (List ℕ)) (batch : List ℕ) → is_among bound batch ≡ false → (entry : EntryForm)
+    → Covered tags bound entry →
     is_accepted_of_batch batch entry ≡ true → stays tags bound entry ≡ true
 of-batch-stays tags bound batch outside entry covers taken =
     let parts = and_parts (is_batch batch (subject entry.event)) (is_accepted entry.answer) taken in
     let out = other-batch tags bound batch (subject entry.event) parts.0 outside in
     unnamed-stays tags bound entry out (other-batch-apart tags bound entry covers out parts.1) parts.1
 
-pub past-of-batch-stays : (tags bound : List (List ℕ)) (history : History) → AllByRecursion (Covered tags bound) history →
-    (batch : List ℕ) → is_among bound batch ≡ false → past_of_batch batch (filter (stays tags bound) history) ≡ past_of_batch batch history
+pub past-of-batch-stays : (tags bound : List (List ℕ)) (history : History)
+    → AllByRecursion (Covered tags bound) history →
+    (batch : List ℕ) → is_among bound batch ≡ false → past_of_batch batch (filter (stays tags bound) history)
+    ≡ past_of_batch batch history
 past-of-batch-stays tags bound history covered batch outside =
     filter-kept (is_accepted_of_batch batch) (stays tags bound) history
     (all-map (Covered tags bound) (λ entry. is_accepted_of_batch batch entry ≡ true → stays tags bound entry ≡ true)
@@ -102,13 +114,16 @@ recipe-unnamed tags bound (of_module tag) is = cc
 recipe-unnamed tags bound (of_batch batch) is = cc
 recipe-unnamed tags bound (of_recipe name) is = refl
 
-recipe-stays : (tags bound : List (List ℕ)) (entry : EntryForm) → is_accepted_recipe entry ≡ true → stays tags bound entry ≡ true
+recipe-stays : (tags bound : List (List ℕ)) (entry : EntryForm) → is_accepted_recipe entry ≡ true
+    → stays tags bound entry ≡ true
 recipe-stays tags bound entry taken =
     let parts = and_parts (is_recipe (subject entry.event)) (is_accepted entry.answer) taken in
     let none = recipe-binds-none entry.event parts.0 in
     unnamed-stays tags bound entry (recipe-unnamed tags bound (subject entry.event) parts.0) (rw none) parts.1
 
-pub recipes-stay : (tags bound : List (List ℕ)) (history : History) → recipes (filter (stays tags bound) history) ≡ recipes history
+pub recipes-stay : (tags bound : List (List ℕ)) (history : History)
+    → recipes (filter (stays tags bound) history) ≡ recipes history
 recipes-stay tags bound history =
     filter-kept is_accepted_recipe (stays tags bound) history
-    (all-of (λ entry. is_accepted_recipe entry ≡ true → stays tags bound entry ≡ true) (recipe-stays tags bound) history)
+    (all-of (λ entry. is_accepted_recipe entry ≡ true → stays tags bound entry ≡ true)
+    (recipe-stays tags bound) history)

@@ -40,7 +40,8 @@ binds_one tags event = is_some_among tags (tags_of (binds_in event))
 
 -- the batch of an accepted start that binds one of these modules
 abbrev pub bound_batch : List (List ℕ) → EntryForm → Option (List ℕ)
-bound_batch tags entry = if binds_one tags entry.event && is_accepted entry.answer then started_batch entry.event else None
+bound_batch tags entry = if binds_one tags entry.event && is_accepted entry.answer then started_batch
+    entry.event else None
 
 -- the batches that are bound to one of these modules, in these entries
 abbrev pub bound_batches : List (List ℕ) → List EntryForm → List (List ℕ)

@@ -84,14 +84,16 @@ none-counted tag from (entry ∷ older) service command stays none =
     silent within e = quiet entry.answer (rw (le-true from (length older) within) at e)
       where
         nothing : (did : LogEntry) (sent : Option Sent) →
-            (if is_some sent then option_map {U = Found} (λ did. record { did = did; place = length older }) (Some did) else None)
+            (if is_some sent then option_map {U = Found} (λ did. record { did = did; place = length older })
+            (Some did) else None)
             ≡ None → sent ≡ None
         nothing did None e = refl
         nothing did (Some sent) e = cc
 
         quiet : (answer : Answer) →
             (if is_some (if_to tag (sent_command answer))
-            then option_map {U = Found} (λ did. record { did = did; place = length older }) (taken answer) else None) ≡ None →
+            then option_map {U = Found} (λ did. record { did = did; place = length older })
+            (taken answer) else None) ≡ None →
             if_to tag (sent_command answer) ≡ None
         quiet (Did did) e = nothing did (if_to tag (sent_by did)) e
         quiet _ e = refl
@@ -154,25 +156,41 @@ pub record IsAt (tag : List ℕ) (from : ℕ) (older : History) (entry : EntryFo
   pub place : found.place ≡ length older
 
 -- where it is found at an entry, it is there
-pub is-at : (tag : List ℕ) (from : ℕ) (older : History) (entry : EntryForm) (found : Found) → found_at tag from (length older) entry ≡ Some found → IsAt tag from older entry found
-is-at tag from older entry found is = go (nat_le from (length older)) refl (sent_to tag entry) refl (taken entry.answer) refl is
+pub is-at : (tag : List ℕ) (from : ℕ) (older : History) (entry : EntryForm) (found : Found)
+    → found_at tag from (length older) entry ≡ Some found → IsAt tag from older entry found
+is-at tag from older entry found is = go (nat_le from (length older)) refl (sent_to tag entry) refl
+    (taken entry.answer) refl is
   where
-    go : (late : Bool) → nat_le from (length older) ≡ late → (sent : Option Sent) → sent_to tag entry ≡ sent → (did : Option LogEntry) → taken entry.answer ≡ did
-        → (if late && is_some sent then option_map {U = Found} (λ did. record { did = did; place = length older }) did else None) ≡ Some found → IsAt tag from older entry found
+    go : (late : Bool) → nat_le from (length older) ≡ late → (sent : Option Sent) → sent_to tag entry ≡ sent
+        → (did : Option LogEntry) → taken entry.answer ≡ did
+        → (if late && is_some sent then option_map {U = Found}
+        (λ did. record { did = did; place = length older }) did else None) ≡ Some found
+        → IsAt tag from older entry found
     go false late sent sends did took e = cc
     go true late None sends did took e = cc
     go true late (Some sent) sends None took e = cc
     go true late (Some sent) sends (Some did) took e =
         let same = same_Some _ found e in
-        record { late = late; sent = sent; sends = sends; took = took ∙ ap Some (ap (λ (f : Found). f.did) same); place = sym (ap (λ (f : Found). f.place) same) }
+        record {
+          late = late;
+          sent = sent;
+          sends = sends;
+          took = took
+              ∙ ap Some (ap (λ (f : Found). f.did) same);
+          place = sym (ap (λ (f : Found). f.place) same);
+        }
 
 -- it stands in the history, and not before the place to look from
-pub found-within : (tag : List ℕ) (from : ℕ) (history : History) (found : Found) → next_command tag from history ≡ Some found → (found.place < length history) × (from ≤ found.place)
+pub found-within : (tag : List ℕ) (from : ℕ) (history : History) (found : Found)
+    → next_command tag from history ≡ Some found → (found.place < length history) × (from ≤ found.place)
 found-within tag from [] found is = cc
-found-within tag from (entry ∷ older) found is = go (next_command tag from older) refl is (found-within tag from older found)
+found-within tag from (entry ∷ older) found is = go (next_command tag from older) refl is
+    (found-within tag from older found)
   where
-    go : (earlier : Option Found) → next_command tag from older ≡ earlier → option_or earlier (found_at tag from (length older) entry) ≡ Some found
-        → (next_command tag from older ≡ Some found → (found.place < length older) × (from ≤ found.place)) → (found.place < length (entry ∷ older)) × (from ≤ found.place)
+    go : (earlier : Option Found) → next_command tag from older ≡ earlier
+        → option_or earlier (found_at tag from (length older) entry) ≡ Some found
+        → (next_command tag from older ≡ Some found → (found.place < length older) × (from ≤ found.place))
+        → (found.place < length (entry ∷ older)) × (from ≤ found.place)
     go (Some first) earlier e again =
         let inside = again (earlier ∙ ap Some (same_Some first found e)) in (omega (arith, inside.0), inside.1)
     go None earlier e again =

@@ -35,14 +35,17 @@ nth-passing {A} test (first ∷ others) (suc n) x at passes = go (test first) (n
 passing-more : {A : Type 0} (test : A → Bool) (xs : List A) (n : ℕ) (x : A) → slice_get xs n ≡ Some x →
     length (filter test (take (suc n) xs)) ≡ (if test x then 1 else 0) + length (filter test (take n xs))
 passing-more test [] n x at = cc
-passing-more test (first ∷ others) zero x at = ap (λ b. length (cond b (first ∷ []) [])) (ap test (same_Some first x at)) ∙ go (test x)
+passing-more test (first ∷ others) zero x at = ap (λ b. length (cond b (first ∷ []) []))
+    (ap test (same_Some first x at)) ∙ go (test x)
   where
     go : (own : Bool) → length (cond own (first ∷ []) []) ≡ (if own then 1 else 0) + 0
     go true = refl
     go false = refl
-passing-more test (first ∷ others) (suc n) x at = go (test first) (if test x then 1 else 0) (passing-more test others n x at)
+passing-more test (first ∷ others) (suc n) x at = go (test first) (if test x then 1 else 0)
+    (passing-more test others n x at)
   where
-    go : (own : Bool) (more : ℕ) → length (filter test (take (suc n) others)) ≡ more + length (filter test (take n others)) →
+    go : (own : Bool) (more : ℕ) → length (filter test (take (suc n) others))
+        ≡ more + length (filter test (take n others)) →
         length (cond own (first ∷ filter test (take (suc n) others)) (filter test (take (suc n) others)))
         ≡ more + length (cond own (first ∷ filter test (take n others)) (filter test (take n others)))
     go true more again = ap suc again ∙ omega arith
@@ -63,28 +66,39 @@ of_tag tag exchange = bytes_eq exchange.tag tag
 begins-none : (own : Bool) (entry : EntryForm) (rest : History) → is_begin entry.event ≡ false →
     begun_in (cond own (entry ∷ rest) rest) ≡ begun_in rest
 begins-none false entry rest none = refl
-begins-none true entry rest none = ap (λ b. length (cond b (entry ∷ filter (λ entry. is_begin entry.event) rest) (filter (λ entry. is_begin entry.event) rest))) none
+begins-none true entry rest none =
+    ap (λ b. length (cond b (entry ∷ filter (λ entry. is_begin entry.event) rest)
+    (filter (λ entry. is_begin entry.event) rest))) none
 
 -- a module began as many exchanges as are of its tag among those of the site that were begun
 begun-listed : (site : SiteForm) (tag : List ℕ) (history : History) → FollowsSite site history →
     begun_in (past tag history) ≡ length (filter (of_tag tag) (take (begun_in history) site.exchanges))
 begun-listed site tag [] follows = refl
-begun-listed site tag (entry ∷ older) follows = go entry.event entry.answer follows.0 (begun-listed site tag older follows.1)
+begun-listed site tag (entry ∷ older) follows = go entry.event entry.answer follows.0
+    (begun-listed site tag older follows.1)
   where
     go : (event : EventForm) (answer : Answer) → IsAllowed site older event answer →
         begun_in (past tag older) ≡ length (filter (of_tag tag) (take (begun_in older) site.exchanges)) →
         begun_in (past tag (record { event = event; answer = answer } ∷ older))
-        ≡ length (filter (of_tag tag) (take (begun_in (record { event = event; answer = answer } ∷ older)) site.exchanges))
+        ≡ length (filter (of_tag tag) (take (begun_in (record { event = event; answer = answer } ∷ older))
+        site.exchanges))
     go (exchange_begin at other) answer allowed again =
-        rw (allowed.accepted, passing-more (of_tag tag) site.exchanges (begun_in older) allowed.exchange allowed.listed, ← allowed.tag_is)
+        rw (
+          allowed.accepted,
+          passing-more (of_tag tag) site.exchanges
+              (begun_in older) allowed.exchange allowed.listed,
+          ← allowed.tag_is,
+        )
         (own (bytes_eq other tag))
       where
         own : (here : Bool) →
-            begun_in (cond (here && true) (record { event = exchange_begin at other; answer = answer } ∷ past tag older) (past tag older))
+            begun_in (cond (here && true) (record { event = exchange_begin at other; answer = answer } ∷ past tag
+            older) (past tag older))
             ≡ (if here then 1 else 0) + length (filter (of_tag tag) (take (begun_in older) site.exchanges))
         own true = ap suc again ∙ omega arith
         own false = again ∙ omega arith
-    go event answer allowed again = begins-none (is_accepted_of tag (record { event = event; answer = answer })) (record { event = event; answer = answer }) (past tag older) refl ∙ again
+    go event answer allowed again = begins-none (is_accepted_of tag (record { event = event; answer = answer }))
+        (record { event = event; answer = answer }) (past tag older) refl ∙ again
 
 -- an exchange was begun last, and is of this tag
 record IsBegunLast (site : SiteForm) (history : History) (tag : List ℕ) : Type 0 where
@@ -95,15 +109,18 @@ record IsBegunLast (site : SiteForm) (history : History) (tag : List ℕ) : Type
   tag_is : exchange.tag ≡ tag
 
 -- no end leaves an exchange begun
-ends-begun : (other : List ℕ) (given : ℕ) (answer : Answer) (tag : List ℕ) (ticket : ℕ) → ended_with other given answer ≡ was_begun tag ticket → ⊥
+ends-begun : (other : List ℕ) (given : ℕ) (answer : Answer) (tag : List ℕ) (ticket : ℕ)
+    → ended_with other given answer ≡ was_begun tag ticket → ⊥
 ends-begun other given (Refused (HeldBack batch missing)) tag ticket is = cc
 ends-begun other given _ tag ticket is = cc
 
 -- an exchange that stands begun was begun last
-begun-last : (site : SiteForm) (history : History) (tag : List ℕ) (ticket : ℕ) → FollowsSite site history → exchanging history ≡ was_begun tag ticket →
+begun-last : (site : SiteForm) (history : History) (tag : List ℕ) (ticket : ℕ) → FollowsSite site history
+    → exchanging history ≡ was_begun tag ticket →
     IsBegunLast site history tag
 begun-last site [] tag ticket follows is = cc
-begun-last site (entry ∷ older) tag ticket follows is = go entry.event entry.answer follows.0 is (begun-last site older tag ticket follows.1)
+begun-last site (entry ∷ older) tag ticket follows is = go entry.event entry.answer follows.0 is
+    (begun-last site older tag ticket follows.1)
   where
     go : (event : EventForm) (answer : Answer) → IsAllowed site older event answer →
         exchanging (record { event = event; answer = answer } ∷ older) ≡ was_begun tag ticket →
@@ -119,30 +136,41 @@ begun-last site (entry ∷ older) tag ticket follows is = go entry.event entry.a
           tag_is = sym allowed.tag_is ∙ same;
         }
     go (exchange_begin at other) answer allowed is again = cc
-    go (exchange_end at other given description) answer allowed is again = absurd (ends-begun other given answer tag ticket is)
+    go (exchange_end at other given description) answer allowed is again =
+        absurd (ends-begun other given answer tag ticket is)
     go (exchange_cancel at other given) answer allowed is again = cc
     go event answer allowed is again =
         let last = again is in
-        record { place = last.place; begun = last.begun; exchange = last.exchange; listed = last.listed; tag_is = last.tag_is }
+        record {
+          place = last.place;
+          begun = last.begun;
+          exchange = last.exchange;
+          listed =
+              last.listed;
+          tag_is = last.tag_is;
+        }
 
 -- ---- plans
 
 -- a plug
 pub plugs_bring : PlugsBringPlans
 plugs_bring site older at tag description place unit unlike listed named =
-    let found = called-at (λ (each : SiteModuleForm). each.tag) site.modules place unit tag unlike listed (ap (λ name. bytes_eq name tag) named ∙ same-refl tag) in
+    let found = called-at (λ (each : SiteModuleForm). each.tag) site.modules place unit tag unlike listed
+    (ap (λ name. bytes_eq name tag) named ∙ same-refl tag) in
     rw (same-refl tag, found) refl
 
 -- the end of an exchange
 pub ends_bring : EndsBringPlans
 ends_bring site older at tag ticket description exchange follows begun listed =
     let last = begun-last site older tag ticket follows begun in
-    let its : last.exchange ≡ exchange = same_Some last.exchange exchange (sym last.listed ∙ ap (λ n. slice_get site.exchanges (pred n)) (sym last.begun) ∙ listed) in
+    let its : last.exchange ≡ exchange = same_Some last.exchange exchange
+    (sym last.listed ∙ ap (λ n. slice_get site.exchanges (pred n)) (sym last.begun) ∙ listed) in
     let passes : of_tag tag last.exchange ≡ true = ap (λ name. bytes_eq name tag) last.tag_is ∙ same-refl tag in
     let counted : begun_in (past tag older) ≡ suc (length (filter (of_tag tag) (take last.place site.exchanges))) =
     begun-listed site tag older follows ∙ ap (λ n. length (filter (of_tag tag) (take n site.exchanges))) last.begun
     ∙ passing-more (of_tag tag) site.exchanges last.place last.exchange last.listed
     ∙ passed-one (of_tag tag last.exchange) (length (filter (of_tag tag) (take last.place site.exchanges))) passes in
     let found : slice_get (exchanges_of site tag) (pred (begun_in (past tag older))) ≡ Some last.exchange =
-    ap (λ n. slice_get (exchanges_of site tag) (pred n)) counted ∙ nth-passing (of_tag tag) site.exchanges last.place last.exchange last.listed passes in
+    ap (λ n. slice_get (exchanges_of site tag) (pred n)) counted
+    ∙ nth-passing (of_tag tag) site.exchanges last.place last.exchange last.listed passes in
     rw (same-refl tag, found) (ap (λ (each : SiteExchangeForm). Some each.plan) its)

@@ -122,7 +122,8 @@ known-named (first ∷ others) (form ∷ forms) zero s named at = go (bytes_eq f
         is_none (cond here (Some form) (find (λ form. bytes_eq form.name s.name) forms)) ≡ false
     go true is = refl
     go false is =
-        let same : form.name ≡ s.name = sym heads ∙ ap (λ (service : SimService). service.name) (same_Some first s at) in
+        let same : form.name ≡ s.name = sym heads ∙ ap (λ (service : SimService). service.name)
+        (same_Some first s at) in
         let clash : false ≡ true = sym is ∙ ap (λ name. bytes_eq name s.name) same ∙ same-refl s.name in
         cc
 known-named (first ∷ others) (form ∷ forms) (suc place) s named at =
@@ -158,5 +159,6 @@ reports_accepted site tag history sim at count name control docked_is space step
     (subst (MayTell s.last) (sym (ap (λ (c : ServiceControl). c.state) from.control_is)) may) in
     let both = follows control.state (control_by name (past tag history)) tells in
     let there : is_none (service_named name d) ≡ false =
-    ap (λ n. is_none (service_named n d)) named ∙ known-named sim.services d.services sim.place s step.named from.here in
+    ap (λ n. is_none (service_named n d)) named ∙ known-named sim.services d.services sim.place s
+    step.named from.here in
     (rw (space, docked_is, step.described, ap (λ b. when b NoService) there, both.0) refl, both.1)

@@ -288,7 +288,8 @@ drift-kept site tag past looked sim drift at step counts = go (value_told (is_ex
       record {
         described = step.described;
         planned = step.planned ∙ ap (λ drifts. Some (record { ticks = sim.ticks; run = sim.run; drifts = drifts }))
-            (sym (map-set drift_in sim.drifts (sim.place - length sim.services) drift (reported_at drift value) at refl));
+            (sym (map-set drift_in sim.drifts (sim.place - length sim.services) drift
+            (reported_at drift value) at refl));
         named = step.named;
         unlike_services = step.unlike_services;
         unlike_drifts = repeats-set drift_name sim.drifts (sim.place - length sim.services) drift

@@ -175,7 +175,8 @@ drifts_commanded sim service command procedure kept = by-place (place_of service
 
     by-service : (place : ℕ) (found : Option SimService) →
         AreDriftsKept (after_command sim (option_and_then
-        (λ service. option_map (with_service sim place) (service_took sim.description service command procedure)) found))
+        (λ service. option_map (with_service sim place) (service_took sim.description service command procedure))
+        found))
     by-service place None = kept
     by-service place (Some found) = by-taken place (service_took sim.description found command procedure)
 
@@ -233,7 +234,8 @@ first_drifts_kept d plan ranged sound =
     ranged in
     let two = and_parts (is_between 1 MOST_TICKS plan.run)
     (is_between 0 MOST_DRIFTS (length plan.drifts) && list_all is_drift_ranged plan.drifts) one.1 in
-    let three = and_parts (is_between 0 MOST_DRIFTS (length plan.drifts)) (list_all is_drift_ranged plan.drifts) two.1 in
+    let three = and_parts (is_between 0 MOST_DRIFTS (length plan.drifts))
+    (list_all is_drift_ranged plan.drifts) two.1 in
     firsts-kept d plan.drifts three.1 sound
 
 -- ---- values
@@ -294,7 +296,8 @@ place-within (first ∷ others) (suc i) x at = let within : i < length others = 
 
 -- so it is among its items
 among : {A : Type 0} (xs : List A) (i : ℕ) (x : A) → slice_get xs i ≡ Some x → Contains xs x
-among xs i x at = subst (Contains xs) (get_or_from_slice_get xs i x x at) (Contains-get_or xs i x (place-within xs i x at))
+among xs i x at = subst (Contains xs) (get_or_from_slice_get xs i x x at)
+    (Contains-get_or xs i x (place-within xs i x at))
 
 -- the image of an item stands in its place
 image-at : {A B : Type 0} (f : A → B) (xs : List A) (i : ℕ) (x : A) → slice_get xs i ≡ Some x →
@@ -322,7 +325,8 @@ values_allowed site tag history sim at count name value docked_is space step kep
     let d = sim.description in
     let its = all-at (IsDriftKept d) sim.drifts (sim.place - length sim.services) drift kept from.here in
     let within = kept-within d drift from.number its from.next in
-    let fit = fits-found (drift_in drift) from.number d (sound-numbers d (drift_in drift) its.sound).0 its.ranged within in
+    let fit = fits-found (drift_in drift) from.number d (sound-numbers d (drift_in drift) its.sound).0
+    its.ranged within in
     let last : whole_in (value_by drift.name (past tag history)) ≡ drift.last =
     subst (λ f. IsDriftTold f (whole_in (value_by drift.name (past tag history))))
     (called-at (λ (each : SimDrift). each.name) sim.drifts (sim.place - length sim.services) drift drift.name

@@ -25,7 +25,8 @@ nothing_left nothing is (Some last) = is
 -- what is forgotten leaves nothing told
 forgotten_nothing : (old new : Told) → ForgetsAll old new → ToldNothing new
 forgotten_nothing old new forgets = record {
-  controls = λ name. ap (λ found. option_and_then (λ last. last) found) (forgets.controls name) ∙ nothing_left None refl _;
+  controls = λ name. ap (λ found. option_and_then (λ last. last) found) (forgets.controls name)
+      ∙ nothing_left None refl _;
   values = λ name. ap (λ found. option_and_then (λ last. last) found) (forgets.values name) ∙ nothing_left None refl _;
 }
 
@@ -35,7 +36,8 @@ docked_told (Away kept) is = cc
 
 -- a module that told nothing is docked
 pub docked_fresh :
-    (old new : Slot) (described : DescriptionForm) (told : Told) → new.berth ≡ Docked told → ToldNothing told → slot_tag new ≡ slot_tag old
+    (old new : Slot) (described : DescriptionForm) (told : Told) → new.berth ≡ Docked told → ToldNothing told
+    → slot_tag new ≡ slot_tag old
     → slot_description new ≡ described → slot_begins new ≡ slot_begins old → IsDocked old new described
 unfolding last_control last_value
 docked_fresh old new described told is nothing tag description begins = record {
@@ -43,12 +45,17 @@ docked_fresh old new described told is nothing tag description begins = record {
   description = description;
   begins = begins;
   docked = ap ticket_in is;
-  unreported = record { controls = λ service. rw is (nothing.controls service); values = λ name. rw is (nothing.values name) };
+  unreported = record {
+    controls = λ service. rw is (nothing.controls service);
+    values =
+        λ name. rw is (nothing.values name);
+  };
 }
 
 -- a module is docked again
 pub docked_again :
-    (old new : Slot) (described : DescriptionForm) (berth : Berth) → IsBack berth new.berth → slot_tag new ≡ slot_tag old
+    (old new : Slot) (described : DescriptionForm) (berth : Berth) → IsBack berth new.berth
+    → slot_tag new ≡ slot_tag old
     → slot_description new ≡ described → slot_begins new ≡ slot_begins old → IsDocked old new described
 docked_again old new described berth back tag description begins =
     docked_fresh old new described (told_in new.berth) (docked_told new.berth back.docked)

@@ -4,7 +4,8 @@ use Rattle.std.specs.Prelude.{option_map}
 use Rattle.std.specs.Map.{lookup}
 use Rattle.indexmap.specs.IndexMap.{set_value_at}
 
-found_none : {X : Type 0} (test : Bool) (value : Option X) (here there : Option (Option X)) → here ≡ option_map (λ last. None) there
+found_none : {X : Type 0} (test : Bool) (value : Option X) (here there : Option (Option X))
+    → here ≡ option_map (λ last. None) there
     → cond test (Some None) here ≡ option_map (λ last. None) (cond test (Some value) there)
 found_none true value here there same = refl
 found_none false value here there same = same
@@ -21,7 +22,8 @@ module _ {K X : Type 0} where
   length-forgotten (suc count) [] = refl
   length-forgotten (suc count) (entry ∷ entries) = ap suc (length-forgotten count entries)
 
-  next : (entries : List (K × Option X)) (place : ℕ) → set_value_at (forgotten place entries) place None ≡ forgotten (suc place) entries
+  next : (entries : List (K × Option X)) (place : ℕ) → set_value_at (forgotten place entries) place None
+      ≡ forgotten (suc place) entries
   next [] zero = refl
   next [] (suc place) = refl
   next (entry ∷ entries) zero = refl
@@ -39,4 +41,5 @@ module _ {K X : Type 0} where
   all_forgotten test [] (suc count) past = refl
   all_forgotten test (entry ∷ entries) zero past = absurd (omega arith)
   all_forgotten test (entry ∷ entries) (suc count) past =
-      found_none (test entry.0) entry.1 (lookup test (forgotten count entries)) (lookup test entries) (all_forgotten test entries count (omega arith))
+      found_none (test entry.0) entry.1 (lookup test (forgotten count entries)) (lookup test entries)
+      (all_forgotten test entries count (omega arith))

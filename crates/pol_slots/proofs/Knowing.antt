@@ -9,7 +9,8 @@ found_or true y rest others same = refl
 found_or false y rest others same = same
 
 -- one of the views is found exactly where some item has a view that passes
-pub found_where_any : {X Y : Type 0} (view : X → Y) (test : Y → Bool) (xs : List X) → is_some (find test (map view xs)) ≡ list_any (λ x. test (view x)) xs
+pub found_where_any : {X Y : Type 0} (view : X → Y) (test : Y → Bool) (xs : List X)
+    → is_some (find test (map view xs)) ≡ list_any (λ x. test (view x)) xs
 found_where_any view test [] = refl
 found_where_any view test (x ∷ xs) =
     found_or (test (view x)) (view x) (find test (map view xs)) (list_any (λ x. test (view x)) xs)
@@ -22,10 +23,13 @@ known_if false last = refl
 -- what is found there exactly where some name is this one is there exactly where the description has the name
 pub known_where_found :
     {A X Y : Type 0} (view : X → Y) (test : Y → Bool) (xs : List X) (found : Option (Option A))
-    → found ≡ (if list_any (λ x. test (view x)) xs then Some None else None) → is_some found ≡ is_some (find test (map view xs))
-known_where_found view test xs found is = ap is_some is ∙ known_if (list_any (λ x. test (view x)) xs) None ∙ sym (found_where_any view test xs)
+    → found ≡ (if list_any (λ x. test (view x)) xs then Some None else None)
+    → is_some found ≡ is_some (find test (map view xs))
+known_where_found view test xs found is = ap is_some is ∙ known_if (list_any (λ x. test (view x)) xs) None
+    ∙ sym (found_where_any view test xs)
 
-nothing_if : {A : Type 0} (any : Bool) (last : Option A) → last ≡ None → option_and_then (λ last. last) (if any then Some last else None) ≡ None
+nothing_if : {A : Type 0} (any : Bool) (last : Option A) → last ≡ None
+    → option_and_then (λ last. last) (if any then Some last else None) ≡ None
 nothing_if true last is = is
 nothing_if false last is = refl
 

@@ -21,7 +21,8 @@ module _ {A : Type 0} where
 
   -- all values are forgotten, and the names stay
   abbrev pub Forgets : List (List ℕ × Option A) → List (List ℕ × Option A) → Type 0
-  Forgets old new = (name : List ℕ) → lookup (bytes_eq name) new ≡ option_map (λ last. None) (lookup (bytes_eq name) old)
+  Forgets old new = (name : List ℕ) → lookup (bytes_eq name) new
+      ≡ option_map (λ last. None) (lookup (bytes_eq name) old)
 
   -- each name has the same last value
   abbrev pub SameLasts : List (List ℕ × Option A) → List (List ℕ × Option A) → Type 0

@@ -58,7 +58,8 @@ pub record IsUnreported (slot : Slot) : Type 0 where
   pub controls : (service : List ℕ) → last_control slot service ≡ None
   pub values : (name : List ℕ) → last_value slot name ≡ None
 
--- the slot has a module of this description docked under the same tag, as often in exchange, and nothing was reported of it
+-- the slot has a module of this description docked under the same tag, as often in exchange, and nothing was reported
+-- of it
 pub record IsDocked (old new : Slot) (described : DescriptionForm) : Type 0 where
   pub tag : slot_tag new ≡ slot_tag old
   pub description : slot_description new ≡ described

@@ -23,9 +23,11 @@ one_more None found new kept old same none len unchanged = omega (arith, len, un
 one_more (Some value) found new kept old same none len unchanged = absurd (true≢false (ap is_some same ∙ none))
 
 -- a part docks: the tag has this seat, its place has the part, and nothing else changes
-pub record Docks {T : Type 0} (tag : List ℕ) (seat : Seat) (part : T) (old new : List (List ℕ × Seat)) (parts after : List (Option T)) : Type 0 where
+pub record Docks {T : Type 0} (tag : List ℕ) (seat : Seat) (part : T) (old new : List (List ℕ × Seat))
+    (parts after : List (Option T)) : Type 0 where
   pub sound : IsSound old parts
-  pub added : (other : List ℕ) → lookup (bytes_eq other) new ≡ cond (bytes_eq tag other) (Some seat) (lookup (bytes_eq other) old)
+  pub added : (other : List ℕ) → lookup (bytes_eq other) new
+      ≡ cond (bytes_eq tag other) (Some seat) (lookup (bytes_eq other) old)
   pub vacant : part_at parts seat.place ≡ None
   pub docked : part_at after seat.place ≡ Some part
   pub others : (place : ℕ) → place ≢ seat.place → part_at after place ≡ part_at parts place
@@ -33,7 +35,8 @@ pub record Docks {T : Type 0} (tag : List ℕ) (seat : Seat) (part : T) (old new
   pub count : length new ≡ length old + 1
   pub room : length old < MOST_MODULES
 
-module _ {T : Type 0} (tag : List ℕ) (seat : Seat) (part : T) (old new : List (List ℕ × Seat)) (parts after : List (Option T))
+module _ {T : Type 0} (tag : List ℕ) (seat : Seat) (part : T) (old new : List (List ℕ × Seat))
+    (parts after : List (Option T))
     (docks : Docks tag seat part old new parts after) where
   -- a tag that is found is the new one, or was found before
   found_after : (other : List ℕ) (value : Seat) → lookup (bytes_eq other) new ≡ Some value
@@ -47,14 +50,16 @@ module _ {T : Type 0} (tag : List ℕ) (seat : Seat) (part : T) (old new : List 
 
   -- a seat from before is at another place
   elsewhere : (other : List ℕ) (value : Seat) → lookup (bytes_eq other) old ≡ Some value → value.place ≢ seat.place
-  elsewhere other value found same = true≢false (sym (docks.sound.occupied other value found) ∙ ap is_some (ap (part_at parts) same ∙ docks.vacant))
+  elsewhere other value found same = true≢false (sym (docks.sound.occupied other value found)
+      ∙ ap is_some (ap (part_at parts) same ∙ docks.vacant))
 
   pub sound-docked : IsSound new after
   sound-docked = record {
     unique = docks.unique;
     occupied = λ other value found. elim (found_after other value found) [
       | inl is ↦ ap is_some (ap (part_at after) (ap (λ s. s.place) is.1) ∙ docks.docked)
-      | inr kept ↦ ap is_some (docks.others value.place (elsewhere other value kept)) ∙ docks.sound.occupied other value kept
+      | inr kept ↦ ap is_some (docks.others value.place (elsewhere other value kept))
+          ∙ docks.sound.occupied other value kept
     ];
     apart = λ first second here far found beside same. elim (found_after first here found) [
       | inl is ↦ elim (found_after second far beside) [
@@ -88,13 +93,16 @@ module _ {T : Type 0} (tag : List ℕ) (seat : Seat) (part : T) (old new : List 
 
   -- and there is one berth more
   pub length-docked : length (berths_of new after) ≡ length (berths_of old parts) + 1
-  length-docked = length-berths_of new after sound-docked ∙ docks.count ∙ ap (λ n. n + 1) (sym (length-berths_of old parts docks.sound))
+  length-docked = length-berths_of new after sound-docked ∙ docks.count
+      ∙ ap (λ n. n + 1) (sym (length-berths_of old parts docks.sound))
 
 -- a part leaves: the tag has no seat any more, and nothing changes but at its place
-pub record Leaves {T : Type 0} (tag : List ℕ) (seat : Seat) (old new : List (List ℕ × Seat)) (parts after : List (Option T)) : Type 0 where
+pub record Leaves {T : Type 0} (tag : List ℕ) (seat : Seat) (old new : List (List ℕ × Seat))
+    (parts after : List (Option T)) : Type 0 where
   pub sound : IsSound old parts
   pub seated : lookup (bytes_eq tag) old ≡ Some seat
-  pub taken : (other : List ℕ) → lookup (bytes_eq other) new ≡ cond (bytes_eq tag other) None (lookup (bytes_eq other) old)
+  pub taken : (other : List ℕ) → lookup (bytes_eq other) new
+      ≡ cond (bytes_eq tag other) None (lookup (bytes_eq other) old)
   pub others : (place : ℕ) → place ≢ seat.place → part_at after place ≡ part_at parts place
   pub unique : IsDistinct bytes_eq (keys_of new)
   pub count : length new + 1 ≡ length old
@@ -112,7 +120,8 @@ module _ {T : Type 0} (tag : List ℕ) (seat : Seat) (old new : List (List ℕ �
       go false same is = (same, is)
 
   -- the seat of another tag is at another place
-  stays : (other : List ℕ) (value : Seat) → bytes_eq tag other ≡ false → lookup (bytes_eq other) old ≡ Some value → value.place ≢ seat.place
+  stays : (other : List ℕ) (value : Seat) → bytes_eq tag other ≡ false → lookup (bytes_eq other) old ≡ Some value
+      → value.place ≢ seat.place
   stays other value apart found same =
       let one : tag ≡ other = leaves.sound.apart tag other seat value leaves.seated found (sym same) in
       true≢false (sym (same_itself other) ∙ subst (λ name. bytes_eq name other ≡ false) one apart)
@@ -122,24 +131,29 @@ module _ {T : Type 0} (tag : List ℕ) (seat : Seat) (old new : List (List ℕ �
     unique = leaves.unique;
     occupied = λ other value found.
         let back = found_before other value found in
-        ap is_some (leaves.others value.place (stays other value back.0 back.1)) ∙ leaves.sound.occupied other value back.1;
+        ap is_some (leaves.others value.place (stays other value back.0 back.1))
+        ∙ leaves.sound.occupied other value back.1;
     apart = λ first second here far found beside same.
-        leaves.sound.apart first second here far (found_before first here found).1 (found_before second far beside).1 same;
+        leaves.sound.apart first second here far (found_before first here found).1
+        (found_before second far beside).1 same;
     few = let count = leaves.count in let few = leaves.sound.few in omega (arith, count, few);
   }
 
   -- the tag has no berth, and each other tag the one that it had
-  pub look-left : (other : List ℕ) → look other (berths_of new after) ≡ (if bytes_eq tag other then None else look other (berths_of old parts))
+  pub look-left : (other : List ℕ) → look other (berths_of new after)
+      ≡ (if bytes_eq tag other then None else look other (berths_of old parts))
   look-left other =
       rw (look-berths_of new after sound-left other, look-berths_of old parts leaves.sound other, leaves.taken other)
       (go (bytes_eq tag other) (lookup (bytes_eq other) old) refl refl)
     where
       go : (same : Bool) (found : Option Seat) → bytes_eq tag other ≡ same → lookup (bytes_eq other) old ≡ found
-          → option_and_then (berth_at after) (cond same None found) ≡ (if same then None else option_and_then (berth_at parts) found)
+          → option_and_then (berth_at after) (cond same None found)
+          ≡ (if same then None else option_and_then (berth_at parts) found)
       go true found is at = refl
       go false None is at = refl
       go false (Some value) is at = rw (leaves.others value.place (stays other value is at)) refl
 
   -- and there is one berth less
   pub length-left : length (berths_of new after) + 1 ≡ length (berths_of old parts)
-  length-left = ap (λ n. n + 1) (length-berths_of new after sound-left) ∙ leaves.count ∙ sym (length-berths_of old parts leaves.sound)
+  length-left = ap (λ n. n + 1) (length-berths_of new after sound-left) ∙ leaves.count
+      ∙ sym (length-berths_of old parts leaves.sound)

@@ -30,22 +30,26 @@ module _ {T : Type 0} (seats : List (List ℕ × Seat)) (parts : List (Option T)
       go None is = refl
       go (Some seat) is = step (some_of (part_at parts seat.place) (sound.occupied tag seat is))
         where
-          step : (part : T) × (part_at parts seat.place ≡ Some part) → None ≡ missing_reason tag (is_some (berth_at parts seat))
+          step : (part : T) × (part_at parts seat.place ≡ Some part)
+              → None ≡ missing_reason tag (is_some (berth_at parts seat))
           step (part, there) = rw there refl
 
   busy-alike : (tag : List ℕ) → seat_busy_at seats tag ≡ busy_at (berths_of seats parts) tag
   busy-alike tag = ap (busy_reason tag) (sym (holder-berths_of seats parts sound tag))
 
   -- the first tag without a seat is the first that is not docked
-  pub first-missing : (tags : List (List ℕ)) → first_of (map (seat_missing_at seats) tags) ≡ first_of (map (missing_at (berths_of seats parts)) tags)
+  pub first-missing : (tags : List (List ℕ)) → first_of (map (seat_missing_at seats) tags)
+      ≡ first_of (map (missing_at (berths_of seats parts)) tags)
   first-missing = first-alike (seat_missing_at seats) (missing_at (berths_of seats parts)) missing-alike
 
   -- the first tag whose seat is held is the first that is held
-  pub first-busy : (tags : List (List ℕ)) → first_of (map (seat_busy_at seats) tags) ≡ first_of (map (busy_at (berths_of seats parts)) tags)
+  pub first-busy : (tags : List (List ℕ)) → first_of (map (seat_busy_at seats) tags)
+      ≡ first_of (map (busy_at (berths_of seats parts)) tags)
   first-busy = first-alike (seat_busy_at seats) (busy_at (berths_of seats parts)) busy-alike
 
 -- some seats are held now, and nothing else changes
-pub record Holds {T : Type 0} (tags : List (List ℕ)) (batch : List ℕ) (old new : List (List ℕ × Seat)) (parts : List (Option T)) : Type 0 where
+pub record Holds {T : Type 0} (tags : List (List ℕ)) (batch : List ℕ) (old new : List (List ℕ × Seat))
+    (parts : List (Option T)) : Type 0 where
   pub sound : IsSound old parts
   pub held : (tag : List ℕ)
       → lookup (bytes_eq tag) new
@@ -55,7 +59,8 @@ pub record Holds {T : Type 0} (tags : List (List ℕ)) (batch : List ℕ) (old n
 
 module _ {T : Type 0} (tags : List (List ℕ)) (batch : List ℕ) (old new : List (List ℕ × Seat)) (parts : List (Option T))
     (holds : Holds tags batch old new parts) where
-  in_place : (tag : List ℕ) (seat : Seat) → (if is_among tags tag then seat_held_by batch seat else seat).place ≡ seat.place
+  in_place : (tag : List ℕ) (seat : Seat)
+      → (if is_among tags tag then seat_held_by batch seat else seat).place ≡ seat.place
   in_place tag seat = go (is_among tags tag)
     where
       go : (among : Bool) → (if among then seat_held_by batch seat else seat).place ≡ seat.place
@@ -64,11 +69,16 @@ module _ {T : Type 0} (tags : List (List ℕ)) (batch : List ℕ) (old new : Lis
 
   pub sound-held : IsSound new parts
   sound-held =
-      sound-changed parts old new (λ tag seat. if is_among tags tag then seat_held_by batch seat else seat) in_place holds.held holds.sound
+      sound-changed parts old new (λ tag seat. if is_among tags tag then seat_held_by batch seat else seat) in_place
+      holds.held holds.sound
       holds.unique (rw holds.len holds.sound.few)
 
   alike : (among : Bool) (seat : Seat) (found : Option T)
-      → option_map (λ part. let berth : Berth T = record { part = part; holder = (if among then seat_held_by batch seat else seat).holder } in berth) found
+      → option_map (λ part. let berth : Berth T = record {
+        part = part;
+        holder =
+            (if among then seat_held_by batch seat else seat).holder;
+      } in berth) found
       ≡ option_map (λ berth. if among then held_by batch berth else berth)
       (option_map (λ part. let berth : Berth T = record { part = part; holder = seat.holder } in berth) found)
   alike true seat None = refl
@@ -76,7 +86,8 @@ module _ {T : Type 0} (tags : List (List ℕ)) (batch : List ℕ) (old new : Lis
   alike false seat None = refl
   alike false seat (Some part) = refl
 
-  placed : (among : Bool) (seat : Seat) → part_at parts (if among then seat_held_by batch seat else seat).place ≡ part_at parts seat.place
+  placed : (among : Bool) (seat : Seat) → part_at parts (if among then seat_held_by batch seat else seat).place
+      ≡ part_at parts seat.place
   placed true seat = refl
   placed false seat = refl
 
@@ -84,7 +95,8 @@ module _ {T : Type 0} (tags : List (List ℕ)) (batch : List ℕ) (old new : Lis
       → look tag (berths_of new parts)
       ≡ option_map (λ berth. if is_among tags tag then held_by batch berth else berth) (look tag (berths_of old parts))
   look-held =
-      look-changed parts old new (λ tag seat. if is_among tags tag then seat_held_by batch seat else seat) in_place holds.held holds.sound sound-held
+      look-changed parts old new (λ tag seat. if is_among tags tag then seat_held_by batch seat else seat) in_place
+      holds.held holds.sound sound-held
       (λ tag berth. if is_among tags tag then held_by batch berth else berth)
       (λ tag seat. rw (placed (is_among tags tag) seat) (alike (is_among tags tag) seat (part_at parts seat.place)))
 

@@ -26,7 +26,8 @@ module _ {T : Type 0} (parts : List (Option T)) (old new : List (List ℕ × Sea
       let back = before (change tag) (lookup (bytes_eq tag) old) seat (sym (changed tag) ∙ found) in
       (back.0, back.1, sym (in_place tag back.0) ∙ ap (λ s. s.place) back.2)
 
-  pub sound-changed : IsSound old parts → IsDistinct bytes_eq (keys_of new) → length new ≤ MOST_MODULES → IsSound new parts
+  pub sound-changed : IsSound old parts → IsDistinct bytes_eq (keys_of new) → length new ≤ MOST_MODULES
+      → IsSound new parts
   sound-changed sound unique few = record {
     unique = unique;
     occupied = λ tag seat found. let back = was tag seat found in rw (← back.2) (sound.occupied tag back.0 back.1);
@@ -42,7 +43,8 @@ module _ {T : Type 0} (parts : List (Option T)) (old new : List (List ℕ × Sea
       → ((tag : List ℕ) (seat : Seat) → berth_at parts (change tag seat) ≡ option_map (give tag) (berth_at parts seat))
       → (tag : List ℕ) → look tag (berths_of new parts) ≡ option_map (give tag) (look tag (berths_of old parts))
   look-changed sound after give alike tag =
-      rw (look-berths_of new parts after tag, look-berths_of old parts sound tag, changed tag) (go (lookup (bytes_eq tag) old))
+      rw (look-berths_of new parts after tag, look-berths_of old parts sound tag, changed tag)
+      (go (lookup (bytes_eq tag) old))
     where
       go : (found : Option Seat)
           → option_and_then (berth_at parts) (option_map (change tag) found)

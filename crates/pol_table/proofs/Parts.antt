@@ -21,9 +21,11 @@ module _ {T : Type 0} (tag : List ℕ) (part : T) where
 
   -- the tag has the part, and every other tag the berth that it had
   pub look-with_part : (berths : Berths T) (other : List ℕ)
-      → look other (with_part tag berths part) ≡ option_map (λ berth. if bytes_eq tag other then record berth { part = part } else berth) (look other berths)
+      → look other (with_part tag berths part) ≡ option_map (λ berth. if bytes_eq tag other then record berth
+      { part = part } else berth) (look other berths)
   look-with_part [] other = refl
-  look-with_part (row ∷ berths) other = go (bytes_eq other row.0) refl (bytes_eq tag row.0) refl (look-with_part berths other)
+  look-with_part (row ∷ berths) other = go (bytes_eq other row.0) refl (bytes_eq tag row.0) refl
+      (look-with_part berths other)
     where
       go : (found : Bool) → bytes_eq other row.0 ≡ found → (same : Bool) → bytes_eq tag row.0 ≡ same
           → look other (with_part tag berths part)
@@ -40,20 +42,24 @@ module _ {T : Type 0} (tag : List ℕ) (part : T) where
 within : {T : Type 0} (parts : List (Option T)) (place : ℕ) → IsSome (part_at parts place) → place < length parts
 within [] place is = absurd (true≢false (sym is))
 within (first ∷ parts) zero is = omega arith
-within (first ∷ parts) (suc place) is = let inside : place < length parts = within parts place is in omega (arith, inside)
+within (first ∷ parts) (suc place) is = let inside : place < length parts = within parts place is in
+    omega (arith, inside)
 
-module _ {T : Type 0} (parts : List (Option T)) (tag : List ℕ) (place : ℕ) (part : T) (there : IsSome (part_at parts place)) where
+module _ {T : Type 0} (parts : List (Option T)) (tag : List ℕ) (place : ℕ) (part : T)
+    (there : IsSome (part_at parts place)) where
   -- each entry of the tag is at the place, and every other one elsewhere
   berths-set : (seats : List (List ℕ × Seat))
       → AllByRecursion (λ entry. (bytes_eq tag entry.0 ≡ true → entry.1.place ≡ place)
       × (bytes_eq tag entry.0 ≡ false → entry.1.place ≢ place) × IsSome (part_at parts entry.1.place)) seats
       → berths_of seats (slice_set parts place (Some part)) ≡ with_part tag (berths_of seats parts) part
   berths-set [] all = refl
-  berths-set (entry ∷ seats) all = go (some_of (part_at parts entry.1.place) all.0.2) (bytes_eq tag entry.0) refl (berths-set seats all.1)
+  berths-set (entry ∷ seats) all = go (some_of (part_at parts entry.1.place) all.0.2) (bytes_eq tag entry.0) refl
+      (berths-set seats all.1)
     where
       go : (old : T) × (part_at parts entry.1.place ≡ Some old) → (same : Bool) → bytes_eq tag entry.0 ≡ same
           → berths_of seats (slice_set parts place (Some part)) ≡ with_part tag (berths_of seats parts) part
-          → berths_of (entry ∷ seats) (slice_set parts place (Some part)) ≡ with_part tag (berths_of (entry ∷ seats) parts) part
+          → berths_of (entry ∷ seats) (slice_set parts place (Some part))
+          ≡ with_part tag (berths_of (entry ∷ seats) parts) part
       go (old, is) true same rest =
           let new : part_at (slice_set parts place (Some part)) entry.1.place ≡ Some part =
           rw (all.0.0 same) (get_or-set_same parts place (Some part) None (within parts place there)) in
@@ -64,7 +70,8 @@ module _ {T : Type 0} (parts : List (Option T)) (tag : List ℕ) (place : ℕ) (
           rw (new, is, same) (ap (λ more. (entry.0, record { part = old; holder = entry.1.holder }) ∷ more) rest)
 
 -- a part that is set at the place of a tag's seat is set in the tag's berth
-pub berths-set_part : {T : Type 0} (seats : List (List ℕ × Seat)) (parts : List (Option T)) (tag : List ℕ) (seat : Seat) (part : T)
+pub berths-set_part : {T : Type 0} (seats : List (List ℕ × Seat)) (parts : List (Option T)) (tag : List ℕ)
+    (seat : Seat) (part : T)
     → IsSound seats parts → lookup (bytes_eq tag) seats ≡ Some seat
     → berths_of seats (slice_set parts seat.place (Some part)) ≡ with_part tag (berths_of seats parts) part
 berths-set_part seats parts tag seat part sound found =

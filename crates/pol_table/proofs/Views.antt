@@ -16,7 +16,8 @@ pub some_of : {A : Type 0} (found : Option A) → IsSome found → (value : A) �
 some_of None is = absurd (true≢false (sym is))
 some_of (Some value) is = (value, refl)
 
-first_or_rest : {A B : Type 0} (same : Bool) (f : A → Option B) (first : A) (rest : Option A) (value : B) → f first ≡ Some value
+first_or_rest : {A B : Type 0} (same : Bool) (f : A → Option B) (first : A) (rest : Option A) (value : B)
+    → f first ≡ Some value
     → cond same (Some value) (option_and_then f rest) ≡ option_and_then f (cond same (Some first) rest)
 first_or_rest true f first rest value at = sym at
 first_or_rest false f first rest value at = refl
@@ -40,20 +41,26 @@ module _ {T : Type 0} where
   some_berth None holder is = is
   some_berth (Some part) holder is = refl
 
-  found_in : (seats : List (List ℕ × Seat)) (parts : List (Option T)) → AllByRecursion (λ entry. IsSome (part_at parts entry.1.place)) seats
-      → (tag : List ℕ) → look tag (berths_of seats parts) ≡ option_and_then (berth_at parts) (lookup (bytes_eq tag) seats)
+  found_in : (seats : List (List ℕ × Seat)) (parts : List (Option T))
+      → AllByRecursion (λ entry. IsSome (part_at parts entry.1.place)) seats
+      → (tag : List ℕ) → look tag (berths_of seats parts) ≡ option_and_then (berth_at parts)
+      (lookup (bytes_eq tag) seats)
   found_in [] parts all tag = refl
-  found_in (entry ∷ seats) parts all tag = go (some_of (part_at parts entry.1.place) all.0) (found_in seats parts all.1 tag)
+  found_in (entry ∷ seats) parts all tag = go (some_of (part_at parts entry.1.place) all.0)
+      (found_in seats parts all.1 tag)
     where
       go : (part : T) × (part_at parts entry.1.place ≡ Some part)
           → look tag (berths_of seats parts) ≡ option_and_then (berth_at parts) (lookup (bytes_eq tag) seats)
-          → look tag (berths_of (entry ∷ seats) parts) ≡ option_and_then (berth_at parts) (lookup (bytes_eq tag) (entry ∷ seats))
+          → look tag (berths_of (entry ∷ seats) parts) ≡ option_and_then (berth_at parts)
+          (lookup (bytes_eq tag) (entry ∷ seats))
       go (part, is) rest =
           let berth : berth_at parts entry.1 ≡ Some (record { part = part; holder = entry.1.holder }) = rw is refl in
           rw (berth, rest)
-          (first_or_rest (bytes_eq tag entry.0) (berth_at parts) entry.1 (lookup (bytes_eq tag) seats) (record { part = part; holder = entry.1.holder }) berth)
+          (first_or_rest (bytes_eq tag entry.0) (berth_at parts) entry.1 (lookup (bytes_eq tag) seats)
+          (record { part = part; holder = entry.1.holder }) berth)
 
-  count_of : (seats : List (List ℕ × Seat)) (parts : List (Option T)) → AllByRecursion (λ entry. IsSome (part_at parts entry.1.place)) seats
+  count_of : (seats : List (List ℕ × Seat)) (parts : List (Option T))
+      → AllByRecursion (λ entry. IsSome (part_at parts entry.1.place)) seats
       → length (berths_of seats parts) ≡ length seats
   count_of [] parts all = refl
   count_of (entry ∷ seats) parts all = go (some_of (part_at parts entry.1.place) all.0) (count_of seats parts all.1)
@@ -67,7 +74,8 @@ module _ {T : Type 0} where
     occupied = each_entry (λ tag seat. IsSome (part_at parts seat.place)) seats sound.unique sound.occupied
 
     -- a tag has the berth of its seat
-    pub look-berths_of : (tag : List ℕ) → look tag (berths_of seats parts) ≡ option_and_then (berth_at parts) (lookup (bytes_eq tag) seats)
+    pub look-berths_of : (tag : List ℕ) → look tag (berths_of seats parts)
+        ≡ option_and_then (berth_at parts) (lookup (bytes_eq tag) seats)
     look-berths_of = found_in seats parts occupied
 
     -- there are as many berths as seats
@@ -75,10 +83,12 @@ module _ {T : Type 0} where
     length-berths_of = count_of seats parts occupied
 
     -- a tag is docked where it has a seat
-    pub is_some-look : (tag : List ℕ) → is_some (look tag (berths_of seats parts)) ≡ is_some (lookup (bytes_eq tag) seats)
+    pub is_some-look : (tag : List ℕ) → is_some (look tag (berths_of seats parts))
+        ≡ is_some (lookup (bytes_eq tag) seats)
     is_some-look tag = rw (look-berths_of tag) (go (lookup (bytes_eq tag) seats) refl)
       where
-        go : (seat : Option Seat) → lookup (bytes_eq tag) seats ≡ seat → is_some (option_and_then (berth_at parts) seat) ≡ is_some seat
+        go : (seat : Option Seat) → lookup (bytes_eq tag) seats ≡ seat
+            → is_some (option_and_then (berth_at parts) seat) ≡ is_some seat
         go None none = refl
         go (Some seat) found = some_berth (part_at parts seat.place) seat.holder (sound.occupied tag seat found)
 

@@ -28,7 +28,8 @@ module _ {T : Type 0} where
   -- each tag has one seat with a place of its own, each place has a part, and there are at most 64 tags
   pub record IsSound (seats : List (List ℕ × Seat)) (parts : List (Option T)) : Type 0 where
     pub unique : IsDistinct bytes_eq (keys_of seats)
-    pub occupied : (tag : List ℕ) (seat : Seat) → lookup (bytes_eq tag) seats ≡ Some seat → IsSome (part_at parts seat.place)
+    pub occupied : (tag : List ℕ) (seat : Seat) → lookup (bytes_eq tag) seats ≡ Some seat
+        → IsSome (part_at parts seat.place)
     pub apart : (tag other : List ℕ) (seat next : Seat) → lookup (bytes_eq tag) seats ≡ Some seat
         → lookup (bytes_eq other) seats ≡ Some next → seat.place ≡ next.place → tag ≡ other
     pub few : length seats ≤ MOST_MODULES

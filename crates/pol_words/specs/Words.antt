@@ -21,7 +21,8 @@ job_rule = record (option_rule (codes "job")) { required = true }
 -- the command `pol`, with neither help nor version
 unfoldable pub pol : App
 pol = with_rule (with_rule (with_rule
-    (on_top (λ settings. record settings { disable_help_flag = true; disable_version_flag = true }) (new_app (codes "pol")))
+    (on_top (λ settings. record settings { disable_help_flag = true; disable_version_flag = true })
+    (new_app (codes "pol")))
     job_rule) (option_rule (codes "seed"))) (option_rule (codes "watchers"))
 
 -- the values of the options, where they are given

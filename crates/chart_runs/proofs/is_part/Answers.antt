@@ -4,6 +4,7 @@ use Rattle.chart_runs.proofs.is_part.Goals as goal
 
 pub returns : goal.returns
 returns c = (
-  λ yes. stands_is_partial (plan c.args.chart.now) c.take_all.new.marks c.args.log.now c.requires (c.take_all.ensures.taken yes),
+  λ yes. stands_is_partial (plan c.args.chart.now) c.take_all.new.marks c.args.log.now c.requires
+      (c.take_all.ensures.taken yes),
   c.take_all.ensures.partial,
 )

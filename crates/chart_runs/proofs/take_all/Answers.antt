@@ -10,7 +10,8 @@ returns-then-not-take_entry-clause-partial c =
     λ partial.
     let log = c.args.log.now in
     let i = c.loop-entry.entry-index in
-    let cut = sym (take-append-drop i log) ∙ ap (λ rest. take i log ++ rest) (one_more log i c.entry-item.result c.loop-entry-test.true c.entry-item.is) in
+    let cut = sym (take-append-drop i log) ∙ ap (λ rest. take i log ++ rest)
+    (one_more log i c.entry-item.result c.loop-entry-test.true c.entry-item.is) in
     absurd
     (c.if-not-take_entry.ensures.refused refl (take i log) (drop (i + 1) log) c.loop-entry.invariant.taken
     (subst (IsPartial (plan c.args.chart.now)) cut partial))

@@ -12,7 +12,8 @@ invariant-follow_in_turn-loop-kid l = record {
   inside : IfSome l.change (FitsIn l.number);
   done : (l.done && is_done (in_turn (trees (drop l.kid-index l.kids)) l.number) (marks_of l.marks))
       ≡ is_done (in_turn (trees l.kids) l.first) (marks_of l.marks);
-  rest : (if l.done then change_by (in_turn (trees (drop l.kid-index l.kids)) l.number) (marks_of l.marks) (judged l.entry) else l.change)
+  rest : (if l.done then change_by (in_turn (trees (drop l.kid-index l.kids)) l.number) (marks_of l.marks)
+      (judged l.entry) else l.change)
       ≡ change_by (in_turn (trees l.kids) l.first) (marks_of l.marks) (judged l.entry);
 }
 
@@ -22,7 +23,8 @@ invariant-follow_at_once-loop-kid l = record {
   inside : IfSome l.change (FitsIn l.number);
   done : (l.done && is_done (at_once (trees (drop l.kid-index l.kids)) l.number) (marks_of l.marks))
       ≡ is_done (at_once (trees l.kids) l.first) (marks_of l.marks);
-  rest : either_change l.change (change_by (at_once (trees (drop l.kid-index l.kids)) l.number) (marks_of l.marks) (judged l.entry))
+  rest : either_change l.change (change_by (at_once (trees (drop l.kid-index l.kids)) l.number) (marks_of l.marks)
+      (judged l.entry))
       ≡ change_by (at_once (trees l.kids) l.first) (marks_of l.marks) (judged l.entry);
 }
 

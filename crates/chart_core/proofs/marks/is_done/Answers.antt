@@ -9,9 +9,11 @@ follow-requires-clause-short c = few_marks c.args.chart.now c.args.marks.now c.r
 
 pub returns-clause-done : goal.returns-clause-done
 returns-clause-done c =
-    λ yes log stands. done_is_complete (plan c.args.chart.now) c.args.marks.now log c.requires.valid stands (sym c.follow.ensures.done ∙ yes)
+    λ yes log stands. done_is_complete (plan c.args.chart.now) c.args.marks.now log c.requires.valid stands
+    (sym c.follow.ensures.done ∙ yes)
 
 pub returns-clause-complete : goal.returns-clause-complete
 returns-clause-complete c =
     λ log stands complete.
-    c.follow.ensures.done ∙ complete_is_done (plan c.args.chart.now) c.args.marks.now log c.requires.valid stands complete
+    c.follow.ensures.done ∙ complete_is_done (plan c.args.chart.now) c.args.marks.now log c.requires.valid
+    stands complete

@@ -12,7 +12,8 @@ follow-requires-clause-short c = few_marks c.args.chart.now c.args.marks.now c.r
 pub returns-in-Some-clause-taken : goal.returns-in-Some-clause-taken
 returns-in-Some-clause-taken c =
     λ _ log stands.
-    step_stands (plan c.args.chart.now) c.args.marks.now c.make.new.marks log c.args.entry.now c.in-Some.change c.requires.valid stands
+    step_stands (plan c.args.chart.now) c.args.marks.now c.make.new.marks log c.args.entry.now c.in-Some.change
+    c.requires.valid stands
     (sym c.follow.ensures.change ∙ c.in-Some.is) c.make.ensures
 
 pub returns-in-None-clause-refused : goal.returns-in-None-clause-refused
@@ -23,7 +24,9 @@ returns-in-None-clause-refused c =
 
 pub returns-in-Some-clause-moves : goal.returns-in-Some-clause-moves
 returns-in-Some-clause-moves c =
-    λ i. c.make.ensures i ∙ ap (λ change. moved (marks_of c.args.marks.now) change i) (sym c.in-Some.is ∙ c.follow.ensures.change)
+    λ i. c.make.ensures i ∙ ap (λ change. moved (marks_of c.args.marks.now) change i)
+    (sym c.in-Some.is ∙ c.follow.ensures.change)
 
 pub returns-in-None-clause-moves : goal.returns-in-None-clause-moves
-returns-in-None-clause-moves c = λ i. ap (λ change. moved (marks_of c.args.marks.now) change i) (sym c.in-None.is ∙ c.follow.ensures.change)
+returns-in-None-clause-moves c = λ i. ap (λ change. moved (marks_of c.args.marks.now) change i)
+    (sym c.in-None.is ∙ c.follow.ensures.change)

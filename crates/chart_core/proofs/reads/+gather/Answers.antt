@@ -8,6 +8,8 @@ pub gather_all-returns-then-not-gather-clause-no : goal.gather_all-returns-then-
 gather_all-returns-then-not-gather-clause-no t c =
     λ _.
     let rest = drop (c.loop-each.each-index + 1) c.args.conditions.now in
-    let cut = one_more c.args.conditions.now c.loop-each.each-index c.each-item.result c.loop-each-test.true c.each-item.is in
-    let many = too_many (formula c.each-item.result) (formulas rest) c.loop-each.reads.items (c.if-not-gather.ensures.no refl) in
+    let cut = one_more c.args.conditions.now c.loop-each.each-index c.each-item.result c.loop-each-test.true
+    c.each-item.is in
+    let many = too_many (formula c.each-item.result) (formulas rest) c.loop-each.reads.items
+    (c.if-not-gather.ensures.no refl) in
     rw (← c.loop-each.invariant.rest, cut) many

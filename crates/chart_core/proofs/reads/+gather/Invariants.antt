@@ -6,5 +6,6 @@ use Rattle.chart_core.proofs.reads.+gather.Given as goal
 abbrev pub invariant-gather_all-loop-each : goal.invariant-gather_all-loop-each
 invariant-gather_all-loop-each l = record {
   few : length l.reads.items ≤ 4;
-  rest : with_all_reads (formulas (drop l.each-index l.conditions)) l.reads.items ≡ with_all_reads (formulas l.conditions) l.fn.reads.items;
+  rest : with_all_reads (formulas (drop l.each-index l.conditions)) l.reads.items
+      ≡ with_all_reads (formulas l.conditions) l.fn.reads.items;
 }

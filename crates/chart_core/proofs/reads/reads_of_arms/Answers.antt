@@ -9,7 +9,8 @@ pub returns-then-not-gather-clause-none : goal.returns-then-not-gather-clause-no
 returns-then-not-gather-clause-none c =
     let rest = drop (c.loop-arm.arm-index + 1) c.args.each.now in
     let cut = arms_cut c.args.each.now c.loop-arm.arm-index c.arm-item.result c.loop-arm-test.true c.arm-item.is in
-    let many = too_many (formula c.arm-item.result.when) (arm_conditions (arms rest)) c.loop-arm.reads.items (c.if-not-gather.ensures.no refl) in
+    let many = too_many (formula c.arm-item.result.when) (arm_conditions (arms rest)) c.loop-arm.reads.items
+    (c.if-not-gather.ensures.no refl) in
     rw (← c.loop-arm.invariant.rest, cut) many
 
 pub loop-arm-preserved : goal.loop-arm-preserved

@@ -6,5 +6,6 @@ use Rattle.chart_core.proofs.reads.reads_of_arms.Given as goal
 abbrev pub invariant-loop-arm : goal.invariant-loop-arm
 invariant-loop-arm l = record {
   few : length l.reads.items ≤ 4;
-  rest : with_all_reads (arm_conditions (arms (drop l.arm-index l.each))) l.reads.items ≡ reads_of (arm_conditions (arms l.each));
+  rest : with_all_reads (arm_conditions (arms (drop l.arm-index l.each))) l.reads.items
+      ≡ reads_of (arm_conditions (arms l.each));
 }

@@ -24,7 +24,14 @@ has_clash_at_once-loop-kid-preserved t c =
     let unused = sym c.is_used.ensures ∙ c.if-is_used.false in
     record {
       room = omega (arith, behind);
-      rest = rw (behind, still_left c.loop-kid.left (size (tree kid)), ← c.loop-kid.invariant.rest, cut, no, unused) refl;
+      rest = rw (
+        behind,
+        still_left c.loop-kid.left (size (tree kid)),
+        ← c.loop-kid.invariant.rest,
+        cut,
+        no,
+        unused,
+      ) refl;
     }
 
 pub has_clash_in_arms-loop-arm-preserved : goal.has_clash_in_arms-loop-arm-preserved

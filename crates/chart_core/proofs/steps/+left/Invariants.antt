@@ -6,4 +6,5 @@ abbrev pub invariant-left_behind_all-loop-kid : goal.invariant-left_behind_all-l
 invariant-left_behind_all-loop-kid l = l.left - sizes (trees (drop l.kid-index l.kids)) ≡ l.count - sizes (trees l.kids)
 
 abbrev pub invariant-left_behind_arms-loop-arm : goal.invariant-left_behind_arms-loop-arm
-invariant-left_behind_arms-loop-arm l = l.left - arm_sizes (arms (drop l.arm-index l.each)) ≡ l.count - arm_sizes (arms l.each)
+invariant-left_behind_arms-loop-arm l = l.left - arm_sizes (arms (drop l.arm-index l.each))
+    ≡ l.count - arm_sizes (arms l.each)

@@ -10,6 +10,7 @@ invariant_of-result c =
     let root = tree c.args.root in
     record {
       form =
-          and_both (are_roles_formed (record { roles = map role_plan c.in_ok-roles.roles.items; root = root })) (is_tree_formed root)
+          and_both (are_roles_formed (record { roles = map role_plan c.in_ok-roles.roles.items; root = root }))
+          (is_tree_formed root)
           (c.in_ok-roles.ensures root) c.requires;
     }

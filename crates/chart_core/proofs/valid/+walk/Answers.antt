@@ -16,7 +16,8 @@ walk_arms-loop-arm-preserved t c =
     let passed = sym c.walk.ensures.value ∙ c.in_ok-here.was in
     let near : c.in_ok-here.here.number ≤ 16 * c.in_ok-here.here.steps = c.in_ok-here.ensures.near in
     record {
-      formed = arms_formed (formula c.arm-item.result.when) (tree c.arm-item.result.body) rest (rw cut at c.loop-arm.invariant.formed);
+      formed = arms_formed (formula c.arm-item.result.when) (tree c.arm-item.result.body) rest
+          (rw cut at c.loop-arm.invariant.formed);
       near = omega (arith, near, c.requires.below);
       behind = λ _. near;
       few = c.in_ok-here.ensures.few;

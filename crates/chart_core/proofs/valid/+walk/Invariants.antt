@@ -11,7 +11,8 @@ invariant-walk_all-loop-kid l = record {
   near : l.here.number < 16 * l.here.steps + l.depth;
   behind : 0 < l.kid-index → l.here.number ≤ 16 * l.here.steps;
   few : l.here.steps ≤ 256;
-  rest : walked_all (plan l.chart) (trees (drop l.kid-index l.kids)) l.depth l.here ≡ walked_all (plan l.chart) (trees l.kids) l.depth l.fn.first;
+  rest : walked_all (plan l.chart) (trees (drop l.kid-index l.kids)) l.depth l.here
+      ≡ walked_all (plan l.chart) (trees l.kids) l.depth l.fn.first;
 }
 
 abbrev pub invariant-walk_arms-loop-arm : goal.invariant-walk_arms-loop-arm
@@ -20,5 +21,6 @@ invariant-walk_arms-loop-arm l = record {
   near : l.here.number < 16 * l.here.steps + l.depth;
   behind : 0 < l.arm-index → l.here.number ≤ 16 * l.here.steps;
   few : l.here.steps ≤ 256;
-  rest : walked_arms (plan l.chart) (arms (drop l.arm-index l.each)) l.depth l.here ≡ walked_arms (plan l.chart) (arms l.each) l.depth l.fn.first;
+  rest : walked_arms (plan l.chart) (arms (drop l.arm-index l.each)) l.depth l.here
+      ≡ walked_arms (plan l.chart) (arms l.each) l.depth l.fn.first;
 }

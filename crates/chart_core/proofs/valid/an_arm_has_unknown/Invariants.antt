@@ -6,5 +6,6 @@ use Rattle.chart_core.proofs.valid.an_arm_has_unknown.Given as goal
 
 abbrev pub invariant-loop-arm : goal.invariant-loop-arm
 invariant-loop-arm l =
-    some_reads_unknown (arm_conditions (arms (drop l.arm-index l.each))) (map (λ role. role.role) (map role_plan l.roles))
+    some_reads_unknown (arm_conditions (arms (drop l.arm-index l.each)))
+    (map (λ role. role.role) (map role_plan l.roles))
     ≡ some_reads_unknown (arm_conditions (arms l.each)) (map (λ role. role.role) (map role_plan l.roles))

@@ -9,4 +9,5 @@ use Rattle.chart_cursor.proofs.breaking.first_broken.Goals as goal
 pub returns : goal.returns
 returns g c =
     ap (λ (broken : FirstBroken g.row.S.Denot). broken.found) c.walk.ensures.looked
-    ∙ broken_found g.S.Seen.sights (record { seen = c.args.seen; found = None }) (spots (tree c.args.node.now) c.args.number (marks_of c.args.marks.now))
+    ∙ broken_found g.S.Seen.sights (record { seen = c.args.seen; found = None })
+    (spots (tree c.args.node.now) c.args.number (marks_of c.args.marks.now))

@@ -45,7 +45,8 @@ decreases-read_arms_under l = 8 * items_depth (items_view l.values.now) + 9
 
 abbrev pub invariant-read_each-loop-i : goal.invariant-read_each-loop-i
 invariant-read_each-loop-i l =
-    with_front (map tree l.found.items) (each tree_of l.i (items_view (drop l.i l.values))) ≡ each tree_of 0 (items_view l.values)
+    with_front (map tree l.found.items) (each tree_of l.i (items_view (drop l.i l.values)))
+    ≡ each tree_of 0 (items_view l.values)
 
 abbrev pub invariant-read_each_arm-loop-i : goal.invariant-read_each_arm-loop-i
 invariant-read_each_arm-loop-i l =

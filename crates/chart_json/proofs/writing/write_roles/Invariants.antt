@@ -9,5 +9,6 @@ use Rattle.chart_json.proofs.writing.write_roles.Given as goal
 abbrev pub invariant-loop-role : goal.invariant-loop-role
 invariant-loop-role l = record {
   value : map view l.list.items ≡ map (λ role. written_role (role_plan role)) (take l.role-index l.roles);
-  sound : list_all is_role_sound (map role_plan (drop l.role-index l.roles)) ≡ list_all is_role_sound (map role_plan l.roles);
+  sound : list_all is_role_sound (map role_plan (drop l.role-index l.roles))
+      ≡ list_all is_role_sound (map role_plan l.roles);
 }

@@ -7,6 +7,7 @@ use Rattle.chart_json.proofs.written_conditions.+written.Given as goal
 
 abbrev pub invariant-write_each-loop-each : goal.invariant-write_each-loop-each
 invariant-write_each-loop-each l = record {
-  value : map view l.list.items ≡ map (λ condition. written_formula (formula condition)) (take l.each-index l.conditions);
+  value : map view l.list.items ≡ map (λ condition. written_formula (formula condition))
+      (take l.each-index l.conditions);
   sound : are_formulas_sound (formulas (drop l.each-index l.conditions)) ≡ are_formulas_sound (formulas l.conditions);
 }

@@ -9,4 +9,5 @@ write_each-returns-clause-value t c =
 
 pub write_arms-returns-clause-value : goal.write_arms-returns-clause-value
 write_arms-returns-clause-value t c =
-    arms_written c.loop-arm.list c.args.each.now (rw (take_all c.loop-arm.arm-index c.args.each.now c.loop-arm-test.false) at c.loop-arm.invariant.value)
+    arms_written c.loop-arm.list c.args.each.now
+    (rw (take_all c.loop-arm.arm-index c.args.each.now c.loop-arm-test.false) at c.loop-arm.invariant.value)

@@ -14,6 +14,7 @@ invariant-write_each-loop-node l = record {
 
 abbrev pub invariant-write_arms-loop-arm : goal.invariant-write_arms-loop-arm
 invariant-write_arms-loop-arm l = record {
-  value : map view l.list.items ≡ map (λ arm. written_arm (written_formula (formula arm.when)) (written_tree (tree arm.body))) (take l.arm-index l.each);
+  value : map view l.list.items ≡ map (λ arm. written_arm (written_formula (formula arm.when))
+      (written_tree (tree arm.body))) (take l.arm-index l.each);
   sound : are_arms_sound (arms (drop l.arm-index l.each)) ≡ are_arms_sound (arms l.each);
 }

@@ -9,4 +9,5 @@ returns-then-enabled_from-code-ne0 c =
     (target_where_bit _ _ (rw (← c.enabled_from.ensures, ← c.code.ensures.number) c.if-enabled_from-code-ne0.true)))
 
 pub returns-else-enabled_from-code-ne0 : goal.returns-else-enabled_from-code-ne0
-returns-else-enabled_from-code-ne0 c = sym (none_without_bit _ _ (rw (← c.enabled_from.ensures, ← c.code.ensures.number) c.if-enabled_from-code-ne0.false))
+returns-else-enabled_from-code-ne0 c = sym (none_without_bit _ _
+    (rw (← c.enabled_from.ensures, ← c.code.ensures.number) c.if-enabled_from-code-ne0.false))

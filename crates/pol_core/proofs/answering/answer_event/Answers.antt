@@ -18,25 +18,29 @@ use Rattle.pol_core.proofs.answering.answer_event.Goals as goal
 pub returns-in-Plug-clause-answered : goal.returns-in-Plug-clause-answered
 returns-in-Plug-clause-answered c =
     if-ok c.plug.result _ _ (λ answer answered history mirrors room.
-    module-told (plug c.in-Plug.at c.in-Plug.tag (description_view c.in-Plug.desc.value)) c.in-Plug.tag (ap event_view (sym c.in-Plug.is)) refl refl mirrors
+    module-told (plug c.in-Plug.at c.in-Plug.tag (description_view c.in-Plug.desc.value)) c.in-Plug.tag
+    (ap event_view (sym c.in-Plug.is)) refl refl mirrors
     (answered history c.in-Plug.at mirrors.seats mirrors.counted room)) c.plug.ensures.answered
 
 pub returns-in-Unplug-clause-answered : goal.returns-in-Unplug-clause-answered
 returns-in-Unplug-clause-answered c =
     λ history mirrors room.
-    module-told (unplug c.in-Unplug.at c.in-Unplug.tag) c.in-Unplug.tag (ap event_view (sym c.in-Unplug.is)) refl refl mirrors
+    module-told (unplug c.in-Unplug.at c.in-Unplug.tag) c.in-Unplug.tag
+    (ap event_view (sym c.in-Unplug.is)) refl refl mirrors
     (c.unplug.ensures.answered history c.in-Unplug.at mirrors.seats mirrors.counted room)
 
 pub returns-in-Report-clause-answered : goal.returns-in-Report-clause-answered
 returns-in-Report-clause-answered c =
     λ history mirrors room.
-    module-told (report c.in-Report.at c.in-Report.tag c.in-Report.service c.in-Report.control) c.in-Report.tag (ap event_view (sym c.in-Report.is)) refl refl mirrors
+    module-told (report c.in-Report.at c.in-Report.tag c.in-Report.service c.in-Report.control) c.in-Report.tag
+    (ap event_view (sym c.in-Report.is)) refl refl mirrors
     (c.report.ensures.answered history c.in-Report.at mirrors.seats mirrors.counted room)
 
 pub returns-in-Variable-clause-answered : goal.returns-in-Variable-clause-answered
 returns-in-Variable-clause-answered c =
     λ history mirrors room.
-    module-told (variable c.in-Variable.at c.in-Variable.tag c.in-Variable.name c.in-Variable.value) c.in-Variable.tag (ap event_view (sym c.in-Variable.is)) refl refl mirrors
+    module-told (variable c.in-Variable.at c.in-Variable.tag c.in-Variable.name c.in-Variable.value) c.in-Variable.tag
+    (ap event_view (sym c.in-Variable.is)) refl refl mirrors
     (c.variable.ensures.answered history c.in-Variable.at mirrors.seats mirrors.counted room)
 
 pub returns-in-Recipe-clause-answered : goal.returns-in-Recipe-clause-answered
@@ -78,7 +82,8 @@ start-requires-clause-once c =
 pub returns-in-Advance-clause-answered : goal.returns-in-Advance-clause-answered
 returns-in-Advance-clause-answered c =
     λ history mirrors room.
-    batch-told (advance c.in-Advance.at c.in-Advance.batch) c.in-Advance.batch (ap event_view (sym c.in-Advance.is)) refl refl
+    batch-told (advance c.in-Advance.at c.in-Advance.batch) c.in-Advance.batch
+    (ap event_view (sym c.in-Advance.is)) refl refl
     mirrors
     (c.advance.ensures.answered history c.in-Advance.at mirrors.seats mirrors.counted mirrors.batches room)
     c.advance.ensures.count
@@ -86,9 +91,11 @@ returns-in-Advance-clause-answered c =
 pub returns-in-Freeze-clause-answered : goal.returns-in-Freeze-clause-answered
 returns-in-Freeze-clause-answered c =
     λ history mirrors room.
-    batch-told (freeze c.in-Freeze.at c.in-Freeze.batch) c.in-Freeze.batch (ap event_view (sym c.in-Freeze.is)) refl refl
+    batch-told (freeze c.in-Freeze.at c.in-Freeze.batch) c.in-Freeze.batch
+    (ap event_view (sym c.in-Freeze.is)) refl refl
     mirrors
-    (c.freeze.ensures.answered history c.in-Freeze.at c.args.modules.now mirrors.seats mirrors.counted mirrors.batches room)
+    (c.freeze.ensures.answered history c.in-Freeze.at c.args.modules.now mirrors.seats mirrors.counted
+    mirrors.batches room)
     c.freeze.ensures.count
 
 pub returns-in-Thaw-clause-answered : goal.returns-in-Thaw-clause-answered
@@ -102,15 +109,18 @@ returns-in-Thaw-clause-answered c =
 pub returns-in-StopBatch-clause-answered : goal.returns-in-StopBatch-clause-answered
 returns-in-StopBatch-clause-answered c =
     λ history mirrors room.
-    batch-told (stop_batch c.in-StopBatch.at c.in-StopBatch.batch) c.in-StopBatch.batch (ap event_view (sym c.in-StopBatch.is)) refl refl
+    batch-told (stop_batch c.in-StopBatch.at c.in-StopBatch.batch) c.in-StopBatch.batch
+    (ap event_view (sym c.in-StopBatch.is)) refl refl
     mirrors
-    (c.stop.ensures.answered history c.in-StopBatch.at c.args.modules.now mirrors.seats mirrors.counted mirrors.batches room)
+    (c.stop.ensures.answered history c.in-StopBatch.at c.args.modules.now mirrors.seats mirrors.counted
+    mirrors.batches room)
     c.stop.ensures.count
 
 pub returns-in-Abandon-clause-answered : goal.returns-in-Abandon-clause-answered
 returns-in-Abandon-clause-answered c =
     λ history mirrors room.
-    batch-told (abandon c.in-Abandon.at c.in-Abandon.batch) c.in-Abandon.batch (ap event_view (sym c.in-Abandon.is)) refl refl
+    batch-told (abandon c.in-Abandon.at c.in-Abandon.batch) c.in-Abandon.batch
+    (ap event_view (sym c.in-Abandon.is)) refl refl
     mirrors
     (c.abandon.ensures.answered history c.in-Abandon.at mirrors.seats mirrors.counted mirrors.batches room)
     c.abandon.ensures.count
@@ -118,21 +128,25 @@ returns-in-Abandon-clause-answered c =
 pub returns-in-Desk-clause-answered : goal.returns-in-Desk-clause-answered
 returns-in-Desk-clause-answered c =
     λ history mirrors room.
-    module-told (desk c.in-Desk.at c.in-Desk.tag c.in-Desk.service c.in-Desk.command) c.in-Desk.tag (ap event_view (sym c.in-Desk.is)) refl refl mirrors
+    module-told (desk c.in-Desk.at c.in-Desk.tag c.in-Desk.service c.in-Desk.command) c.in-Desk.tag
+    (ap event_view (sym c.in-Desk.is)) refl refl mirrors
     (c.desk.ensures.answered history c.in-Desk.at mirrors.seats mirrors.counted room)
 
 pub returns-in-ExchangeBegin-clause-answered : goal.returns-in-ExchangeBegin-clause-answered
 returns-in-ExchangeBegin-clause-answered c =
     λ history mirrors room.
-    module-told (exchange_begin c.in-ExchangeBegin.at c.in-ExchangeBegin.tag) c.in-ExchangeBegin.tag (ap event_view (sym c.in-ExchangeBegin.is)) refl refl mirrors
+    module-told (exchange_begin c.in-ExchangeBegin.at c.in-ExchangeBegin.tag) c.in-ExchangeBegin.tag
+    (ap event_view (sym c.in-ExchangeBegin.is)) refl refl mirrors
     (c.exchange_begin.ensures.answered history c.in-ExchangeBegin.at mirrors.seats mirrors.counted mirrors.batches room)
 
 pub returns-in-ExchangeEnd-clause-answered : goal.returns-in-ExchangeEnd-clause-answered
 returns-in-ExchangeEnd-clause-answered c =
     if-ok c.exchange_end.result _ _ (λ answer answered history mirrors room.
     module-told (exchange_end c.in-ExchangeEnd.at c.in-ExchangeEnd.tag c.in-ExchangeEnd.ticket
-    (description_view c.in-ExchangeEnd.desc.value)) c.in-ExchangeEnd.tag (ap event_view (sym c.in-ExchangeEnd.is)) refl refl mirrors
-    (answered history c.in-ExchangeEnd.at mirrors.seats mirrors.counted mirrors.batches room)) c.exchange_end.ensures.answered
+    (description_view c.in-ExchangeEnd.desc.value)) c.in-ExchangeEnd.tag
+    (ap event_view (sym c.in-ExchangeEnd.is)) refl refl mirrors
+    (answered history c.in-ExchangeEnd.at mirrors.seats mirrors.counted mirrors.batches room))
+    c.exchange_end.ensures.answered
 
 pub returns-in-ExchangeEnd-clause-kept : goal.returns-in-ExchangeEnd-clause-kept
 returns-in-ExchangeEnd-clause-kept c =
@@ -144,5 +158,6 @@ returns-in-ExchangeEnd-clause-kept c =
 pub returns-in-ExchangeCancel-clause-answered : goal.returns-in-ExchangeCancel-clause-answered
 returns-in-ExchangeCancel-clause-answered c =
     λ history mirrors room.
-    module-told (exchange_cancel c.in-ExchangeCancel.at c.in-ExchangeCancel.tag c.in-ExchangeCancel.ticket) c.in-ExchangeCancel.tag (ap event_view (sym c.in-ExchangeCancel.is)) refl refl mirrors
+    module-told (exchange_cancel c.in-ExchangeCancel.at c.in-ExchangeCancel.tag c.in-ExchangeCancel.ticket)
+    c.in-ExchangeCancel.tag (ap event_view (sym c.in-ExchangeCancel.is)) refl refl mirrors
     (c.exchange_cancel.ensures.answered history c.in-ExchangeCancel.at mirrors.seats mirrors.counted room)

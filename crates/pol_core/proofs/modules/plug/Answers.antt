@@ -30,7 +30,8 @@ returns-in-Ok-clause-answered c =
     (sym (part-some (look c.args.tag c.args.modules.now)) ∙ ap is_some (sym c.get.ensures)
     ∙ copied-some c.get.result ∙ sym c.is_some.ensures ∙ c.if-is_some.false))
     (let few = c.if-len-ge-MOST_MODULES.false in let len = c.len.ensures in
-    let below : length c.args.modules.now < MOST_MODULES = omega arith in lt-leb MOST_MODULES (length c.args.modules.now) below)
+    let below : length c.args.modules.now < MOST_MODULES = omega arith in
+    lt-leb MOST_MODULES (length c.args.modules.now) below)
     (plug-keeps c.args.tag c.args.tag c.in_ok-slot.slot (past c.args.tag history) at
     (description_view c.args.description.now.value) Done
     c.in_ok-slot.ensures.tag (c.in_ok-slot.ensures.description

@@ -14,6 +14,7 @@ loop-place-preserved c =
     let so_far = c.loop-place.invariant in
     record {
       told = told_next idle c.loop-place.place _ _ _ so_far.told
-          (reports.told ∙ ap (λ tag. line_told (reported tag Idle 4) (told_by c.loop-place.teller)) c.in_ok-tag.ensures);
+          (reports.told ∙ ap (λ tag. line_told (reported tag Idle 4) (told_by c.loop-place.teller))
+          c.in_ok-tag.ensures);
       at = let here = reports.at in let before = so_far.at in omega (arith, here, before);
     }

@@ -20,12 +20,14 @@ loop-number-preserved c =
     let so_far = c.loop-number.invariant in
     let count = c.loop-number.number in
     record {
-      told = runs.told ∙ (ap (λ sequence. lines_told (batch_run sequence count) (told_by c.loop-number.teller)) so_far.drawn
+      told = runs.told ∙ (ap (λ sequence. lines_told (batch_run sequence count)
+          (told_by c.loop-number.teller)) so_far.drawn
           ∙ (ap (lines_told (batch_run (drawn c.args.seed (VALUES * count)) count)) so_far.told
           ∙ (sym (told_append (batch_runs c.args.seed count) (batch_run (drawn c.args.seed (VALUES * count)) count)
           (told_by c.args.teller.now))
           ∙ ap (λ lines. lines_told lines (told_by c.args.teller.now)) (sym (runs_next c.args.seed count)))));
-      drawn = runs.drawn ∙ (ap (λ number. drawn number VALUES) so_far.drawn ∙ drawn_on c.args.seed (VALUES * count) VALUES
+      drawn = runs.drawn ∙ (ap (λ number. drawn number VALUES) so_far.drawn
+          ∙ drawn_on c.args.seed (VALUES * count) VALUES
           ∙ ap (drawn c.args.seed) (omega arith));
       at = let here = runs.at in let before = so_far.at in omega (arith, here, before);
     }

@@ -6,16 +6,19 @@ pub loop-role-preserved : goal.loop-role-preserved
 loop-role-preserved c =
     reads_next c.loop-role.binds.items c.push.new.self.items c.loop-role.role-iterator c.next.new.self
     (c.in-Some.role.now, c.in-Some.tag.now) c.in_ok-bind.bind _
-    c.in-Some.ensures.steps (rw c.as_str.ensures.value at c.in_ok-bind.ensures) c.in_ok-push.ensures.items c.loop-role.invariant
+    c.in-Some.ensures.steps (rw c.as_str.ensures.value at c.in_ok-bind.ensures) c.in_ok-push.ensures.items
+    c.loop-role.invariant
 
 pub returns-in_err-bind-clause-gives : goal.returns-in_err-bind-clause-gives
 returns-in_err-bind-clause-gives c =
     let p = err_from_is_err_and c.from_residual.result c.from_residual.ensures.1 in
-    rw (p.1, p.2) (stops_at c.in_err-bind.field-0.0 c.loop-role.binds.items c.loop-role.role-iterator c.next.new.self (c.in-Some.role.now, c.in-Some.tag.now) _
+    rw (p.1, p.2) (stops_at c.in_err-bind.field-0.0 c.loop-role.binds.items c.loop-role.role-iterator c.next.new.self
+    (c.in-Some.role.now, c.in-Some.tag.now) _
     c.in-Some.ensures.steps (rw c.as_str.ensures.value at c.in_err-bind.ensures) c.loop-role.invariant)
 
 pub returns-clause-gives : goal.returns-clause-gives
-returns-clause-gives c = is_done c.loop-role.binds.items c.loop-role.role-iterator _ c.in-None.ensures.steps.0 c.loop-role.invariant
+returns-clause-gives c = is_done c.loop-role.binds.items c.loop-role.role-iterator _ c.in-None.ensures.steps.0
+    c.loop-role.invariant
 
 pub returns-clause-order : goal.returns-clause-order
 returns-clause-order c =

@@ -6,13 +6,16 @@ use Rattle.pol_events.proofs.Depths.{event_depth, event_whole}
 use Rattle.pol_events.proofs.writing.event_value.Goals as goal
 
 pub returns-clause-reads_back : goal.returns-clause-reads_back
-returns-clause-reads_back c = IfOk-weaker c.write_event.result _ _ (λ value is. rw is.0 (event_again c.args.event.now is.1 c.requires)) c.write_event.ensures
+returns-clause-reads_back c = IfOk-weaker c.write_event.result _ _
+    (λ value is. rw is.0 (event_again c.args.event.now is.1 c.requires)) c.write_event.ensures
 
 pub returns-clause-nests : goal.returns-clause-nests
-returns-clause-nests c = IfOk-weaker c.write_event.result _ _ (λ value is. rw is.0 (event_depth c.args.event.now c.requires)) c.write_event.ensures
+returns-clause-nests c = IfOk-weaker c.write_event.result _ _
+    (λ value is. rw is.0 (event_depth c.args.event.now c.requires)) c.write_event.ensures
 
 pub returns-clause-whole : goal.returns-clause-whole
-returns-clause-whole c = IfOk-weaker c.write_event.result _ _ (λ value is. rw is.0 (event_whole (event_view c.args.event.now))) c.write_event.ensures
+returns-clause-whole c = IfOk-weaker c.write_event.result _ _
+    (λ value is. rw is.0 (event_whole (event_view c.args.event.now))) c.write_event.ensures
 
 pub returns-clause-line : goal.returns-clause-line
 returns-clause-line c =

@@ -10,4 +10,5 @@ returns-in-Some c = λ empty.
     let line = c.args.line.now in
     let members = c.read_object.new.members.items in
     let none : c.in-Some.rest.now ≡ [] = grind (arith, common_steps, empty) in
-    begins_all 1 line (flat_data members) (omega arith) (subst (λ rest. Begins 1 line (flat_data members) rest) none c.in-Some.ensures)
+    begins_all 1 line (flat_data members) (omega arith) (subst
+    (λ rest. Begins 1 line (flat_data members) rest) none c.in-Some.ensures)

@@ -13,4 +13,5 @@ loop-member-preserved c =
     let after = c.in-Some.after.now in
     let comma : after ≡ 44 ∷ take (length after - 1) (drop 1 after) = grind (arith, common_steps) in
     let text = c.in-Some.ensures.piece ∙ ap (λ s. member_piece c.in-Some.member ++ s) comma in
-    rw c.push.ensures.items (goes_on c.args.text.now c.loop-member.rest.now _ c.loop-member.members.items c.in-Some.member c.loop-member.invariant text c.in-Some.ensures.held)
+    rw c.push.ensures.items (goes_on c.args.text.now c.loop-member.rest.now _ c.loop-member.members.items
+    c.in-Some.member c.loop-member.invariant text c.in-Some.ensures.held)

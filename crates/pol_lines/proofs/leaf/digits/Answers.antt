@@ -17,8 +17,20 @@ overflow_add-value c =
 
 pub loop-i-preserved : goal.loop-i-preserved
 loop-i-preserved c =
-    let is : is_ascii_digit (get_or c.args.text.now c.loop-i.i 0) ≡ true = grind (arith, common_steps, c.if-not-is_ascii_digit.ensures.value) in record {
+    let is : is_ascii_digit (get_or c.args.text.now c.loop-i.i 0) ≡ true =
+    grind (arith, common_steps, c.if-not-is_ascii_digit.ensures.value) in record {
       few = grind (arith);
-      digits = grind (arith, common_steps, list_all_more is_ascii_digit c.args.text.now c.loop-i.i 0 c.loop-i-test.true, c.if-not-is_ascii_digit.ensures.value);
-      value = grind (arith, one_more c.args.text.now c.loop-i.i (get_or c.args.text.now c.loop-i.i 0) c.loop-i-test.true refl is, c.loop-i.invariant.value);
+      digits = grind (
+        arith,
+        common_steps,
+        list_all_more is_ascii_digit c.args.text.now c.loop-i.i 0
+            c.loop-i-test.true,
+        c.if-not-is_ascii_digit.ensures.value,
+      );
+      value = grind (
+        arith,
+        one_more c.args.text.now c.loop-i.i
+            (get_or c.args.text.now c.loop-i.i 0) c.loop-i-test.true refl is,
+        c.loop-i.invariant.value,
+      );
     }

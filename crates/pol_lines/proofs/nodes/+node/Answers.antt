@@ -9,14 +9,16 @@ use Rattle.pol_lines.proofs.Noding.{par_node, seq_node, step_node}
 use Rattle.pol_lines.proofs.nodes.+node.Goals as goal
 
 pub read_inner-loop-init : goal.read_inner-loop-init
-read_inner-loop-init t c = rw c.requires (list_opens tree_of (2 * c.args.levels + 3) c.args.text.now c.in_ok-rest.rest.now c.in_ok-rest.ensures)
+read_inner-loop-init t c = rw c.requires (list_opens tree_of
+    (2 * c.args.levels + 3) c.args.text.now c.in_ok-rest.rest.now c.in_ok-rest.ensures)
 
 pub read_inner-loop-preserved : goal.read_inner-loop-preserved
 read_inner-loop-preserved t c =
     let deep = 2 * c.args.levels + 3 in
     let after = c.last.result.now in
     let comma : after ≡ 44 ∷ take (length after - 1) (drop 1 after) = grind (arith, common_steps) in
-    let reads = subst (λ s. Reads tree_of deep c.loop.rest.now (tree c.in_ok-node.node) s) (sym c.last.ensures ∙ comma) c.in_ok-node.ensures in
+    let reads = subst (λ s. Reads tree_of deep c.loop.rest.now (tree c.in_ok-node.node) s)
+    (sym c.last.ensures ∙ comma) c.in_ok-node.ensures in
     rw (c.in-Ok.ensures.items, map_push tree c.loop.nodes.items c.in_ok-node.node)
     (list_more tree_of deep c.args.text.now c.loop.rest.now _ _ _ c.loop.invariant reads)
 
@@ -26,10 +28,12 @@ read_inner-returns-in-93 t c =
     let after = c.last.result.now in
     let more = take (length after - 1) (drop 1 after) in
     let closing : after ≡ 93 ∷ more = grind (arith, common_steps) in
-    let reads = subst (λ s. Reads tree_of deep c.loop.rest.now (tree c.in_ok-node.node) s) (sym c.last.ensures ∙ closing) c.in_ok-node.ensures in
+    let reads = subst (λ s. Reads tree_of deep c.loop.rest.now (tree c.in_ok-node.node) s)
+    (sym c.last.ensures ∙ closing) c.in_ok-node.ensures in
     let levels : suc deep ≡ 2 * c.args.levels + 4 = omega arith in
     rw (c.in-Ok.ensures.items, map_push tree c.loop.nodes.items c.in_ok-node.node)
-    (subst (λ d. ReadsList tree_of d c.args.text.now (map tree c.loop.nodes.items ++ tree c.in_ok-node.node ∷ []) more) levels
+    (subst (λ d. ReadsList tree_of d c.args.text.now (map tree c.loop.nodes.items ++ tree c.in_ok-node.node ∷ []) more)
+    levels
     (list_closes tree_of deep c.args.text.now c.loop.rest.now more _ _ c.loop.invariant reads))
 
 pub read_node-returns-in-Some : goal.read_node-returns-in-Some
@@ -39,9 +43,11 @@ read_node-returns-in-Some t c =
     let nodes = map tree c.read_inner.new.nodes.items in
     let after = c.in_ok-rest-2.rest.now in
     let some : 0 < length nodes = grind (arith, common_steps, c.if-is_empty.ensures) in
-    subst (λ found. Reads tree_of (2 * c.args.levels + 3) c.args.text.now found (last_of (length after) c.args.text.now)) (sym c.in_sequence.ensures)
+    subst (λ found. Reads tree_of (2 * c.args.levels + 3) c.args.text.now found
+    (last_of (length after) c.args.text.now)) (sym c.in_sequence.ensures)
     (subst (λ d. Reads tree_of d c.args.text.now (seq (trees_of nodes)) (last_of (length after) c.args.text.now)) levels
-    (seq_node deep c.args.text.now c.in-Some.inner.now c.in_ok-rest.rest.now after nodes c.in-Some.ensures c.in_ok-rest.ensures c.in_ok-rest-2.ensures some))
+    (seq_node deep c.args.text.now c.in-Some.inner.now c.in_ok-rest.rest.now after nodes c.in-Some.ensures
+    c.in_ok-rest.ensures c.in_ok-rest-2.ensures some))
 
 pub read_node-returns-in-Some-eat : goal.read_node-returns-in-Some-eat
 read_node-returns-in-Some-eat t c =
@@ -50,12 +56,15 @@ read_node-returns-in-Some-eat t c =
     let nodes = map tree c.read_inner-in-Some-eat.new.nodes.items in
     let after = c.in_ok-rest-4.rest.now in
     let some : 2 ≤ length nodes = grind (arith, common_steps, c.if-len-lt2.false) in
-    subst (λ found. Reads tree_of (2 * c.args.levels + 3) c.args.text.now found (last_of (length after) c.args.text.now)) (sym c.in_parallel.ensures)
+    subst (λ found. Reads tree_of (2 * c.args.levels + 3) c.args.text.now found
+    (last_of (length after) c.args.text.now)) (sym c.in_parallel.ensures)
     (subst (λ d. Reads tree_of d c.args.text.now (par (trees_of nodes)) (last_of (length after) c.args.text.now)) levels
-    (par_node deep c.args.text.now c.in-Some-eat.inner.now c.in_ok-rest-3.rest.now after nodes c.in-Some-eat.ensures c.in_ok-rest-3.ensures c.in_ok-rest-4.ensures some))
+    (par_node deep c.args.text.now c.in-Some-eat.inner.now c.in_ok-rest-3.rest.now after nodes c.in-Some-eat.ensures
+    c.in_ok-rest-3.ensures c.in_ok-rest-4.ensures some))
 
 pub read_node-returns : goal.read_node-returns
 read_node-returns t c =
     let after = last_of c.in_ok-step.left c.args.text.now in
     subst (λ found. Reads tree_of (2 * c.args.levels + 3) c.args.text.now found after) (sym c.of_step.ensures)
-    (step_node (2 * c.args.levels + 3) c.args.text.now after (step_plan c.in_ok-step.step) (omega arith) c.in_ok-step.ensures)
+    (step_node (2 * c.args.levels + 3) c.args.text.now after (step_plan c.in_ok-step.step)
+    (omega arith) c.in_ok-step.ensures)

@@ -7,5 +7,6 @@ use Rattle.pol_slots.proofs.told.of_services.Given as goal
 
 abbrev pub invariant-loop-service : goal.invariant-loop-service
 invariant-loop-service l =
-    (name : List ℕ) → (if list_any (λ service. bytes_eq service.name name) (drop l.service-index l.services) then Some None else lookup (bytes_eq name) l.lasts)
+    (name : List ℕ) → (if list_any (λ service. bytes_eq service.name name)
+    (drop l.service-index l.services) then Some None else lookup (bytes_eq name) l.lasts)
     ≡ (if list_any (λ service. bytes_eq service.name name) l.services then Some None else None)

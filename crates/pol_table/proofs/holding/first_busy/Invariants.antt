@@ -5,4 +5,5 @@ use Rattle.pol_table.specs.Places.{seat_busy_at}
 use Rattle.pol_table.proofs.holding.first_busy.Given as goal
 
 abbrev pub invariant-loop-tag : goal.invariant-loop-tag
-invariant-loop-tag l = first_of (map (seat_busy_at l.seats.entries) l.tags) ≡ first_of (map (seat_busy_at l.seats.entries) (drop l.tag-index l.tags))
+invariant-loop-tag l = first_of (map (seat_busy_at l.seats.entries) l.tags)
+    ≡ first_of (map (seat_busy_at l.seats.entries) (drop l.tag-index l.tags))

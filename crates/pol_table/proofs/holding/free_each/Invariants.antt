@@ -5,4 +5,5 @@ use Rattle.pol_table.proofs.holding.free_each.Given as goal
 
 abbrev pub invariant-loop-index : goal.invariant-loop-index
 invariant-loop-index l =
-    l.seats.entries ≡ map (λ entry. (entry.0, seat_freed_from l.batch entry.1)) (take l.index l.initial.seats.entries) ++ drop l.index l.initial.seats.entries
+    l.seats.entries ≡ map (λ entry. (entry.0, seat_freed_from l.batch entry.1))
+    (take l.index l.initial.seats.entries) ++ drop l.index l.initial.seats.entries

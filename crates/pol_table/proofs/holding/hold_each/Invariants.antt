@@ -11,7 +11,8 @@ use Rattle.pol_table.proofs.holding.hold_each.Given as goal
 abbrev pub invariant-loop-tag : goal.invariant-loop-tag
 invariant-loop-tag l = record {
   held : (tag : List ℕ) → lookup (bytes_eq tag) l.seats.entries
-      ≡ option_map (λ seat. if is_among (take l.tag-index l.tags) tag then seat_held_by l.batch seat else seat) (lookup (bytes_eq tag) l.initial.seats.entries);
+      ≡ option_map (λ seat. if is_among (take l.tag-index l.tags) tag then seat_held_by l.batch seat else seat)
+      (lookup (bytes_eq tag) l.initial.seats.entries);
   len : length l.seats.entries ≡ length l.initial.seats.entries;
   unique : IsDistinct bytes_eq (keys_of l.seats.entries);
 }

@@ -11,15 +11,18 @@ faulty found fault here none = cc
 
 pub returns-in-Ok-clause-ok : goal.returns-in-Ok-clause-ok
 returns-in-Ok-clause-ok c = (
-  λ _. walk_clear (plan c.args.self.now) (record { number = 0; steps = 0 }) c.in-Ok.field-0 refl refl (sym c.walk.ensures.value ∙ c.in-Ok.is),
+  λ _. walk_clear (plan c.args.self.now) (record { number = 0; steps = 0 }) c.in-Ok.field-0 refl refl
+      (sym c.walk.ensures.value ∙ c.in-Ok.is),
   λ _. refl,
 )
 
 pub returns-in-Err-clause-ok : goal.returns-in-Err-clause-ok
 returns-in-Err-clause-ok c =
-    let found = walk_stopped (plan c.args.self.now) (record { number = 0; steps = 0 }) c.in-Err.fault refl refl (sym c.walk.ensures.value ∙ c.in-Err.is) in
+    let found = walk_stopped (plan c.args.self.now) (record { number = 0; steps = 0 }) c.in-Err.fault refl refl
+    (sym c.walk.ensures.value ∙ c.in-Err.is) in
     (λ h. cc, λ none. faulty (chart_fault (plan c.args.self.now)) c.in-Err.fault found none)
 
 pub returns-in-Err-clause-fault : goal.returns-in-Err-clause-fault
 returns-in-Err-clause-fault c =
-    walk_stopped (plan c.args.self.now) (record { number = 0; steps = 0 }) c.in-Err.fault refl refl (sym c.walk.ensures.value ∙ c.in-Err.is)
+    walk_stopped (plan c.args.self.now) (record { number = 0; steps = 0 }) c.in-Err.fault refl refl
+    (sym c.walk.ensures.value ∙ c.in-Err.is)

@@ -6,7 +6,8 @@ use Rattle.mtp_codes.specs.declared.value.Reading.{Reading}
 use Rattle.mtp_codes.specs.declared.value.Reading.TheVariants.{Bit}
 use Rattle.chart_core.proofs.readings.Readings.with.Goals as goal
 
-one_blank_less : (m : ℕ) (x : Reading) (rest : List Reading) → x ∷ rest ≡ replicate m (Bit false) → rest ≡ replicate (m - 1) (Bit false)
+one_blank_less : (m : ℕ) (x : Reading) (rest : List Reading) → x ∷ rest ≡ replicate m (Bit false)
+    → rest ≡ replicate (m - 1) (Bit false)
 one_blank_less zero x rest h = cc
 one_blank_less (suc m) x rest h =
     let less : suc m - 1 ≡ m = omega arith in
@@ -21,7 +22,8 @@ invariant_of-result c =
     let used = length-used items len kept in
     let room : len < 4 = omega (arith, used, ap length c.self.view_is, c.requires) in
     let inside : len < length items = omega (arith, kept.whole) in
-    let last = one_blank_less (4 - len) (get_or items len (Bit false)) (drop (suc len) items) (sym (drop-cons items len (Bit false) inside) ∙ kept.blanks) in
+    let last = one_blank_less (4 - len) (get_or items len (Bit false)) (drop (suc len) items)
+    (sym (drop-cons items len (Bit false) inside) ∙ kept.blanks) in
     let next : len + 1 ≡ suc len = omega arith in
     let less : 4 - len - 1 ≡ 4 - (len + 1) = omega arith in
     record {

@@ -10,7 +10,8 @@ use Rattle.chart_cursor.proofs.cursor.Cursor.first_broken.Goals as goal
 
 pub first_broken-requires-clause-short : goal.first_broken-requires-clause-short
 first_broken-requires-clause-short g c =
-    let few = few_marks c.self.inside.chart.value c.self.inside.marks.items c.self.invariant.valid c.self.invariant.room in
+    let few = few_marks c.self.inside.chart.value c.self.inside.marks.items c.self.invariant.valid
+    c.self.invariant.room in
     rw c.deref-2.ensures.value few
 
 pub returns : goal.returns
@@ -18,7 +19,10 @@ returns g c =
     λ word stands.
     let chart = c.args.self.now.chart in
     let same : c.deref.result.now ≡ chart = c.deref.ensures ∙ ap (λ (k : Kept). k.chart) c.self.view_is in
-    let marks : c.deref-2.result.now ≡ c.args.self.now.marks = c.deref-2.ensures.value ∙ ap (λ (k : Kept). k.marks) c.self.view_is in
-    let valid : IsValid (plan chart) = subst (λ (a : Chart). IsValid (plan a)) (ap (λ (k : Kept). k.chart) c.self.view_is) c.self.invariant.valid in
+    let marks : c.deref-2.result.now ≡ c.args.self.now.marks = c.deref-2.ensures.value
+    ∙ ap (λ (k : Kept). k.marks) c.self.view_is in
+    let valid : IsValid (plan chart) = subst (λ (a : Chart). IsValid (plan a))
+    (ap (λ (k : Kept). k.chart) c.self.view_is) c.self.invariant.valid in
     let found = rw (same, marks) at c.first_broken.ensures in
-    found ∙ broken_active (plan chart) (marks_of c.args.self.now.marks) word (g.S.Seen.sights c.args.seen.now) valid stands
+    found ∙ broken_active (plan chart) (marks_of c.args.self.now.marks) word
+    (g.S.Seen.sights c.args.seen.now) valid stands

@@ -10,4 +10,9 @@ invariant_of-result c =
     })
 
 pub returns : goal.returns
-returns c = rw ((sym c.is_name.ensures ∙ c.if-not-is_name.false), c.copy_from_slice.ensures.after, first_used 32 c.args.bytes.now)
+returns c = rw (
+  (sym c.is_name.ensures ∙ c.if-not-is_name.false),
+  c.copy_from_slice.ensures.after,
+  first_used 32
+      c.args.bytes.now,
+)

@@ -5,7 +5,8 @@ use Rattle.mtp_desc.proofs.service.Service.default_procedure.Goals as goal
 
 pub unreachable-requires : goal.unreachable-requires
 unreachable-requires c =
-    one_is_found (λ procedure. procedure.is_default) (map procedure_view c.args.self.now.procedures.items) c.args.self.now.one_default
+    one_is_found (λ procedure. procedure.is_default) (map procedure_view c.args.self.now.procedures.items)
+    c.args.self.now.one_default
     (sym (rw c.in-None.is at
     (looks_up procedure_view
     (λ procedure. procedure.is_default) c.args.self.now.procedures.items c.find_default.result

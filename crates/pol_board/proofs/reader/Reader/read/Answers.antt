@@ -23,7 +23,8 @@ returns-clause-seen c =
     let found : ℕ = c.load-found.result in
     let told = c.load-found.ensures.2.0 c.self.invariant in
     let again : word_of c.unpack.result.0 c.unpack.result.1 ≡ found =
-    ap (λ of. word_of of c.unpack.result.1) c.unpack.ensures.number ∙ ap (word_of (number_of found)) c.unpack.ensures.state
+    ap (λ of. word_of of c.unpack.result.1) c.unpack.ensures.number
+    ∙ ap (word_of (number_of found)) c.unpack.ensures.state
     ∙ word-again found told.1 in
     ap (λ (one : Remembered). one.words) told.2
     ∙ ap (λ (holder : Holder). slice_set holder.words c.args.word found) c.self.view_is

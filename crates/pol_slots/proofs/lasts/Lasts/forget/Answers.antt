@@ -14,5 +14,6 @@ loop-place-preserved g c = forgotten_next _ _ _ c.loop-place.invariant
 
 pub returns : goal.returns
 returns g c = λ name.
-    let past : length c.self.inside.values.entries ≤ c.loop-place.place = omega (arith, c.loop-place-test.false, c.len-place-end.ensures.len) in
+    let past : length c.self.inside.values.entries ≤ c.loop-place.place =
+    omega (arith, c.loop-place-test.false, c.len-place-end.ensures.len) in
     rw (← c.self.view_is, c.loop-place.invariant) (all_forgotten (bytes_eq name) _ _ past)

@@ -7,11 +7,13 @@ use Rattle.pol_slots.proofs.told.Told.new.Goals as goal
 
 pub returns-clause-services : goal.returns-clause-services
 returns-clause-services c = λ name.
-    known_where_found service_view (λ service. bytes_eq service.name name) _ _ ((rw c.deref.ensures.value at c.in_ok-controls.ensures) name)
+    known_where_found service_view (λ service. bytes_eq service.name name) _ _
+    ((rw c.deref.ensures.value at c.in_ok-controls.ensures) name)
 
 pub returns-clause-variables : goal.returns-clause-variables
 returns-clause-variables c = λ name.
-    known_where_found variable_view (λ variable. bytes_eq variable.name name) _ _ ((rw c.deref-2.ensures.value at c.in_ok-values.ensures) name)
+    known_where_found variable_view (λ variable. bytes_eq variable.name name) _ _
+    ((rw c.deref-2.ensures.value at c.in_ok-values.ensures) name)
 
 pub returns-clause-nothing : goal.returns-clause-nothing
 returns-clause-nothing c = record {

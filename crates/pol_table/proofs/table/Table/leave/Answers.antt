@@ -12,14 +12,18 @@ returns-in_err-seat-clause-answer g c =
 
 pub unreachable-requires : goal.unreachable-requires
 unreachable-requires g c =
-    true≢false (sym (c.self.invariant.occupied _ _ (found_free _ _ (sym c.in_ok-seat.ensures)).0) ∙ ap is_some (sym c.try_remove.ensures.value ∙ c.in-None.is))
+    true≢false (sym (c.self.invariant.occupied _ _ (found_free _ _ (sym c.in_ok-seat.ensures)).0)
+    ∙ ap is_some (sym c.try_remove.ensures.value ∙ c.in-None.is))
 
 pub returns-clause-answer : goal.returns-clause-answer
 returns-clause-answer g c =
-    rw (← c.self.view_is) (sym (leaving_free _ _ c.self.invariant _ _ _ (sym c.in_ok-seat.ensures) (sym c.try_remove.ensures.value ∙ c.in-Some.is)))
+    rw (← c.self.view_is)
+    (sym (leaving_free _ _ c.self.invariant _ _ _ (sym c.in_ok-seat.ensures)
+    (sym c.try_remove.ensures.value ∙ c.in-Some.is)))
 
 leaves : (g : _) (c : goal.In-Some g)
-    → Leaves c.args.tag c.in_ok-seat.seat c.self.inside.seats.entries c.swap_remove-seat.new.self.entries c.self.inside.parts.slots c.try_remove.new.self.slots
+    → Leaves c.args.tag c.in_ok-seat.seat c.self.inside.seats.entries c.swap_remove-seat.new.self.entries
+    c.self.inside.parts.slots c.try_remove.new.self.slots
 leaves g c =
     let found = found_free _ _ (sym c.in_ok-seat.ensures) in record {
       sound = c.self.invariant;
