@@ -1,11 +1,12 @@
 //! Readers and writers that give and take little at a time, are interrupted, or fail in the middle of a journal.
 use super::batches::DOSING_AND_MIXING;
-use super::runs::words_of;
-use pol_cli::{Status, top};
+use super::runs::{end_of, words_of};
 use pol_io::{ReaderSource, WriterSink};
 use std::alloc::Global;
 use std::io::{self, ErrorKind, Read, Write};
+use std::sync::Wait;
 use std::test::Fail;
+use std::thread::Threads;
 
 // A reader that gives one byte a call. Each call whose number is a multiple of `interrupted` is interrupted, and the call
 // with the number `failing` fails; no call has the number 0.
@@ -90,11 +91,16 @@ impl Write for Sips {
 }
 
 // The status of a replay from the reader to the writer.
-fn replay(alloc: Global, reader: Drops<'_>, writer: &mut Sips) -> Result<Status, Fail> {
+fn replay<R: Threads + Wait + Sync>(
+    rt: &R,
+    alloc: Global,
+    reader: Drops<'_>,
+    writer: &mut Sips,
+) -> Result<u8, Fail> {
     let words = words_of(alloc, "pol --job replay")?;
     let mut source = ReaderSource::new(reader);
     let mut sink = WriterSink::new(writer);
-    Ok(top(alloc, &words, &mut source, &mut sink))
+    Ok(end_of(rt, alloc, &words, &mut source, &mut sink).number())
 }
 
 #[test]
@@ -103,12 +109,8 @@ fn little_at_a_time_and_interrupted_is_no_fault(rt: HostRuntime) -> Result<(), F
     for (interrupted_reads, interrupted_writes) in [(0, 0), (2, 0), (0, 2), (3, 5)] {
         let reader = Drops::new(journal.input, interrupted_reads, 0);
         let mut writer = Sips::new(rt.alloc(), interrupted_writes);
-        let status = replay(rt.alloc(), reader, &mut writer)?;
-        assert_eq!(rt;
-            status,
-            Status::Good,
-            "{interrupted_reads} {interrupted_writes}"
-        );
+        let status = replay(&rt, rt.alloc(), reader, &mut writer)?;
+        assert_eq!(rt; status, 0, "{interrupted_reads} {interrupted_writes}");
         assert!(rt; writer.taken.as_slice() == journal.output.as_bytes());
     }
     Ok(())
@@ -123,12 +125,13 @@ fn a_read_that_fails_in_the_middle_keeps_the_answers_before_it(
     for (failing, lines) in cases {
         let mut writer = Sips::new(rt.alloc(), 0);
         let status = replay(
+            &rt,
             rt.alloc(),
             Drops::new("[]\n [] \n[]", 0, failing),
             &mut writer,
         )?;
         let answers = bad.repeat(rt.alloc(), lines.len())?;
-        assert_eq!(rt; status, Status::ReadFault, "read {failing}");
+        assert_eq!(rt; status, 3, "read {failing}");
         assert!(rt;
             writer.taken.as_slice() == answers.as_bytes(),
             "read {failing}"

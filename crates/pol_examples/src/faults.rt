@@ -1,7 +1,6 @@
 //! Faults of the source, of the sink and of the input's size.
 use super::batches::DOSING_AND_MIXING;
-use super::runs::{run_failing, words_of};
-use pol_cli::{Status, top};
+use super::runs::{end_of, run_failing, words_of};
 use pol_io::{SureSink, SureSource};
 use std::test::Fail;
 
@@ -10,8 +9,8 @@ const PLUG_AND_REPORT: &str =
 
 #[test]
 fn a_read_that_fails_writes_nothing(rt: HostRuntime) -> Result<(), Fail> {
-    let (status, same) = run_failing(rt.alloc(), PLUG_AND_REPORT, 1, 0, "")?;
-    assert_eq!(rt; status, Status::ReadFault);
+    let (status, same) = run_failing(&rt, rt.alloc(), PLUG_AND_REPORT, 1, 0, "")?;
+    assert_eq!(rt; status, 3);
     assert!(rt; same);
     Ok(())
 }
@@ -23,8 +22,15 @@ fn a_write_that_fails_keeps_the_lines_before_it(rt: HostRuntime) -> Result<(), F
     let mut write = 0u32;
     for line in journal.output.lines() {
         write = write.saturating_add(1);
-        let (status, same) = run_failing(rt.alloc(), journal.input, 0, write, before.as_str())?;
-        assert_eq!(rt; status, Status::WriteFault, "write {write}");
+        let (status, same) = run_failing(
+            &rt,
+            rt.alloc(),
+            journal.input,
+            0,
+            write,
+            before.as_str(),
+        )?;
+        assert_eq!(rt; status, 4, "write {write}");
         assert!(rt; same, "write {write}");
         before.push_str(line)?;
         before.push_str("\n")?;
@@ -40,10 +46,10 @@ fn a_line_too_long_is_told_and_skipped(rt: HostRuntime) -> Result<(), Fail> {
     let words = words_of(rt.alloc(), "pol --job replay")?;
     let mut source = SureSource::new(input);
     let mut sink = SureSink::new(rt.alloc());
-    let status = top(rt.alloc(), &words, &mut source, &mut sink);
+    let status = end_of(&rt, rt.alloc(), &words, &mut source, &mut sink).number();
     let output =
         "{\"bad\":\"TooLong\",\"path\":\"\"}\n{\"bad\":\"WrongKind\",\"path\":\"\"}\n{\"end\":true}\n";
-    assert_eq!(rt; status, Status::Good);
+    assert_eq!(rt; status, 0);
     assert!(rt; sink.bytes() == output.as_bytes());
     Ok(())
 }
@@ -53,8 +59,8 @@ fn too_much_input_is_a_status(rt: HostRuntime) -> Result<(), Fail> {
     let words = words_of(rt.alloc(), "pol --job replay")?;
     let mut source = SureSource::new(vec![in rt.alloc(); b' '; 268_435_457]?);
     let mut sink = SureSink::new(rt.alloc());
-    let status = top(rt.alloc(), &words, &mut source, &mut sink);
-    assert_eq!(rt; status, Status::TooMuchInput);
+    let status = end_of(&rt, rt.alloc(), &words, &mut source, &mut sink).number();
+    assert_eq!(rt; status, 6);
     assert!(rt; sink.bytes().is_empty());
     Ok(())
 }

@@ -24,11 +24,17 @@ mod looking_back;
 #[cfg(test)]
 mod modules;
 #[cfg(test)]
+mod plants;
+#[cfg(test)]
 mod rules;
 #[cfg(test)]
 mod runs;
 #[cfg(test)]
 mod serving;
+#[cfg(test)]
+mod sites;
+#[cfg(test)]
+mod stamps;
 #[cfg(test)]
 mod starts;
 #[cfg(test)]

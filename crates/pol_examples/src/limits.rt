@@ -1,6 +1,5 @@
 //! The numbers of modules, recipes and batches that a plant takes.
 use super::runs::run;
-use pol_cli::Status;
 use std::test::Fail;
 
 const DONE: &str = "{\"done\":true}\n";
@@ -38,8 +37,14 @@ fn plant_full_at_64_modules(rt: HostRuntime) -> Result<(), Fail> {
     output.push_str(DONE)?;
     output.push_str("{\"refused\":1,\"rule\":\"TagTaken\"}\n")?;
     output.push_str(END)?;
-    let (status, same) = run(alloc, "pol --job replay", input.as_str(), output.as_str())?;
-    assert_eq!(rt; status, Status::Good);
+    let (status, same) = run(
+        &rt,
+        alloc,
+        "pol --job replay",
+        input.as_str(),
+        output.as_str(),
+    )?;
+    assert_eq!(rt; status, 0);
     assert!(rt; same);
     Ok(())
 }
@@ -58,8 +63,14 @@ fn recipes_full_at_64_recipes(rt: HostRuntime) -> Result<(), Fail> {
     let mut output = DONE.repeat(alloc, 64)?;
     output.push_str("{\"refused\":37,\"rule\":\"RecipesFull\"}\n")?;
     output.push_str(END)?;
-    let (status, same) = run(alloc, "pol --job replay", input.as_str(), output.as_str())?;
-    assert_eq!(rt; status, Status::Good);
+    let (status, same) = run(
+        &rt,
+        alloc,
+        "pol --job replay",
+        input.as_str(),
+        output.as_str(),
+    )?;
+    assert_eq!(rt; status, 0);
     assert!(rt; same);
     Ok(())
 }
@@ -94,8 +105,14 @@ fn batches_full_at_128_batches(rt: HostRuntime) -> Result<(), Fail> {
     output.push_str("{\"refused\":26,\"rule\":\"BatchesFull\"}\n")?;
     output.push_str(batches.as_str())?;
     output.push_str(END)?;
-    let (status, same) = run(alloc, "pol --job replay", input.as_str(), output.as_str())?;
-    assert_eq!(rt; status, Status::Good);
+    let (status, same) = run(
+        &rt,
+        alloc,
+        "pol --job replay",
+        input.as_str(),
+        output.as_str(),
+    )?;
+    assert_eq!(rt; status, 0);
     assert!(rt; same);
     Ok(())
 }

@@ -3,7 +3,9 @@
 use super::runs::begins;
 use std::alloc::Global;
 use std::process::Abort;
+use std::sync::Wait;
 use std::test::Fail;
+use std::thread::Threads;
 
 const DONE: &str = r#"{"done":true}"#;
 
@@ -47,8 +49,8 @@ const DESK_START: &str = r#"{"ev":"desk","at":10,"tag":"M","service":"dose","Com
 const DESK_COMPLETE: &str = r#"{"ev":"desk","at":10,"tag":"M","service":"dose","CommandOp":1024}"#;
 
 /// The lines that come before are answered so, and the last line is refused with this answer.
-fn refused(
-    rt: &impl Abort,
+fn refused<R: Abort + Threads + Wait + Sync>(
+    rt: &R,
     alloc: Global,
     before: &[(&str, &str)],
     line: &str,
@@ -65,7 +67,10 @@ fn refused(
     input.push_str(line)?;
     output.push_str(answer)?;
     output.push_str("\n")?;
-    assert!(rt; begins(alloc, input.as_str(), output.as_str())?, "{answer}");
+    assert!(rt;
+        begins(rt, alloc, input.as_str(), output.as_str())?,
+        "{answer}"
+    );
     Ok(())
 }
 

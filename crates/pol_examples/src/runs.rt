@@ -1,10 +1,13 @@
 //! Running the program's jobs over memory.
 use super::looking_back::output_of;
 use pol_cli::{Status, top};
-use pol_io::{MemorySink, MemorySource, SureSink, SureSource};
+use pol_io::{MemoryClock, MemorySink, MemorySource, Sink, Source, SureSink, SureSource};
+use pol_live::OpenGate;
 use std::alloc::{AllocError, Global};
 use std::process::Abort;
+use std::sync::Wait;
 use std::test::Fail;
+use std::thread::Threads;
 
 /// A journal with the output that is wanted, byte for byte.
 #[derive(Clone, Copy)]
@@ -23,53 +26,74 @@ pub fn words_of(alloc: Global, line: &str) -> Result<Vec<String>, AllocError> {
     Ok(words)
 }
 
-/// The status of a run, and whether this is its output.
-pub fn run(
+/// How the program's job ends, with a clock that stands still and a gate that lets everybody pass.
+pub fn end_of<R: Threads + Wait + Sync, S: Source, K: Sink>(
+    rt: &R,
+    alloc: Global,
+    words: &[String],
+    source: &mut S,
+    sink: &mut K,
+) -> Status {
+    let clock = MemoryClock::new(Vec::new(alloc));
+    top(rt, alloc, words, source, sink, clock, &OpenGate)
+}
+
+/// The number of the status of a run, and whether this is its output.
+pub fn run<R: Threads + Wait + Sync>(
+    rt: &R,
     alloc: Global,
     line: &str,
     journal: &str,
     output: &str,
-) -> Result<(Status, bool), AllocError> {
+) -> Result<(u8, bool), AllocError> {
     let words = words_of(alloc, line)?;
     let mut source = SureSource::new(journal.as_bytes().to_vec(alloc)?);
     let mut sink = SureSink::new(alloc);
-    let status = top(alloc, &words, &mut source, &mut sink);
-    Ok((status, sink.bytes() == output.as_bytes()))
+    let status = end_of(rt, alloc, &words, &mut source, &mut sink);
+    Ok((status.number(), sink.bytes() == output.as_bytes()))
 }
 
 /// Whether the replay of a journal begins with this output.
-pub fn begins(alloc: Global, journal: &str, output: &str) -> Result<bool, AllocError> {
+pub fn begins<R: Threads + Wait + Sync>(
+    rt: &R,
+    alloc: Global,
+    journal: &str,
+    output: &str,
+) -> Result<bool, AllocError> {
     let words = words_of(alloc, "pol --job replay")?;
     let mut source = SureSource::new(journal.as_bytes().to_vec(alloc)?);
     let mut sink = SureSink::new(alloc);
-    Ok(
-        top(alloc, &words, &mut source, &mut sink) == Status::Good
-            && sink.bytes().starts_with(output.as_bytes()),
-    )
+    let status = end_of(rt, alloc, &words, &mut source, &mut sink);
+    Ok(status.number() == 0 && sink.bytes().starts_with(output.as_bytes()))
 }
 
 /// A replay with a source whose call `read` fails and a sink whose call `write` fails, both counted from 1; no call has
 /// the number 0.
-pub fn run_failing(
+pub fn run_failing<R: Threads + Wait + Sync>(
+    rt: &R,
     alloc: Global,
     journal: &str,
     read: u32,
     write: u32,
     output: &str,
-) -> Result<(Status, bool), AllocError> {
+) -> Result<(u8, bool), AllocError> {
     let words = words_of(alloc, "pol --job replay")?;
     let bytes = journal.as_bytes().to_vec(alloc)?;
     let mut source = MemorySource::new(bytes, vec![in alloc; read]?);
     let mut sink = MemorySink::new(alloc, vec![in alloc; write]?);
-    let status = top(alloc, &words, &mut source, &mut sink);
-    Ok((status, sink.bytes() == output.as_bytes()))
+    let status = end_of(rt, alloc, &words, &mut source, &mut sink);
+    Ok((status.number(), sink.bytes() == output.as_bytes()))
 }
 
 /// Answers each journal twice, by the program and by looking back: its input gives its output.
-pub fn replay_each(rt: &impl Abort, alloc: Global, journals: &[Journal]) -> Result<(), Fail> {
+pub fn replay_each<R: Abort + Threads + Wait + Sync>(
+    rt: &R,
+    alloc: Global,
+    journals: &[Journal],
+) -> Result<(), Fail> {
     for journal in journals.iter() {
-        let (status, same) = run(alloc, "pol --job replay", journal.input, journal.output)?;
-        assert_eq!(rt; status, Status::Good, "{}", journal.title);
+        let (status, same) = run(rt, alloc, "pol --job replay", journal.input, journal.output)?;
+        assert_eq!(rt; status, 0, "{}", journal.title);
         assert!(rt; same, "{}", journal.title);
         let looked_back = output_of(alloc, journal.input)?;
         assert!(rt;

@@ -1,7 +1,6 @@
 //! Jobs whose input and output come and go in small pieces or stop in the middle, and the demo, which reads nothing.
 use super::batches::DOSING_AND_MIXING;
-use super::runs::{run, words_of};
-use pol_cli::{Status, top};
+use super::runs::{end_of, run, words_of};
 use pol_io::{
     DripSink, DripSource, Failed, LONGEST_INPUT, MemorySource, Sink, SinkFault, Source, SureSink,
 };
@@ -30,8 +29,8 @@ fn a_demo_writes_the_summary_of_its_journal(rt: HostRuntime) -> Result<(), Fail>
             "{\"answers\":121349,\"closed\":120,\"refused\":12}\n",
         ),
     ] {
-        let (status, same) = run(rt.alloc(), line, PLUG, output)?;
-        assert_eq!(rt; status, Status::Good, "{line}");
+        let (status, same) = run(&rt, rt.alloc(), line, PLUG, output)?;
+        assert_eq!(rt; status, 0, "{line}");
         assert!(rt; same, "{line}");
     }
     Ok(())
@@ -44,8 +43,8 @@ fn input_and_output_drip(rt: HostRuntime) -> Result<(), Fail> {
         let input = Vec::from_slice(rt.alloc(), DOSING_AND_MIXING.input.as_bytes())?;
         let mut source = DripSource::new(input, at_most);
         let mut sink = DripSink::new(rt.alloc(), at_most);
-        let status = top(rt.alloc(), &words, &mut source, &mut sink);
-        assert_eq!(rt; status, Status::Good, "by {at_most}");
+        let status = end_of(&rt, rt.alloc(), &words, &mut source, &mut sink).number();
+        assert_eq!(rt; status, 0, "by {at_most}");
         assert!(rt;
             sink.bytes() == DOSING_AND_MIXING.output.as_bytes(),
             "by {at_most}"
@@ -66,8 +65,8 @@ fn a_line_cut_anywhere_is_not_json(rt: HostRuntime) -> Result<(), Fail> {
         input.push(*byte)?;
         let mut source = DripSource::new(Vec::from_slice(rt.alloc(), &input)?, 1_000);
         let mut sink = SureSink::new(rt.alloc());
-        let status = top(rt.alloc(), &words, &mut source, &mut sink);
-        assert_eq!(rt; status, Status::Good, "of {} bytes", input.len());
+        let status = end_of(&rt, rt.alloc(), &words, &mut source, &mut sink).number();
+        assert_eq!(rt; status, 0, "of {} bytes", input.len());
         assert!(rt;
             sink.bytes() == output.as_bytes(),
             "of {} bytes",
@@ -104,14 +103,14 @@ fn one_byte_more_than_an_input_may_have_is_too_much(rt: HostRuntime) -> Result<(
     for (left, status, output) in [
         (
             LONGEST_INPUT,
-            Status::Good,
+            0,
             "{\"bad\":\"TooLong\",\"path\":\"\"}\n{\"end\":true}\n",
         ),
-        (LONGEST_INPUT + 1, Status::TooMuchInput, ""),
+        (LONGEST_INPUT + 1, 6, ""),
     ] {
         let mut source = Spaces { left };
         let mut sink = SureSink::new(rt.alloc());
-        let answered = top(rt.alloc(), &words, &mut source, &mut sink);
+        let answered = end_of(&rt, rt.alloc(), &words, &mut source, &mut sink).number();
         assert_eq!(rt; answered, status, "{left} spaces");
         assert!(rt; sink.bytes() == output.as_bytes(), "{left} spaces");
     }
@@ -166,8 +165,8 @@ fn answers_are_handed_on_before_more_input_is_asked_for(rt: HostRuntime) -> Resu
     input.extend_from_slice(REPORT.as_bytes())?;
     let mut source = DripSource::new(input, 1_000);
     let mut sink = Keeping::new(rt.alloc());
-    let status = top(rt.alloc(), &words, &mut source, &mut sink);
-    assert_eq!(rt; status, Status::Good);
+    let status = end_of(&rt, rt.alloc(), &words, &mut source, &mut sink).number();
+    assert_eq!(rt; status, 0);
     assert_eq!(rt;
         sink.handed_on.as_slice(),
         b"{\"done\":true}\n{\"done\":true}\n".as_slice()
@@ -183,8 +182,8 @@ fn a_read_that_fails_finds_all_answers_handed_on(rt: HostRuntime) -> Result<(), 
     input.extend_from_slice(b"{\"at\":2,")?;
     let mut source = MemorySource::new(input, vec![in rt.alloc(); 2]?);
     let mut sink = Keeping::new(rt.alloc());
-    let status = top(rt.alloc(), &words, &mut source, &mut sink);
-    assert_eq!(rt; status, Status::ReadFault);
+    let status = end_of(&rt, rt.alloc(), &words, &mut source, &mut sink).number();
+    assert_eq!(rt; status, 3);
     assert_eq!(rt; sink.handed_on.as_slice(), b"{\"done\":true}\n".as_slice());
     assert!(rt; sink.kept.is_empty());
     Ok(())

@@ -11,12 +11,14 @@ fn bad_words_are_a_status_and_read_nothing(rt: HostRuntime) -> Result<(), Fail> 
         "pol --job demo",
         "pol --job replay --seed 1",
         "pol --job plant --watchers 17",
+        "pol --job plant --seed 1",
+        "pol --job replay --watchers 0",
         "pol replay",
         "pol --help",
     ];
     for line in lines {
-        let (status, same) = run(rt.alloc(), line, "[]\n", "")?;
-        assert_eq!(rt; status, Status::BadWords);
+        let (status, same) = run(&rt, rt.alloc(), line, "[]\n", "")?;
+        assert_eq!(rt; status, 2);
         assert!(rt; same);
     }
     Ok(())

@@ -1,0 +1,150 @@
+//! Sites that are run by the job plant.
+use super::runs::{end_of, run, words_of};
+use pol_io::{SureSink, SureSource};
+use std::alloc::Global;
+use std::process::Abort;
+use std::sync::Wait;
+use std::test::Fail;
+use std::thread::Threads;
+
+/// A site of two dosers and a mixer, a batch of dosing and mixing, another of one dose, and an exchange.
+pub const SITE: &str =
+    r#"{"batches":[{"batch":"b1","bind":{"A":"M1","B":"M2"},"recipe":"mix"},{"batch":"b2","bind":{"A":"M3"},"recipe":"one"}],"desk":[],"exchanges":[{"after":0,"desc":{"services":[{"name":"dose","procedures":[{"default":true,"number":1,"params":[{"kind":"DIntServParam","max":5000,"min":0,"name":"amount"}],"self_completing":true}]}],"type":"Doser","variables":[{"kind":"AnaView","name":"level"}],"version":"1.1.0"},"sim":{"drift":[{"by":500,"from":0,"name":"level","to":3000}],"run":2,"ticks":1},"tag":"M3"}],"modules":[{"desc":{"services":[{"name":"dose","procedures":[{"default":true,"number":1,"params":[{"kind":"DIntServParam","max":5000,"min":0,"name":"amount"}],"self_completing":true}]}],"type":"Doser","variables":[{"kind":"AnaView","name":"level"}],"version":"1.0.0"},"sim":{"drift":[{"by":500,"from":0,"name":"level","to":3000}],"run":2,"ticks":1},"tag":"M1"},{"desc":{"services":[{"name":"stir"},{"name":"heat","procedures":[{"default":true,"number":1,"self_completing":true}]}],"type":"Mixer","variables":[{"kind":"DIntView","name":"temp"}],"version":"2.0.0"},"sim":{"drift":[{"by":10,"from":20,"name":"temp","to":90}],"run":2,"ticks":1},"tag":"M2"},{"desc":{"services":[{"name":"dose","procedures":[{"default":true,"number":1,"params":[{"kind":"DIntServParam","max":5000,"min":0,"name":"amount"}],"self_completing":true}]}],"type":"Doser","variables":[{"kind":"AnaView","name":"level"}],"version":"1.0.0"},"sim":{"drift":[{"by":500,"from":0,"name":"level","to":3000}],"run":2,"ticks":1},"tag":"M3"}],"recipes":[{"chart":{"seq":[{"loop":{"procedure":1,"role":"A","service":"dose","settings":[{"name":"amount","value":1500}],"step":"fill"},"until":{"op":"ge","role":"A","test":"level","value":1500}},{"par":[{"finish":{"op":"ge","role":"B","test":"temp","value":60},"procedure":1,"role":"B","service":"stir","step":"stir"},{"procedure":1,"role":"B","service":"heat","step":"heat"}]}]},"recipe":"mix","roles":[{"role":"A","type":"Doser","version":"^1"},{"role":"B","type":"Mixer","version":"^2"}]},{"chart":{"procedure":1,"role":"A","service":"dose","settings":[{"name":"amount","value":1500}],"step":"s1"},"recipe":"one","roles":[{"role":"A","type":"Doser","version":"^1"}]}]}
+"#;
+
+/// What a plant printed: the events of its entries as a journal, what a replay of this journal is to give, and the lines.
+#[derive(Drop)]
+pub struct Printed {
+    pub events: String,
+    pub replayed: String,
+    pub output: String,
+}
+
+/// The line as an entry's: its answer and its event.
+pub fn entry_in(line: &str) -> Option<(&str, &str)> {
+    let (answer, event) = line
+        .strip_prefix("{\"answer\":")?
+        .split_once(",\"event\":")?;
+    Some((answer, event.strip_suffix("}")?))
+}
+
+/// What these lines say.
+fn printed_in(alloc: Global, output: &[u8]) -> Result<Printed, Fail> {
+    let output = str::from_utf8(output).ok().ok_or("not UTF-8")?;
+    let mut printed = Printed {
+        events: String::new(alloc),
+        replayed: String::new(alloc),
+        output: String::from_str(alloc, output)?,
+    };
+    for line in output.lines() {
+        match entry_in(line) {
+            Some((answer, event)) => {
+                printed.events.push_str(event)?;
+                printed.events.push_str("\n")?;
+                printed.replayed.push_str(answer)?;
+            }
+            None => printed.replayed.push_str(line)?,
+        }
+        printed.replayed.push_str("\n")?;
+    }
+    Ok(printed)
+}
+
+/// Runs the site to its end, with status 0. The printed events, replayed, give the printed answers and batch lines.
+pub fn run_site<R: Abort + Threads + Wait + Sync>(
+    rt: &R,
+    alloc: Global,
+    line: &str,
+    site: &str,
+) -> Result<Printed, Fail> {
+    let words = words_of(alloc, line)?;
+    let mut source = SureSource::new(site.as_bytes().to_vec(alloc)?);
+    let mut sink = SureSink::new(alloc);
+    let status = end_of(rt, alloc, &words, &mut source, &mut sink);
+    assert_eq!(rt; status.number(), 0, "{line}");
+    let printed = printed_in(alloc, sink.bytes())?;
+    let (status, same) = run(
+        rt,
+        alloc,
+        "pol --job replay",
+        printed.events.as_str(),
+        printed.replayed.as_str(),
+    )?;
+    assert_eq!(rt; status, 0, "{line}");
+    assert!(rt; same, "{line}");
+    Ok(printed)
+}
+
+/// How many of the lines have this text in them.
+pub fn lines_with(output: &str, text: &str) -> u32 {
+    let mut count = 0u32;
+    for line in output.lines() {
+        if line.contains(text) {
+            count = count.saturating_add(1);
+        }
+    }
+    count
+}
+
+/// How many of the entries' events have this text in them and were accepted.
+pub fn accepted_with(output: &str, text: &str) -> u32 {
+    let mut count = 0u32;
+    for line in output.lines() {
+        if let Some((answer, event)) = entry_in(line) {
+            if event.contains(text) && !answer.contains("\"refused\":") {
+                count = count.saturating_add(1);
+            }
+        }
+    }
+    count
+}
+
+#[test]
+fn a_simulated_plant_completes_its_batches_and_exchanges_a_module(
+    rt: HostRuntime,
+) -> Result<(), Fail> {
+    for line in [
+        "pol --job plant",
+        "pol --job plant --watchers 0",
+        "pol --job plant --watchers 16",
+    ] {
+        let printed = run_site(&rt, rt.alloc(), line, SITE)?;
+        let output = printed.output.as_str();
+        assert_eq!(rt; lines_with(output, "{\"batch\":"), 2);
+        assert_eq!(rt; lines_with(output, "\"outcome\":\"Completed\""), 2);
+        assert_eq!(rt; lines_with(output, "\"ev\":\"exchange_begin\""), 1);
+        assert_eq!(rt;
+            accepted_with(output, "\"ev\":\"exchange_begin\",\"tag\":\"M3\""),
+            1
+        );
+        assert_eq!(rt; lines_with(output, "\"ev\":\"exchange_end\""), 1);
+        assert_eq!(rt;
+            accepted_with(output, "\"ev\":\"exchange_end\",\"tag\":\"M3\""),
+            1
+        );
+    }
+    Ok(())
+}
+
+#[test]
+fn what_is_no_site_is_told_and_nothing_is_written(rt: HostRuntime) -> Result<(), Fail> {
+    let alloc = rt.alloc();
+    let words = words_of(alloc, "pol --job plant")?;
+    let twice = SITE.repeat(alloc, 2)?;
+    for (site, text) in [
+        (
+            r#"{"modules":[],"recipes":[],"batches":[],"exchanges":[],"desk":[]}"#,
+            "pol: bad site: OutOfRange at modules",
+        ),
+        ("", "pol: bad site: Missing at "),
+        (twice.as_str(), "pol: bad site: Unknown at "),
+    ] {
+        let mut source = SureSource::new(site.as_bytes().to_vec(alloc)?);
+        let mut sink = SureSink::new(alloc);
+        let status = end_of(&rt, alloc, &words, &mut source, &mut sink);
+        assert_eq!(rt; status.number(), 7, "{text}");
+        assert!(rt; status.text(alloc)?.as_slice() == text.as_bytes(), "{text}");
+        assert!(rt; sink.bytes().is_empty(), "{text}");
+    }
+    Ok(())
+}
