@@ -18,7 +18,7 @@ use crate::status::Status;
 use mtp_json::JsonFault;
 use pol_events::Entry;
 use pol_io::{Clock, Sink, Source};
-use pol_live::{Gate, Ran, run_in_turn};
+use pol_live::{Gate, Ran, run_site};
 use pol_record::put_entry_line;
 use pol_site::Site;
 use pol_words::LiveTask;
@@ -89,7 +89,7 @@ fn put_run<K: Sink>(alloc: Global, history: &[Entry], sink: &mut K) -> Result<()
     close(alloc, history, sink)
 }
 
-// Runs a site to its end.
+// Runs a site to its end, each actor in a thread of its own.
 fn run<R: Threads + Wait + Sync, C: Clock + Send, G: Gate>(
     rt: &R,
     alloc: Global,
@@ -99,7 +99,7 @@ fn run<R: Threads + Wait + Sync, C: Clock + Send, G: Gate>(
 ) -> Result<Vec<Entry>, AllocError>
     ensures { IfOk result (λ history. IsRunOf (site_view site) (history_view history.items)) }
 {
-    let Ran { history, .. } = run_in_turn(rt, alloc, site, clock, gate)?;
+    let Ran { history, .. } = run_site(rt, alloc, site, clock, gate)?;
     Ok(history)
 }
 
