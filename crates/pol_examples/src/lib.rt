@@ -32,10 +32,6 @@ mod runs;
 #[cfg(test)]
 mod serving;
 #[cfg(test)]
-mod sites;
-#[cfg(test)]
-mod stamps;
-#[cfg(test)]
 mod starts;
 #[cfg(test)]
 mod words;
