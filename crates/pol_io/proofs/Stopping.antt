@@ -1,6 +1,7 @@
 -- What is left after a fault.
-use Rattle.std.proofs.Common.{ℕ, ◌≡◌, ◌≤◌, List, [], ◌∷◌, ◌++◌, Bool, true, false, IsTrue, Option, None, Some, append_assoc, ap, ◌∙◌, sym, refl}
+use Rattle.std.proofs.Common.{ℕ, ◌≡◌, ◌≤◌, ◌+◌, List, [], ◌∷◌, ◌++◌, Bool, true, false, IsTrue, Option, None, Some, append_assoc, ap, ◌∙◌, sym, refl}
 use Rattle.std.specs.Io.KnownBytes.{Keeps, Consumes}
+use Rattle.pol_io.specs.declared.limits.TheConstants.{LONGEST_INPUT}
 use Rattle.pol_io.specs.declared.lines.IoFault.{IoFault}
 use Rattle.pol_io.specs.declared.lines.IoFault.TheVariants.{Read, TooMuch}
 use Rattle.pol_io.specs.Known.{Between, Counts, joined}
@@ -18,7 +19,7 @@ Consumes-PassesMore (Some text) (Some rest) byte took = record
     { last = byte; passes = record { part = []; no_feed = refl; cut = took } }
 
 -- the source failed, and nothing is gone
-pub stops_read : (left after : Option (List ℕ)) (taken : ℕ) → taken ≤ 268435456 → Keeps left after
+pub stops_read : (left after : Option (List ℕ)) (taken : ℕ) → taken ≤ LONGEST_INPUT → Keeps left after
     → Stops taken left left after Read
 stops_read left after taken limit kept = record {
   reached = taken;
@@ -29,10 +30,10 @@ stops_read left after taken limit kept = record {
 
 -- one byte came past the limit
 pub stops_too_much : (left after : Option (List ℕ)) (byte : ℕ) → Consumes left after (byte ∷ [])
-    → Stops 268435456 left left after TooMuch
+    → Stops LONGEST_INPUT left left after TooMuch
 stops_too_much left after byte took = record {
-  reached = 268435457;
-  counted = counts_taken left after (byte ∷ []) 268435456 1 refl took;
+  reached = LONGEST_INPUT + 1;
+  counted = counts_taken left after (byte ∷ []) LONGEST_INPUT 1 refl took;
   read = λ is. absurd (cc);
   too_much = λ _. (refl, Consumes-PassesMore left after byte took);
 }

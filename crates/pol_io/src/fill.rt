@@ -5,6 +5,7 @@ ghost use Rattle.pol_io.specs.Causes.{HasCause, HasCauseOf};
 ghost use Rattle.pol_io.specs.Known.{Between, Counts};
 ghost use Rattle.pol_io.specs.Faults.{Stops};
 ghost use Rattle.pol_io.specs.Window.{waiting, ahead, given, Fills, IsEnd};
+ghost use Rattle.pol_io.specs.declared.limits.TheConstants.{LONGEST_INPUT, LONGEST_LINE};
 
 use crate::limits::LONGEST_INPUT;
 use crate::lines::IoFault;
@@ -29,7 +30,7 @@ fn ask_past<S: Source>(source: &mut S) -> Result<(), IoFault>
     ensures end { OnOk result
         (Keeps (S.left source.old) (S.left source.new) × IsAtEnd (S.left source.new)) }
     ensures stops { IfErr result (λ fault.
-        Stops 268435456 (S.left source.old) (S.left source.old) (S.left source.new) fault) }
+        Stops LONGEST_INPUT (S.left source.old) (S.left source.old) (S.left source.new) fault) }
     ensures cause { HasCauseOf IoFault.Read (S.faults source.old) (S.faults source.new) result }
 {
     let mut one = [0u8];
@@ -61,8 +62,8 @@ fn read_at<S: Source>(
 
 // Takes bytes behind those that wait, as many as come and have room. `false` is the end of input.
 fn take_more<S: Source>(window: &mut Window, source: &mut S) -> Result<bool, IoFault>
-    requires room { window.old.end < 1048577 }
-    requires limit { window.old.taken < 268435456 }
+    requires room { window.old.end ≤ LONGEST_LINE }
+    requires limit { window.old.taken < LONGEST_INPUT }
     requires open_end { window.old.ended ≡ false }
     ensures fills { OnOk result (Fills window.old window.new) }
     ensures counted { OnOk result
@@ -92,7 +93,7 @@ fn take_more<S: Source>(window: &mut Window, source: &mut S) -> Result<bool, IoF
 
 /// Takes more bytes. `false` is the end of input; where that was seen before, the source isn't asked again.
 pub fn fill<S: Source>(window: &mut Window, source: &mut S) -> Result<bool, IoFault>
-    requires { window.old.end < window.old.start + 1048577 }
+    requires { window.old.end ≤ window.old.start + LONGEST_LINE }
     ensures fills { OnOk result (Fills window.old window.new) }
     ensures counted { OnOk result
         (Between (Counts window.old.taken window.new.taken) (S.left source.old) (S.left source.new)) }

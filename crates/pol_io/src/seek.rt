@@ -7,6 +7,7 @@ ghost use Rattle.pol_io.specs.Faults.{Stops};
 ghost use Rattle.pol_io.specs.Known.{Between, Counts};
 ghost use Rattle.pol_io.specs.Pieces.{has_no_feed};
 ghost use Rattle.pol_io.specs.Window.{waiting, ahead, given, IsEnd, IsFound, IsCut, CutFits, CutGives};
+ghost use Rattle.pol_io.specs.declared.limits.TheConstants.{LONGEST_LINE};
 
 use crate::fill::fill;
 use crate::limits::LONGEST_LINE;
@@ -67,8 +68,8 @@ pub fn seek<S: Source>(window: &mut Window, source: &mut S) -> Result<Found, IoF
 // Passes over what waits and over the rest of its line.
 fn skip<S: Source>(window: &mut Window, source: &mut S) -> Result<(), IoFault>
     requires no_feed { IsTrue (has_no_feed (waiting window.old)) }
-    requires long { 1048576 < length (waiting window.old) }
-    ensures cut { OnOk result (Between (CutsLong 1048576 window.new.ended)
+    requires long { LONGEST_LINE < length (waiting window.old) }
+    ensures cut { OnOk result (Between (CutsLong LONGEST_LINE window.new.ended)
         (ahead window.old (S.left source.old)) (ahead window.new (S.left source.new))) }
     ensures given { OnOk result (given window.old < given window.new) }
     ensures counted { OnOk result

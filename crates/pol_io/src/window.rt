@@ -1,5 +1,6 @@
 //! A window onto the input: the bytes that were taken and not given yet.
 ghost use Rattle.std.specs.Prelude.{◌≡◌, ◌+◌, ◌≤◌, true, false, IfOk};
+ghost use Rattle.pol_io.specs.declared.limits.TheConstants.{LONGEST_INPUT, LONGEST_LINE};
 
 use crate::limits::LONGEST_LINE;
 use std::alloc::{AllocError, Global};
@@ -13,11 +14,11 @@ pub struct Window {
     pub end: usize,
     pub taken: u64,
     pub ended: bool,
-    ghost room: { buffer.len ≡ 1048577 },
+    ghost room: { buffer.len ≡ LONGEST_LINE + 1 },
     ghost in_order: { start ≤ end },
-    ghost in_range: { end ≤ 1048577 },
+    ghost in_range: { end ≤ LONGEST_LINE + 1 },
     ghost counted: { end ≤ start + taken },
-    ghost limited: { taken ≤ 268435456 },
+    ghost limited: { taken ≤ LONGEST_INPUT },
     ghost spent: { ended ≡ true → start ≡ end },
 }
 

@@ -1,4 +1,5 @@
 use Rattle.std.proofs.Common.{ℕ, ◌≡◌, List, [], ◌∷◌, length, take, slice_index, arith}
+use Rattle.pol_io.specs.declared.limits.TheConstants.{LONGEST_INPUT}
 use Rattle.pol_io.proofs.Stopping.{stops_read, stops_too_much}
 use Rattle.pol_io.proofs.fill.ask_past.Goals as goal
 
@@ -17,4 +18,4 @@ returns-in-Ok-clause-stops g c =
     c.in-Ok.ensures.bytes.0)
 
 pub returns-in-Err-clause-stops : goal.returns-in-Err-clause-stops
-returns-in-Err-clause-stops g c = stops_read _ _ 268435456 (omega arith) c.in-Err.ensures.bytes
+returns-in-Err-clause-stops g c = stops_read _ _ LONGEST_INPUT (omega arith) c.in-Err.ensures.bytes

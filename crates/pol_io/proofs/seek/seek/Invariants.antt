@@ -3,6 +3,7 @@ use Rattle.std.specs.Io.KnownBytes.{Keeps}
 use Rattle.pol_io.specs.Known.{Between, Counts}
 use Rattle.pol_io.specs.Pieces.{has_no_feed}
 use Rattle.pol_io.specs.Window.{waiting, ahead, given}
+use Rattle.pol_io.specs.declared.limits.TheConstants.{LONGEST_INPUT}
 use Rattle.pol_io.proofs.seek.seek.Given as goal
 
 -- no line feed stands among the bytes that were looked at, and the source was asked only where it had to be
@@ -20,4 +21,4 @@ invariant-scan g l = record {
 }
 
 abbrev pub decreases-scan : goal.decreases-scan
-decreases-scan g l = 268435456 - l.window.taken
+decreases-scan g l = LONGEST_INPUT - l.window.taken

@@ -2,6 +2,7 @@ use Rattle.std.proofs.Common.{◌<◌, slice_range, length-take, length-drop, ar
 use Rattle.pol_io.specs.Known.{Between, joined}
 use Rattle.pol_io.specs.Cuts.{Cuts}
 use Rattle.pol_io.specs.Window.{waiting, given}
+use Rattle.pol_io.specs.declared.limits.TheConstants.{LONGEST_LINE}
 use Rattle.pol_io.proofs.FirstLines.{first_line_known, long_line_known}
 use Rattle.pol_io.proofs.Windows.{given_is, waiting-ended}
 use Rattle.pol_io.proofs.lines.Lines.next_line.Goals as goal
@@ -62,7 +63,7 @@ returns-in-Ok-TooLong g c =
         refl,
         λ _. tt,
         rw (← c.self.view_is) (record {
-          answers = long_line_known 1048576 new.ended _ _ (waiting new) (waiting-ended new) cut;
+          answers = long_line_known LONGEST_LINE new.ended _ _ (waiting new) (waiting-ended new) cut;
           in_limit = tt;
           gives = rw (given_is old, given_is new) more;
           counted = c.in-Ok-TooLong.ensures.counted;
