@@ -13,6 +13,7 @@ use Rattle.mtp_assembly.specs.declared.variable.ViewKind.{ViewKind}
 use Rattle.mtp_assembly.specs.declared.variable.ViewKind.TheVariants as variable
 use Rattle.mtp_json.specs.Form.{repeats_by}
 use Rattle.mtp_json.proofs.Again.{whole_again, each_again, len_again}
+use Rattle.mtp_desc.specs.declared.limits.TheConstants.{MOST_PROCEDURES, MOST_PARAMS, GREATEST_PROCEDURE}
 use Rattle.mtp_desc.specs.Form.{ranged_param, free_param, param_of, procedure_of, ruled_service, service_of, variable_of, description_of, has_one_default}
 use Rattle.mtp_desc.specs.Plain.{ProcedureForm, ServiceForm, DescriptionForm, same_param, same_procedure}
 use Rattle.mtp_desc.specs.Written.{written_param, written_variable, written_procedure, written_service, written_description}
@@ -54,10 +55,10 @@ pub procedure_again : (procedure : ProcedureForm) → is_procedure procedure ≡
     → procedure_of (written_procedure procedure) ≡ Ok procedure
 unfolding procedure_of written_procedure
 procedure_again procedure sound =
-    let numbered = and_parts (is_between 1 65535 procedure.number)
-    (is_between 0 32 (length procedure.params)
+    let numbered = and_parts (is_between 1 GREATEST_PROCEDURE procedure.number)
+    (is_between 0 MOST_PARAMS (length procedure.params)
     && (list_all is_param procedure.params && not (repeats_by same_param procedure.params))) sound in
-    let few = and_parts (is_between 0 32 (length procedure.params))
+    let few = and_parts (is_between 0 MOST_PARAMS (length procedure.params))
     (list_all is_param procedure.params && not (repeats_by same_param procedure.params)) numbered.1 in
     let each = and_parts (list_all is_param procedure.params) (not (repeats_by same_param procedure.params)) few.1 in
     rw (
@@ -74,10 +75,10 @@ pub service_again : (service : ServiceForm) → is_service service ≡ true
 unfolding service_of ruled_service written_service
 service_again service sound =
     let named = and_parts (is_name service.name)
-    (is_between 1 16 (length service.procedures)
+    (is_between 1 MOST_PROCEDURES (length service.procedures)
     && (list_all is_procedure service.procedures
     && (not (repeats_by same_procedure service.procedures) && has_one_default service.procedures))) sound in
-    let few = and_parts (is_between 1 16 (length service.procedures))
+    let few = and_parts (is_between 1 MOST_PROCEDURES (length service.procedures))
     (list_all is_procedure service.procedures
     && (not (repeats_by same_procedure service.procedures) && has_one_default service.procedures)) named.1 in
     let each = and_parts (list_all is_procedure service.procedures)

@@ -10,6 +10,7 @@ use Rattle.mtp_assembly.specs.Plain.{ParamForm, VariableForm, param_view, variab
 use Rattle.mtp_assembly.specs.declared.param.Param.{Param}
 use Rattle.mtp_assembly.specs.declared.variable.View.{View}
 use Rattle.mtp_json.specs.Form.{repeats_by}
+use Rattle.mtp_desc.specs.declared.limits.TheConstants.{MOST_SERVICES, MOST_PROCEDURES, MOST_PARAMS, MOST_VARIABLES, LONGEST_VERSION, GREATEST_PROCEDURE}
 use Rattle.mtp_desc.specs.declared.description.Description.{Description}
 use Rattle.mtp_desc.specs.declared.procedure.Procedure.{Procedure}
 use Rattle.mtp_desc.specs.declared.service.Service.{Service}
@@ -31,14 +32,14 @@ is_variable variable = is_name variable.name
 -- the procedure has a number, and few parameters, no two of one name
 abbrev pub is_procedure : ProcedureForm → Bool
 is_procedure procedure =
-    is_between 1 65535 procedure.number
-    && (is_between 0 32 (length procedure.params)
+    is_between 1 GREATEST_PROCEDURE procedure.number
+    && (is_between 0 MOST_PARAMS (length procedure.params)
     && (list_all is_param procedure.params && not (repeats_by same_param procedure.params)))
 
 -- the service has a name, and some procedures, no two of one number and one of them the default
 abbrev pub is_service : ServiceForm → Bool
 is_service service =
-    is_name service.name && (is_between 1 16 (length service.procedures)
+    is_name service.name && (is_between 1 MOST_PROCEDURES (length service.procedures)
     && (list_all is_procedure service.procedures
     && (not (repeats_by same_procedure service.procedures) && has_one_default service.procedures)))
 
@@ -80,12 +81,12 @@ service_sound service =
 -- what a description is, beside being well formed in its parts
 pub record IsDescription (description : DescriptionForm) : Type 0 where
   pub typed : is_name description.type_name ≡ true
-  pub short : nat_le (length description.version_text) 64 ≡ true
+  pub short : nat_le (length description.version_text) LONGEST_VERSION ≡ true
   pub versioned : version_of description.version_text ≡ Ok description.version
-  pub some_services : is_between 1 32 (length description.services) ≡ true
+  pub some_services : is_between 1 MOST_SERVICES (length description.services) ≡ true
   pub services : list_all is_service description.services ≡ true
   pub unlike_services : repeats_by same_service description.services ≡ false
-  pub few_variables : is_between 0 64 (length description.variables) ≡ true
+  pub few_variables : is_between 0 MOST_VARIABLES (length description.variables) ≡ true
   pub variables : list_all is_variable description.variables ≡ true
   pub unlike_variables : repeats_by same_variable description.variables ≡ false
 

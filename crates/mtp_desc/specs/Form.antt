@@ -9,6 +9,7 @@ use Rattle.mtp_json.specs.Form.{need, need_or, list, list_or_none, list_if_there
 use Rattle.mtp_json.specs.Leaf.{count, name, text_to, truth, whole, word}
 use Rattle.mtp_json.specs.Reading.{Reading, ◌>>=◌, here, under}
 use Rattle.mtp_json.specs.declared.fault.FaultKind.TheVariants.{Repeated, Unsound}
+use Rattle.mtp_desc.specs.declared.limits.TheConstants.{MOST_SERVICES, MOST_PROCEDURES, MOST_PARAMS, MOST_VARIABLES, LONGEST_VERSION, GREATEST_PROCEDURE}
 use Rattle.mtp_desc.specs.declared.words.ParamWord.{ParamWord}
 use Rattle.mtp_desc.specs.declared.words.ParamWord.TheVariants as param
 use Rattle.mtp_desc.specs.Plain.{ProcedureForm, ServiceForm, DescriptionForm, same_param, same_procedure, same_service, same_variable}
@@ -49,10 +50,10 @@ param_of value =
 unfoldable pub procedure_of : Data → Reading ProcedureForm
 procedure_of value =
     object_here value >>= λ _.
-    need (codes "number") (count 1 65535) value >>= λ number.
+    need (codes "number") (count 1 GREATEST_PROCEDURE) value >>= λ number.
     need_or (codes "default") false truth value >>= λ is_default.
     need_or (codes "self_completing") false truth value >>= λ self_completing.
-    list_or_none (codes "params") 0 32 param_of value >>= λ params.
+    list_or_none (codes "params") 0 MOST_PARAMS param_of value >>= λ params.
     nothing_but (codes "number default self_completing params") value >>= λ _.
     under (codes "params") (refused_if (repeats_by same_param params) Repeated) >>= λ _.
     Ok (record { number = number; is_default = is_default; self_completing = self_completing; params = params })
@@ -77,7 +78,7 @@ unfoldable pub service_of : Data → Reading ServiceForm
 service_of value =
     object_here value >>= λ _.
     need (codes "name") name value >>= λ named.
-    list_if_there (codes "procedures") 1 16 procedure_of value >>= λ procedures.
+    list_if_there (codes "procedures") 1 MOST_PROCEDURES procedure_of value >>= λ procedures.
     nothing_but (codes "name procedures") value >>= λ _.
     ruled_service named (unwrap_or procedures (only_procedure ∷ []))
 
@@ -95,10 +96,10 @@ unfoldable pub description_of : Data → Reading DescriptionForm
 description_of value =
     object_here value >>= λ _.
     need (codes "type") name value >>= λ type_name.
-    need (codes "version") (text_to 64) value >>= λ version_text.
+    need (codes "version") (text_to LONGEST_VERSION) value >>= λ version_text.
     under (codes "version") (here (version_of version_text)) >>= λ version.
-    list (codes "services") 1 32 service_of value >>= λ services.
-    list_or_none (codes "variables") 0 64 variable_of value >>= λ variables.
+    list (codes "services") 1 MOST_SERVICES service_of value >>= λ services.
+    list_or_none (codes "variables") 0 MOST_VARIABLES variable_of value >>= λ variables.
     nothing_but (codes "type version services variables") value >>= λ _.
     under (codes "services") (refused_if (repeats_by same_service services) Repeated) >>= λ _.
     under (codes "variables") (refused_if (repeats_by same_variable variables) Repeated) >>= λ _.

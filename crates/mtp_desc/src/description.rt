@@ -10,6 +10,7 @@ ghost use Rattle.mtp_json.specs.Form.{repeats_by};
 ghost use Rattle.mtp_desc.specs.Plain.{same_service, same_variable};
 ghost use Rattle.mtp_desc.specs.ServiceView.{service_view};
 ghost use Rattle.mtp_desc.specs.Version.{version_of};
+ghost use Rattle.mtp_desc.specs.declared.limits.TheConstants.{LONGEST_VERSION, MOST_SERVICES, MOST_VARIABLES};
 
 use crate::service::Service;
 use mtp_assembly::View;
@@ -31,10 +32,10 @@ pub struct Description {
     /// At most 64, no two of one name.
     pub variables: Vec<View>,
     ghost typed: { IsTrue (is_name type_name) },
-    ghost short: { IsTrue (nat_le (length version_text) 64) },
+    ghost short: { IsTrue (nat_le (length version_text) LONGEST_VERSION) },
     ghost versioned: { version_of version_text ≡ Ok (parts_of version) },
-    ghost some_services: { IsTrue (is_between 1 32 (length services.items)) },
-    ghost few_variables: { IsTrue (is_between 0 64 (length variables.items)) },
+    ghost some_services: { IsTrue (is_between 1 MOST_SERVICES (length services.items)) },
+    ghost few_variables: { IsTrue (is_between 0 MOST_VARIABLES (length variables.items)) },
     ghost unlike_services: { repeats_by same_service (map service_view services.items) ≡ false },
     ghost unlike_variables: { repeats_by same_variable (map variable_view variables.items) ≡ false },
 }

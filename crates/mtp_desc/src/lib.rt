@@ -8,6 +8,7 @@
 #![tactic(auto)]
 
 mod description;
+mod limits;
 mod params;
 mod procedure;
 mod procedures;
@@ -19,6 +20,9 @@ mod words;
 mod writing;
 
 pub use description::Description;
+pub use limits::{
+    GREATEST_PROCEDURE, LONGEST_VERSION, MOST_PARAMS, MOST_PROCEDURES, MOST_SERVICES, MOST_VARIABLES,
+};
 pub use procedure::Procedure;
 pub use reading::{DescriptionJson, read_description};
 pub use service::Service;

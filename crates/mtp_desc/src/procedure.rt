@@ -6,6 +6,7 @@ ghost use Rattle.mtp_codes.specs.Numbers.{is_between};
 ghost use Rattle.mtp_assembly.specs.Plain.{param_view};
 ghost use Rattle.mtp_json.specs.Form.{repeats_by};
 ghost use Rattle.mtp_desc.specs.Plain.{same_param};
+ghost use Rattle.mtp_desc.specs.declared.limits.TheConstants.{GREATEST_PROCEDURE, MOST_PARAMS};
 
 use mtp_assembly::Param;
 use mtp_codes::Name;
@@ -21,8 +22,8 @@ pub struct Procedure {
     pub self_completing: bool,
     /// At most 32, no two of one name.
     pub params: Vec<Param>,
-    ghost numbered: { IsTrue (is_between 1 65535 number) },
-    ghost few: { IsTrue (is_between 0 32 (length params.items)) },
+    ghost numbered: { IsTrue (is_between 1 GREATEST_PROCEDURE number) },
+    ghost few: { IsTrue (is_between 0 MOST_PARAMS (length params.items)) },
     ghost unlike: { repeats_by same_param (map param_view params.items) ≡ false },
 }
 

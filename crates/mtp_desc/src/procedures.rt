@@ -9,6 +9,7 @@ ghost use Rattle.mtp_desc.specs.Plain.{ProcedureForm, same_procedure};
 ghost use Rattle.mtp_desc.specs.ProcedureView.{procedure_view};
 ghost use Rattle.mtp_desc.specs.Written.{written_procedure};
 
+use crate::limits::{GREATEST_PROCEDURE, MOST_PARAMS};
 use crate::params::ParamJson;
 use crate::procedure::Procedure;
 use mtp_json::{
@@ -26,10 +27,10 @@ fn read_procedure(alloc: Global, value: &Value) -> Result<Procedure, JsonRefusal
     ensures { Gives procedure_view result (procedure_of (view value.now)) }
 {
     object_here(alloc, value)?;
-    let number = u16_at(alloc, value, "number", 1, 65535)?;
+    let number = u16_at(alloc, value, "number", 1, GREATEST_PROCEDURE)?;
     let is_default = truth_or(alloc, value, "default", false)?;
     let self_completing = truth_or(alloc, value, "self_completing", false)?;
-    let params = list_or_none::<ParamJson>(alloc, value, "params", 0, 32)?;
+    let params = list_or_none::<ParamJson>(alloc, value, "params", 0, MOST_PARAMS)?;
     nothing_but(alloc, value, "number default self_completing params")?;
     unlike_under::<ParamJson>(alloc, "params", &params)?;
     Ok(Procedure {

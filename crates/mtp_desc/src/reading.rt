@@ -11,6 +11,7 @@ ghost use Rattle.mtp_desc.specs.Plain.{DescriptionForm};
 ghost use Rattle.mtp_desc.specs.Version.{version_of};
 
 use crate::description::Description;
+use crate::limits::{LONGEST_VERSION, MOST_SERVICES, MOST_VARIABLES};
 use crate::services::ServiceJson;
 use crate::variables::VariableJson;
 use mtp_json::{
@@ -44,10 +45,10 @@ pub fn read_description(alloc: Global, value: &Value) -> Result<Description, Jso
 {
     object_here(alloc, value)?;
     let type_name = name_at(alloc, value, "type")?;
-    let version_text = short_at(alloc, value, "version", 64)?;
+    let version_text = short_at(alloc, value, "version", LONGEST_VERSION)?;
     let version = version_under(alloc, version_text.as_str())?;
-    let services = list_of::<ServiceJson>(alloc, value, "services", 1, 32)?;
-    let variables = list_or_none::<VariableJson>(alloc, value, "variables", 0, 64)?;
+    let services = list_of::<ServiceJson>(alloc, value, "services", 1, MOST_SERVICES)?;
+    let variables = list_or_none::<VariableJson>(alloc, value, "variables", 0, MOST_VARIABLES)?;
     nothing_but(alloc, value, "type version services variables")?;
     unlike_under::<ServiceJson>(alloc, "services", &services)?;
     unlike_under::<VariableJson>(alloc, "variables", &variables)?;

@@ -7,6 +7,7 @@ ghost use Rattle.mtp_json.specs.Form.{repeats_by};
 ghost use Rattle.mtp_desc.specs.Form.{has_one_default};
 ghost use Rattle.mtp_desc.specs.Plain.{same_procedure};
 ghost use Rattle.mtp_desc.specs.ProcedureView.{procedure_view};
+ghost use Rattle.mtp_desc.specs.declared.limits.TheConstants.{MOST_PROCEDURES};
 
 use crate::procedure::Procedure;
 use mtp_codes::Name;
@@ -19,7 +20,7 @@ pub struct Service {
     /// 1 to 16, no two of one number, one of them the default.
     pub procedures: Vec<Procedure>,
     ghost named: { IsTrue (is_name name) },
-    ghost few: { IsTrue (is_between 1 16 (length procedures.items)) },
+    ghost few: { IsTrue (is_between 1 MOST_PROCEDURES (length procedures.items)) },
     ghost unlike: { repeats_by same_procedure (map procedure_view procedures.items) ≡ false },
     ghost one_default: { IsTrue (has_one_default (map procedure_view procedures.items)) },
 }

@@ -11,7 +11,9 @@ ghost use Rattle.mtp_desc.specs.Plain.{ServiceForm, same_service};
 ghost use Rattle.mtp_desc.specs.ProcedureView.{procedure_view};
 ghost use Rattle.mtp_desc.specs.ServiceView.{service_view};
 ghost use Rattle.mtp_desc.specs.Written.{written_service};
+ghost use Rattle.mtp_desc.specs.declared.limits.TheConstants.{MOST_PROCEDURES};
 
+use crate::limits::MOST_PROCEDURES;
 use crate::procedure::Procedure;
 use crate::procedures::ProcedureJson;
 use crate::service::Service;
@@ -40,10 +42,10 @@ fn only_procedures(alloc: Global) -> Result<Vec<Procedure>, AllocError>
 }
 
 fn procedures_or(alloc: Global, found: Option<Vec<Procedure>>) -> Result<Vec<Procedure>, AllocError>
-    requires { IfSome found (λ list. IsTrue (is_between 1 16 (length list.items))) }
+    requires { IfSome found (λ list. IsTrue (is_between 1 MOST_PROCEDURES (length list.items))) }
     ensures value { IfOk result (λ procedures. map procedure_view procedures.items
         ≡ unwrap_or (option_map (λ list. map procedure_view list.items) found) (only_procedure ∷ [])) }
-    ensures size { IfOk result (λ procedures. IsTrue (is_between 1 16 (length procedures.items))) }
+    ensures size { IfOk result (λ procedures. IsTrue (is_between 1 MOST_PROCEDURES (length procedures.items))) }
 {
     match found {
         Some(procedures) => Ok(procedures),
@@ -69,7 +71,7 @@ fn ruled_service(
     procedures: Vec<Procedure>,
 ) -> Result<Service, JsonRefusal>
     requires name { IsTrue (is_name name) }
-    requires size { IsTrue (is_between 1 16 (length procedures.items)) }
+    requires size { IsTrue (is_between 1 MOST_PROCEDURES (length procedures.items)) }
     ensures { Gives service_view result (ruled_service name (map procedure_view procedures.items)) }
 {
     unlike_under::<ProcedureJson>(alloc, "procedures", &procedures)?;
@@ -84,7 +86,7 @@ fn read_service(alloc: Global, value: &Value) -> Result<Service, JsonRefusal>
 {
     object_here(alloc, value)?;
     let name = name_at(alloc, value, "name")?;
-    let found = list_if_there::<ProcedureJson>(alloc, value, "procedures", 1, 16)?;
+    let found = list_if_there::<ProcedureJson>(alloc, value, "procedures", 1, MOST_PROCEDURES)?;
     nothing_but(alloc, value, "name procedures")?;
     let procedures = procedures_or(alloc, found)?;
     ruled_service(alloc, name, procedures)
