@@ -17,241 +17,317 @@ use Rattle.chart_core.proofs.Joined.{or_split, and_left, lt_told}
 
 -- the entry names one of the steps, or a number from n on and below m
 abbrev pub Within : List (List ℕ) → ℕ → ℕ → Option ChartEntry → Type 0
-Within ns n m None = ⊥
-Within ns n m (Some (of_step stage name service procedure)) = In name ns
-Within ns n m (Some (of_node node decision values)) = (n ≤ node) × (node < m)
+Within known low high None = ⊥
+Within known low high (Some (of_step stage name service procedure)) = In name known
+Within known low high (Some (of_node node decision values)) = (low ≤ node) × (node < high)
 
 -- the entry has the number n
 abbrev pub AtNumber : ℕ → Option ChartEntry → Type 0
-AtNumber n None = ⊥
-AtNumber n (Some (of_step stage name service procedure)) = ⊥
-AtNumber n (Some (of_node node decision values)) = node ≡ n
+AtNumber number None = ⊥
+AtNumber number (Some (of_step stage name service procedure)) = ⊥
+AtNumber number (Some (of_node node decision values)) = node ≡ number
 
-pub in_left : (x : List ℕ) (xs ys : List (List ℕ)) → In x xs → In x (xs ++ ys)
-in_left x (z ∷ xs) ys (inl h) = inl h
-in_left x (z ∷ xs) ys (inr h) = inr (in_left x xs ys h)
-in_left x [] ys h = absurd h
+-- a name of the front is a name of both
+pub in_left : (name : List ℕ) (front back : List (List ℕ)) → In name front → In name (front ++ back)
+in_left name (first ∷ front) back (inl found) = inl found
+in_left name (first ∷ front) back (inr found) = inr (in_left name front back found)
+in_left name [] back found = absurd found
 
-pub in_right : (x : List ℕ) (xs ys : List (List ℕ)) → In x ys → In x (xs ++ ys)
-in_right x [] ys h = h
-in_right x (z ∷ xs) ys h = inr (in_right x xs ys h)
+-- and so is a name of the back
+pub in_right : (name : List ℕ) (front back : List (List ℕ)) → In name back → In name (front ++ back)
+in_right name [] back found = found
+in_right name (first ∷ front) back found = inr (in_right name front back found)
 
-pub distinct_front : (xs ys : List (List ℕ)) → Distinct (xs ++ ys) → Distinct xs
-distinct_front [] ys h = tt
-distinct_front (x ∷ xs) ys (h, k) = (λ i. h (in_left x xs ys i), distinct_front xs ys k)
+-- of distinct names the front is distinct
+pub distinct_front : (front back : List (List ℕ)) → Distinct (front ++ back) → Distinct front
+distinct_front [] back new = tt
+distinct_front (first ∷ front) back (new, others) =
+    (λ again. new (in_left first front back again), distinct_front front back others)
 
-pub distinct_back : (xs ys : List (List ℕ)) → Distinct (xs ++ ys) → Distinct ys
-distinct_back [] ys h = h
-distinct_back (x ∷ xs) ys (h, k) = distinct_back xs ys k
+-- and the back
+pub distinct_back : (front back : List (List ℕ)) → Distinct (front ++ back) → Distinct back
+distinct_back [] back new = new
+distinct_back (first ∷ front) back (new, others) = distinct_back front back others
 
-pub distinct_apart : (x : List ℕ) (xs ys : List (List ℕ)) → Distinct (xs ++ ys) → In x xs → In x ys → ⊥
-distinct_apart x [] ys h i j = i
-distinct_apart x (z ∷ xs) ys (h, k) (inl e) j = h (in_right z xs ys (subst (λ t. In t ys) e j))
-distinct_apart x (z ∷ xs) ys (h, k) (inr i) j = distinct_apart x xs ys k i j
+-- and no name stands in both
+pub distinct_apart : (name : List ℕ) (front back : List (List ℕ)) → Distinct (front ++ back) → In name front
+    → In name back → ⊥
+distinct_apart name [] back new here there = here
+distinct_apart name (first ∷ front) back (new, others) (inl same) there =
+    new (in_right first front back (subst (λ text. In text back) same there))
+distinct_apart name (first ∷ front) back (new, others) (inr here) there =
+    distinct_apart name front back others here there
 
+-- what lies within less lies within more
 pub within_more :
-    (ns ms : List (List ℕ)) (n m n1 m1 : ℕ) (e : Option ChartEntry)
-    → ((x : List ℕ) → In x ns → In x ms) → n1 ≤ n → m ≤ m1 → Within ns n m e → Within ms n1 m1 e
-within_more ns ms n m n1 m1 None f a b h = h
-within_more ns ms n m n1 m1 (Some (of_step stage name service procedure)) f a b h = f name h
-within_more ns ms n m n1 m1 (Some (of_node node decision values)) f a b (h, k) = (omega arith, omega arith)
+    (known more : List (List ℕ)) (low high lower higher : ℕ) (entry : Option ChartEntry)
+    → ((name : List ℕ) → In name known → In name more) → lower ≤ low → high ≤ higher → Within known low high entry
+    → Within more lower higher entry
+within_more known more low high lower higher None known_too below above within = within
+within_more known more low high lower higher (Some (of_step stage name service procedure)) known_too below above
+    within = known_too name within
+within_more known more low high lower higher (Some (of_node node decision values)) known_too below above
+    (within, under) = (omega arith, omega arith)
 
+-- no entry lies within two parts that share neither a name nor a number
 pub within_apart :
-    (ns ms : List (List ℕ)) (n m n1 m1 : ℕ) (e : Option ChartEntry) → Distinct (ns ++ ms) → m ≤ n1 → Within ns n m e
-    → Within ms n1 m1 e → ⊥
-within_apart ns ms n m n1 m1 None d l h k = h
-within_apart ns ms n m n1 m1 (Some (of_step stage name service procedure)) d l h k = distinct_apart name ns ms d h k
-within_apart ns ms n m n1 m1 (Some (of_node node decision values)) d l (a, b) (a1, b1) = omega arith
+    (known others : List (List ℕ)) (low high from to : ℕ) (entry : Option ChartEntry) → Distinct (known ++ others)
+    → high ≤ from → Within known low high entry
+    → Within others from to entry → ⊥
+within_apart known others low high from to None distinct order here there = here
+within_apart known others low high from to (Some (of_step stage name service procedure)) distinct order here there =
+    distinct_apart name known others distinct here there
+within_apart known others low high from to (Some (of_node node decision values)) distinct order (above, below)
+    (after, before) = omega arith
 
-pub some_if : {A : Type 0} (b : Bool) (x : A) → is_some (if b then Some x else None) ≡ true → b ≡ true
-some_if true x h = refl
-some_if false x h = cc
+-- there is something only where the test holds
+pub some_if : {A : Type 0} (test : Bool) (value : A) → is_some (if test then Some value else None) ≡ true → test ≡ true
+some_if true value some = refl
+some_if false value some = cc
 
-pub some_if_is : {A : Type 0} (b : Bool) (x y : A) → (if b then Some x else None) ≡ Some y → (b ≡ true) × (x ≡ y)
-some_if_is true x y h = (refl, cc)
-some_if_is false x y h = (cc, cc)
+-- and then it is the value
+pub some_if_is : {A : Type 0} (test : Bool) (value found : A) → (if test then Some value else None) ≡ Some found
+    → (test ≡ true) × (value ≡ found)
+some_if_is true value found same = (refl, cc)
+some_if_is false value found same = (cc, cc)
 
-pub stage_named : (s : StepPlan) (n m : ℕ) (e : Option ChartEntry) → is_some (stage_of s e) ≡ true
-    → Within (s.name ∷ []) n m e
-stage_named s n m None h = cc
-stage_named s n m (Some (of_step stage name service procedure)) h =
-    inl (same_text name s.name (sym (and_left (same_name name s.name) _ (some_if _ stage h))))
-stage_named s n m (Some (of_node node decision values)) h = cc
+-- an entry of a step names it
+pub stage_named : (step : StepPlan) (low high : ℕ) (entry : Option ChartEntry) → is_some (stage_of step entry) ≡ true
+    → Within (step.name ∷ []) low high entry
+stage_named step low high None staged = cc
+stage_named step low high (Some (of_step stage name service procedure)) staged =
+    inl (same_text name step.name (sym (and_left (same_name name step.name) _ (some_if _ stage staged))))
+stage_named step low high (Some (of_node node decision values)) staged = cc
 
-pub at_within : (ns : List (List ℕ)) (n m l : ℕ) (e : Option ChartEntry) → n ≤ l → l < m → AtNumber l e
-    → Within ns n m e
-at_within ns n m l None a b h = h
-at_within ns n m l (Some (of_step stage name service procedure)) a b h = absurd h
-at_within ns n m l (Some (of_node node decision values)) a b h = (omega arith, omega arith)
+-- an entry with a number lies where the number lies
+pub at_within : (known : List (List ℕ)) (low high number : ℕ) (entry : Option ChartEntry) → low ≤ number → number < high
+    → AtNumber number entry
+    → Within known low high entry
+at_within known low high number None above below here = here
+at_within known low high number (Some (of_step stage name service procedure)) above below here = absurd here
+at_within known low high number (Some (of_node node decision values)) above below here = (omega arith, omega arith)
 
-pub at_outside : (ns : List (List ℕ)) (n m l : ℕ) (e : Option ChartEntry) → l < n → AtNumber l e → Within ns n m e → ⊥
-at_outside ns n m l None a h k = h
-at_outside ns n m l (Some (of_step stage name service procedure)) a h k = h
-at_outside ns n m l (Some (of_node node decision values)) a h (k, j) = omega arith
+-- and nowhere above it
+pub at_outside : (known : List (List ℕ)) (low high number : ℕ) (entry : Option ChartEntry) → number < low
+    → AtNumber number entry → Within known low high entry → ⊥
+at_outside known low high number None before here within = here
+at_outside known low high number (Some (of_step stage name service procedure)) before here within = here
+at_outside known low high number (Some (of_node node decision values)) before here (within, under) = omega arith
 
-pub decided_number : (n k : ℕ) (e : Option ChartEntry) → is_some (decided_at n k e) ≡ true → AtNumber n e
-decided_number n k None h = cc
-decided_number n k (Some (of_step stage name service procedure)) h = cc
-decided_number n k (Some (of_node node decision values)) h = eqb-true node n (and_left (node == n) _ (some_if _ _ h))
+-- a node's decision has its number
+pub decided_number : (number count : ℕ) (entry : Option ChartEntry) → is_some (decided_at number count entry) ≡ true
+    → AtNumber number entry
+decided_number number count None decided = cc
+decided_number number count (Some (of_step stage name service procedure)) decided = cc
+decided_number number count (Some (of_node node decision values)) decided =
+    eqb-true node number (and_left (node == number) _ (some_if _ _ decided))
 
-choice_below : (each : Arms) (aside : Bool) (decision : Decision) (values : List Reading) (a : ℕ)
-    → right_choice each aside decision values ≡ Some a → a < arm_count each
-choice_below each aside (chose arm) values a h =
-    let r = some_if_is _ arm a h in
-    let l : arm < arm_count each = lt_told arm (arm_count each) (and_left (nat_lt arm (arm_count each)) _ r.0) in
-    subst (λ t. t < arm_count each) r.1 l
-choice_below each aside turn values a h = cc
-choice_below each aside leave values a h = cc
+-- a right choice names one of the arms
+choice_below : (each : Arms) (aside : Bool) (decision : Decision) (values : List Reading) (chosen : ℕ)
+    → right_choice each aside decision values ≡ Some chosen → chosen < arm_count each
+choice_below each aside (chose arm) values chosen same =
+    let found = some_if_is _ arm chosen same in
+    let below : arm < arm_count each = lt_told arm (arm_count each)
+        (and_left (nat_lt arm (arm_count each)) _ found.0) in
+    subst (λ number. number < arm_count each) found.1 below
+choice_below each aside turn values chosen same = cc
+choice_below each aside leave values chosen same = cc
 
-pub arm_below_count : (each : Arms) (aside : Bool) (d : Option Decided) (a : ℕ) → right_arm each aside d ≡ Some a
-    → a < arm_count each
-arm_below_count each aside None a h = cc
-arm_below_count each aside (Some d) a h = choice_below each aside d.decision d.values a h
+-- and so does a right arm
+pub arm_below_count : (each : Arms) (aside : Bool) (decided : Option Decided) (chosen : ℕ)
+    → right_arm each aside decided ≡ Some chosen
+    → chosen < arm_count each
+arm_below_count each aside None chosen rightly = cc
+arm_below_count each aside (Some decided) chosen rightly =
+    choice_below each aside decided.decision decided.values chosen rightly
 
-pub arm_decided : (each : Arms) (aside : Bool) (d : Option Decided) (a : ℕ) → right_arm each aside d ≡ Some a
-    → is_some d ≡ true
-arm_decided each aside None a h = cc
-arm_decided each aside (Some d) a h = refl
+-- a right choice is a decision
+pub arm_decided : (each : Arms) (aside : Bool) (decided : Option Decided) (chosen : ℕ)
+    → right_arm each aside decided ≡ Some chosen
+    → is_some decided ≡ true
+arm_decided each aside None chosen rightly = cc
+arm_decided each aside (Some decided) chosen rightly = refl
 
-pub turn_decided : (until : Formula) (aside : Bool) (d : Option Decided) → turns_rightly until aside d ≡ true
-    → is_some d ≡ true
-turn_decided until aside None h = cc
-turn_decided until aside (Some d) h = refl
+-- a right turn is a decision
+pub turn_decided : (until : Formula) (aside : Bool) (decided : Option Decided)
+    → turns_rightly until aside decided ≡ true
+    → is_some decided ≡ true
+turn_decided until aside None rightly = cc
+turn_decided until aside (Some decided) rightly = refl
 
-pub leave_decided : (until : Formula) (aside : Bool) (d : Option Decided) → leaves_rightly until aside d ≡ true
-    → is_some d ≡ true
-leave_decided until aside None h = cc
-leave_decided until aside (Some d) h = refl
+-- a right leave is a decision
+pub leave_decided : (until : Formula) (aside : Bool) (decided : Option Decided)
+    → leaves_rightly until aside decided ≡ true
+    → is_some decided ≡ true
+leave_decided until aside None rightly = cc
+leave_decided until aside (Some decided) rightly = refl
 
+-- a decision is not both to turn and to leave
 turn_or_leave : (until : Formula) (aside : Bool) (decision : Decision) (values : List Reading)
     → turns_rightly until aside (Some (record { decision = decision; values = values })) ≡ true
     → leaves_rightly until aside (Some (record { decision = decision; values = values })) ≡ true → ⊥
-turn_or_leave until aside (chose arm) values h k = cc
-turn_or_leave until aside turn values h k = cc
-turn_or_leave until aside leave values h k = cc
+turn_or_leave until aside (chose arm) values turns leaves = cc
+turn_or_leave until aside turn values turns leaves = cc
+turn_or_leave until aside leave values turns leaves = cc
 
-pub turn_not_leave : (until : Formula) (aside : Bool) (d : Option Decided) → turns_rightly until aside d ≡ true
-    → leaves_rightly until aside d ≡ true → ⊥
-turn_not_leave until aside None h k = cc
-turn_not_leave until aside (Some d) h k = turn_or_leave until aside d.decision d.values h k
+-- no entry turns a loop and leaves it
+pub turn_not_leave : (until : Formula) (aside : Bool) (decided : Option Decided)
+    → turns_rightly until aside decided ≡ true
+    → leaves_rightly until aside decided ≡ true → ⊥
+turn_not_leave until aside None rightly leaves = cc
+turn_not_leave until aside (Some decided) rightly leaves =
+    turn_or_leave until aside decided.decision decided.values rightly leaves
 
-any_of : (n : ℕ) (p : ℕ → Bool) → any_below n p ≡ true → (i : ℕ) × (i < n) × (p i ≡ true)
-any_of zero p h = cc
-any_of (suc n) p h =
-    elim (or_split (p n) (any_below n p) h) [
-      | inl k ↦ (n, omega arith, k)
-      | inr k ↦ let r = any_of n p k in (r.0, let l : r.0 < n = r.1 in omega arith, r.2)
+-- where some number passes, here is one
+any_of : (count : ℕ) (test : ℕ → Bool) → any_below count test ≡ true → (number : ℕ) × (number < count)
+    × (test number ≡ true)
+any_of zero test some = cc
+any_of (suc count) test some =
+    elim (or_split (test count) (any_below count test) some) [
+      | inl holds ↦ (count, omega arith, holds)
+      | inr holds ↦ let found = any_of count test holds in
+          (found.0, let below : found.0 < count = found.1 in omega arith, found.2)
     ]
 
 mutual
-  pub has_range : (t : Tree) (n i : ℕ) → Has (course t n) i → (n ≤ i) × (i < n + size t)
-  has_range (leaf s) n i h = (omega arith, omega arith)
-  has_range (seq ts) n i h = let r = turn_range ts (n + 1) i h in (omega arith, omega arith)
-  has_range (par ts) n i h = let r = once_range ts (n + 1) i h in (omega arith, omega arith)
-  has_range (choice each) n i (inl h) = (omega arith, omega arith)
-  has_range (choice each) n i (inr (a, h)) = let r = arm_range each (n + 1) a i h in (omega arith, omega arith)
-  has_range (loop t until) n i (h, k) = (h, omega arith)
+  pub has_range : (node : Tree) (number place : ℕ) → Has (course node number) place → (number ≤ place)
+      × (place < number + size node)
+  has_range (leaf step) number place has = (omega arith, omega arith)
+  has_range (seq nodes) number place has = let range = turn_range nodes (number + 1) place has in
+      (omega arith, omega arith)
+  has_range (par nodes) number place has = let range = once_range nodes (number + 1) place has in
+      (omega arith, omega arith)
+  has_range (choice each) number place (inl has) = (omega arith, omega arith)
+  has_range (choice each) number place (inr (arm, has)) = let range = arm_range each (number + 1) arm place has in
+      (omega arith, omega arith)
+  has_range (loop node until) number place (has, below) = (has, omega arith)
 
-  pub turn_range : (ts : Trees) (n i : ℕ) → Has (in_turn ts n) i → (n ≤ i) × (i < n + sizes ts)
-  turn_range no_trees n i h = absurd h
-  turn_range (more_trees t ts) n i (inl h) = let r = has_range t n i h in (omega arith, omega arith)
-  turn_range (more_trees t ts) n i (inr h) = let r = turn_range ts (n + size t) i h in (omega arith, omega arith)
+  pub turn_range : (nodes : Trees) (number place : ℕ) → Has (in_turn nodes number) place → (number ≤ place)
+      × (place < number + sizes nodes)
+  turn_range no_trees number place has = absurd has
+  turn_range (more_trees node nodes) number place (inl has) = let range = has_range node number place has in
+      (omega arith, omega arith)
+  turn_range (more_trees node nodes) number place (inr has) = let range =
+      turn_range nodes (number + size node) place has in (omega arith, omega arith)
 
-  pub once_range : (ts : Trees) (n i : ℕ) → Has (at_once ts n) i → (n ≤ i) × (i < n + sizes ts)
-  once_range no_trees n i h = absurd h
-  once_range (more_trees t ts) n i (inl h) = let r = has_range t n i h in (omega arith, omega arith)
-  once_range (more_trees t ts) n i (inr h) = let r = once_range ts (n + size t) i h in (omega arith, omega arith)
+  pub once_range : (nodes : Trees) (number place : ℕ) → Has (at_once nodes number) place → (number ≤ place)
+      × (place < number + sizes nodes)
+  once_range no_trees number place has = absurd has
+  once_range (more_trees node nodes) number place (inl has) = let range = has_range node number place has in
+      (omega arith, omega arith)
+  once_range (more_trees node nodes) number place (inr has) = let range =
+      once_range nodes (number + size node) place has in (omega arith, omega arith)
 
-  pub arm_range : (each : Arms) (n a i : ℕ) → Has (arm_at each n a) i → (n ≤ i) × (i < n + arm_sizes each)
-  arm_range no_arms n a i h = absurd h
-  arm_range (more_arms c t each) n zero i h = let r = has_range t n i h in (omega arith, omega arith)
-  arm_range (more_arms c t each) n (suc a) i h = let r = arm_range each (n + size t) a i h in (omega arith, omega arith)
+  pub arm_range : (each : Arms) (number arm place : ℕ) → Has (arm_at each number arm) place → (number ≤ place)
+      × (place < number + arm_sizes each)
+  arm_range no_arms number arm place has = absurd has
+  arm_range (more_arms when node each) number zero place has = let range = has_range node number place has in
+      (omega arith, omega arith)
+  arm_range (more_arms when node each) number (suc arm) place has = let range =
+      arm_range each (number + size node) arm place has in (omega arith, omega arith)
 
 mutual
-  pub of_within : (t : Tree) (n : ℕ) (e : Judged) → is_of (course t n) e ≡ true
-      → Within (names t) n (n + size t) e.entry
-  of_within (leaf s) n e h = stage_named s n (n + 1) e.entry h
-  of_within (seq ts) n e h =
-      within_more (all_names ts) (all_names ts) (n + 1) (n + 1 + sizes ts) n (n + (1 + sizes ts)) e.entry (λ x i. i)
-      (omega arith) (omega arith) (turn_within ts (n + 1) e h)
-  of_within (par ts) n e h =
-      within_more (all_names ts) (all_names ts) (n + 1) (n + 1 + sizes ts) n (n + (1 + sizes ts)) e.entry (λ x i. i)
-      (omega arith) (omega arith) (once_within ts (n + 1) e h)
-  of_within (choice each) n e h =
-      elim (or_split (is_some (decision_at n (arm_reads each) e))
-      (any_below (arm_count each) (λ a. is_of (arm_at each (n + 1) a) e)) h) [
-        | inl k ↦ at_within (arm_names each) n (n + (1 + arm_sizes each)) n e.entry (omega arith) (omega arith)
-            (decided_number n (length (arm_reads each)) e.entry k)
-        | inr k ↦
-            let r = any_of (arm_count each) (λ a. is_of (arm_at each (n + 1) a) e) k in
-            within_more (arm_names each) (arm_names each) (n + 1) (n + 1 + arm_sizes each) n
-            (n + (1 + arm_sizes each)) e.entry (λ x i. i)
-            (omega arith) (omega arith) (arm_within each (n + 1) r.0 e r.2)
+  pub of_within : (node : Tree) (number : ℕ) (judged : Judged) → is_of (course node number) judged ≡ true
+      → Within (names node) number (number + size node) judged.entry
+  of_within (leaf step) number judged own = stage_named step number (number + 1) judged.entry own
+  of_within (seq nodes) number judged own =
+      within_more (all_names nodes) (all_names nodes) (number + 1) (number + 1 + sizes nodes) number
+          (number + (1 + sizes nodes)) judged.entry (λ name known. known)
+      (omega arith) (omega arith) (turn_within nodes (number + 1) judged own)
+  of_within (par nodes) number judged own =
+      within_more (all_names nodes) (all_names nodes) (number + 1) (number + 1 + sizes nodes) number
+          (number + (1 + sizes nodes)) judged.entry (λ name known. known)
+      (omega arith) (omega arith) (once_within nodes (number + 1) judged own)
+  of_within (choice each) number judged own =
+      elim (or_split (is_some (decision_at number (arm_reads each) judged))
+      (any_below (arm_count each) (λ arm. is_of (arm_at each (number + 1) arm) judged)) own) [
+        | inl here ↦ at_within (arm_names each) number (number + (1 + arm_sizes each)) number judged.entry (omega arith)
+            (omega arith)
+            (decided_number number (length (arm_reads each)) judged.entry here)
+        | inr here ↦
+            let found = any_of (arm_count each) (λ arm. is_of (arm_at each (number + 1) arm) judged) here in
+            within_more (arm_names each) (arm_names each) (number + 1) (number + 1 + arm_sizes each) number
+            (number + (1 + arm_sizes each)) judged.entry (λ name known. known)
+            (omega arith) (omega arith) (arm_within each (number + 1) found.0 judged found.2)
       ]
-  of_within (loop t until) n e h =
-      elim (or_split (is_some (decision_at n (loop_reads until) e)) _ h) [
-        | inl k ↦ at_within (names t) n (n + (1 + size t)) n e.entry (omega arith) (omega arith)
-            (decided_number n (length (loop_reads until)) e.entry k)
-        | inr k ↦
-            within_more (names t) (names t) (n + 1) (n + 1 + size t) n (n + (1 + size t)) e.entry (λ x i. i)
-            (omega arith) (omega arith) (of_within t (n + 1) e k)
-      ]
-
-  pub turn_within : (ts : Trees) (n : ℕ) (e : Judged) → is_of (in_turn ts n) e ≡ true
-      → Within (all_names ts) n (n + sizes ts) e.entry
-  turn_within no_trees n e h = cc
-  turn_within (more_trees t ts) n e h =
-      elim (or_split (is_of (course t n) e) (is_of (in_turn ts (n + size t)) e) h) [
-        | inl k ↦ within_more (names t) (names t ++ all_names ts) n (n + size t) n (n + (size t + sizes ts)) e.entry
-            (λ x i. in_left x (names t) (all_names ts) i) (omega arith) (omega arith) (of_within t n e k)
-        | inr k ↦ within_more (all_names ts) (names t ++ all_names ts) (n + size t) (n + size t + sizes ts) n
-            (n + (size t + sizes ts))
-            e.entry (λ x i. in_right x (names t) (all_names ts) i) (omega arith) (omega arith)
-            (turn_within ts (n + size t) e k)
+  of_within (loop node until) number judged own =
+      elim (or_split (is_some (decision_at number (loop_reads until) judged)) _ own) [
+        | inl here ↦ at_within (names node) number (number + (1 + size node)) number judged.entry (omega arith)
+            (omega arith)
+            (decided_number number (length (loop_reads until)) judged.entry here)
+        | inr here ↦
+            within_more (names node) (names node) (number + 1) (number + 1 + size node) number
+                (number + (1 + size node)) judged.entry (λ name known. known)
+            (omega arith) (omega arith) (of_within node (number + 1) judged here)
       ]
 
-  pub once_within : (ts : Trees) (n : ℕ) (e : Judged) → is_of (at_once ts n) e ≡ true
-      → Within (all_names ts) n (n + sizes ts) e.entry
-  once_within no_trees n e h = cc
-  once_within (more_trees t ts) n e h =
-      elim (or_split (is_of (course t n) e) (is_of (at_once ts (n + size t)) e) h) [
-        | inl k ↦ within_more (names t) (names t ++ all_names ts) n (n + size t) n (n + (size t + sizes ts)) e.entry
-            (λ x i. in_left x (names t) (all_names ts) i) (omega arith) (omega arith) (of_within t n e k)
-        | inr k ↦ within_more (all_names ts) (names t ++ all_names ts) (n + size t) (n + size t + sizes ts) n
-            (n + (size t + sizes ts))
-            e.entry (λ x i. in_right x (names t) (all_names ts) i) (omega arith) (omega arith)
-            (once_within ts (n + size t) e k)
+  pub turn_within : (nodes : Trees) (number : ℕ) (judged : Judged) → is_of (in_turn nodes number) judged ≡ true
+      → Within (all_names nodes) number (number + sizes nodes) judged.entry
+  turn_within no_trees number judged own = cc
+  turn_within (more_trees node nodes) number judged own =
+      elim (or_split (is_of (course node number) judged) (is_of (in_turn nodes (number + size node)) judged) own) [
+        | inl here ↦ within_more (names node) (names node ++ all_names nodes) number (number + size node) number
+            (number + (size node + sizes nodes)) judged.entry
+            (λ name known. in_left name (names node) (all_names nodes) known) (omega arith) (omega arith)
+            (of_within node number judged here)
+        | inr here ↦ within_more (all_names nodes) (names node ++ all_names nodes) (number + size node)
+            (number + size node + sizes nodes) number
+            (number + (size node + sizes nodes))
+            judged.entry (λ name known. in_right name (names node) (all_names nodes) known) (omega arith) (omega arith)
+            (turn_within nodes (number + size node) judged here)
       ]
 
-  pub arm_within : (each : Arms) (n a : ℕ) (e : Judged) → is_of (arm_at each n a) e ≡ true
-      → Within (arm_names each) n (n + arm_sizes each) e.entry
-  arm_within no_arms n a e h = cc
-  arm_within (more_arms c t each) n zero e h =
-      within_more (names t) (names t ++ arm_names each) n (n + size t) n (n + (size t + arm_sizes each)) e.entry
-      (λ x i. in_left x (names t) (arm_names each) i) (omega arith) (omega arith) (of_within t n e h)
-  arm_within (more_arms c t each) n (suc a) e h =
-      within_more (arm_names each) (names t ++ arm_names each) (n + size t) (n + size t + arm_sizes each) n
-      (n + (size t + arm_sizes each))
-      e.entry (λ x i. in_right x (names t) (arm_names each) i) (omega arith) (omega arith)
-      (arm_within each (n + size t) a e h)
+  pub once_within : (nodes : Trees) (number : ℕ) (judged : Judged) → is_of (at_once nodes number) judged ≡ true
+      → Within (all_names nodes) number (number + sizes nodes) judged.entry
+  once_within no_trees number judged own = cc
+  once_within (more_trees node nodes) number judged own =
+      elim (or_split (is_of (course node number) judged) (is_of (at_once nodes (number + size node)) judged) own) [
+        | inl here ↦ within_more (names node) (names node ++ all_names nodes) number (number + size node) number
+            (number + (size node + sizes nodes)) judged.entry
+            (λ name known. in_left name (names node) (all_names nodes) known) (omega arith) (omega arith)
+            (of_within node number judged here)
+        | inr here ↦ within_more (all_names nodes) (names node ++ all_names nodes) (number + size node)
+            (number + size node + sizes nodes) number
+            (number + (size node + sizes nodes))
+            judged.entry (λ name known. in_right name (names node) (all_names nodes) known) (omega arith) (omega arith)
+            (once_within nodes (number + size node) judged here)
+      ]
 
-pub arm_below : (each : Arms) (n a : ℕ) (e : Judged) → is_of (arm_at each n a) e ≡ true → a < arm_count each
-arm_below no_arms n a e h = cc
-arm_below (more_arms c t each) n zero e h = omega arith
-arm_below (more_arms c t each) n (suc a) e h = let l = arm_below each (n + size t) a e h in omega arith
+  pub arm_within : (each : Arms) (number arm : ℕ) (judged : Judged) → is_of (arm_at each number arm) judged ≡ true
+      → Within (arm_names each) number (number + arm_sizes each) judged.entry
+  arm_within no_arms number arm judged own = cc
+  arm_within (more_arms when node each) number zero judged own =
+      within_more (names node) (names node ++ arm_names each) number (number + size node) number
+          (number + (size node + arm_sizes each)) judged.entry
+      (λ name known. in_left name (names node) (arm_names each) known) (omega arith) (omega arith)
+      (of_within node number judged own)
+  arm_within (more_arms when node each) number (suc arm) judged own =
+      within_more (arm_names each) (names node ++ arm_names each) (number + size node)
+          (number + size node + arm_sizes each) number
+      (number + (size node + arm_sizes each))
+      judged.entry (λ name known. in_right name (names node) (arm_names each) known) (omega arith) (omega arith)
+      (arm_within each (number + size node) arm judged own)
+
+-- an entry of an arm is of an arm that is there
+pub arm_below : (each : Arms) (number arm : ℕ) (judged : Judged) → is_of (arm_at each number arm) judged ≡ true
+    → arm < arm_count each
+arm_below no_arms number arm judged own = cc
+arm_below (more_arms when node each) number zero judged own = omega arith
+arm_below (more_arms when node each) number (suc arm) judged own = let below =
+    arm_below each (number + size node) arm judged own in omega arith
 
 -- Distinct names make a plan sound.
 mutual
-  pub sound : (t : Tree) (n : ℕ) → Distinct (names t) → Sound (course t n)
-  sound (leaf s) n d = tt
-  sound (seq ts) n d = turn_sound ts (n + 1) d
-  sound (par ts) n d = once_sound ts (n + 1) d
-  sound (choice each) n d = (
-    λ a. arm_sound each (n + 1) a d,
-    λ a h. let r = arm_range each (n + 1) a n h in omega arith,
-    λ a e h. arm_below_count each e.aside (decision_at n (arm_reads each) e) a h,
-    λ a e h. arm_below each (n + 1) a e h,
-    λ a e h. arm_decided each e.aside (decision_at n (arm_reads each) e) a h,
+  pub sound : (node : Tree) (number : ℕ) → Distinct (names node) → Sound (course node number)
+  sound (leaf step) number distinct = tt
+  sound (seq nodes) number distinct = turn_sound nodes (number + 1) distinct
+  sound (par nodes) number distinct = once_sound nodes (number + 1) distinct
+  sound (choice each) number distinct = (
+    λ arm. arm_sound each (number + 1) arm distinct,
+    λ arm here. let range = arm_range each (number + 1) arm number here in omega arith,
+    λ arm judged here. arm_below_count each judged.aside (decision_at number (arm_reads each) judged) arm here,
+    λ arm judged here. arm_below each (number + 1) arm judged here,
+    λ arm judged here. arm_decided each judged.aside (decision_at number (arm_reads each) judged) arm here,
   )
   sound (loop t until) n d = (
     sound t (n + 1) d,
@@ -270,34 +346,37 @@ mutual
     λ e h. leave_decided until e.aside (decision_at n (loop_reads until) e) h,
   )
 
-  pub turn_sound : (ts : Trees) (n : ℕ) → Distinct (all_names ts) → Sound (in_turn ts n)
-  turn_sound no_trees n d = tt
-  turn_sound (more_trees t ts) n d = (
-    sound t n (distinct_front (names t) (all_names ts) d),
-    turn_sound ts (n + size t) (distinct_back (names t) (all_names ts) d),
+  pub turn_sound : (nodes : Trees) (number : ℕ) → Distinct (all_names nodes) → Sound (in_turn nodes number)
+  turn_sound no_trees number distinct = tt
+  turn_sound (more_trees node nodes) number distinct = (
+    sound node number (distinct_front (names node) (all_names nodes) distinct),
+    turn_sound nodes (number + size node) (distinct_back (names node) (all_names nodes) distinct),
     (
-      λ e h k. within_apart (names t) (all_names ts) n (n + size t) (n + size t)
-          (n + size t + sizes ts) e.entry d (omega arith)
-          (of_within t n e h) (turn_within ts (n + size t) e k),
-      λ i h k. let a = has_range t n i h in let b = turn_range ts (n + size t) i k in omega arith,
+      λ judged here there. within_apart (names node) (all_names nodes) number (number + size node) (number + size node)
+          (number + size node + sizes nodes) judged.entry distinct (omega arith)
+          (of_within node number judged here) (turn_within nodes (number + size node) judged there),
+      λ place here there. let one = has_range node number place here in let other =
+          turn_range nodes (number + size node) place there in omega arith,
     ),
   )
 
-  pub once_sound : (ts : Trees) (n : ℕ) → Distinct (all_names ts) → Sound (at_once ts n)
-  once_sound no_trees n d = tt
-  once_sound (more_trees t ts) n d = (
-    sound t n (distinct_front (names t) (all_names ts) d),
-    once_sound ts (n + size t) (distinct_back (names t) (all_names ts) d),
+  pub once_sound : (nodes : Trees) (number : ℕ) → Distinct (all_names nodes) → Sound (at_once nodes number)
+  once_sound no_trees number distinct = tt
+  once_sound (more_trees node nodes) number distinct = (
+    sound node number (distinct_front (names node) (all_names nodes) distinct),
+    once_sound nodes (number + size node) (distinct_back (names node) (all_names nodes) distinct),
     (
-      λ e h k. within_apart (names t) (all_names ts) n (n + size t) (n + size t)
-          (n + size t + sizes ts) e.entry d (omega arith)
-          (of_within t n e h) (once_within ts (n + size t) e k),
-      λ i h k. let a = has_range t n i h in let b = once_range ts (n + size t) i k in omega arith,
+      λ judged here there. within_apart (names node) (all_names nodes) number (number + size node) (number + size node)
+          (number + size node + sizes nodes) judged.entry distinct (omega arith)
+          (of_within node number judged here) (once_within nodes (number + size node) judged there),
+      λ place here there. let one = has_range node number place here in let other =
+          once_range nodes (number + size node) place there in omega arith,
     ),
   )
 
-  pub arm_sound : (each : Arms) (n a : ℕ) → Distinct (arm_names each) → Sound (arm_at each n a)
-  arm_sound no_arms n a d = tt
-  arm_sound (more_arms c t each) n zero d = sound t n (distinct_front (names t) (arm_names each) d)
-  arm_sound (more_arms c t each) n (suc a) d = arm_sound each (n + size t) a
-      (distinct_back (names t) (arm_names each) d)
+  pub arm_sound : (each : Arms) (number arm : ℕ) → Distinct (arm_names each) → Sound (arm_at each number arm)
+  arm_sound no_arms number arm distinct = tt
+  arm_sound (more_arms when node each) number zero distinct =
+      sound node number (distinct_front (names node) (arm_names each) distinct)
+  arm_sound (more_arms when node each) number (suc arm) distinct = arm_sound each (number + size node) arm
+      (distinct_back (names node) (arm_names each) distinct)

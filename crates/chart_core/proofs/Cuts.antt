@@ -5,86 +5,114 @@ use Rattle.std.proofs.lemmas.List.{append-nil}
 use Rattle.chart_core.specs.Courses.{All}
 
 module _ {E : Type 0} where
-  pub All-append : (p : E → Bool) (u v : List E) → All p u → All p v → All p (u ++ v)
-  All-append p [] v a b = b
-  All-append p (x ∷ u) v (h, a) b = (h, All-append p u v a b)
+  -- what both parts have, the whole has
+  pub All-append : (test : E → Bool) (front back : List E) → All test front → All test back → All test (front ++ back)
+  All-append test [] back these those = those
+  All-append test (first ∷ front) back (holds, these) those = (holds, All-append test front back these those)
 
-  pub All-front : (p : E → Bool) (u v : List E) → All p (u ++ v) → All p u
-  All-front p [] v h = tt
-  All-front p (x ∷ u) v (h, a) = (h, All-front p u v a)
+  -- what a word has, its front has
+  pub All-front : (test : E → Bool) (front back : List E) → All test (front ++ back) → All test front
+  All-front test [] back holds = tt
+  All-front test (first ∷ front) back (holds, others) = (holds, All-front test front back others)
 
-  pub All-back : (p : E → Bool) (u v : List E) → All p (u ++ v) → All p v
-  All-back p [] v h = h
-  All-back p (x ∷ u) v (h, a) = All-back p u v a
+  -- and its back has
+  pub All-back : (test : E → Bool) (front back : List E) → All test (front ++ back) → All test back
+  All-back test [] back holds = holds
+  All-back test (first ∷ front) back (holds, others) = All-back test front back others
 
-  pub All-mono : (p q : E → Bool) (w : List E) → ((e : E) → p e ≡ true → q e ≡ true) → All p w → All q w
-  All-mono p q [] m h = tt
-  All-mono p q (x ∷ w) m (h, a) = (m x h, All-mono p q w m a)
+  -- a weaker test passes too
+  pub All-mono : (test weaker : E → Bool) (word : List E) → ((entry : E) → test entry ≡ true → weaker entry ≡ true)
+      → All test word → All weaker word
+  All-mono test weaker [] weakens holds = tt
+  All-mono test weaker (first ∷ word) weakens (holds, others) =
+      (weakens first holds, All-mono test weaker word weakens others)
 
-  pub snoc_view : (w : List E) → (w ≡ []) ⊎ ((u : List E) × (e : E) × (w ≡ u ++ (e ∷ [])))
+  -- a word is empty or has a last entry
+  pub snoc_view : (word : List E) → (word ≡ []) ⊎ ((front : List E) × (entry : E) × (word ≡ front ++ (entry ∷ [])))
   snoc_view [] = inl refl
-  snoc_view (x ∷ w) =
-      elim (snoc_view w) [
-        | inl h ↦ inr ([], x, ap (λ t. x ∷ t) h)
-        | inr (u, e, h) ↦ inr (x ∷ u, e, ap (λ t. x ∷ t) h)
+  snoc_view (first ∷ word) =
+      elim (snoc_view word) [
+        | inl same ↦ inr ([], first, ap (λ rest. first ∷ rest) same)
+        | inr (front, entry, same) ↦ inr (first ∷ front, entry, ap (λ rest. first ∷ rest) same)
       ]
 
-  pub snoc_not_nil : (u : List E) (e : E) (v : List E) → [] ≡ u ++ (e ∷ v) → ⊥
-  snoc_not_nil [] e v h = cc
-  snoc_not_nil (x ∷ u) e v h = cc
+  -- a word with an entry is not empty
+  pub snoc_not_nil : (front : List E) (entry : E) (back : List E) → [] ≡ front ++ (entry ∷ back) → ⊥
+  snoc_not_nil [] entry back same = cc
+  snoc_not_nil (first ∷ front) entry back same = cc
 
-  pub snoc_same : (u v : List E) (x y : E) → u ++ (x ∷ []) ≡ v ++ (y ∷ []) → (u ≡ v) × (x ≡ y)
-  snoc_same [] [] x y h = (refl, cc)
-  snoc_same [] (b ∷ v) x y h = let t : [] ≡ v ++ (y ∷ []) = cc in absurd (snoc_not_nil v y [] t)
-  snoc_same (a ∷ u) [] x y h = let t : [] ≡ u ++ (x ∷ []) = cc in absurd (snoc_not_nil u x [] t)
-  snoc_same (a ∷ u) (b ∷ v) x y h =
-      let t : u ++ (x ∷ []) ≡ v ++ (y ∷ []) = cc in
-      let s : a ≡ b = cc in
-      let r : (u ≡ v) × (x ≡ y) = snoc_same u v x y t in
-      (let q : u ≡ v = r.0 in cc, r.1)
+  -- words that are the same have the same last entry
+  pub snoc_same : (front other : List E) (entry final : E) → front ++ (entry ∷ []) ≡ other ++ (final ∷ [])
+      → (front ≡ other) × (entry ≡ final)
+  snoc_same [] [] entry final same = (refl, cc)
+  snoc_same [] (head ∷ other) entry final same = let tails : [] ≡ other ++ (final ∷ []) = cc in
+      absurd (snoc_not_nil other final [] tails)
+  snoc_same (first ∷ front) [] entry final same = let tails : [] ≡ front ++ (entry ∷ []) = cc in
+      absurd (snoc_not_nil front entry [] tails)
+  snoc_same (first ∷ front) (head ∷ other) entry final same =
+      let tails : front ++ (entry ∷ []) ≡ other ++ (final ∷ []) = cc in
+      let heads : first ≡ head = cc in
+      let both : (front ≡ other) × (entry ≡ final) = snoc_same front other entry final tails in
+      (let fronts : front ≡ other = both.0 in cc, both.1)
 
-  pub none_both : (p q : E → Bool) (w : List E) → ((e : E) → p e ≡ true → q e ≡ true → ⊥) → All p w → All q w → w ≡ []
-  none_both p q [] d a b = refl
-  none_both p q (x ∷ w) d (h, a) (k, b) = absurd (d x h k)
+  -- a word that passes two tests that never both hold is empty
+  pub none_both : (one other : E → Bool) (word : List E) → ((entry : E) → one entry ≡ true → other entry ≡ true → ⊥)
+      → All one word → All other word → word ≡ []
+  none_both one other [] apart here there = refl
+  none_both one other (first ∷ word) apart (holds, here) (holds_too, there) = absurd (apart first holds holds_too)
 
+  -- there is one cut between what passes one test and what passes the other
   pub cut_unique :
-      (p q : E → Bool) (u v u1 v1 : List E)
-      → ((e : E) → p e ≡ true → q e ≡ true → ⊥)
-      → All p u → All q v → All p u1 → All q v1 → u ++ v ≡ u1 ++ v1 → (u ≡ u1) × (v ≡ v1)
-  cut_unique p q [] v [] v1 d a b c f h = (refl, h)
-  cut_unique p q [] v (y ∷ u1) v1 d a b (k, c) f h =
-      let r : (q y ≡ true) × All q (u1 ++ v1) = subst (All q) h b in absurd (d y k r.0)
-  cut_unique p q (x ∷ u) v [] v1 d (k, a) b c f h =
-      let r : (q x ≡ true) × All q (u ++ v) = subst (All q) (sym h) f in absurd (d x k r.0)
-  cut_unique p q (x ∷ u) v (y ∷ u1) v1 d (k, a) b (l, c) f h =
-      let t : u ++ v ≡ u1 ++ v1 = cc in
-      let s : x ≡ y = cc in
-      let r : (u ≡ u1) × (v ≡ v1) = cut_unique p q u v u1 v1 d a b c f t in
-      (let e : u ≡ u1 = r.0 in cc, r.1)
+      (one other : E → Bool) (front back start rest : List E)
+      → ((entry : E) → one entry ≡ true → other entry ≡ true → ⊥)
+      → All one front → All other back → All one start → All other rest → front ++ back ≡ start ++ rest
+      → (front ≡ start) × (back ≡ rest)
+  cut_unique one other [] back [] rest apart in_front in_back in_start in_rest same = (refl, same)
+  cut_unique one other [] back (head ∷ start) rest apart in_front in_back (here, in_start) in_rest same =
+      let found : (other head ≡ true) × All other (start ++ rest) = subst (All other) same in_back in
+          absurd (apart head here found.0)
+  cut_unique one other (first ∷ front) back [] rest apart (here, in_front) in_back in_start in_rest same =
+      let found : (other first ≡ true) × All other (front ++ back) = subst (All other) (sym same) in_rest in
+          absurd (apart first here found.0)
+  cut_unique one other (first ∷ front) back (head ∷ start) rest apart (here, in_front) in_back
+      (there, in_start) in_rest same =
+      let tails : front ++ back ≡ start ++ rest = cc in
+      let heads : first ≡ head = cc in
+      let found : (front ≡ start) × (back ≡ rest) =
+          cut_unique one other front back start rest apart in_front in_back in_start in_rest tails in
+      (let fronts : front ≡ start = found.0 in cc, found.1)
 
   -- the first entry outside
   pub turn_unique :
-      (p : E → Bool) (u : List E) (t : E) (v : List E) (u1 : List E) (t1 : E) (v1 : List E)
-      → All p u → All p u1 → (p t ≡ true → ⊥) → (p t1 ≡ true → ⊥) → u ++ (t ∷ v) ≡ u1 ++ (t1 ∷ v1)
-      → (u ≡ u1) × (t ≡ t1) × (v ≡ v1)
-  turn_unique p [] t v [] t1 v1 a b n m h = (refl, cc, cc)
-  turn_unique p [] t v (y ∷ u1) t1 v1 a (k, b) n m h = let s : t ≡ y = cc in absurd (n (ap p s ∙ k))
-  turn_unique p (x ∷ u) t v [] t1 v1 (k, a) b n m h = let s : t1 ≡ x = cc in absurd (m (ap p s ∙ k))
-  turn_unique p (x ∷ u) t v (y ∷ u1) t1 v1 (k, a) (l, b) n m h =
-      let g : u ++ (t ∷ v) ≡ u1 ++ (t1 ∷ v1) = cc in
-      let s : x ≡ y = cc in
-      let r : (u ≡ u1) × (t ≡ t1) × (v ≡ v1) = turn_unique p u t v u1 t1 v1 a b n m g in
-      (let e : u ≡ u1 = r.0 in cc, r.1, r.2)
+      (test : E → Bool) (front : List E) (entry : E) (back : List E) (start : List E) (other : E) (rest : List E)
+      → All test front → All test start → (test entry ≡ true → ⊥) → (test other ≡ true → ⊥)
+      → front ++ (entry ∷ back) ≡ start ++ (other ∷ rest)
+      → (front ≡ start) × (entry ≡ other) × (back ≡ rest)
+  turn_unique test [] entry back [] other rest in_front in_start outside beyond same = (refl, cc, cc)
+  turn_unique test [] entry back (head ∷ start) other rest in_front (here, in_start) outside beyond same =
+      let heads : entry ≡ head = cc in absurd (outside (ap test heads ∙ here))
+  turn_unique test (first ∷ front) entry back [] other rest (here, in_front) in_start outside beyond same =
+      let heads : other ≡ first = cc in absurd (beyond (ap test heads ∙ here))
+  turn_unique test (first ∷ front) entry back (head ∷ start) other rest (here, in_front)
+      (there, in_start) outside beyond same =
+      let tails : front ++ (entry ∷ back) ≡ start ++ (other ∷ rest) = cc in
+      let heads : first ≡ head = cc in
+      let found : (front ≡ start) × (entry ≡ other) × (back ≡ rest) =
+          turn_unique test front entry back start other rest in_front in_start outside beyond tails in
+      (let fronts : front ≡ start = found.0 in cc, found.1, found.2)
 
   -- what stands last in a cut
   pub snoc_cut :
-      (w : List E) (e : E) (u v : List E) → w ++ (e ∷ []) ≡ u ++ v
-      → ((v ≡ []) × (w ++ (e ∷ []) ≡ u)) ⊎ ((x : List E) × (v ≡ x ++ (e ∷ [])) × (w ≡ u ++ x))
-  snoc_cut w e u v h =
-      elim (snoc_view v) [
-        | inl n ↦ inl (n, h ∙ ap (λ t. u ++ t) n ∙ append-nil u)
-        | inr (x, y, n) ↦
-            let g : w ++ (e ∷ []) ≡ (u ++ x) ++ (y ∷ []) = h ∙ ap (λ t. u ++ t) n ∙ sym (append_assoc u x (y ∷ [])) in
-            let r : (w ≡ u ++ x) × (e ≡ y) = snoc_same w (u ++ x) e y g in
-            inr (x, n ∙ ap (λ t. x ++ (t ∷ [])) (sym r.1), r.0)
+      (word : List E) (entry : E) (front back : List E) → word ++ (entry ∷ []) ≡ front ++ back
+      → ((back ≡ []) × (word ++ (entry ∷ []) ≡ front)) ⊎
+      ((middle : List E) × (back ≡ middle ++ (entry ∷ [])) × (word ≡ front ++ middle))
+  snoc_cut word entry front back same =
+      elim (snoc_view back) [
+        | inl ends ↦ inl (ends, same ∙ ap (λ rest. front ++ rest) ends ∙ append-nil front)
+        | inr (middle, final, ends) ↦
+            let whole : word ++ (entry ∷ []) ≡ (front ++ middle) ++ (final ∷ []) =
+                same ∙ ap (λ rest. front ++ rest) ends ∙ sym (append_assoc front middle (final ∷ [])) in
+            let found : (word ≡ front ++ middle) × (entry ≡ final) =
+                snoc_same word (front ++ middle) entry final whole in
+            inr (middle, ends ∙ ap (λ rest. middle ++ (rest ∷ [])) (sym found.1), found.0)
       ]

@@ -10,60 +10,70 @@ use Rattle.chart_core.proofs.Link.{complete_partial}
 
 module _ {E : Type 0} where
   -- which of two cuts is later
-  pub cuts : (u v x y : List E) → u ++ v ≡ x ++ y → ((z : List E) × (x ≡ u ++ z))
-      ⊎ ((z : List E) × (u ≡ x ++ z) × (y ≡ z ++ v))
-  cuts [] v x y h = inl (x, refl)
-  cuts (a ∷ u) v [] y h = inr (a ∷ u, refl, sym h)
-  cuts (a ∷ u) v (b ∷ x) y h =
-      let t : u ++ v ≡ x ++ y = cc in
-      let s : a ≡ b = cc in
-      elim (cuts u v x y t) [
-        | inl (z, k) ↦ inl (z, cc)
-        | inr (z, k, l) ↦ inr (z, cc, l)
+  pub cuts : (front back start rest : List E) → front ++ back ≡ start ++ rest
+      → ((middle : List E) × (start ≡ front ++ middle))
+      ⊎ ((middle : List E) × (front ≡ start ++ middle) × (rest ≡ middle ++ back))
+  cuts [] back start rest same = inl (start, refl)
+  cuts (first ∷ front) back [] rest same = inr (first ∷ front, refl, sym same)
+  cuts (first ∷ front) back (head ∷ start) rest same =
+      let tails : front ++ back ≡ start ++ rest = cc in
+      let heads : first ≡ head = cc in
+      elim (cuts front back start rest tails) [
+        | inl (middle, fits) ↦ inl (middle, cc)
+        | inr (middle, fits, behind) ↦ inr (middle, cc, behind)
       ]
 
-pub nil_front : {E : Type 0} (u v : List E) → u ++ v ≡ [] → u ≡ []
-nil_front [] v h = refl
-nil_front (x ∷ u) v h = cc
+-- the front of nothing is nothing
+pub nil_front : {E : Type 0} (front back : List E) → front ++ back ≡ [] → front ≡ []
+nil_front [] back none = refl
+nil_front (first ∷ front) back none = cc
 
+-- a front of a loop's rounds is rounds again
 pub rounds_front :
-    {E : Type 0} (Body : List E → Type 0) (turns leaves : E → Bool) (P : List E → Type 0)
-    → ((u v : List E) → P (u ++ v) → P u) → ((u : List E) → Body u → P u)
-    → (u v w : List E) → w ≡ u ++ v → Rounds Body turns (λ x. P x ⊎ Closing Body leaves x) w
-    → Rounds Body turns (λ x. P x ⊎ Closing Body leaves x) u
-rounds_front Body turns leaves P f b u v w q (last (inl h)) = last (inl (f u v (subst P q h)))
-rounds_front Body turns leaves P f b u v w q (last (inr (x, e, r, y, l))) =
-    elim (cuts u v x (e ∷ []) (sym q ∙ r)) [
-      | inl (z, k) ↦ last (inl (f u z (subst P k (b x y))))
-      | inr (z, k, m) ↦
-          (elim z as (λ z. u ≡ x ++ z → e ∷ [] ≡ z ++ v → Rounds Body turns (λ x. P x ⊎ Closing Body leaves x) u) [
-            | [] ↦ λ k m. last (inl (subst P (sym (k ∙ append-nil x)) (b x y)))
-            | (d ∷ ds) ↦ λ k m.
-                let none : ds ≡ [] = nil_front ds v (sym (let t : [] ≡ ds ++ v = cc in t)) in
-                let same : e ≡ d = cc in
-                last (inr (x, d, k ∙ ap (λ t. x ++ (d ∷ t)) none, y, ap leaves (sym same) ∙ l))
-          ]) k m
+    {E : Type 0} (Body : List E → Type 0) (turns leaves : E → Bool) (Part : List E → Type 0)
+    → ((front back : List E) → Part (front ++ back) → Part front) → ((front : List E) → Body front → Part front)
+    → (front back word : List E) → word ≡ front ++ back → Rounds Body turns
+    (λ text. Part text ⊎ Closing Body leaves text) word
+    → Rounds Body turns (λ text. Part text ⊎ Closing Body leaves text) front
+rounds_front Body turns leaves Part fronts whole front back word same (last (inl part)) =
+    last (inl (fronts front back (subst Part same part)))
+rounds_front Body turns leaves Part fronts whole front back word same (last (inr (lap, entry, cut, run, rightly))) =
+    elim (cuts front back lap (entry ∷ []) (sym same ∙ cut)) [
+      | inl (middle, fits) ↦ last (inl (fronts front middle (subst Part fits (whole lap run))))
+      | inr (middle, fits, ends) ↦
+          (elim middle as (λ middle. front ≡ lap ++ middle → entry ∷ [] ≡ middle ++ back
+          → Rounds Body turns (λ text. Part text ⊎ Closing Body leaves text) front) [
+            | [] ↦ λ fits ends. last (inl (subst Part (sym (fits ∙ append-nil lap)) (whole lap run)))
+            | (head ∷ tail) ↦ λ fits ends.
+                let none : tail ≡ [] = nil_front tail back (sym (let empty : [] ≡ tail ++ back = cc in empty)) in
+                let same : entry ≡ head = cc in
+                last (inr (lap, head, fits ∙ ap (λ behind. lap ++ (head ∷ behind)) none, run, ap leaves (sym same)
+                    ∙ rightly))
+          ]) fits ends
     ]
-rounds_front Body turns leaves P f b u v w q (round x t y r g k l) =
-    elim (cuts u v x (t ∷ y) (sym q ∙ r)) [
-      | inl (z, m) ↦ last (inl (f u z (subst P m (b x g))))
-      | inr (z, m, n) ↦
-          (elim z as (λ z. u ≡ x ++ z → t ∷ y ≡ z ++ v → Rounds Body turns (λ x. P x ⊎ Closing Body leaves x) u) [
-            | [] ↦ λ m n. last (inl (subst P (sym (m ∙ append-nil x)) (b x g)))
-            | (d ∷ ds) ↦ λ m n.
-                let same : t ≡ d = cc in
-                let rest : y ≡ ds ++ v = cc in
-                round x d ds m g (ap turns (sym same) ∙ k) (rounds_front Body turns leaves P f b ds v y rest l)
-          ]) m n
+rounds_front Body turns leaves Part fronts whole front back word same (round lap entry rest cut run turned others) =
+    elim (cuts front back lap (entry ∷ rest) (sym same ∙ cut)) [
+      | inl (middle, fits) ↦ last (inl (fronts front middle (subst Part fits (whole lap run))))
+      | inr (middle, fits, ends) ↦
+          (elim middle as (λ middle. front ≡ lap ++ middle → entry ∷ rest ≡ middle ++ back
+          → Rounds Body turns (λ text. Part text ⊎ Closing Body leaves text) front) [
+            | [] ↦ λ fits ends. last (inl (subst Part (sym (fits ∙ append-nil lap)) (whole lap run)))
+            | (head ∷ tail) ↦ λ fits ends.
+                let same : entry ≡ head = cc in
+                let remains : rest ≡ tail ++ back = cc in
+                round lap head tail fits run (ap turns (sym same) ∙ turned)
+                    (rounds_front Body turns leaves Part fronts whole tail back rest remains others)
+          ]) fits ends
     ]
 
 -- a front of a part is a part
-pub partial_front : {E : Type 0} (p : Course E) (u v : List E) → Partial p (u ++ v) → Partial p u
-partial_front nothing u v h = nil_front u v h
-partial_front (step n b st) u v (ms, r) = (
-  map st v ++ ms,
-  subst (StepRun b) (ap (λ t. t ++ ms) (map-append st u v)
-      ∙ append_assoc (map st u) (map st v) ms) r,
+pub partial_front : {E : Type 0} (course : Course E) (front back : List E) → Partial course (front ++ back)
+    → Partial course front
+partial_front nothing front back part = nil_front front back part
+partial_front (step number finishes stage) front back (others, run) = (
+  map stage back ++ others,
+  subst (StepRun finishes) (ap (λ stages. stages ++ others) (map-append stage front back)
+      ∙ append_assoc (map stage front) (map stage back) others) run,
 )
 partial_front (chain a b) u v (inl h) = inl (partial_front a u v h)
 partial_front (chain a b) u v (inr (x, y, q, h, k)) =

@@ -8,11 +8,14 @@ use Rattle.chart_core.specs.declared.node.Arm.{Arm}
 use Rattle.chart_core.specs.declared.node.Node.{Node}
 use Rattle.chart_core.specs.declared.node.Node.TheFolds.{fold_out-Arm}
 
-pub one_more : {A : Type 0} (xs : List A) (i : ℕ) (x : A) → i < length xs → x ≡ get_or xs i x
-    → drop i xs ≡ x ∷ drop (i + 1) xs
-one_more xs i x inside same =
-    let next : suc i ≡ i + 1 = omega arith in
-    drop-cons xs i x inside ∙ ap (λ front. front ∷ drop (suc i) xs) (sym same) ∙ ap (λ k. x ∷ drop k xs) next
+-- the items from here on are the one here and those behind it
+pub one_more : {A : Type 0} (items : List A) (place : ℕ) (item : A) → place < length items
+    → item ≡ get_or items place item
+    → drop place items ≡ item ∷ drop (place + 1) items
+one_more items place item inside same =
+    let next : suc place ≡ place + 1 = omega arith in
+    drop-cons items place item inside ∙ ap (λ front. front ∷ drop (suc place) items) (sym same)
+        ∙ ap (λ start. item ∷ drop start items) next
 
 -- an arm as plain data, by its parts
 pub arm_laid : (arm : Arm) → arm_plan arm ≡ record { when = formula arm.when; body = tree arm.body }
@@ -20,14 +23,14 @@ arm_laid arm = fold_out-Arm Tree ArmPlan node_step arm_step arm
 
 -- the arms from here on, as plain data
 pub arms_cut :
-    (each : List Arm) (i : ℕ) (arm : Arm) → i < length each → arm ≡ get_or each i arm
-    → arms (drop i each) ≡ more_arms (formula arm.when) (tree arm.body) (arms (drop (i + 1) each))
-arms_cut each i arm inside same =
-    ap arms (one_more each i arm inside same) ∙ ap (λ plan. more_arms plan.when plan.body
-    (arms (drop (i + 1) each))) (arm_laid arm)
+    (each : List Arm) (place : ℕ) (arm : Arm) → place < length each → arm ≡ get_or each place arm
+    → arms (drop place each) ≡ more_arms (formula arm.when) (tree arm.body) (arms (drop (place + 1) each))
+arms_cut each place arm inside same =
+    ap arms (one_more each place arm inside same) ∙ ap (λ plan. more_arms plan.when plan.body
+    (arms (drop (place + 1) each))) (arm_laid arm)
 
 -- the nodes from here on, as plain data
 pub trees_cut :
-    (kids : List Node) (i : ℕ) (kid : Node) → i < length kids → kid ≡ get_or kids i kid
-    → trees (drop i kids) ≡ more_trees (tree kid) (trees (drop (i + 1) kids))
-trees_cut kids i kid inside same = ap trees (one_more kids i kid inside same)
+    (kids : List Node) (place : ℕ) (kid : Node) → place < length kids → kid ≡ get_or kids place kid
+    → trees (drop place kids) ≡ more_trees (tree kid) (trees (drop (place + 1) kids))
+trees_cut kids place kid inside same = ap trees (one_more kids place kid inside same)

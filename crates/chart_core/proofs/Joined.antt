@@ -3,36 +3,45 @@ use Rattle.std.specs.Prelude.{ℕ, ◌≡◌, ◌<◌, Bool, true, false, ◌&&�
 use Rattle.std.proofs.Common.{inl, inr, arith}
 use Rattle.std.proofs.lemmas.Bool.Decides.{nat_tests}
 
-pub or_left : (p q : Bool) → p ≡ true → p || q ≡ true
-or_left true q h = refl
-or_left false q h = cc
+-- one of two holds where the first does
+pub or_left : (one other : Bool) → one ≡ true → one || other ≡ true
+or_left true other here = refl
+or_left false other here = cc
 
-pub or_right : (p q : Bool) → q ≡ true → p || q ≡ true
-or_right true q h = refl
-or_right false q h = h
+-- and where the second does
+pub or_right : (one other : Bool) → other ≡ true → one || other ≡ true
+or_right true other here = refl
+or_right false other here = here
 
-pub or_split : (p q : Bool) → p || q ≡ true → (p ≡ true) ⊎ (q ≡ true)
-or_split true q h = inl refl
-or_split false q h = inr h
+-- where one of two holds it is the first or the second
+pub or_split : (one other : Bool) → one || other ≡ true → (one ≡ true) ⊎ (other ≡ true)
+or_split true other here = inl refl
+or_split false other here = inr here
 
-pub and_left : (p q : Bool) → p && q ≡ true → p ≡ true
-and_left true q h = refl
-and_left false q h = cc
+-- the first of two that both hold
+pub and_left : (one other : Bool) → one && other ≡ true → one ≡ true
+and_left true other here = refl
+and_left false other here = cc
 
-pub and_right : (p q : Bool) → p && q ≡ true → q ≡ true
-and_right true q h = h
-and_right false q h = cc
+-- the second of them
+pub and_right : (one other : Bool) → one && other ≡ true → other ≡ true
+and_right true other here = here
+and_right false other here = cc
 
-pub and_both : (p q : Bool) → p ≡ true → q ≡ true → p && q ≡ true
-and_both true q h k = k
-and_both false q h k = cc
+-- two that hold, hold both
+pub and_both : (one other : Bool) → one ≡ true → other ≡ true → one && other ≡ true
+and_both true other here there = there
+and_both false other here there = cc
 
-pub not_true : (p : Bool) → (p ≡ true → ⊥) → p ≡ false
-not_true true h = absurd (h refl)
-not_true false h = refl
+-- what is never true is false
+pub not_true : (one : Bool) → (one ≡ true → ⊥) → one ≡ false
+not_true true here = absurd (here refl)
+not_true false here = refl
 
-pub lt_holds : (i n : ℕ) → i < n → nat_lt i n ≡ true
-lt_holds i n h = grind (arith, nat_tests)
+-- the test of being less, where it is less
+pub lt_holds : (small large : ℕ) → small < large → nat_lt small large ≡ true
+lt_holds small large here = grind (arith, nat_tests)
 
-pub lt_told : (i n : ℕ) → nat_lt i n ≡ true → i < n
-lt_told i n h = grind (arith, nat_tests)
+-- what the test says
+pub lt_told : (small large : ℕ) → nat_lt small large ≡ true → small < large
+lt_told small large here = grind (arith, nat_tests)

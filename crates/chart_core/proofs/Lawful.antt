@@ -12,47 +12,60 @@ use Rattle.chart_core.proofs.Validity.{Each, name_of, names_are, valid_distinct,
 use Rattle.chart_core.proofs.Logs.{chart_sound}
 
 -- a member of a list is its first or one of the others
-pub member_cases : {A : Type 0} (x y : A) (xs : List A) → Contains (x ∷ xs) y → (x ≡ y) ⊎ Contains xs y
-member_cases x y xs (zero, l, e) = inl e
-member_cases x y xs (suc k, l, e) = inr (k, omega arith, e)
+pub member_cases : {A : Type 0} (first member : A) (others : List A) → Contains (first ∷ others) member
+    → (first ≡ member) ⊎ Contains others member
+member_cases first member others (zero, inside, same) = inl same
+member_cases first member others (suc place, inside, same) = inr (place, omega arith, same)
 
 -- what holds of each holds of a member
-pub each_member : {A : Type 0} (P : A → Type 0) (xs : List A) (x : A) → Each P xs → Contains xs x → P x
-each_member P [] x h (k, l, e) = absurd (omega arith)
-each_member P (y ∷ ys) x (h, r) m = elim (member_cases y x ys m)
-    [ inl e ↦ subst P e h | inr n ↦ each_member P ys x r n ]
+pub each_member : {A : Type 0} (Fact : A → Type 0) (items : List A) (member : A) → Each Fact items
+    → Contains items member → Fact member
+each_member Fact [] member fact (place, inside, same) = absurd (omega arith)
+each_member Fact (first ∷ others) member (fact, rest) among = elim (member_cases first member others among)
+    [ inl same ↦ subst Fact same fact | inr behind ↦ each_member Fact others member rest behind ]
 
-name_in : (ps : List Placed) (p : Placed) → Contains ps p → In (name_of p) (map name_of ps)
-name_in [] p (k, l, e) = absurd (omega arith)
-name_in (q ∷ ps) p m = elim (member_cases q p ps m) [ inl e ↦ inl (ap name_of (sym e)) | inr n ↦ inr (name_in ps p n) ]
+-- a step's name is one of the steps' names
+name_in : (placed : List Placed) (step : Placed) → Contains placed step → In (name_of step) (map name_of placed)
+name_in [] step (place, inside, same) = absurd (omega arith)
+name_in (first ∷ placed) step among =
+    elim (member_cases first step placed among) [ inl same ↦ inl (ap name_of (sym same)) | inr behind ↦
+        inr (name_in placed step behind) ]
 
 -- of steps with distinct names, one has a name
-one_named : (ps : List Placed) (p q : Placed) → Distinct (map name_of ps) → Contains ps p → Contains ps q
-    → name_of p ≡ name_of q → p ≡ q
-one_named [] p q d (k, l, e) n same = absurd (omega arith)
-one_named (r ∷ ps) p q (new, d) m n same =
-    elim (member_cases r p ps m) [
-      | inl e ↦ elim (member_cases r q ps n) [
-        | inl f ↦ sym e ∙ f
-        | inr y ↦ absurd (new (subst (λ name. In name (map name_of ps)) (sym same ∙ ap name_of (sym e))
-            (name_in ps q y)))
+one_named : (placed : List Placed) (one other : Placed) → Distinct (map name_of placed) → Contains placed one
+    → Contains placed other
+    → name_of one ≡ name_of other → one ≡ other
+one_named [] one other distinct (place, inside, first_is) there same = absurd (omega arith)
+one_named (first ∷ placed) one other (new, distinct) here there same =
+    elim (member_cases first one placed here) [
+      | inl first_is ↦ elim (member_cases first other placed there) [
+        | inl first_too ↦ sym first_is ∙ first_too
+        | inr behind_too ↦
+            absurd (new (subst (λ name. In name (map name_of placed)) (sym same ∙ ap name_of (sym first_is))
+            (name_in placed other behind_too)))
       ]
-      | inr x ↦ elim (member_cases r q ps n) [
-        | inl f ↦ absurd (new (subst (λ name. In name (map name_of ps)) (same ∙ ap name_of (sym f)) (name_in ps p x)))
-        | inr y ↦ one_named ps p q d x y same
+      | inr behind ↦ elim (member_cases first other placed there) [
+        | inl first_too ↦
+            absurd (new
+                (subst (λ name. In name (map name_of placed)) (same ∙ ap name_of (sym first_too))
+                (name_in placed one behind)))
+        | inr behind_too ↦ one_named placed one other distinct behind behind_too same
       ]
     ]
 
+-- In a valid chart the name tells the step.
 pub names_tell_steps : NamesTellSteps
-names_tell_steps chart one other valid h k same =
+names_tell_steps chart one other valid here there same =
     one_named (steps chart.root 0) one other (subst Distinct (names_are chart.root 0)
-    (valid_distinct chart valid)) h k same
+    (valid_distinct chart valid)) here there same
 
+-- In a valid chart each step has a role of the chart.
 pub roles_of_steps : StepsHaveRoles
-roles_of_steps chart placed valid h = each_member _ (steps chart.root 0) placed (valid_roles chart valid) h
+roles_of_steps chart placed valid here = each_member _ (steps chart.root 0) placed (valid_roles chart valid) here
 
+-- Nothing is a partial run of a valid chart.
 pub nothing_partial : NothingIsPartial
 nothing_partial chart valid =
     let sound = chart_sound chart valid in
-    stands_partial (course_of chart) (λ i. Untouched) [] sound
-    (fresh_stands (course_of chart) (λ i. Untouched) sound (λ i k. refl))
+    stands_partial (course_of chart) (λ place. Untouched) [] sound
+    (fresh_stands (course_of chart) (λ place. Untouched) sound (λ place has. refl))

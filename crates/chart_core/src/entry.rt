@@ -8,7 +8,7 @@ use mtp_codes::{Command, Name, State};
 /// An entry of a batch's log: what the batch did. Start, Finish, Reset and Stop are commands to a service of the module
 /// `tag`. Chose, Turn and Leave are decisions of the node `node`, with the readings by which it decided. Broke and
 /// Left are a step's state as it was found, StopAsked is the operator's wish, and Asked is a command of the operator's
-/// desk. The first seven kinds but Stop are the entries of a run of the chart.
+/// desk. The first seven kinds are the entries of a run of the chart.
 #[derive(Clone, Copy, Debug, PartialEq, Eq)]
 pub enum LogEntry {
     Start {
