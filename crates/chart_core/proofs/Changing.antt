@@ -16,218 +16,272 @@ use Rattle.chart_core.specs.declared.progress.Change.TheVariants.{Put, Clear}
 use Rattle.chart_core.proofs.Joined.{and_left, and_right, and_both, not_true, lt_holds, lt_told}
 use Rattle.chart_core.proofs.Link.{move_await, await_of, done_no_await}
 
-pub ended_of : (m : Progress) → is_ended m ≡ true → m ≡ Ended
-ended_of Untouched h = cc
-ended_of Begun h = cc
-ended_of Finished h = cc
-ended_of WasReset h = cc
-ended_of Ended h = refl
-ended_of (Chosen a) h = cc
-ended_of Left h = cc
+-- what the test for ended says
+pub ended_of : (progress : Progress) → is_ended progress ≡ true → progress ≡ Ended
+ended_of Untouched is = cc
+ended_of Begun is = cc
+ended_of Finished is = cc
+ended_of WasReset is = cc
+ended_of Ended is = refl
+ended_of (Chosen arm) is = cc
+ended_of Left is = cc
 
-pub left_of : (m : Progress) → is_left m ≡ true → m ≡ Left
-left_of Untouched h = cc
-left_of Begun h = cc
-left_of Finished h = cc
-left_of WasReset h = cc
-left_of Ended h = cc
-left_of (Chosen a) h = cc
-left_of Left h = refl
+-- what the test for left says
+pub left_of : (progress : Progress) → is_left progress ≡ true → progress ≡ Left
+left_of Untouched is = cc
+left_of Begun is = cc
+left_of Finished is = cc
+left_of WasReset is = cc
+left_of Ended is = cc
+left_of (Chosen arm) is = cc
+left_of Left is = refl
 
-pub chosen_of : (p : ℕ → Bool) (m : Progress) → has_chosen p m ≡ true → (a : ℕ) × (m ≡ Chosen a) × (p a ≡ true)
-chosen_of p Untouched h = cc
-chosen_of p Begun h = cc
-chosen_of p Finished h = cc
-chosen_of p WasReset h = cc
-chosen_of p Ended h = cc
-chosen_of p (Chosen a) h = (a, refl, h)
-chosen_of p Left h = cc
+-- what the test for a chosen arm says
+pub chosen_of : (test : ℕ → Bool) (progress : Progress) → has_chosen test progress ≡ true → (arm : ℕ)
+    × (progress ≡ Chosen arm) × (test arm ≡ true)
+chosen_of test Untouched is = cc
+chosen_of test Begun is = cc
+chosen_of test Finished is = cc
+chosen_of test WasReset is = cc
+chosen_of test Ended is = cc
+chosen_of test (Chosen arm) is = (arm, refl, is)
+chosen_of test Left is = cc
 
-pub done_of : {E : Type 0} (p : Course E) (f : Marks) → is_done p f ≡ true → Done p f
-done_of nothing f h = tt
-done_of (step n b st) f h = ended_of (f n) h
-done_of (chain a b) f h =
-    (done_of a f (and_left (is_done a f) (is_done b f) h), done_of b f (and_right (is_done a f) (is_done b f) h))
-done_of (beside a b) f h =
-    (done_of a f (and_left (is_done a f) (is_done b f) h), done_of b f (and_right (is_done a f) (is_done b f) h))
-done_of (select n count o c k) f h =
-    let r = chosen_of (λ a. is_done (k a) f) (f n) h in (r.0, r.1, done_of (k r.0) f r.2)
-done_of (repeat n after k o tu le) f h = left_of (f n) h
+-- what the test for done says
+pub done_of : {E : Type 0} (course : Course E) (marks : Marks) → is_done course marks ≡ true → Done course marks
+done_of nothing marks done = tt
+done_of (step number finishes stage) marks done = ended_of (marks number) done
+done_of (chain one other) marks done =
+    (done_of one marks (and_left (is_done one marks) (is_done other marks) done), done_of other marks
+    (and_right (is_done one marks) (is_done other marks) done))
+done_of (beside one other) marks done =
+    (done_of one marks (and_left (is_done one marks) (is_done other marks) done), done_of other marks
+    (and_right (is_done one marks) (is_done other marks) done))
+done_of (select number count own chooses bodies) marks done =
+    let chosen = chosen_of (λ arm. is_done (bodies arm) marks) (marks number) done in
+        (chosen.0, chosen.1, done_of (bodies chosen.0) marks chosen.2)
+done_of (repeat number after body own turns leaves) marks done = left_of (marks number) done
 
-pub of_done : {E : Type 0} (p : Course E) (f : Marks) → Done p f → is_done p f ≡ true
-of_done nothing f h = refl
-of_done (step n b st) f h = ap is_ended h
-of_done (chain a b) f (x, y) = and_both (is_done a f) (is_done b f) (of_done a f x) (of_done b f y)
-of_done (beside a b) f (x, y) = and_both (is_done a f) (is_done b f) (of_done a f x) (of_done b f y)
-of_done (select n count o c k) f (a, x, y) = ap (has_chosen (λ a. is_done (k a) f)) x ∙ of_done (k a) f y
-of_done (repeat n after k o tu le) f h = ap is_left h
+-- what is done passes the test
+pub of_done : {E : Type 0} (course : Course E) (marks : Marks) → Done course marks → is_done course marks ≡ true
+of_done nothing marks done = refl
+of_done (step number finishes stage) marks done = ap is_ended done
+of_done (chain one other) marks (here, there) = and_both (is_done one marks) (is_done other marks)
+    (of_done one marks here) (of_done other marks there)
+of_done (beside one other) marks (here, there) = and_both (is_done one marks) (is_done other marks)
+    (of_done one marks here) (of_done other marks there)
+of_done (select number count own chooses bodies) marks (arm, chosen, inside) =
+    ap (has_chosen (λ arm. is_done (bodies arm) marks)) chosen ∙ of_done (bodies arm) marks inside
+of_done (repeat number after body own turns leaves) marks done = ap is_left done
 
-next_finish : (b : Bool) (m1 : Progress) → cond b (Some Finished) None ≡ Some m1 → Next b Begun (Some finish) m1
-next_finish true m1 h = let e : Finished ≡ m1 = cc in subst (λ t. Next true Begun (Some finish) t) e (to_finished refl)
-next_finish false m1 h = cc
+-- a step with a finish goes on to it
+next_finish : (finishes : Bool) (after : Progress) → cond finishes (Some Finished) None ≡ Some after
+    → Next finishes Begun (Some finish) after
+next_finish true after is = let same : Finished ≡ after = cc in
+    subst (λ found. Next true Begun (Some finish) found) same (to_finished refl)
+next_finish false after is = cc
 
-pub next_of : (b : Bool) (m : Progress) (s : Option Stage) (m1 : Progress) → next_progress b m s ≡ Some m1
-    → Next b m s m1
-next_of b Untouched (Some begin) m1 h = let e : Begun ≡ m1 = cc in
-    subst (λ t. Next b Untouched (Some begin) t) e to_begun
-next_of b Begun (Some finish) m1 h = next_finish b m1 h
-next_of b Begun (Some reset) m1 h = let e : WasReset ≡ m1 = cc in subst (λ t. Next b Begun (Some reset) t) e reset_begun
-next_of b Finished (Some reset) m1 h = let e : WasReset ≡ m1 = cc in
-    subst (λ t. Next b Finished (Some reset) t) e reset_finished
-next_of b WasReset (Some end) m1 h = let e : Ended ≡ m1 = cc in subst (λ t. Next b WasReset (Some end) t) e to_ended
-next_of b m None m1 h = cc
-next_of b m (Some begin) m1 h = cc
-next_of b m (Some finish) m1 h = cc
-next_of b m (Some reset) m1 h = cc
-next_of b m (Some end) m1 h = cc
+-- the next point that is worked out is one
+pub next_of : (finishes : Bool) (progress : Progress) (stage : Option Stage) (after : Progress)
+    → next_progress finishes progress stage ≡ Some after
+    → Next finishes progress stage after
+next_of finishes Untouched (Some begin) after is = let same : Begun ≡ after = cc in
+    subst (λ found. Next finishes Untouched (Some begin) found) same to_begun
+next_of finishes Begun (Some finish) after is = next_finish finishes after is
+next_of finishes Begun (Some reset) after is = let same : WasReset ≡ after = cc in
+    subst (λ found. Next finishes Begun (Some reset) found) same reset_begun
+next_of finishes Finished (Some reset) after is = let same : WasReset ≡ after = cc in
+    subst (λ found. Next finishes Finished (Some reset) found) same reset_finished
+next_of finishes WasReset (Some end) after is = let same : Ended ≡ after = cc in
+    subst (λ found. Next finishes WasReset (Some end) found) same to_ended
+next_of finishes progress None after is = cc
+next_of finishes progress (Some begin) after is = cc
+next_of finishes progress (Some finish) after is = cc
+next_of finishes progress (Some reset) after is = cc
+next_of finishes progress (Some end) after is = cc
 
-pub of_next : (b : Bool) (m : Progress) (s : Option Stage) (m1 : Progress) → Next b m s m1
-    → next_progress b m s ≡ Some m1
-of_next b m s m1 to_begun = refl
-of_next b m s m1 (to_finished h) = ap (λ t. cond t (Some Finished) None) h
-of_next b m s m1 reset_begun = refl
-of_next b m s m1 reset_finished = refl
-of_next b m s m1 to_ended = refl
+-- and the next point is worked out
+pub of_next : (finishes : Bool) (progress : Progress) (stage : Option Stage) (after : Progress)
+    → Next finishes progress stage after
+    → next_progress finishes progress stage ≡ Some after
+of_next finishes progress stage after to_begun = refl
+of_next finishes progress stage after (to_finished can) = ap (λ test. cond test (Some Finished) None) can
+of_next finishes progress stage after reset_begun = refl
+of_next finishes progress stage after reset_finished = refl
+of_next finishes progress stage after to_ended = refl
 
-pub eqb_same : (n : ℕ) → eqb n n ≡ true
-eqb_same n = eq-eqb n n refl
+-- a number is equal to itself
+pub eqb_same : (number : ℕ) → eqb number number ≡ true
+eqb_same number = eq-eqb number number refl
 
-pub eqb_other : (i n : ℕ) → i ≢ n → eqb i n ≡ false
-eqb_other i n h = not_true (eqb i n) (λ e. h (eqb-true i n e))
+-- and to no other
+pub eqb_other : (one other : ℕ) → one ≢ other → eqb one other ≡ false
+eqb_other one other apart = not_true (eqb one other) (λ same. apart (eqb-true one other same))
 
-pub put_puts : (n : ℕ) (m : Progress) (f : Marks) → Puts n m f (changed (Put n m) f)
-put_puts n m f = (rw eqb_same refl, λ i h. rw (eqb_other i n h) refl)
+-- a mark that is put
+pub put_puts : (number : ℕ) (progress : Progress) (marks : Marks)
+    → Puts number progress marks (changed (Put number progress) marks)
+put_puts number progress marks = (rw eqb_same refl, λ place apart. rw (eqb_other place number apart) refl)
 
-pub clear_clears : (n below : ℕ) (f : Marks) → Clears n below f (changed (Clear n below) f)
-clear_clears n below f = (
-  λ i h k. rw (and_both (nat_lt n i) (nat_lt i below) (lt_holds n i h) (lt_holds i below k)) refl,
-  λ i h.
-      let no : nat_lt n i && nat_lt i below ≡ false
-      = not_true (nat_lt n i && nat_lt i below)
-      (λ z. h (lt_told n i (and_left (nat_lt n i) (nat_lt i below) z))
-      (lt_told i below (and_right (nat_lt n i) (nat_lt i below) z))) in
+-- marks that are cleared
+pub clear_clears : (number below : ℕ) (marks : Marks) → Clears number below marks (changed (Clear number below) marks)
+clear_clears number below marks = (
+  λ place bound limit. rw
+      (and_both (nat_lt number place) (nat_lt place below) (lt_holds number place bound) (lt_holds place below limit))
+      refl,
+  λ place bound.
+      let no : nat_lt number place && nat_lt place below ≡ false
+      = not_true (nat_lt number place && nat_lt place below)
+      (λ inside. bound (lt_told number place (and_left (nat_lt number place) (nat_lt place below) inside))
+      (lt_told place below (and_right (nat_lt number place) (nat_lt place below) inside))) in
       rw no refl,
 )
 
+-- the change of a loop, by whether its body is done and the entry turns or leaves it
 abbrev loop_change : {E : Type 0} → Course E → Marks → E → ℕ → ℕ → Bool → Bool → Bool → Option Change
-loop_change k f e n after t l d =
-    cond d (cond t (Some (Clear n after)) (cond l (Some (Put n Left)) None)) (change_by k f e)
+loop_change body marks entry number after turned left done =
+    cond done (cond turned (Some (Clear number after)) (cond left (Some (Put number Left)) None))
+        (change_by body marks entry)
 
+-- a change that is worked out leads on
 pub change_moves :
-    {E : Type 0} (p : Course E) (f : Marks) (e : E) (c : Change) → Sound p → change_by p f e ≡ Some c
-    → Moves p f e (changed c f)
-change_moves nothing f e c s h = cc
-change_moves (step n b st) f e c s h =
-    (elim (next_progress b (f n) (st e)) as (λ o. next_progress b (f n) (st e) ≡ o → put_at n o ≡ Some c
-    → Moves (step n b st) f e (changed c f)) [
-      | None ↦ λ q h. cc
-      | Some m ↦ λ q h.
-          let same : Put n m ≡ c = cc in
-          (m, next_of b (f n) (st e) m q, subst (λ c. Puts n m f (changed c f)) same (put_puts n m f))
-    ]) refl h
-change_moves (chain a b) f e c s h =
-    (elim (is_done a f) as (λ d. is_done a f ≡ d → cond d (change_by b f e) (change_by a f e) ≡ Some c
-    → Moves (chain a b) f e (changed c f)) [
-      | true ↦ λ d h. inr (done_of a f d, change_moves b f e c s.1 h)
-      | false ↦ λ d h. inl (change_moves a f e c s.0 h)
-    ]) refl h
-change_moves (beside a b) f e c s h =
-    (elim (change_by a f e) as (λ o. change_by a f e ≡ o → either_change o (change_by b f e) ≡ Some c
-    → Moves (beside a b) f e (changed c f)) [
-      | None ↦ λ q h. inr (change_moves b f e c s.1 h)
-      | Some d ↦ λ q h. inl (change_moves a f e c s.0 (q ∙ h))
-    ]) refl h
-change_moves (select n count o c k) f e d s h =
-    (elim (f n) as (λ m. f n ≡ m → change_in_arm (choose_at n (c e)) (λ a. change_by (k a) f e) m ≡ Some d
-    → Moves (select n count o c k) f e (changed d f)) [
-      | Untouched ↦ λ q h.
-          (elim (c e) as (λ z. c e ≡ z → choose_at n z ≡ Some d → Moves (select n count o c k) f e (changed d f)) [
-            | None ↦ λ r h. cc
-            | Some a ↦ λ r h.
-                let same : Put n (Chosen a) ≡ d = cc in
+    {E : Type 0} (course : Course E) (marks : Marks) (entry : E) (change : Change) → Sound course
+        → change_by course marks entry ≡ Some change
+    → Moves course marks entry (changed change marks)
+change_moves nothing marks entry change sound is = cc
+change_moves (step number finishes stage) marks entry change sound is =
+    (elim (next_progress finishes (marks number) (stage entry)) as
+    (λ next. next_progress finishes (marks number) (stage entry) ≡ next → put_at number next ≡ Some change
+    → Moves (step number finishes stage) marks entry (changed change marks)) [
+      | None ↦ λ found is. cc
+      | Some progress ↦ λ found is.
+          let same : Put number progress ≡ change = cc in
+          (progress, next_of finishes (marks number) (stage entry) progress found, subst
+          (λ change. Puts number progress marks (changed change marks)) same (put_puts number progress marks))
+    ]) refl is
+change_moves (chain one other) marks entry change sound is =
+    (elim (is_done one marks) as (λ done. is_done one marks ≡ done
+    → cond done (change_by other marks entry) (change_by one marks entry) ≡ Some change
+    → Moves (chain one other) marks entry (changed change marks)) [
+      | true ↦ λ done is. inr (done_of one marks done, change_moves other marks entry change sound.1 is)
+      | false ↦ λ done is. inl (change_moves one marks entry change sound.0 is)
+    ]) refl is
+change_moves (beside one other) marks entry change sound is =
+    (elim (change_by one marks entry) as (λ found. change_by one marks entry ≡ found
+    → either_change found (change_by other marks entry) ≡ Some change
+    → Moves (beside one other) marks entry (changed change marks)) [
+      | None ↦ λ same is. inr (change_moves other marks entry change sound.1 is)
+      | Some change1 ↦ λ same is. inl (change_moves one marks entry change sound.0 (same ∙ is))
+    ]) refl is
+change_moves (select number count own chooses bodies) marks entry change sound is =
+    (elim (marks number) as (λ progress. marks number ≡ progress
+    → change_in_arm (choose_at number (chooses entry)) (λ arm. change_by (bodies arm) marks entry) progress
+    ≡ Some change
+    → Moves (select number count own chooses bodies) marks entry (changed change marks)) [
+      | Untouched ↦ λ mark is.
+          (elim (chooses entry) as (λ picked. chooses entry ≡ picked → choose_at number picked ≡ Some change
+          → Moves (select number count own chooses bodies) marks entry (changed change marks)) [
+            | None ↦ λ right is. cc
+            | Some arm ↦ λ right is.
+                let same : Put number (Chosen arm) ≡ change = cc in
                 inl (
-                  q,
+                  mark,
                   (
-                    a,
-                    s.2 a e r,
-                    r,
-                    subst (λ d. Puts n (Chosen a) f (changed d f)) same
-                        (put_puts n (Chosen a) f),
+                    arm,
+                    sound.2 arm entry right,
+                    right,
+                    subst (λ change. Puts number (Chosen arm) marks (changed change marks)) same
+                        (put_puts number (Chosen arm) marks),
                   ),
                 )
-          ]) refl h
-      | Chosen a ↦ λ q h.
-          let m : Moves (k a) f e (changed d f) = change_moves (k a) f e d (s.0 a) h in
-          inr (a, q, s.3 a e (await_of (k a) f e (s.0 a) (move_await (k a) f e (changed d f) m)), m)
-      | _ ↦ λ q h. cc
-    ]) refl h
-change_moves (repeat n after k o tu le) f e c s h =
-    (elim (f n) as (λ m. f n ≡ m → while_untouched (loop_change k f e n after (tu e) (le e) (is_done k f)) m ≡ Some c
-    → Moves (repeat n after k o tu le) f e (changed c f)) [
-      | Untouched ↦ λ q h.
-          (elim (is_done k f) as (λ d. is_done k f ≡ d → loop_change k f e n after (tu e) (le e) d ≡ Some c
-          → Moves (repeat n after k o tu le) f e (changed c f)) [
-            | false ↦ λ d h. (q, inl (change_moves k f e c s.0 h))
-            | true ↦ λ d h.
-                (elim (tu e) as (λ t. tu e ≡ t → loop_change k f e n after t (le e) true ≡ Some c
-                → Moves (repeat n after k o tu le) f e (changed c f)) [
-                  | true ↦ λ t h.
-                      let same : Clear n after ≡ c = cc in (
-                        q,
+          ]) refl is
+      | Chosen arm ↦ λ mark is.
+          let move : Moves (bodies arm) marks entry (changed change marks) =
+              change_moves (bodies arm) marks entry change (sound.0 arm) is in
+          inr (arm, mark, sound.3 arm entry
+              (await_of (bodies arm) marks entry (sound.0 arm)
+              (move_await (bodies arm) marks entry (changed change marks) move)), move)
+      | _ ↦ λ mark is. cc
+    ]) refl is
+change_moves (repeat number after body own turns leaves) marks entry change sound is =
+    (elim (marks number) as (λ progress. marks number ≡ progress
+    → while_untouched (loop_change body marks entry number after (turns entry) (leaves entry) (is_done body marks))
+    progress ≡ Some change
+    → Moves (repeat number after body own turns leaves) marks entry (changed change marks)) [
+      | Untouched ↦ λ mark is.
+          (elim (is_done body marks) as (λ done. is_done body marks ≡ done
+          → loop_change body marks entry number after (turns entry) (leaves entry) done ≡ Some change
+          → Moves (repeat number after body own turns leaves) marks entry (changed change marks)) [
+            | false ↦ λ done is. (mark, inl (change_moves body marks entry change sound.0 is))
+            | true ↦ λ done is.
+                (elim (turns entry) as (λ turned. turns entry ≡ turned
+                → loop_change body marks entry number after turned (leaves entry) true ≡ Some change
+                → Moves (repeat number after body own turns leaves) marks entry (changed change marks)) [
+                  | true ↦ λ turned is.
+                      let same : Clear number after ≡ change = cc in (
+                        mark,
                         inr (inl (
-                          done_of k f d,
-                          t,
-                          subst (λ c. Clears n after f (changed c f)) same
-                              (clear_clears n after f),
+                          done_of body marks done,
+                          turned,
+                          subst (λ change. Clears number after marks (changed change marks)) same
+                              (clear_clears number after marks),
                         )),
                       )
-                  | false ↦ λ t h.
-                      (elim (le e) as (λ l. le e ≡ l → loop_change k f e n after false l true ≡ Some c
-                      → Moves (repeat n after k o tu le) f e (changed c f)) [
-                        | true ↦ λ l h.
-                            let same : Put n Left ≡ c = cc in (
-                              q,
+                  | false ↦ λ turned is.
+                      (elim (leaves entry) as (λ left. leaves entry ≡ left
+                      → loop_change body marks entry number after false left true ≡ Some change
+                      → Moves (repeat number after body own turns leaves) marks entry (changed change marks)) [
+                        | true ↦ λ left is.
+                            let same : Put number Left ≡ change = cc in (
+                              mark,
                               inr (inr (
-                                done_of k f d,
-                                l,
-                                subst (λ c. Puts n Left f (changed c f)) same
-                                    (put_puts n Left f),
+                                done_of body marks done,
+                                left,
+                                subst (λ change. Puts number Left marks (changed change marks)) same
+                                    (put_puts number Left marks),
                               )),
                             )
-                        | false ↦ λ l h. cc
-                      ]) refl h
-                ]) refl h
-          ]) refl h
-      | _ ↦ λ q h. cc
-    ]) refl h
+                        | false ↦ λ left is. cc
+                      ]) refl is
+                ]) refl is
+          ]) refl is
+      | _ ↦ λ mark is. cc
+    ]) refl is
 
 -- an awaited entry has a target
-pub await_change : {E : Type 0} (p : Course E) (f : Marks) (e : E) → Sound p → Awaits p f e
-    → (c : Change) × (change_by p f e ≡ Some c)
-await_change nothing f e s m = absurd m
-await_change (step n b st) f e s (m, x) = (Put n m, ap (put_at n) (of_next b (f n) (st e) m x))
-await_change (chain a b) f e s (inl m) =
-    let r = await_change a f e s.0 m in
-    let no : is_done a f ≡ false = not_true (is_done a f) (λ z. done_no_await a f e (done_of a f z) m) in
-    (r.0, rw no r.1)
-await_change (chain a b) f e s (inr (d, m)) =
-    let r = await_change b f e s.1 m in (r.0, rw (of_done a f d) r.1)
-await_change (beside a b) f e s (inl m) =
-    let r = await_change a f e s.0 m in (r.0, rw r.1 refl)
-await_change (beside a b) f e s (inr m) =
-    let r = await_change b f e s.1 m in
-    elim (change_by a f e) as (λ o. (c : Change) × (either_change o (change_by b f e) ≡ Some c)) [
-      | None ↦ (r.0, r.1)
-      | Some c ↦ (c, refl)
+pub await_change : {E : Type 0} (course : Course E) (marks : Marks) (entry : E) → Sound course
+    → Awaits course marks entry
+    → (change : Change) × (change_by course marks entry ≡ Some change)
+await_change nothing marks entry sound awaits = absurd awaits
+await_change (step number finishes stage) marks entry sound (progress, next) =
+    (Put number progress, ap (put_at number) (of_next finishes (marks number) (stage entry) progress next))
+await_change (chain one other) marks entry sound (inl awaits) =
+    let found = await_change one marks entry sound.0 awaits in
+    let no : is_done one marks ≡ false = not_true (is_done one marks)
+        (λ ended. done_no_await one marks entry (done_of one marks ended) awaits) in
+    (found.0, rw no found.1)
+await_change (chain one other) marks entry sound (inr (done, awaits)) =
+    let found = await_change other marks entry sound.1 awaits in (found.0, rw (of_done one marks done) found.1)
+await_change (beside one other) marks entry sound (inl awaits) =
+    let found = await_change one marks entry sound.0 awaits in (found.0, rw found.1 refl)
+await_change (beside one other) marks entry sound (inr awaits) =
+    let found = await_change other marks entry sound.1 awaits in
+    elim (change_by one marks entry) as (λ found1. (change : Change)
+        × (either_change found1 (change_by other marks entry) ≡ Some change)) [
+      | None ↦ (found.0, found.1)
+      | Some change ↦ (change, refl)
     ]
-await_change (select n count o c k) f e s (inl (x, (a, l, m))) = (Put n (Chosen a), rw (x, m) refl)
-await_change (select n count o c k) f e s (inr (a, x, l, m)) =
-    let r = await_change (k a) f e (s.0 a) m in (r.0, rw x r.1)
-await_change (repeat n after k o tu le) f e s (x, inl m) =
-    let r = await_change k f e s.0 m in
-    let no : is_done k f ≡ false = not_true (is_done k f) (λ z. done_no_await k f e (done_of k f z) m) in
-    (r.0, rw (x, no) r.1)
-await_change (repeat n after k o tu le) f e s (x, inr (inl (d, t))) = (Clear n after, rw (x, of_done k f d, t) refl)
-await_change (repeat n after k o tu le) f e s (x, inr (inr (d, t))) =
-    let no : tu e ≡ false = not_true (tu e) (λ z. s.5 e z t) in
-    (Put n Left, rw (x, of_done k f d, no, t) refl)
+await_change (select number count own chooses bodies) marks entry sound (inl (mark, (arm, below, right))) =
+    (Put number (Chosen arm), rw (mark, right) refl)
+await_change (select number count own chooses bodies) marks entry sound (inr (arm, mark, below, awaits)) =
+    let found = await_change (bodies arm) marks entry (sound.0 arm) awaits in (found.0, rw mark found.1)
+await_change (repeat number after body own turns leaves) marks entry sound (mark, inl awaits) =
+    let found = await_change body marks entry sound.0 awaits in
+    let no : is_done body marks ≡ false = not_true (is_done body marks)
+        (λ ended. done_no_await body marks entry (done_of body marks ended) awaits) in
+    (found.0, rw (mark, no) found.1)
+await_change (repeat number after body own turns leaves) marks entry sound (mark, inr (inl (done, right))) =
+    (Clear number after, rw (mark, of_done body marks done, right) refl)
+await_change (repeat number after body own turns leaves) marks entry sound (mark, inr (inr (done, right))) =
+    let no : turns entry ≡ false = not_true (turns entry) (λ turned. sound.5 entry turned right) in
+    (Put number Left, rw (mark, of_done body marks done, no, right) refl)

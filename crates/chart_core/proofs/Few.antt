@@ -8,6 +8,7 @@ use Rattle.chart_core.specs.declared.chart.Chart.{Chart}
 use Rattle.chart_core.specs.declared.progress.Progress.{Progress}
 use Rattle.chart_core.proofs.Validity.{valid_small}
 
+-- at most 4,096 nodes
 pub few_nodes : (chart : Chart) → IsValid (plan chart) → size (tree chart.root) ≤ 4096
 few_nodes chart valid = valid_small (plan chart) chart.form valid
 

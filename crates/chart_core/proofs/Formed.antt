@@ -5,11 +5,13 @@ use Rattle.chart_core.specs.Trees.{Tree, Arms, more_arms}
 use Rattle.chart_core.specs.Form.{is_formula_formed, is_tree_formed, are_arms_formed}
 use Rattle.chart_core.proofs.Joined.{and_left, and_right}
 
+-- the body of the first arm is formed
 pub arm_formed : (when : Formula) (body : Tree) (others : Arms) → IsTrue (are_arms_formed (more_arms when body others))
     → IsTrue (is_tree_formed body)
-arm_formed when body others h = and_left (is_tree_formed body) _ h
+arm_formed when body others formed = and_left (is_tree_formed body) _ formed
 
+-- and so are the arms behind it
 pub arms_formed : (when : Formula) (body : Tree) (others : Arms)
     → IsTrue (are_arms_formed (more_arms when body others)) → IsTrue (are_arms_formed others)
-arms_formed when body others h = and_right (is_formula_formed when) (are_arms_formed others)
-    (and_right (is_tree_formed body) _ h)
+arms_formed when body others formed = and_right (is_formula_formed when) (are_arms_formed others)
+    (and_right (is_tree_formed body) _ formed)

@@ -5,6 +5,7 @@ use Rattle.chart_core.specs.Formulas.{Formula, Formulas, constant, all_of, any_o
 use Rattle.chart_core.specs.Reads.{has_read, with_reads, with_all_reads}
 use Rattle.chart_core.specs.declared.reads.Read.{Read}
 
+-- a read that is added, or was there
 one_grows : (is_there : Bool) (read : Read) (reads : List Read)
     → length reads ≤ length (if is_there then reads else reads ++ (read ∷ []))
 one_grows true read reads = omega arith

@@ -15,123 +15,148 @@ use Rattle.chart_core.proofs.Cuts.{All-append, All-mono}
 
 -- Laps
 
+-- what follows for each lap and for the ending, follows for the rounds
 pub rounds_map :
-    {E : Type 0} (Body Body1 : List E → Type 0) (turns : E → Bool) (A B : List E → Type 0)
-    → ((w : List E) → Body w → Body1 w) → ((w : List E) → A w → B w)
-    → (w : List E) → Rounds Body turns A w → Rounds Body1 turns B w
-rounds_map Body Body1 turns A B g h w (last a) = last (h w a)
-rounds_map Body Body1 turns A B g h w (round u t v e b k r) =
-    round u t v e (g u b) k (rounds_map Body Body1 turns A B g h v r)
+    {E : Type 0} (Body NewBody : List E → Type 0) (turns : E → Bool) (Before After : List E → Type 0)
+    → ((word : List E) → Body word → NewBody word) → ((word : List E) → Before word → After word)
+    → (word : List E) → Rounds Body turns Before word → Rounds NewBody turns After word
+rounds_map Body NewBody turns Before After bodies ends word (last ending) = last (ends word ending)
+rounds_map Body NewBody turns Before After bodies ends word (round front entry back cut body turned others) =
+    round front entry back cut (bodies front body) turned
+        (rounds_map Body NewBody turns Before After bodies ends back others)
 
 -- Steps
 
-pub had_run : (b : Bool) (m : Progress) (xs : List (Option Stage)) → Had b m xs
-    → (ms : List (Option Stage)) × StepRun b (xs ++ ms)
-had_run b m xs had_nothing = (Some begin ∷ Some reset ∷ Some end ∷ [], inl refl)
-had_run b m xs had_begin = (Some reset ∷ Some end ∷ [], inl refl)
-had_run b m xs (had_finish h) = (Some reset ∷ Some end ∷ [], inr (h, refl))
-had_run b m xs had_reset = (Some end ∷ [], inl refl)
-had_run b m xs (had_both h) = (Some end ∷ [], inr (h, refl))
-had_run b m xs had_end = ([], inl refl)
-had_run b m xs (had_all h) = ([], inr (h, refl))
+-- what a step has had, goes on to a run of it
+pub had_run : (finishes : Bool) (progress : Progress) (stages : List (Option Stage)) → Had finishes progress stages
+    → (others : List (Option Stage)) × StepRun finishes (stages ++ others)
+had_run finishes progress stages had_nothing = (Some begin ∷ Some reset ∷ Some end ∷ [], inl refl)
+had_run finishes progress stages had_begin = (Some reset ∷ Some end ∷ [], inl refl)
+had_run finishes progress stages (had_finish has) = (Some reset ∷ Some end ∷ [], inr (has, refl))
+had_run finishes progress stages had_reset = (Some end ∷ [], inl refl)
+had_run finishes progress stages (had_both has) = (Some end ∷ [], inr (has, refl))
+had_run finishes progress stages had_end = ([], inl refl)
+had_run finishes progress stages (had_all has) = ([], inr (has, refl))
 
-pub had_whole : (b : Bool) (m : Progress) (xs : List (Option Stage)) → Had b m xs → m ≡ Ended → StepRun b xs
-had_whole b m xs had_nothing h = cc
-had_whole b m xs had_begin h = cc
-had_whole b m xs (had_finish k) h = cc
-had_whole b m xs had_reset h = cc
-had_whole b m xs (had_both k) h = cc
-had_whole b m xs had_end h = inl refl
-had_whole b m xs (had_all k) h = inr (k, refl)
+-- what an ended step has had is a run of it
+pub had_whole : (finishes : Bool) (progress : Progress) (stages : List (Option Stage)) → Had finishes progress stages
+    → progress ≡ Ended → StepRun finishes stages
+had_whole finishes progress stages had_nothing has = cc
+had_whole finishes progress stages had_begin has = cc
+had_whole finishes progress stages (had_finish can) has = cc
+had_whole finishes progress stages had_reset has = cc
+had_whole finishes progress stages (had_both can) has = cc
+had_whole finishes progress stages had_end has = inl refl
+had_whole finishes progress stages (had_all can) has = inr (can, refl)
 
-pub had_ended : (b : Bool) (m : Progress) (xs : List (Option Stage)) → Had b m xs → StepRun b xs → m ≡ Ended
-had_ended b m xs had_nothing (inl h) = cc
-had_ended b m xs had_nothing (inr (k, h)) = cc
-had_ended b m xs had_begin (inl h) = cc
-had_ended b m xs had_begin (inr (k, h)) = cc
-had_ended b m xs (had_finish l) (inl h) = cc
-had_ended b m xs (had_finish l) (inr (k, h)) = cc
-had_ended b m xs had_reset (inl h) = cc
-had_ended b m xs had_reset (inr (k, h)) = cc
-had_ended b m xs (had_both l) (inl h) = cc
-had_ended b m xs (had_both l) (inr (k, h)) = cc
-had_ended b m xs had_end h = refl
-had_ended b m xs (had_all l) h = refl
+-- a step that has had a whole run is ended
+pub had_ended : (finishes : Bool) (progress : Progress) (stages : List (Option Stage)) → Had finishes progress stages
+    → StepRun finishes stages → progress ≡ Ended
+had_ended finishes progress stages had_nothing (inl has) = cc
+had_ended finishes progress stages had_nothing (inr (can, has)) = cc
+had_ended finishes progress stages had_begin (inl has) = cc
+had_ended finishes progress stages had_begin (inr (can, has)) = cc
+had_ended finishes progress stages (had_finish could) (inl has) = cc
+had_ended finishes progress stages (had_finish could) (inr (can, has)) = cc
+had_ended finishes progress stages had_reset (inl has) = cc
+had_ended finishes progress stages had_reset (inr (can, has)) = cc
+had_ended finishes progress stages (had_both could) (inl has) = cc
+had_ended finishes progress stages (had_both could) (inr (can, has)) = cc
+had_ended finishes progress stages had_end has = refl
+had_ended finishes progress stages (had_all could) has = refl
 
-pub had_next : (b : Bool) (m : Progress) (xs : List (Option Stage)) (s : Option Stage) (m1 : Progress) → Had b m xs
-    → Next b m s m1 → Had b m1 (xs ++ (s ∷ []))
-had_next b m xs s m1 had_nothing to_begun = had_begin
-had_next b m xs s m1 had_begin (to_finished h) = had_finish h
-had_next b m xs s m1 had_begin reset_begun = had_reset
-had_next b m xs s m1 (had_finish h) reset_finished = had_both h
-had_next b m xs s m1 had_reset to_ended = had_end
-had_next b m xs s m1 (had_both h) to_ended = had_all h
-had_next b m xs s m1 had_end x = elim x [ ]
-had_next b m xs s m1 (had_all h) x = elim x [ ]
+-- a step that goes on has had one stage more
+pub had_next : (finishes : Bool) (progress : Progress) (stages : List (Option Stage)) (stage : Option Stage)
+    (after : Progress) → Had finishes progress stages
+    → Next finishes progress stage after → Had finishes after (stages ++ (stage ∷ []))
+had_next finishes progress stages stage after had_nothing to_begun = had_begin
+had_next finishes progress stages stage after had_begin (to_finished has) = had_finish has
+had_next finishes progress stages stage after had_begin reset_begun = had_reset
+had_next finishes progress stages stage after (had_finish has) reset_finished = had_both has
+had_next finishes progress stages stage after had_reset to_ended = had_end
+had_next finishes progress stages stage after (had_both has) to_ended = had_all has
+had_next finishes progress stages stage after had_end next = elim next [ ]
+had_next finishes progress stages stage after (had_all has) next = elim next [ ]
 
+-- a stage that goes on with a run of the step has a next point
 pub had_awaits :
-    (b : Bool) (m : Progress) (xs : List (Option Stage)) (s : Option Stage) (ms : List (Option Stage)) → Had b m xs
-    → StepRun b ((xs ++ (s ∷ [])) ++ ms) → (m1 : Progress) × Next b m s m1
-had_awaits b m xs s ms had_nothing (inl h) = let e : Some begin ≡ s = cc in
-    (Begun, subst (λ t. Next b Untouched t Begun) e to_begun)
-had_awaits b m xs s ms had_nothing (inr (k, h)) = let e : Some begin ≡ s = cc in
-    (Begun, subst (λ t. Next b Untouched t Begun) e to_begun)
-had_awaits b m xs s ms had_begin (inl h) = let e : Some reset ≡ s = cc in
-    (WasReset, subst (λ t. Next b Begun t WasReset) e reset_begun)
-had_awaits b m xs s ms had_begin (inr (k, h)) = let e : Some finish ≡ s = cc in
-    (Finished, subst (λ t. Next b Begun t Finished) e (to_finished k))
-had_awaits b m xs s ms (had_finish l) (inl h) = cc
-had_awaits b m xs s ms (had_finish l) (inr (k, h)) = let e : Some reset ≡ s = cc in
-    (WasReset, subst (λ t. Next b Finished t WasReset) e reset_finished)
-had_awaits b m xs s ms had_reset (inl h) = let e : Some end ≡ s = cc in
-    (Ended, subst (λ t. Next b WasReset t Ended) e to_ended)
-had_awaits b m xs s ms had_reset (inr (k, h)) = cc
-had_awaits b m xs s ms (had_both l) (inl h) = cc
-had_awaits b m xs s ms (had_both l) (inr (k, h)) = let e : Some end ≡ s = cc in
-    (Ended, subst (λ t. Next b WasReset t Ended) e to_ended)
-had_awaits b m xs s ms had_end (inl h) = cc
-had_awaits b m xs s ms had_end (inr (k, h)) = cc
-had_awaits b m xs s ms (had_all l) (inl h) = cc
-had_awaits b m xs s ms (had_all l) (inr (k, h)) = cc
+    (finishes : Bool) (progress : Progress) (stages : List (Option Stage)) (stage : Option Stage)
+    (others : List (Option Stage)) → Had finishes progress stages
+    → StepRun finishes ((stages ++ (stage ∷ [])) ++ others) → (after : Progress) × Next finishes progress stage after
+had_awaits finishes progress stages stage others had_nothing (inl has) = let same : Some begin ≡ stage = cc in
+    (Begun, subst (λ asked. Next finishes Untouched asked Begun) same to_begun)
+had_awaits finishes progress stages stage others had_nothing (inr (can, has)) = let same : Some begin ≡ stage = cc in
+    (Begun, subst (λ asked. Next finishes Untouched asked Begun) same to_begun)
+had_awaits finishes progress stages stage others had_begin (inl has) = let same : Some reset ≡ stage = cc in
+    (WasReset, subst (λ asked. Next finishes Begun asked WasReset) same reset_begun)
+had_awaits finishes progress stages stage others had_begin (inr (can, has)) = let same : Some finish ≡ stage = cc in
+    (Finished, subst (λ asked. Next finishes Begun asked Finished) same (to_finished can))
+had_awaits finishes progress stages stage others (had_finish could) (inl has) = cc
+had_awaits finishes progress stages stage others (had_finish could) (inr (can, has)) = let same : Some reset ≡ stage =
+    cc in
+    (WasReset, subst (λ asked. Next finishes Finished asked WasReset) same reset_finished)
+had_awaits finishes progress stages stage others had_reset (inl has) = let same : Some end ≡ stage = cc in
+    (Ended, subst (λ asked. Next finishes WasReset asked Ended) same to_ended)
+had_awaits finishes progress stages stage others had_reset (inr (can, has)) = cc
+had_awaits finishes progress stages stage others (had_both could) (inl has) = cc
+had_awaits finishes progress stages stage others (had_both could) (inr (can, has)) = let same : Some end ≡ stage = cc in
+    (Ended, subst (λ asked. Next finishes WasReset asked Ended) same to_ended)
+had_awaits finishes progress stages stage others had_end (inl has) = cc
+had_awaits finishes progress stages stage others had_end (inr (can, has)) = cc
+had_awaits finishes progress stages stage others (had_all could) (inl has) = cc
+had_awaits finishes progress stages stage others (had_all could) (inr (can, has)) = cc
 
 -- Frames
 
+-- marks that agree on a course have it done alike
 pub agree_done :
-    {E : Type 0} (p : Course E) (f g : Marks) → ((i : ℕ) → Has p i → g i ≡ f i) → Sound p → Done p f → Done p g
-agree_done nothing f g h s d = tt
-agree_done (step n b st) f g h s d = h n refl ∙ d
-agree_done (chain a b) f g h s d =
-    (agree_done a f g (λ i k. h i (inl k)) s.0 d.0, agree_done b f g (λ i k. h i (inr k)) s.1 d.1)
-agree_done (beside a b) f g h s d =
-    (agree_done a f g (λ i k. h i (inl k)) s.0 d.0, agree_done b f g (λ i k. h i (inr k)) s.1 d.1)
-agree_done (select n count o c k) f g h s (a, e, d) =
-    (a, h n (inl refl) ∙ e, agree_done (k a) f g (λ i l. h i (inr (a, l))) (s.0 a) d)
-agree_done (repeat n after k o tu le) f g h s d = h n (omega arith, s.1) ∙ d
+    {E : Type 0} (course : Course E) (marks later : Marks)
+        → ((place : ℕ) → Has course place → later place ≡ marks place) → Sound course → Done course marks
+        → Done course later
+agree_done nothing marks later agree sound done = tt
+agree_done (step number finishes stage) marks later agree sound done = agree number refl ∙ done
+agree_done (chain one other) marks later agree sound done =
+    (agree_done one marks later (λ place has. agree place (inl has)) sound.0 done.0, agree_done other marks later
+    (λ place has. agree place (inr has)) sound.1 done.1)
+agree_done (beside one other) marks later agree sound done =
+    (agree_done one marks later (λ place has. agree place (inl has)) sound.0 done.0, agree_done other marks later
+    (λ place has. agree place (inr has)) sound.1 done.1)
+agree_done (select number count own chooses bodies) marks later agree sound (arm, chosen, done) =
+    (arm, agree number (inl refl) ∙ chosen, agree_done (bodies arm) marks later
+    (λ place has. agree place (inr (arm, has))) (sound.0 arm) done)
+agree_done (repeat number after body own turns leaves) marks later agree sound done =
+    agree number (omega arith, sound.1) ∙ done
 
+-- and fresh alike
 pub agree_fresh :
-    {E : Type 0} (p : Course E) (f g : Marks) → ((i : ℕ) → Has p i → g i ≡ f i) → Fresh p f → Fresh p g
-agree_fresh p f g h k i l = h i l ∙ k i l
+    {E : Type 0} (course : Course E) (marks later : Marks)
+        → ((place : ℕ) → Has course place → later place ≡ marks place) → Fresh course marks → Fresh course later
+agree_fresh course marks later agree fresh place has = agree place has ∙ fresh place has
 
+-- and stand for the same words
 pub agree_stands :
-    {E : Type 0} (p : Course E) (f g : Marks) (w : List E) → ((i : ℕ) → Has p i → g i ≡ f i) → Sound p
-    → Stands p f w → Stands p g w
-agree_stands nothing f g w h s d = d
-agree_stands (step n b st) f g w h s d = subst (λ t. Had b t (map st w)) (sym (h n refl)) d
-agree_stands (chain a b) f g w h s (inl (d, r)) =
-    inl (agree_stands a f g w (λ i k. h i (inl k)) s.0 d, agree_fresh b f g (λ i k. h i (inr k)) r)
-agree_stands (chain a b) f g w h s (inr (u, v, e, d, x, y)) =
+    {E : Type 0} (course : Course E) (marks later : Marks) (word : List E)
+        → ((place : ℕ) → Has course place → later place ≡ marks place) → Sound course
+    → Stands course marks word → Stands course later word
+agree_stands nothing marks later word agree sound stands = stands
+agree_stands (step number finishes stage) marks later word agree sound stands =
+    subst (λ mark. Had finishes mark (map stage word)) (sym (agree number refl)) stands
+agree_stands (chain one other) marks later word agree sound (inl (stands, fresh)) =
+    inl (agree_stands one marks later word (λ place has. agree place (inl has)) sound.0 stands, agree_fresh other marks
+        later (λ place has. agree place (inr has)) fresh)
+agree_stands (chain one other) marks later word agree sound (inr (front, back, cut, done, here, there)) =
     inr (
-      u,
-      v,
-      e,
-      agree_done a f g (λ i k. h i (inl k)) s.0 d,
-      agree_stands a f g u (λ i k. h i (inl k)) s.0 x,
-      agree_stands b f g v (λ i k. h i (inr k)) s.1 y,
+      front,
+      back,
+      cut,
+      agree_done one marks later (λ place has. agree place (inl has)) sound.0 done,
+      agree_stands one marks later front (λ place has. agree place (inl has)) sound.0 here,
+      agree_stands other marks later back (λ place has. agree place (inr has)) sound.1 there,
     )
-agree_stands (beside a b) f g w h s (l, x, y) = (
-  l,
-  agree_stands a f g (filter (is_of a) w) (λ i k. h i (inl k)) s.0 x,
-  agree_stands b f g (filter (is_of b) w) (λ i k. h i (inr k)) s.1 y,
+agree_stands (beside one other) marks later word agree sound (all, here, there) = (
+  all,
+  agree_stands one marks later (filter (is_of one) word) (λ place has. agree place (inl has)) sound.0 here,
+  agree_stands other marks later (filter (is_of other) word) (λ place has. agree place (inr has)) sound.1 there,
 )
 agree_stands (select n count o c k) f g w h s (inl (e, d, r)) =
     inl (h n (inl refl) ∙ e, d, λ a. agree_fresh (k a) f g (λ i l. h i (inr (a, l))) (r a))
@@ -147,78 +172,112 @@ agree_stands (repeat n after k o tu le) f g w h s (inr (e, d)) = inr (h n (omega
 
 -- a move touches the plan's own places alone
 pub move_frame :
-    {E : Type 0} (p : Course E) (f : Marks) (e : E) (g : Marks) → Sound p → Moves p f e g → (i : ℕ)
-    → (Has p i → ⊥) → g i ≡ f i
-move_frame nothing f e g s m i h = absurd m
-move_frame (step n b st) f e g s (m, x, y) i h = y.1 i h
-move_frame (chain a b) f e g s (inl m) i h = move_frame a f e g s.0 m i (λ k. h (inl k))
-move_frame (chain a b) f e g s (inr m) i h = move_frame b f e g s.1 m.1 i (λ k. h (inr k))
-move_frame (beside a b) f e g s (inl m) i h = move_frame a f e g s.0 m i (λ k. h (inl k))
-move_frame (beside a b) f e g s (inr m) i h = move_frame b f e g s.1 m i (λ k. h (inr k))
-move_frame (select n count o c k) f e g s (inl (x, (a, l, m, y))) i h = y.1 i (λ z. h (inl z))
-move_frame (select n count o c k) f e g s (inr (a, x, l, m)) i h =
-    move_frame (k a) f e g (s.0 a) m i (λ z. h (inr (a, z)))
-move_frame (repeat n after k o tu le) f e g s (x, inl m) i h =
-    move_frame k f e g s.0 m i (λ z. h (let r = s.2 i z in omega arith, (s.2 i z).1))
-move_frame (repeat n after k o tu le) f e g s (x, inr (inl (d, t, y))) i h = y.1 i (λ p q. h (omega arith, q))
-move_frame (repeat n after k o tu le) f e g s (x, inr (inr (d, t, y))) i h =
-    y.1 i (λ z. h (omega arith, let l : n < after = s.1 in omega arith))
+    {E : Type 0} (course : Course E) (marks : Marks) (entry : E) (later : Marks) → Sound course
+        → Moves course marks entry later → (place : ℕ)
+    → (Has course place → ⊥) → later place ≡ marks place
+move_frame nothing marks entry later sound move place outside = absurd move
+move_frame (step number finishes stage) marks entry later sound (progress, next, puts) place outside =
+    puts.1 place outside
+move_frame (chain one other) marks entry later sound (inl move) place outside =
+    move_frame one marks entry later sound.0 move place (λ has. outside (inl has))
+move_frame (chain one other) marks entry later sound (inr move) place outside =
+    move_frame other marks entry later sound.1 move.1 place (λ has. outside (inr has))
+move_frame (beside one other) marks entry later sound (inl move) place outside =
+    move_frame one marks entry later sound.0 move place (λ has. outside (inl has))
+move_frame (beside one other) marks entry later sound (inr move) place outside =
+    move_frame other marks entry later sound.1 move place (λ has. outside (inr has))
+move_frame (select number count own chooses bodies) marks entry later sound
+    (inl (mark, (arm, below, right, puts))) place outside = puts.1 place (λ has. outside (inl has))
+move_frame (select number count own chooses bodies) marks entry later sound
+    (inr (arm, mark, below, move)) place outside =
+    move_frame (bodies arm) marks entry later (sound.0 arm) move place (λ has. outside (inr (arm, has)))
+move_frame (repeat number after body own turns leaves) marks entry later sound (mark, inl move) place outside =
+    move_frame body marks entry later sound.0 move place
+        (λ has. outside (let range = sound.2 place has in omega arith, (sound.2 place has).1))
+move_frame (repeat number after body own turns leaves) marks entry later sound
+    (mark, inr (inl (done, right, clears))) place outside = clears.1 place (λ above under. outside (omega arith, under))
+move_frame (repeat number after body own turns leaves) marks entry later sound
+    (mark, inr (inr (done, right, clears))) place outside =
+    clears.1 place (λ has. outside (omega arith, let order : number < after = sound.1 in omega arith))
 
 -- Wholes, parts and what is kept
 
-pub fresh_stands : {E : Type 0} (p : Course E) (f : Marks) → Sound p → Fresh p f → Stands p f []
-fresh_stands nothing f s h = refl
-fresh_stands (step n b st) f s h = subst (λ t. Had b t []) (sym (h n refl)) had_nothing
-fresh_stands (chain a b) f s h = inl (fresh_stands a f s.0 (λ i k. h i (inl k)), λ i k. h i (inr k))
-fresh_stands (beside a b) f s h =
-    (tt, fresh_stands a f s.0 (λ i k. h i (inl k)), fresh_stands b f s.1 (λ i k. h i (inr k)))
-fresh_stands (select n count o c k) f s h = inl (h n (inl refl), refl, λ a i l. h i (inr (a, l)))
-fresh_stands (repeat n after k o tu le) f s h =
-    inl (h n (omega arith, s.1), last (fresh_stands k f s.0 (λ i l. h i (let r = s.2 i l in omega arith, (s.2 i l).1))))
+-- fresh marks stand for the empty word
+pub fresh_stands : {E : Type 0} (course : Course E) (marks : Marks) → Sound course → Fresh course marks
+    → Stands course marks []
+fresh_stands nothing marks sound fresh = refl
+fresh_stands (step number finishes stage) marks sound fresh =
+    subst (λ mark. Had finishes mark []) (sym (fresh number refl)) had_nothing
+fresh_stands (chain one other) marks sound fresh =
+    inl (fresh_stands one marks sound.0 (λ place has. fresh place (inl has)), λ place has. fresh place (inr has))
+fresh_stands (beside one other) marks sound fresh =
+    (tt, fresh_stands one marks sound.0 (λ place has. fresh place (inl has)), fresh_stands other marks sound.1
+    (λ place has. fresh place (inr has)))
+fresh_stands (select number count own chooses bodies) marks sound fresh =
+    inl (fresh number (inl refl), refl, λ arm place has. fresh place (inr (arm, has)))
+fresh_stands (repeat number after body own turns leaves) marks sound fresh =
+    inl (fresh number (omega arith, sound.1), last
+        (fresh_stands body marks sound.0
+        (λ place has. fresh place (let range = sound.2 place has in omega arith, (sound.2 place has).1))))
 
-pub complete_partial : {E : Type 0} (p : Course E) (w : List E) → Complete p w → Partial p w
-complete_partial nothing w h = h
-complete_partial (step n b st) w h = ([], rw append-nil h)
-complete_partial (chain a b) w (u, v, e, x, y) = inr (u, v, e, x, complete_partial b v y)
-complete_partial (beside a b) w (l, x, y) = (
-  l,
-  complete_partial a (filter (is_of a) w) x,
-  complete_partial b
-      (filter (is_of b) w) y,
+-- a complete run is a partial one
+pub complete_partial : {E : Type 0} (course : Course E) (word : List E) → Complete course word → Partial course word
+complete_partial nothing word whole = whole
+complete_partial (step number finishes stage) word whole = ([], rw append-nil whole)
+complete_partial (chain one other) word (front, back, cut, here, there) =
+    inr (front, back, cut, here, complete_partial other back there)
+complete_partial (beside one other) word (all, here, there) = (
+  all,
+  complete_partial one (filter (is_of one) word) here,
+  complete_partial other
+      (filter (is_of other) word) there,
 )
 complete_partial (select n count o c k) w (a, e, v, q, l, m, x) = inr (a, e, v, q, l, m, complete_partial (k a) v x)
 complete_partial (repeat n after k o tu le) w h =
     rounds_map (Complete k) (Complete k) tu (Closing (Complete k) le) (λ v. Partial k v ⊎ Closing (Complete k) le v)
     (λ u x. x) (λ u x. inr x) w h
 
-pub done_complete : {E : Type 0} (p : Course E) (f : Marks) (w : List E) → Sound p → Stands p f w
-    → Done p f → Complete p w
-done_complete nothing f w s h d = h
-done_complete (step n b st) f w s h d = had_whole b (f n) (map st w) h d
-done_complete (chain a b) f w s (inl (x, r)) (d, g) =
-    (w, [], sym (append-nil w), done_complete a f w s.0 x d, done_complete b f [] s.1 (fresh_stands b f s.1 r) g)
-done_complete (chain a b) f w s (inr (u, v, e, d, x, y)) (d1, g) =
-    (u, v, e, done_complete a f u s.0 x d, done_complete b f v s.1 y g)
-done_complete (beside a b) f w s (l, x, y) (d, g) =
-    (l, done_complete a f (filter (is_of a) w) s.0 x d, done_complete b f (filter (is_of b) w) s.1 y g)
-done_complete (select n count o c k) f w s (inl (x, e, r)) (a, y, d) = cc
-done_complete (select n count o c k) f w s (inr (a, e, v, q, l, m, x, y)) (b, z, d) =
-    let same : b ≡ a = cc in
-    (a, e, v, q, l, m, done_complete (k a) f v (s.0 a) y (subst (λ t. Done (k t) f) same d))
-done_complete (repeat n after k o tu le) f w s (inl (x, y)) d = cc
-done_complete (repeat n after k o tu le) f w s (inr (x, y)) d = y
+-- what is done has had a complete run
+pub done_complete : {E : Type 0} (course : Course E) (marks : Marks) (word : List E) → Sound course
+    → Stands course marks word
+    → Done course marks → Complete course word
+done_complete nothing marks word sound stands done = stands
+done_complete (step number finishes stage) marks word sound stands done =
+    had_whole finishes (marks number) (map stage word) stands done
+done_complete (chain one other) marks word sound (inl (stands, fresh)) (done, ended) =
+    (word, [], sym (append-nil word), done_complete one marks word sound.0 stands done, done_complete other marks []
+    sound.1 (fresh_stands other marks sound.1 fresh) ended)
+done_complete (chain one other) marks word sound (inr (front, back, cut, done, here, there)) (again, ended) =
+    (front, back, cut, done_complete one marks front sound.0 here done, done_complete other marks back sound.1 there
+    ended)
+done_complete (beside one other) marks word sound (all, here, there) (done, ended) =
+    (all, done_complete one marks (filter (is_of one) word) sound.0 here done, done_complete other marks
+    (filter (is_of other) word) sound.1 there ended)
+done_complete (select number count own chooses bodies) marks word sound (inl (mark, none, fresh)) (arm, chosen, done) =
+    cc
+done_complete (select number count own chooses bodies) marks word sound
+    (inr (arm, entry, back, cut, below, right, mark, stands)) (other, chosen, done) =
+    let same : other ≡ arm = cc in
+    (arm, entry, back, cut, below, right, done_complete (bodies arm) marks back (sound.0 arm) stands
+    (subst (λ each. Done (bodies each) marks) same done))
+done_complete (repeat number after body own turns leaves) marks word sound (inl (mark, rounds)) done = cc
+done_complete (repeat number after body own turns leaves) marks word sound (inr (mark, rounds)) done = rounds
 
-pub stands_partial : {E : Type 0} (p : Course E) (f : Marks) (w : List E) → Sound p → Stands p f w → Partial p w
-stands_partial nothing f w s h = h
-stands_partial (step n b st) f w s h = had_run b (f n) (map st w) h
-stands_partial (chain a b) f w s (inl (x, r)) = inl (stands_partial a f w s.0 x)
-stands_partial (chain a b) f w s (inr (u, v, e, d, x, y)) = inr
-    (u, v, e, done_complete a f u s.0 x d, stands_partial b f v s.1 y)
-stands_partial (beside a b) f w s (l, x, y) = (
-  l,
-  stands_partial a f (filter (is_of a) w) s.0 x,
-  stands_partial b f
-      (filter (is_of b) w) s.1 y,
+-- what marks stand for is a partial run
+pub stands_partial : {E : Type 0} (course : Course E) (marks : Marks) (word : List E) → Sound course
+    → Stands course marks word → Partial course word
+stands_partial nothing marks word sound stands = stands
+stands_partial (step number finishes stage) marks word sound stands =
+    had_run finishes (marks number) (map stage word) stands
+stands_partial (chain one other) marks word sound (inl (stands, fresh)) =
+    inl (stands_partial one marks word sound.0 stands)
+stands_partial (chain one other) marks word sound (inr (front, back, cut, done, here, there)) = inr
+    (front, back, cut, done_complete one marks front sound.0 here done, stands_partial other marks back sound.1 there)
+stands_partial (beside one other) marks word sound (all, here, there) = (
+  all,
+  stands_partial one marks (filter (is_of one) word) sound.0 here,
+  stands_partial other marks
+      (filter (is_of other) word) sound.1 there,
 )
 stands_partial (select n count o c k) f w s (inl (x, e, r)) = inl e
 stands_partial (select n count o c k) f w s (inr (a, e, v, q, l, m, x, y)) =
@@ -232,154 +291,211 @@ stands_partial (repeat n after k o tu le) f w s (inr (x, y)) =
 
 -- Every entry of a part is of the plan.
 
+-- where all stages are there, each entry is of the step
 pub all_staged :
-    {E : Type 0} (st : E → Option Stage) (w : List E) (ms xs : List (Option Stage))
-    → All is_some xs → map st w ++ ms ≡ xs → All (λ e. is_some (st e)) w
-all_staged st [] ms xs h e = tt
-all_staged st (x ∷ w) ms [] h e = cc
-all_staged st (x ∷ w) ms (y ∷ xs) (k, h) e =
-    let a : st x ≡ y = cc in
-    let b : map st w ++ ms ≡ xs = cc in
-    (ap is_some a ∙ k, all_staged st w ms xs h b)
+    {E : Type 0} (stage : E → Option Stage) (word : List E) (others stages : List (Option Stage))
+    → All is_some stages → map stage word ++ others ≡ stages → All (λ entry. is_some (stage entry)) word
+all_staged stage [] others stages all cut = tt
+all_staged stage (entry ∷ word) others [] all cut = cc
+all_staged stage (entry ∷ word) others (first ∷ stages) (staged, all) cut =
+    let heads : stage entry ≡ first = cc in
+    let tails : map stage word ++ others ≡ stages = cc in
+    (ap is_some heads ∙ staged, all_staged stage word others stages all tails)
 
-pub below_or_at : (i n : ℕ) → i < suc n → (i < n) ⊎ (i ≡ n)
-below_or_at i n h = grind arith
+-- what is below the next number is below this one or is this one
+pub below_or_at : (one other : ℕ) → one < suc other → (one < other) ⊎ (one ≡ other)
+below_or_at one other below = grind arith
 
-pub any_at : (n : ℕ) (p : ℕ → Bool) (i : ℕ) → i < n → p i ≡ true → any_below n p ≡ true
-any_at zero p i h k = absurd (omega arith)
-any_at (suc n) p i h k =
-    elim (below_or_at i n h) [
-      | inl l ↦ or_right (p n) (any_below n p) (any_at n p i l k)
-      | inr e ↦ or_left (p n) (any_below n p) (ap p (sym e) ∙ k)
+-- where one number below passes, some number does
+pub any_at : (count : ℕ) (test : ℕ → Bool) (number : ℕ) → number < count → test number ≡ true
+    → any_below count test ≡ true
+any_at zero test number below holds = absurd (omega arith)
+any_at (suc count) test number below holds =
+    elim (below_or_at number count below) [
+      | inl lower ↦ or_right (test count) (any_below count test) (any_at count test number lower holds)
+      | inr same ↦ or_left (test count) (any_below count test) (ap test (sym same) ∙ holds)
     ]
 
+-- where each lap and the ending pass, all rounds pass
 pub rounds_of :
-    {E : Type 0} (p q : E → Bool) (Body : List E → Type 0) (turns : E → Bool) (Last : List E → Type 0)
-    → ((w : List E) → Body w → All q w) → ((e : E) → turns e ≡ true → q e ≡ true) → ((w : List E) → Last w → All q w)
-    → (w : List E) → Rounds Body turns Last w → All q w
-rounds_of p q Body turns Last b t l w (last x) = l w x
-rounds_of p q Body turns Last b t l w (round u e v h x y r) =
-    subst (All q) (sym h) (All-append q u (e ∷ v) (b u x) (t e y, rounds_of p q Body turns Last b t l v r))
+    {E : Type 0} (one test : E → Bool) (Body : List E → Type 0) (turns : E → Bool) (Last : List E → Type 0)
+    → ((word : List E) → Body word → All test word) → ((entry : E) → turns entry ≡ true → test entry ≡ true)
+    → ((word : List E) → Last word → All test word)
+    → (word : List E) → Rounds Body turns Last word → All test word
+rounds_of one test Body turns Last body turned closed word (last ending) = closed word ending
+rounds_of one test Body turns Last body turned closed word (round front entry back cut run rightly others) =
+    subst (All test) (sym cut)
+        (All-append test front (entry ∷ back) (body front run)
+        (turned entry rightly, rounds_of one test Body turns Last body turned closed back others))
 
 -- every entry of a partial run is of the course, whether it decides rightly or not
-pub partial_of : {E : Type 0} (p : Course E) (w : List E) → Sound p → Partial p w → All (is_of p) w
-partial_of nothing w s h = subst (All (is_of nothing)) (sym h) tt
-partial_of (step n b st) w s (ms, inl h) = all_staged st w ms _ (refl, (refl, (refl, tt))) h
-partial_of (step n b st) w s (ms, inr (k, h)) = all_staged st w ms _ (refl, (refl, (refl, (refl, tt)))) h
-partial_of (chain a b) w s (inl x) = All-mono (is_of a) (is_of (chain a b)) w (λ e. or_left (is_of a e) (is_of b e))
-    (partial_of a w s.0 x)
-partial_of (chain a b) w s (inr (u, v, e, x, y)) =
-    subst (All (is_of (chain a b))) (sym e)
-    (All-append (is_of (chain a b)) u v
-    (All-mono (is_of a) (is_of (chain a b)) u (λ e. or_left (is_of a e) (is_of b e))
-    (partial_of a u s.0 (complete_partial a u x)))
-    (All-mono (is_of b) (is_of (chain a b)) v (λ e. or_right (is_of a e) (is_of b e)) (partial_of b v s.1 y)))
-partial_of (beside a b) w s (l, x, y) = l
-partial_of (select n count o c k) w s (inl e) = subst (All (is_of (select n count o c k))) (sym e) tt
-partial_of (select n count o c k) w s (inr (a, e, v, q, l, m, x)) =
-    subst (All (is_of (select n count o c k))) (sym q) (
-      or_left (o e) (any_below count (λ b. is_of (k b) e)) (s.4 a e m),
-      All-mono (is_of (k a)) (is_of (select n count o c k)) v
-          (λ d z. or_right (o d) (any_below count (λ b. is_of (k b) d)) (any_at count (λ b. is_of (k b) d) a l z))
-          (partial_of (k a) v (s.0 a) x),
+pub partial_of : {E : Type 0} (course : Course E) (word : List E) → Sound course → Partial course word
+    → All (is_of course) word
+partial_of nothing word sound part = subst (All (is_of nothing)) (sym part) tt
+partial_of (step number finishes stage) word sound (others, inl cut) =
+    all_staged stage word others _ (refl, (refl, (refl, tt))) cut
+partial_of (step number finishes stage) word sound (others, inr (can, cut)) =
+    all_staged stage word others _ (refl, (refl, (refl, (refl, tt)))) cut
+partial_of (chain one other) word sound (inl part) = All-mono (is_of one) (is_of (chain one other)) word
+    (λ entry. or_left (is_of one entry) (is_of other entry))
+    (partial_of one word sound.0 part)
+partial_of (chain one other) word sound (inr (front, back, cut, here, there)) =
+    subst (All (is_of (chain one other))) (sym cut)
+    (All-append (is_of (chain one other)) front back
+    (All-mono (is_of one) (is_of (chain one other)) front (λ entry. or_left (is_of one entry) (is_of other entry))
+    (partial_of one front sound.0 (complete_partial one front here)))
+    (All-mono (is_of other) (is_of (chain one other)) back (λ entry. or_right (is_of one entry) (is_of other entry))
+    (partial_of other back sound.1 there)))
+partial_of (beside one other) word sound (all, here, there) = all
+partial_of (select number count own chooses bodies) word sound (inl none) =
+    subst (All (is_of (select number count own chooses bodies))) (sym none) tt
+partial_of (select number count own chooses bodies) word sound (inr (arm, first, back, cut, below, right, run)) =
+    subst (All (is_of (select number count own chooses bodies))) (sym cut) (
+      or_left (own first) (any_below count (λ each. is_of (bodies each) first)) (sound.4 arm first right),
+      All-mono (is_of (bodies arm)) (is_of (select number count own chooses bodies)) back
+          (λ entry own_entry. or_right (own entry) (any_below count (λ each. is_of (bodies each) entry))
+          (any_at count (λ each. is_of (bodies each) entry) arm below own_entry))
+          (partial_of (bodies arm) back (sound.0 arm) run),
     )
-partial_of (repeat n after k o tu le) w s h =
-    let inside : (d : _) → is_of k d ≡ true → is_of (repeat n after k o tu le) d ≡ true =
-    λ d z. or_right (o d) (is_of k d) z in
-    let whole : (u : List _) → Complete k u → All (is_of (repeat n after k o tu le)) u
-    = λ u x. All-mono (is_of k) (is_of (repeat n after k o tu le)) u inside
-    (partial_of k u s.0 (complete_partial k u x)) in
-    rounds_of (is_of k) (is_of (repeat n after k o tu le)) (Complete k) tu
-    (λ v. Partial k v ⊎ Closing (Complete k) le v) whole
-    (λ d z. or_left (o d) (is_of k d) (s.6 d z))
-    (λ v z. elim z [
-      | inl x ↦ All-mono (is_of k) (is_of (repeat n after k o tu le)) v inside (partial_of k v s.0 x)
-      | inr (u, e, q, x, y) ↦
-          subst (All (is_of (repeat n after k o tu le))) (sym q)
-          (All-append (is_of (repeat n after k o tu le)) u (e ∷ []) (whole u x)
-          (or_left (o e) (is_of k e) (s.7 e y), tt))
-    ]) w h
+partial_of (repeat number after body own turns leaves) word sound part =
+    let inside : (entry : _) → is_of body entry ≡ true → is_of (repeat number after body own turns leaves) entry
+        ≡ true =
+    λ entry is. or_right (own entry) (is_of body entry) is in
+    let whole : (front : List _) → Complete body front → All (is_of (repeat number after body own turns leaves)) front
+    = λ front run. All-mono (is_of body) (is_of (repeat number after body own turns leaves)) front inside
+    (partial_of body front sound.0 (complete_partial body front run)) in
+    rounds_of (is_of body) (is_of (repeat number after body own turns leaves)) (Complete body) turns
+    (λ rest. Partial body rest ⊎ Closing (Complete body) leaves rest) whole
+    (λ entry is. or_left (own entry) (is_of body entry) (sound.6 entry is))
+    (λ rest is. elim is [
+      | inl run ↦ All-mono (is_of body) (is_of (repeat number after body own turns leaves)) rest inside
+          (partial_of body rest sound.0 run)
+      | inr (front, final, cut, run, rightly) ↦
+          subst (All (is_of (repeat number after body own turns leaves))) (sym cut)
+          (All-append (is_of (repeat number after body own turns leaves)) front (final ∷ []) (whole front run)
+          (or_left (own final) (is_of body final) (sound.7 final rightly), tt))
+    ]) word part
 
-pub stands_of : {E : Type 0} (p : Course E) (f : Marks) (w : List E) → Sound p → Stands p f w → All (is_of p) w
-stands_of p f w s h = partial_of p w s (stands_partial p f w s h)
+-- every entry of a word that marks stand for is of the course
+pub stands_of : {E : Type 0} (course : Course E) (marks : Marks) (word : List E) → Sound course
+    → Stands course marks word → All (is_of course) word
+stands_of course marks word sound stands = partial_of course word sound (stands_partial course marks word sound stands)
 
 -- One more entry
 
-pub move_await : {E : Type 0} (p : Course E) (f : Marks) (e : E) (g : Marks) → Moves p f e g → Awaits p f e
-move_await nothing f e g m = m
-move_await (step n b st) f e g (m, x, y) = (m, x)
-move_await (chain a b) f e g (inl m) = inl (move_await a f e g m)
-move_await (chain a b) f e g (inr m) = inr (m.0, move_await b f e g m.1)
-move_await (beside a b) f e g (inl m) = inl (move_await a f e g m)
-move_await (beside a b) f e g (inr m) = inr (move_await b f e g m)
-move_await (select n count o c k) f e g (inl (x, (a, l, m, y))) = inl (x, (a, l, m))
-move_await (select n count o c k) f e g (inr (a, x, l, m)) = inr (a, x, l, move_await (k a) f e g m)
-move_await (repeat n after k o tu le) f e g (x, inl m) = (x, inl (move_await k f e g m))
-move_await (repeat n after k o tu le) f e g (x, inr (inl (d, t, y))) = (x, inr (inl (d, t)))
-move_await (repeat n after k o tu le) f e g (x, inr (inr (d, t, y))) = (x, inr (inr (d, t)))
+-- an entry that leads on is awaited
+pub move_await : {E : Type 0} (course : Course E) (marks : Marks) (entry : E) (later : Marks)
+    → Moves course marks entry later → Awaits course marks entry
+move_await nothing marks entry later move = move
+move_await (step number finishes stage) marks entry later (progress, next, puts) = (progress, next)
+move_await (chain one other) marks entry later (inl move) = inl (move_await one marks entry later move)
+move_await (chain one other) marks entry later (inr move) = inr (move.0, move_await other marks entry later move.1)
+move_await (beside one other) marks entry later (inl move) = inl (move_await one marks entry later move)
+move_await (beside one other) marks entry later (inr move) = inr (move_await other marks entry later move)
+move_await (select number count own chooses bodies) marks entry later (inl (mark, (arm, below, right, changed))) =
+    inl (mark, (arm, below, right))
+move_await (select number count own chooses bodies) marks entry later (inr (arm, mark, below, move)) =
+    inr (arm, mark, below, move_await (bodies arm) marks entry later move)
+move_await (repeat number after body own turns leaves) marks entry later (mark, inl move) =
+    (mark, inl (move_await body marks entry later move))
+move_await (repeat number after body own turns leaves) marks entry later (mark, inr (inl (done, right, changed))) =
+    (mark, inr (inl (done, right)))
+move_await (repeat number after body own turns leaves) marks entry later (mark, inr (inr (done, right, changed))) =
+    (mark, inr (inr (done, right)))
 
-pub next_staged : (b : Bool) (m : Progress) (s : Option Stage) (m1 : Progress) → Next b m s m1 → is_some s ≡ true
-next_staged b m s m1 to_begun = refl
-next_staged b m s m1 (to_finished h) = refl
-next_staged b m s m1 reset_begun = refl
-next_staged b m s m1 reset_finished = refl
-next_staged b m s m1 to_ended = refl
+-- only a stage leads a step on
+pub next_staged : (finishes : Bool) (progress : Progress) (stage : Option Stage) (after : Progress)
+    → Next finishes progress stage after → is_some stage ≡ true
+next_staged finishes progress stage after to_begun = refl
+next_staged finishes progress stage after (to_finished has) = refl
+next_staged finishes progress stage after reset_begun = refl
+next_staged finishes progress stage after reset_finished = refl
+next_staged finishes progress stage after to_ended = refl
 
-pub next_not_ended : (b : Bool) (m : Progress) (s : Option Stage) (m1 : Progress) → Next b m s m1 → m ≡ Ended → ⊥
-next_not_ended b m s m1 to_begun h = cc
-next_not_ended b m s m1 (to_finished k) h = cc
-next_not_ended b m s m1 reset_begun h = cc
-next_not_ended b m s m1 reset_finished h = cc
-next_not_ended b m s m1 to_ended h = cc
+-- and never an ended one
+pub next_not_ended : (finishes : Bool) (progress : Progress) (stage : Option Stage) (after : Progress)
+    → Next finishes progress stage after → progress ≡ Ended → ⊥
+next_not_ended finishes progress stage after to_begun ended = cc
+next_not_ended finishes progress stage after (to_finished can) ended = cc
+next_not_ended finishes progress stage after reset_begun ended = cc
+next_not_ended finishes progress stage after reset_finished ended = cc
+next_not_ended finishes progress stage after to_ended ended = cc
 
-pub await_of : {E : Type 0} (p : Course E) (f : Marks) (e : E) → Sound p → Awaits p f e → is_of p e ≡ true
-await_of nothing f e s m = absurd m
-await_of (step n b st) f e s (m, x) = next_staged b (f n) (st e) m x
-await_of (chain a b) f e s (inl m) = or_left (is_of a e) (is_of b e) (await_of a f e s.0 m)
-await_of (chain a b) f e s (inr m) = or_right (is_of a e) (is_of b e) (await_of b f e s.1 m.1)
-await_of (beside a b) f e s (inl m) = or_left (is_of a e) (is_of b e) (await_of a f e s.0 m)
-await_of (beside a b) f e s (inr m) = or_right (is_of a e) (is_of b e) (await_of b f e s.1 m)
-await_of (select n count o c k) f e s (inl (x, (a, l, m))) =
-    or_left (o e) (any_below count (λ b. is_of (k b) e)) (s.4 a e m)
-await_of (select n count o c k) f e s (inr (a, x, l, m)) =
-    or_right (o e) (any_below count (λ b. is_of (k b) e)) (any_at count (λ b. is_of (k b) e) a l
-    (await_of (k a) f e (s.0 a) m))
-await_of (repeat n after k o tu le) f e s (x, inl m) = or_right (o e) (is_of k e) (await_of k f e s.0 m)
-await_of (repeat n after k o tu le) f e s (x, inr (inl (d, t))) = or_left (o e) (is_of k e) (s.6 e t)
-await_of (repeat n after k o tu le) f e s (x, inr (inr (d, t))) = or_left (o e) (is_of k e) (s.7 e t)
+-- an awaited entry is of the course
+pub await_of : {E : Type 0} (course : Course E) (marks : Marks) (entry : E) → Sound course → Awaits course marks entry
+    → is_of course entry ≡ true
+await_of nothing marks entry sound awaits = absurd awaits
+await_of (step number finishes stage) marks entry sound (progress, next) =
+    next_staged finishes (marks number) (stage entry) progress next
+await_of (chain one other) marks entry sound (inl awaits) =
+    or_left (is_of one entry) (is_of other entry) (await_of one marks entry sound.0 awaits)
+await_of (chain one other) marks entry sound (inr awaits) =
+    or_right (is_of one entry) (is_of other entry) (await_of other marks entry sound.1 awaits.1)
+await_of (beside one other) marks entry sound (inl awaits) =
+    or_left (is_of one entry) (is_of other entry) (await_of one marks entry sound.0 awaits)
+await_of (beside one other) marks entry sound (inr awaits) =
+    or_right (is_of one entry) (is_of other entry) (await_of other marks entry sound.1 awaits)
+await_of (select number count own chooses bodies) marks entry sound (inl (mark, (arm, below, right))) =
+    or_left (own entry) (any_below count (λ each. is_of (bodies each) entry)) (sound.4 arm entry right)
+await_of (select number count own chooses bodies) marks entry sound (inr (arm, mark, below, awaits)) =
+    or_right (own entry) (any_below count (λ each. is_of (bodies each) entry))
+        (any_at count (λ each. is_of (bodies each) entry) arm below
+    (await_of (bodies arm) marks entry (sound.0 arm) awaits))
+await_of (repeat number after body own turns leaves) marks entry sound (mark, inl awaits) =
+    or_right (own entry) (is_of body entry) (await_of body marks entry sound.0 awaits)
+await_of (repeat number after body own turns leaves) marks entry sound (mark, inr (inl (done, right))) =
+    or_left (own entry) (is_of body entry) (sound.6 entry right)
+await_of (repeat number after body own turns leaves) marks entry sound (mark, inr (inr (done, right))) =
+    or_left (own entry) (is_of body entry) (sound.7 entry right)
 
-pub done_no_await : {E : Type 0} (p : Course E) (f : Marks) (e : E) → Done p f → Awaits p f e → ⊥
-done_no_await nothing f e d m = m
-done_no_await (step n b st) f e d (m, x) = next_not_ended b (f n) (st e) m x d
-done_no_await (chain a b) f e d (inl m) = done_no_await a f e d.0 m
-done_no_await (chain a b) f e d (inr m) = done_no_await b f e d.1 m.1
-done_no_await (beside a b) f e d (inl m) = done_no_await a f e d.0 m
-done_no_await (beside a b) f e d (inr m) = done_no_await b f e d.1 m
-done_no_await (select n count o c k) f e (a, x, d) (inl (y, m)) = cc
-done_no_await (select n count o c k) f e (a, x, d) (inr (b, y, l, m)) =
-    let same : a ≡ b = cc in done_no_await (k b) f e (subst (λ t. Done (k t) f) same d) m
-done_no_await (repeat n after k o tu le) f e d (x, m) = cc
+-- what is done awaits nothing
+pub done_no_await : {E : Type 0} (course : Course E) (marks : Marks) (entry : E) → Done course marks
+    → Awaits course marks entry → ⊥
+done_no_await nothing marks entry done awaits = awaits
+done_no_await (step number finishes stage) marks entry done (progress, next) =
+    next_not_ended finishes (marks number) (stage entry) progress next done
+done_no_await (chain one other) marks entry done (inl awaits) = done_no_await one marks entry done.0 awaits
+done_no_await (chain one other) marks entry done (inr awaits) = done_no_await other marks entry done.1 awaits.1
+done_no_await (beside one other) marks entry done (inl awaits) = done_no_await one marks entry done.0 awaits
+done_no_await (beside one other) marks entry done (inr awaits) = done_no_await other marks entry done.1 awaits
+done_no_await (select number count own chooses bodies) marks entry (arm, mark, done) (inl (untouched, awaits)) = cc
+done_no_await (select number count own chooses bodies) marks entry (arm, mark, done)
+    (inr (other, chosen, below, awaits)) =
+    let same : arm ≡ other = cc in done_no_await (bodies other) marks entry
+        (subst (λ each. Done (bodies each) marks) same done) awaits
+done_no_await (repeat number after body own turns leaves) marks entry done (mark, awaits) = cc
 
+-- a last entry that passes stays
 pub filter_in :
-    {E : Type 0} (p : E → Bool) (w : List E) (e : E) → p e ≡ true → filter p (w ++ (e ∷ [])) ≡ filter p w ++ (e ∷ [])
-filter_in p w e h = rw (filter-append, h) refl
+    {E : Type 0} (test : E → Bool) (word : List E) (entry : E) → test entry ≡ true
+        → filter test (word ++ (entry ∷ [])) ≡ filter test word ++ (entry ∷ [])
+filter_in test word entry tested = rw (filter-append, tested) refl
 
+-- one that does not pass goes
 pub filter_out :
-    {E : Type 0} (p : E → Bool) (w : List E) (e : E) → p e ≡ false → filter p (w ++ (e ∷ [])) ≡ filter p w
-filter_out p w e h = rw (filter-append, h) (append-nil (filter p w))
+    {E : Type 0} (test : E → Bool) (word : List E) (entry : E) → test entry ≡ false
+        → filter test (word ++ (entry ∷ [])) ≡ filter test word
+filter_out test word entry tested = rw (filter-append, tested) (append-nil (filter test word))
 
+-- an entry behind the ending lengthens it
 pub rounds_snoc :
-    {E : Type 0} (Body : List E → Type 0) (turns : E → Bool) (A B : List E → Type 0) (r : List E)
-    → ((v : List E) → A v → B (v ++ r)) → (w : List E) → Rounds Body turns A w → Rounds Body turns B (w ++ r)
-rounds_snoc Body turns A B r h w (last a) = last (h w a)
-rounds_snoc Body turns A B r h w (round u t v e b k l) =
-    round u t (v ++ r) (ap (λ x. x ++ r) e ∙ append_assoc u (t ∷ v) r) b k (rounds_snoc Body turns A B r h v l)
+    {E : Type 0} (Body : List E → Type 0) (turns : E → Bool) (Before After : List E → Type 0) (added : List E)
+    → ((back : List E) → Before back → After (back ++ added)) → (word : List E) → Rounds Body turns Before word
+    → Rounds Body turns After (word ++ added)
+rounds_snoc Body turns Before After added close word (last ending) = last (close word ending)
+rounds_snoc Body turns Before After added close word (round front entry back cut body turned others) =
+    round front entry (back ++ added) (ap (λ text. text ++ added) cut ∙ append_assoc front (entry ∷ back) added) body
+        turned (rounds_snoc Body turns Before After added close back others)
 
+-- behind a whole lap an entry turns the loop
 pub rounds_turn :
-    {E : Type 0} (Body : List E → Type 0) (turns : E → Bool) (A B : List E → Type 0) (e : E)
-    → ((v : List E) → A v → Body v) → turns e ≡ true → B [] → (w : List E) → Rounds Body turns A w
-    → Rounds Body turns B (w ++ (e ∷ []))
-rounds_turn Body turns A B e h t n w (last a) = round w e [] refl (h w a) t (last n)
-rounds_turn Body turns A B e h t n w (round u x v q b k l) =
-    round u x (v ++ (e ∷ [])) (ap (λ y. y ++ (e ∷ [])) q ∙ append_assoc u (x ∷ v) (e ∷ [])) b k
-    (rounds_turn Body turns A B e h t n v l)
+    {E : Type 0} (Body : List E → Type 0) (turns : E → Bool) (Before After : List E → Type 0) (entry : E)
+    → ((back : List E) → Before back → Body back) → turns entry ≡ true → After [] → (word : List E)
+    → Rounds Body turns Before word
+    → Rounds Body turns After (word ++ (entry ∷ []))
+rounds_turn Body turns Before After entry whole right none word (last ending) =
+    round word entry [] refl (whole word ending) right (last none)
+rounds_turn Body turns Before After entry whole right none word (round front other back cut body turned others) =
+    round front other (back ++ (entry ∷ [])) (ap (λ text. text ++ (entry ∷ [])) cut
+        ∙ append_assoc front (other ∷ back) (entry ∷ [])) body turned
+    (rounds_turn Body turns Before After entry whole right none back others)

@@ -27,65 +27,71 @@ chart_sound chart valid = sound chart.root 0 (valid_distinct chart valid)
 
 -- untouched marks stand for the empty log
 pub start_stands : (chart : ChartPlan) (marks : List Progress) → IsValid chart
-    → ((i : ℕ) → marks_of marks i ≡ Untouched) → StandsFor chart marks []
+    → ((place : ℕ) → marks_of marks place ≡ Untouched) → StandsFor chart marks []
 start_stands chart marks valid untouched = fresh_stands (course_of chart) (marks_of marks) (chart_sound chart valid)
-    (λ i k. untouched i)
+    (λ place has. untouched place)
 
 -- after an entry's change the marks stand for the log with the entry
 pub step_stands :
-    (chart : ChartPlan) (marks after : List Progress) (log : List LogEntry) (e : LogEntry) (change : Change)
-    → IsValid chart → StandsFor chart marks log → change_by (course_of chart) (marks_of marks) (judged e) ≡ Some change
-    → ((i : ℕ) → marks_of after i ≡ changed change (marks_of marks) i) → StandsFor chart after (log ++ (e ∷ []))
-step_stands chart marks after log e change valid h t g =
-    let s = chart_sound chart valid in
-    let m = change_moves (course_of chart) (marks_of marks) (judged e) change s t in
-    subst (Stands (course_of chart) (marks_of after)) (sym (map-append judged log (e ∷ [])))
+    (chart : ChartPlan) (marks after : List Progress) (log : List LogEntry) (entry : LogEntry) (change : Change)
+    → IsValid chart → StandsFor chart marks log → change_by (course_of chart) (marks_of marks) (judged entry)
+    ≡ Some change
+    → ((place : ℕ) → marks_of after place ≡ changed change (marks_of marks) place)
+    → StandsFor chart after (log ++ (entry ∷ []))
+step_stands chart marks after log entry change valid stands changes same =
+    let is_sound = chart_sound chart valid in
+    let moves = change_moves (course_of chart) (marks_of marks) (judged entry) change is_sound changes in
+    subst (Stands (course_of chart) (marks_of after)) (sym (map-append judged log (entry ∷ [])))
     (agree_stands (course_of chart) (changed change (marks_of marks)) (marks_of after)
-    (word log ++ (judged e ∷ [])) (λ i k. g i) s
-    (take_stands (course_of chart) (marks_of marks) (word log) (judged e) (changed change (marks_of marks)) s h m))
+    (word log ++ (judged entry ∷ [])) (λ place has. same place) is_sound
+    (take_stands (course_of chart) (marks_of marks) (word log) (judged entry)
+    (changed change (marks_of marks)) is_sound stands moves))
 
 -- where the entry changes nothing, no partial run goes on with it
 pub stuck :
-    (chart : ChartPlan) (marks : List Progress) (log : List LogEntry) (e : LogEntry) (back : List LogEntry)
-    → IsValid chart → StandsFor chart marks log → change_by (course_of chart) (marks_of marks) (judged e) ≡ None
-    → IsPartial chart (log ++ (e ∷ back)) → ⊥
-stuck chart marks log e back valid h t k =
-    let s = chart_sound chart valid in
-    let front : Partial (course_of chart) (word log ++ (judged e ∷ []))
-    = partial_front (course_of chart) (word log ++ (judged e ∷ [])) (word back)
-    (subst (Partial (course_of chart)) (map-append judged log (e ∷ back)
-    ∙ sym (append_assoc (word log) (judged e ∷ []) (word back))) k) in
-    let r = await_change (course_of chart) (marks_of marks) (judged e) s
-    (partial_awaits (course_of chart) (marks_of marks) (word log) (judged e) s h front) in
-    let no : Some r.0 ≡ None = sym r.1 ∙ t in cc
+    (chart : ChartPlan) (marks : List Progress) (log : List LogEntry) (entry : LogEntry) (back : List LogEntry)
+    → IsValid chart → StandsFor chart marks log → change_by (course_of chart) (marks_of marks) (judged entry) ≡ None
+    → IsPartial chart (log ++ (entry ∷ back)) → ⊥
+stuck chart marks log entry back valid stands none part =
+    let is_sound = chart_sound chart valid in
+    let front : Partial (course_of chart) (word log ++ (judged entry ∷ []))
+    = partial_front (course_of chart) (word log ++ (judged entry ∷ [])) (word back)
+    (subst (Partial (course_of chart)) (map-append judged log (entry ∷ back)
+    ∙ sym (append_assoc (word log) (judged entry ∷ []) (word back))) part) in
+    let found = await_change (course_of chart) (marks_of marks) (judged entry) is_sound
+    (partial_awaits (course_of chart) (marks_of marks) (word log) (judged entry) is_sound stands front) in
+    let no : Some found.0 ≡ None = sym found.1 ∙ none in cc
 
+-- what the marks stand for is a partial run
 pub stands_is_partial : (chart : ChartPlan) (marks : List Progress) (log : List LogEntry) → IsValid chart
     → StandsFor chart marks log → IsPartial chart log
-stands_is_partial chart marks log valid h = stands_partial (course_of chart) (marks_of marks) (word log)
-    (chart_sound chart valid) h
+stands_is_partial chart marks log valid stands = stands_partial (course_of chart) (marks_of marks) (word log)
+    (chart_sound chart valid) stands
 
+-- where they are done it is a complete one
 pub done_is_complete :
     (chart : ChartPlan) (marks : List Progress) (log : List LogEntry) → IsValid chart → StandsFor chart marks log
     → is_done (course_of chart) (marks_of marks) ≡ true → IsComplete chart log
-done_is_complete chart marks log valid h k =
-    done_complete (course_of chart) (marks_of marks) (word log) (chart_sound chart valid) h
-    (done_of (course_of chart) (marks_of marks) k)
+done_is_complete chart marks log valid stands done =
+    done_complete (course_of chart) (marks_of marks) (word log) (chart_sound chart valid) stands
+    (done_of (course_of chart) (marks_of marks) done)
 
+-- and only there
 pub complete_is_done :
     (chart : ChartPlan) (marks : List Progress) (log : List LogEntry) → IsValid chart → StandsFor chart marks log
     → IsComplete chart log → is_done (course_of chart) (marks_of marks) ≡ true
-complete_is_done chart marks log valid h k =
+complete_is_done chart marks log valid stands done =
     of_done (course_of chart) (marks_of marks) (complete_done (course_of chart) (marks_of marks) (word log)
-    (chart_sound chart valid) h k)
+    (chart_sound chart valid) stands done)
 
 -- a complete run is a partial one
 pub complete_is_partial : (chart : ChartPlan) (log : List LogEntry) → IsComplete chart log → IsPartial chart log
-complete_is_partial chart log h = complete_partial (course_of chart) (word log) h
+complete_is_partial chart log whole = complete_partial (course_of chart) (word log) whole
 
 -- one more untouched mark leaves all untouched
-pub untouched_more : (marks : List Progress) → ((i : ℕ) → marks_of marks i ≡ Untouched) → (i : ℕ)
-    → marks_of (marks ++ (Untouched ∷ [])) i ≡ Untouched
-untouched_more [] h zero = refl
-untouched_more [] h (suc i) = refl
-untouched_more (mark ∷ marks) h zero = h 0
-untouched_more (mark ∷ marks) h (suc i) = untouched_more marks (λ j. h (suc j)) i
+pub untouched_more : (marks : List Progress) → ((place : ℕ) → marks_of marks place ≡ Untouched) → (place : ℕ)
+    → marks_of (marks ++ (Untouched ∷ [])) place ≡ Untouched
+untouched_more [] untouched zero = refl
+untouched_more [] untouched (suc place) = refl
+untouched_more (mark ∷ marks) untouched zero = untouched 0
+untouched_more (mark ∷ marks) untouched (suc place) = untouched_more marks (λ number. untouched (suc number)) place

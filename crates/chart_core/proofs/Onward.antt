@@ -12,313 +12,403 @@ use Rattle.chart_core.proofs.Link.{had_ended, had_next, had_awaits, agree_done, 
 
 -- An awaited entry: what is kept then stands for the longer word.
 pub take_stands :
-    {E : Type 0} (p : Course E) (f : Marks) (w : List E) (e : E) (g : Marks)
-    → Sound p → Stands p f w → Moves p f e g → Stands p g (w ++ (e ∷ []))
-take_stands nothing f w e g s h m = absurd m
-take_stands (step n b st) f w e g s h (m, x, y) =
-    let had : Had b m (map st w ++ (st e ∷ [])) = had_next b (f n) (map st w) (st e) m h x in
-    let at : Had b (g n) (map st w ++ (st e ∷ [])) = subst (λ t. Had b t (map st w ++ (st e ∷ []))) (sym y.0) had in
+    {E : Type 0} (course : Course E) (marks : Marks) (word : List E) (entry : E) (later : Marks)
+    → Sound course → Stands course marks word → Moves course marks entry later
+    → Stands course later (word ++ (entry ∷ []))
+take_stands nothing marks word entry later sound stands move = absurd move
+take_stands (step number finishes stage) marks word entry later sound stands (progress, next, puts) =
+    let had : Had finishes progress (map stage word ++ (stage entry ∷ [])) =
+        had_next finishes (marks number) (map stage word) (stage entry) progress stands next in
+    let at : Had finishes (later number) (map stage word ++ (stage entry ∷ [])) =
+        subst (λ mark. Had finishes mark (map stage word ++ (stage entry ∷ []))) (sym puts.0) had in
     rw map-append at
-take_stands (chain a b) f w e g s (inl (x, r)) (inl m) =
+take_stands (chain one other) marks word entry later sound (inl (stands, fresh)) (inl move) =
     inl (
-      take_stands a f w e g s.0 x m,
-      agree_fresh b f g (λ i k. move_frame a f e g s.0 m i (λ l. s.2.1 i l k)) r,
+      take_stands one marks word entry later sound.0 stands move,
+      agree_fresh other marks later
+          (λ place has. move_frame one marks entry later sound.0 move place (λ also. sound.2.1 place also has)) fresh,
     )
-take_stands (chain a b) f w e g s (inl (x, r)) (inr (d, m)) =
-    let same : (i : ℕ) → Has a i → g i ≡ f i = λ i k. move_frame b f e g s.1 m i (λ l. s.2.1 i k l) in
+take_stands (chain one other) marks word entry later sound (inl (stands, fresh)) (inr (done, move)) =
+    let same : (place : ℕ) → Has one place → later place ≡ marks place =
+        λ place has. move_frame other marks entry later sound.1 move place (λ also. sound.2.1 place has also) in
     inr (
-      w,
-      e ∷ [],
+      word,
+      entry ∷ [],
       refl,
-      agree_done a f g same s.0 d,
-      agree_stands a f g w same s.0 x,
-      take_stands b f [] e g s.1 (fresh_stands b f s.1 r) m,
+      agree_done one marks later same sound.0 done,
+      agree_stands one marks later word same sound.0 stands,
+      take_stands other marks [] entry later sound.1 (fresh_stands other marks sound.1 fresh) move,
     )
-take_stands (chain a b) f w e g s (inr (u, v, q, d, x, y)) (inl m) =
-    absurd (done_no_await a f e d (move_await a f e g m))
-take_stands (chain a b) f w e g s (inr (u, v, q, d, x, y)) (inr (d1, m)) =
-    let same : (i : ℕ) → Has a i → g i ≡ f i = λ i k. move_frame b f e g s.1 m i (λ l. s.2.1 i k l) in
+take_stands (chain one other) marks word entry later sound (inr (front, back, cut, done, here, there)) (inl move) =
+    absurd (done_no_await one marks entry done (move_await one marks entry later move))
+take_stands (chain one other) marks word entry later sound (inr (front, back, cut, done, here, there))
+    (inr (again, move)) =
+    let same : (place : ℕ) → Has one place → later place ≡ marks place =
+        λ place has. move_frame other marks entry later sound.1 move place (λ also. sound.2.1 place has also) in
     inr (
-      u,
-      v ++ (e ∷ []),
-      ap (λ t. t ++ (e ∷ [])) q ∙ append_assoc u v (e ∷ []),
-      agree_done a f g same s.0 d,
-      agree_stands a f g u same s.0 x,
-      take_stands b f v e g s.1 y m,
+      front,
+      back ++ (entry ∷ []),
+      ap (λ text. text ++ (entry ∷ [])) cut ∙ append_assoc front back (entry ∷ []),
+      agree_done one marks later same sound.0 done,
+      agree_stands one marks later front same sound.0 here,
+      take_stands other marks back entry later sound.1 there move,
     )
-take_stands (beside a b) f w e g s (l, x, y) (inl m) =
-    let is : is_of a e ≡ true = await_of a f e s.0 (move_await a f e g m) in
-    let not : is_of b e ≡ false = not_true (is_of b e) (λ z. s.2.0 e is z) in
-    let same : (i : ℕ) → Has b i → g i ≡ f i = λ i k. move_frame a f e g s.0 m i (λ z. s.2.1 i z k) in (
-      All-append (is_of (beside a b)) w (e ∷ []) l (or_left (is_of a e) (is_of b e) is, tt),
-      subst (Stands a g) (sym (filter_in (is_of a) w e is)) (take_stands a f (filter (is_of a) w) e g s.0 x m),
-      subst (Stands b g) (sym (filter_out (is_of b) w e not)) (agree_stands b f g (filter (is_of b) w) same s.1 y),
+take_stands (beside one other) marks word entry later sound (all, here, there) (inl move) =
+    let of_it : is_of one entry ≡ true = await_of one marks entry sound.0 (move_await one marks entry later move) in
+    let isnt : is_of other entry ≡ false = not_true (is_of other entry) (λ also. sound.2.0 entry of_it also) in
+    let same : (place : ℕ) → Has other place → later place ≡ marks place =
+        λ place has. move_frame one marks entry later sound.0 move place (λ also. sound.2.1 place also has) in (
+      All-append (is_of (beside one other)) word (entry ∷ []) all
+          (or_left (is_of one entry) (is_of other entry) of_it, tt),
+      subst (Stands one later) (sym (filter_in (is_of one) word entry of_it))
+          (take_stands one marks (filter (is_of one) word) entry later sound.0 here move),
+      subst (Stands other later) (sym (filter_out (is_of other) word entry isnt))
+          (agree_stands other marks later (filter (is_of other) word) same sound.1 there),
     )
-take_stands (beside a b) f w e g s (l, x, y) (inr m) =
-    let is : is_of b e ≡ true = await_of b f e s.1 (move_await b f e g m) in
-    let not : is_of a e ≡ false = not_true (is_of a e) (λ z. s.2.0 e z is) in
-    let same : (i : ℕ) → Has a i → g i ≡ f i = λ i k. move_frame b f e g s.1 m i (λ z. s.2.1 i k z) in (
-      All-append (is_of (beside a b)) w (e ∷ []) l (or_right (is_of a e) (is_of b e) is, tt),
-      subst (Stands a g) (sym (filter_out (is_of a) w e not)) (agree_stands a f g (filter (is_of a) w) same s.0 x),
-      subst (Stands b g) (sym (filter_in (is_of b) w e is)) (take_stands b f (filter (is_of b) w) e g s.1 y m),
+take_stands (beside one other) marks word entry later sound (all, here, there) (inr move) =
+    let of_it : is_of other entry ≡ true = await_of other marks entry sound.1
+        (move_await other marks entry later move) in
+    let isnt : is_of one entry ≡ false = not_true (is_of one entry) (λ also. sound.2.0 entry also of_it) in
+    let same : (place : ℕ) → Has one place → later place ≡ marks place =
+        λ place has. move_frame other marks entry later sound.1 move place (λ also. sound.2.1 place has also) in (
+      All-append (is_of (beside one other)) word (entry ∷ []) all
+          (or_right (is_of one entry) (is_of other entry) of_it, tt),
+      subst (Stands one later) (sym (filter_out (is_of one) word entry isnt))
+          (agree_stands one marks later (filter (is_of one) word) same sound.0 here),
+      subst (Stands other later) (sym (filter_in (is_of other) word entry of_it))
+          (take_stands other marks (filter (is_of other) word) entry later sound.1 there move),
     )
-take_stands (select n count o c k) f w e g s (inl (x, q, r)) (inl (z, (a, l, m, y))) =
+take_stands (select number count own chooses bodies) marks word entry later sound (inl (mark, none, fresh))
+    (inl (untouched, (arm, below, right, puts))) =
     inr (
-      a,
-      e,
+      arm,
+      entry,
       [],
-      ap (λ t. t ++ (e ∷ [])) q,
-      l,
-      m,
-      y.0,
-      fresh_stands (k a) g (s.0 a)
-          (agree_fresh (k a) f g (λ i h. y.1 i (λ t. s.1 a (subst (Has (k a)) t h))) (r a)),
+      ap (λ text. text ++ (entry ∷ [])) none,
+      below,
+      right,
+      puts.0,
+      fresh_stands (bodies arm) later (sound.0 arm)
+          (agree_fresh (bodies arm) marks later
+          (λ place has. puts.1 place (λ same. sound.1 arm (subst (Has (bodies arm)) same has))) (fresh arm)),
     )
-take_stands (select n count o c k) f w e g s (inl (x, q, r)) (inr (a, z, l, m)) = cc
-take_stands (select n count o c k) f w e g s (inr (a, d, v, q, l, m, x, y)) (inl (z, r)) = cc
-take_stands (select n count o c k) f w e g s (inr (a, d, v, q, l, m, x, y)) (inr (b, z, lb, r)) =
-    let same : b ≡ a = cc in
-    let r1 : Moves (k a) f e g = subst (λ t. Moves (k t) f e g) same r in
+take_stands (select number count own chooses bodies) marks word entry later sound (inl (mark, none, fresh))
+    (inr (arm, untouched, below, move)) = cc
+take_stands (select number count own chooses bodies) marks word entry later sound
+    (inr (arm, first, back, cut, below, right, mark, stands)) (inl (chosen, move)) = cc
+take_stands (select number count own chooses bodies) marks word entry later sound
+    (inr (arm, first, back, cut, below, right, mark, stands)) (inr (other, chosen, lower, move)) =
+    let same : other ≡ arm = cc in
+    let moved : Moves (bodies arm) marks entry later = subst
+        (λ each. Moves (bodies each) marks entry later) same move in
     inr (
-      a,
-      d,
-      v ++ (e ∷ []),
-      ap (λ t. t ++ (e ∷ [])) q,
-      l,
-      m,
-      move_frame (k a) f e g (s.0 a) r1 n (s.1 a) ∙ x,
-      take_stands (k a) f v e g (s.0 a) y r1,
+      arm,
+      first,
+      back ++ (entry ∷ []),
+      ap (λ text. text ++ (entry ∷ [])) cut,
+      below,
+      right,
+      move_frame (bodies arm) marks entry later (sound.0 arm) moved number (sound.1 arm) ∙ mark,
+      take_stands (bodies arm) marks back entry later (sound.0 arm) stands moved,
     )
-take_stands (repeat n after k o tu le) f w e g s (inl (x, y)) (z, inl m) =
+take_stands (repeat number after body own turns leaves) marks word entry later sound (inl (mark, rounds))
+    (untouched, inl move) =
     inl (
-      move_frame k f e g s.0 m n (λ h. let r = s.2 n h in absurd (omega arith)) ∙ x,
-      rounds_snoc (Complete k) tu (Stands k f) (Stands k g) (e ∷ []) (λ v h. take_stands k f v e g s.0 h m) w y,
+      move_frame body marks entry later sound.0 move number
+          (λ has. let range = sound.2 number has in absurd (omega arith)) ∙ mark,
+      rounds_snoc (Complete body) turns (Stands body marks) (Stands body later) (entry ∷ [])
+          (λ rest has. take_stands body marks rest entry later sound.0 has move) word rounds,
     )
-take_stands (repeat n after k o tu le) f w e g s (inl (x, y)) (z, inr (inl (d, t, c))) =
+take_stands (repeat number after body own turns leaves) marks word entry later sound (inl (mark, rounds))
+    (untouched, inr (inl (done, right, clears))) =
     inl (
-      c.1 n (λ h i. omega arith) ∙ x,
-      rounds_turn (Complete k) tu (Stands k f) (Stands k g) e (λ v h. done_complete k f v s.0 h d) t
-          (fresh_stands k g s.0 (λ i h. c.0 i (s.2 i h).0 (s.2 i h).1)) w y,
+      clears.1 number (λ has place. omega arith) ∙ mark,
+      rounds_turn (Complete body) turns (Stands body marks) (Stands body later) entry
+          (λ rest has. done_complete body marks rest sound.0 has done) right
+          (fresh_stands body later sound.0 (λ place has. clears.0 place (sound.2 place has).0 (sound.2 place has).1))
+          word rounds,
     )
-take_stands (repeat n after k o tu le) f w e g s (inl (x, y)) (z, inr (inr (d, t, c))) =
+take_stands (repeat number after body own turns leaves) marks word entry later sound (inl (mark, rounds))
+    (untouched, inr (inr (done, right, clears))) =
     inr (
-      c.0,
-      rounds_snoc (Complete k) tu (Stands k f) (Closing (Complete k) le) (e ∷ [])
-          (λ v h. (v, e, refl, done_complete k f v s.0 h d, t)) w y,
+      clears.0,
+      rounds_snoc (Complete body) turns (Stands body marks) (Closing (Complete body) leaves) (entry ∷ [])
+          (λ rest has. (rest, entry, refl, done_complete body marks rest sound.0 has done, right)) word rounds,
     )
-take_stands (repeat n after k o tu le) f w e g s (inr (x, y)) (z, m) = cc
+take_stands (repeat number after body own turns leaves) marks word entry later sound (inr (mark, rounds))
+    (untouched, move) = cc
 
 -- Two ways to cut a loop's word: the laps that both have are the same.
 pub rounds_align :
-    {E : Type 0} (p : E → Bool) (Body : List E → Type 0) (turns : E → Bool) (A B : List E → Type 0)
-    (C : Type 0) (r : List E)
-    → ((w : List E) → Body w → All p w)
-    → ((e : E) → p e ≡ true → turns e ≡ true → ⊥)
-    → ((v : List E) → A v → B (v ++ r) → C)
-    → ((v u : List E) (t : E) (x : List E) → A v → v ++ r ≡ u ++ (t ∷ x) → Body u → turns t ≡ true → C)
-    → ((u : List E) (t : E) (v : List E) → B (u ++ (t ∷ v)) → turns t ≡ true → C)
-    → (w : List E) → Rounds Body turns A w → Rounds Body turns B (w ++ r) → C
-rounds_align p Body turns A B C r o d both early late w (last a) (last b) = both w a b
-rounds_align p Body turns A B C r o d both early late w (last a) (round u t v e b k l) = early w u t v a e b k
-rounds_align p Body turns A B C r o d both early late w (round u t v e b k l) (last c) =
-    late u t (v ++ r) (subst B (ap (λ x. x ++ r) e ∙ append_assoc u (t ∷ v) r) c) k
-rounds_align p Body turns A B C r o d both early late w (round u t v e b k l) (round u1 t1 v1 e1 b1 k1 l1) =
-    let q : u ++ (t ∷ (v ++ r)) ≡ u1 ++ (t1 ∷ v1) = sym (append_assoc u (t ∷ v) r) ∙ sym (ap (λ x. x ++ r) e) ∙ e1 in
-    let s : (u ≡ u1) × (t ≡ t1) × (v ++ r ≡ v1)
-    = turn_unique p u t (v ++ r) u1 t1 v1 (o u b) (o u1 b1) (λ h. d t h k) (λ h. d t1 h k1) q in
-    rounds_align p Body turns A B C r o d both early late v l (subst (Rounds Body turns B) (sym s.2) l1)
+    {E : Type 0} (test : E → Bool) (Body : List E → Type 0) (turns : E → Bool) (Before After : List E → Type 0)
+    (Goal : Type 0) (added : List E)
+    → ((word : List E) → Body word → All test word)
+    → ((entry : E) → test entry ≡ true → turns entry ≡ true → ⊥)
+    → ((back : List E) → Before back → After (back ++ added) → Goal)
+    → ((back front : List E) (other : E) (behind : List E) → Before back → back ++ added ≡ front ++ (other ∷ behind)
+    → Body front → turns other ≡ true → Goal)
+    → ((front : List E) (other : E) (back : List E) → After (front ++ (other ∷ back)) → turns other ≡ true → Goal)
+    → (word : List E) → Rounds Body turns Before word → Rounds Body turns After (word ++ added) → Goal
+rounds_align test Body turns Before After Goal added of_body apart both early late word (last one) (last other) =
+    both word one other
+rounds_align test Body turns Before After Goal added of_body apart both early late word (last one)
+    (round front entry back cut body turned others) = early word front entry back one cut body turned
+rounds_align test Body turns Before After Goal added of_body apart both early late word
+    (round front entry back cut body turned others) (last ending) =
+    late front entry (back ++ added)
+        (subst After (ap (λ text. text ++ added) cut ∙ append_assoc front (entry ∷ back) added) ending) turned
+rounds_align test Body turns Before After Goal added of_body apart both early late word
+    (round front entry back cut body turned others) (round start next tail cut1 body1 turned1 others1) =
+    let whole : front ++ (entry ∷ (back ++ added)) ≡ start ++ (next ∷ tail) =
+        sym (append_assoc front (entry ∷ back) added) ∙ sym (ap (λ text. text ++ added) cut) ∙ cut1 in
+    let same : (front ≡ start) × (entry ≡ next) × (back ++ added ≡ tail)
+    = turn_unique test front entry (back ++ added) start next tail (of_body front body) (of_body start body1)
+        (λ holds. apart entry holds turned) (λ holds. apart next holds turned1) whole in
+    rounds_align test Body turns Before After Goal added of_body apart both early late back others
+        (subst (Rounds Body turns After) (sym same.2) others1)
 
 -- in a word that is all of p, nothing else stands
-pub inside : {E : Type 0} (p : E → Bool) (u : List E) (t : E) (v : List E) → All p (u ++ (t ∷ v)) → p t ≡ true
-inside p u t v h = (All-back p u (t ∷ v) h).0
+pub inside : {E : Type 0} (test : E → Bool) (front : List E) (entry : E) (back : List E)
+    → All test (front ++ (entry ∷ back)) → test entry ≡ true
+inside test front entry back all = (All-back test front (entry ∷ back) all).0
 
 -- a closing does not go on past its leave
 pub closing_late :
-    {E : Type 0} (p : E → Bool) (Body : List E → Type 0) (turns leaves : E → Bool) (u : List E) (t : E) (v : List E)
-    → ((w : List E) → Body w → All p w) → ((e : E) → p e ≡ true → turns e ≡ true → ⊥)
-    → ((e : E) → turns e ≡ true → leaves e ≡ true → ⊥)
-    → Closing Body leaves (u ++ (t ∷ v)) → turns t ≡ true → ⊥
-closing_late p Body turns leaves u t v o d dl (x, e, q, b, l) k =
-    elim (snoc_cut x e u (t ∷ v) (sym q)) [
-      | inl h ↦ (let n : t ∷ v ≡ [] = h.0 in cc)
-      | inr (y, h, g) ↦
-          (elim y as (λ y. t ∷ v ≡ y ++ (e ∷ []) → x ≡ u ++ y → ⊥) [
-            | [] ↦ λ h g. let same : t ≡ e = cc in dl t k (ap leaves same ∙ l)
-            | (z ∷ zs) ↦ λ h g.
-                let same : t ≡ z = cc in
-                let a : All p (u ++ (z ∷ zs)) = subst (All p) g (o x b) in
-                d t (ap p same ∙ inside p u z zs a) k
-          ]) h g
+    {E : Type 0} (test : E → Bool) (Body : List E → Type 0) (turns leaves : E → Bool) (front : List E) (entry : E)
+        (back : List E)
+    → ((word : List E) → Body word → All test word) → ((each : E) → test each ≡ true → turns each ≡ true → ⊥)
+    → ((each : E) → turns each ≡ true → leaves each ≡ true → ⊥)
+    → Closing Body leaves (front ++ (entry ∷ back)) → turns entry ≡ true → ⊥
+closing_late test Body turns leaves front entry back of_body apart unlike (run, final, cut, body, rightly) turned =
+    elim (snoc_cut run final front (entry ∷ back) (sym cut)) [
+      | inl ends ↦ (let none : entry ∷ back ≡ [] = ends.0 in cc)
+      | inr (middle, ends, behind) ↦
+          (elim middle as (λ middle. entry ∷ back ≡ middle ++ (final ∷ []) → run ≡ front ++ middle → ⊥) [
+            | [] ↦ λ ends behind. let same : entry ≡ final = cc in unlike entry turned (ap leaves same ∙ rightly)
+            | (head ∷ tail) ↦ λ ends behind.
+                let same : entry ≡ head = cc in
+                let all : All test (front ++ (head ∷ tail)) = subst (All test) behind (of_body run body) in
+                apart entry (ap test same ∙ inside test front head tail all) turned
+          ]) ends behind
     ]
 
 -- What stands for a whole word is done.
-pub complete_done : {E : Type 0} (p : Course E) (f : Marks) (w : List E) → Sound p → Stands p f w
-    → Complete p w → Done p f
-complete_done nothing f w s h d = tt
-complete_done (step n b st) f w s h d = had_ended b (f n) (map st w) h d
-complete_done (chain a b) f w s (inl (x, r)) (u, v, q, y, z) =
-    let va : All (is_of a) v = All-back (is_of a) u v (subst (All (is_of a)) q (stands_of a f w s.0 x)) in
-    let vb : All (is_of b) v = partial_of b v s.1 (complete_partial b v z) in
-    let none : v ≡ [] = none_both (is_of a) (is_of b) v s.2.0 va vb in
-    let same : w ≡ u = q ∙ ap (λ t. u ++ t) none ∙ append-nil u in (
-      complete_done a f w s.0 x (subst (Complete a) (sym same) y),
-      complete_done b f [] s.1 (fresh_stands b f s.1 r) (subst (Complete b) none z),
+pub complete_done : {E : Type 0} (course : Course E) (marks : Marks) (word : List E) → Sound course
+    → Stands course marks word
+    → Complete course word → Done course marks
+complete_done nothing marks word sound stands whole = tt
+complete_done (step number finishes stage) marks word sound stands whole =
+    had_ended finishes (marks number) (map stage word) stands whole
+complete_done (chain one other) marks word sound (inl (stands, fresh)) (front, back, cut, here, there) =
+    let in_one : All (is_of one) back = All-back (is_of one) front back
+        (subst (All (is_of one)) cut (stands_of one marks word sound.0 stands)) in
+    let in_other : All (is_of other) back = partial_of other back sound.1 (complete_partial other back there) in
+    let none : back ≡ [] = none_both (is_of one) (is_of other) back sound.2.0 in_one in_other in
+    let same : word ≡ front = cut ∙ ap (λ text. front ++ text) none ∙ append-nil front in (
+      complete_done one marks word sound.0 stands (subst (Complete one) (sym same) here),
+      complete_done other marks [] sound.1 (fresh_stands other marks sound.1 fresh) (subst (Complete other) none there),
     )
-complete_done (chain a b) f w s (inr (u, v, q, d, x, y)) (u1, v1, q1, x1, y1) =
-    let same : (u ≡ u1) × (v ≡ v1)
-    = cut_unique (is_of a) (is_of b) u v u1 v1 s.2.0 (stands_of a f u s.0 x) (stands_of b f v s.1 y)
-    (partial_of a u1 s.0 (complete_partial a u1 x1)) (partial_of b v1 s.1 (complete_partial b v1 y1)) (sym q ∙ q1) in
-    (d, complete_done b f v s.1 y (subst (Complete b) (sym same.1) y1))
-complete_done (beside a b) f w s (l, x, y) (l1, x1, y1) =
-    (complete_done a f (filter (is_of a) w) s.0 x x1, complete_done b f (filter (is_of b) w) s.1 y y1)
-complete_done (select n count o c k) f w s (inl (x, q, r)) (a, e, v, q1, l, m, z) = cc
-complete_done (select n count o c k) f w s (inr (a, e, v, q, l, m, x, y)) (b, d, u, q1, l1, m1, z) =
-    let se : d ≡ e = cc in
-    let sv : u ≡ v = cc in
-    let sa : b ≡ a = cc (ap c se) in
-    (a, x, complete_done (k a) f v (s.0 a) y (subst (Complete (k a)) sv (subst (λ t. Complete (k t) u) sa z)))
-complete_done (repeat n after k o tu le) f w s (inl (x, y)) h =
+complete_done (chain one other) marks word sound (inr (front, back, cut, done, here, there))
+    (start, rest, cut1, here1, there1) =
+    let same : (front ≡ start) × (back ≡ rest)
+    = cut_unique (is_of one) (is_of other) front back start rest sound.2.0 (stands_of one marks front sound.0 here)
+        (stands_of other marks back sound.1 there)
+    (partial_of one start sound.0 (complete_partial one start here1))
+    (partial_of other rest sound.1 (complete_partial other rest there1)) (sym cut ∙ cut1) in
+    (done, complete_done other marks back sound.1 there (subst (Complete other) (sym same.1) there1))
+complete_done (beside one other) marks word sound (all, here, there) (all1, here1, there1) =
+    (complete_done one marks (filter (is_of one) word) sound.0 here here1, complete_done other marks
+    (filter (is_of other) word) sound.1 there there1)
+complete_done (select number count own chooses bodies) marks word sound (inl (mark, none, fresh))
+    (arm, entry, back, cut, below, right, run) = cc
+complete_done (select number count own chooses bodies) marks word sound
+    (inr (arm, entry, back, cut, below, right, mark, stands)) (arm1, entry1, back1, cut1, below1, right1, run) =
+    let entries : entry1 ≡ entry = cc in
+    let backs : back1 ≡ back = cc in
+    let arms : arm1 ≡ arm = cc (ap chooses entries) in
+    (arm, mark, complete_done (bodies arm) marks back (sound.0 arm) stands
+    (subst (Complete (bodies arm)) backs (subst (λ each. Complete (bodies each) back1) arms run)))
+complete_done (repeat number after body own turns leaves) marks word sound (inl (mark, rounds)) whole =
     absurd
-    (rounds_align (is_of k) (Complete k) tu (Stands k f) (Closing (Complete k) le) ⊥ []
-    (λ u z. partial_of k u s.0 (complete_partial k u z)) s.3
-    (λ v a (u, e, q, b, l).
-    s.4 e (inside (is_of k) u e [] (subst (All (is_of k)) (sym (append-nil v) ∙ q) (stands_of k f v s.0 a))) l)
-    (λ v u t z a q b l. s.3 t
-    (inside (is_of k) u t z (subst (All (is_of k)) (sym (append-nil v) ∙ q) (stands_of k f v s.0 a))) l)
-    (λ u t v b l.
-    closing_late (is_of k) (Complete k) tu le u t v (λ u z. partial_of k u s.0 (complete_partial k u z)) s.3 s.5 b l)
-    w y (subst (Rounds (Complete k) tu (Closing (Complete k) le)) (sym (append-nil w)) h))
-complete_done (repeat n after k o tu le) f w s (inr (x, y)) h = x
+    (rounds_align (is_of body) (Complete body) turns (Stands body marks) (Closing (Complete body) leaves) ⊥ []
+    (λ front run. partial_of body front sound.0 (complete_partial body front run)) sound.3
+    (λ back stands (front, final, cut, run, rightly).
+    sound.4 final
+        (inside (is_of body) front final []
+        (subst (All (is_of body)) (sym (append-nil back) ∙ cut) (stands_of body marks back sound.0 stands))) rightly)
+    (λ back front entry behind stands cut run rightly. sound.3 entry
+    (inside (is_of body) front entry behind
+    (subst (All (is_of body)) (sym (append-nil back) ∙ cut) (stands_of body marks back sound.0 stands))) rightly)
+    (λ front entry back run rightly.
+    closing_late (is_of body) (Complete body) turns leaves front entry back
+        (λ front run. partial_of body front sound.0 (complete_partial body front run)) sound.3 sound.5 run rightly)
+    word rounds (subst (Rounds (Complete body) turns (Closing (Complete body) leaves)) (sym (append-nil word)) whole))
+complete_done (repeat number after body own turns leaves) marks word sound (inr (mark, rounds)) whole = mark
 
 -- An entry after which the word is still a part is awaited.
 pub partial_awaits :
-    {E : Type 0} (p : Course E) (f : Marks) (w : List E) (e : E) → Sound p → Stands p f w
-    → Partial p (w ++ (e ∷ [])) → Awaits p f e
-partial_awaits nothing f w e s h m = absurd (snoc_not_nil w e [] (sym m))
-partial_awaits (step n b st) f w e s h (ms, r) =
-    had_awaits b (f n) (map st w) (st e) ms h (subst (λ t. StepRun b (t ++ ms)) (map-append st w (e ∷ [])) r)
-partial_awaits (chain a b) f w e s (inl (x, r)) (inl m) = inl (partial_awaits a f w e s.0 x m)
-partial_awaits (chain a b) f w e s (inl (x, r)) (inr (u, v, q, y, z)) =
-    elim (snoc_cut w e u v q) [
-      | inl g ↦ inl (partial_awaits a f w e s.0 x (subst (Partial a) (sym g.1) (complete_partial a u y)))
-      | inr (t, g, h) ↦
-          let ta : All (is_of a) t = All-back (is_of a) u t (subst (All (is_of a)) h (stands_of a f w s.0 x)) in
-          let tb : All (is_of b) t = All-front (is_of b) t (e ∷ []) (subst (All (is_of b)) g (partial_of b v s.1 z)) in
-          let none : t ≡ [] = none_both (is_of a) (is_of b) t s.2.0 ta tb in
-          let same : w ≡ u = h ∙ ap (λ t. u ++ t) none ∙ append-nil u in
-          let last : v ≡ e ∷ [] = g ∙ ap (λ t. t ++ (e ∷ [])) none in
+    {E : Type 0} (course : Course E) (marks : Marks) (word : List E) (entry : E) → Sound course
+        → Stands course marks word
+    → Partial course (word ++ (entry ∷ [])) → Awaits course marks entry
+partial_awaits nothing marks word entry sound stands part = absurd (snoc_not_nil word entry [] (sym part))
+partial_awaits (step number finishes stage) marks word entry sound has (others, run) =
+    had_awaits finishes (marks number) (map stage word) (stage entry) others has
+        (subst (λ stages. StepRun finishes (stages ++ others)) (map-append stage word (entry ∷ [])) run)
+partial_awaits (chain one other) marks word entry sound (inl (stands, fresh)) (inl part) =
+    inl (partial_awaits one marks word entry sound.0 stands part)
+partial_awaits (chain one other) marks word entry sound (inl (stands, fresh)) (inr (front, back, cut, here, there)) =
+    elim (snoc_cut word entry front back cut) [
+      | inl ends ↦
+          inl (partial_awaits one marks word entry sound.0 stands
+              (subst (Partial one) (sym ends.1) (complete_partial one front here)))
+      | inr (middle, ends, starts) ↦
+          let in_one : All (is_of one) middle = All-back (is_of one) front middle
+              (subst (All (is_of one)) starts (stands_of one marks word sound.0 stands)) in
+          let in_other : All (is_of other) middle = All-front (is_of other) middle (entry ∷ [])
+              (subst (All (is_of other)) ends (partial_of other back sound.1 there)) in
+          let none : middle ≡ [] = none_both (is_of one) (is_of other) middle sound.2.0 in_one in_other in
+          let same : word ≡ front = starts ∙ ap (λ text. front ++ text) none ∙ append-nil front in
+          let ending : back ≡ entry ∷ [] = ends ∙ ap (λ text. text ++ (entry ∷ [])) none in
           inr (
-            complete_done a f w s.0 x (subst (Complete a) (sym same) y),
-            partial_awaits b f [] e s.1 (fresh_stands b f s.1 r) (subst (Partial b) last z),
+            complete_done one marks word sound.0 stands (subst (Complete one) (sym same) here),
+            partial_awaits other marks [] entry sound.1 (fresh_stands other marks sound.1 fresh)
+                (subst (Partial other) ending there),
           )
     ]
-partial_awaits (chain a b) f w e s (inr (u, v, q, d, x, y)) (inl m) =
-    let vb : All (is_of b) v = stands_of b f v s.1 y in
-    let wa : All (is_of a) (u ++ v) = subst (All (is_of a)) q
-    (All-front (is_of a) w (e ∷ []) (partial_of a (w ++ (e ∷ [])) s.0 m)) in
-    let none : v ≡ [] = none_both (is_of a) (is_of b) v s.2.0 (All-back (is_of a) u v wa) vb in
-    let same : w ≡ u = q ∙ ap (λ t. u ++ t) none ∙ append-nil u in
-    inl (partial_awaits a f u e s.0 x (subst (λ t. Partial a (t ++ (e ∷ []))) same m))
-partial_awaits (chain a b) f w e s (inr (u, v, q, d, x, y)) (inr (u1, v1, q1, x1, y1)) =
-    elim (snoc_cut w e u1 v1 q1) [
-      | inl g ↦
-          let m : Partial a (w ++ (e ∷ [])) = subst (Partial a) (sym g.1) (complete_partial a u1 x1) in
-          let vb : All (is_of b) v = stands_of b f v s.1 y in
-          let wa : All (is_of a) (u ++ v) = subst (All (is_of a)) q
-          (All-front (is_of a) w (e ∷ []) (partial_of a (w ++ (e ∷ [])) s.0 m)) in
-          let none : v ≡ [] = none_both (is_of a) (is_of b) v s.2.0 (All-back (is_of a) u v wa) vb in
-          let same : w ≡ u = q ∙ ap (λ t. u ++ t) none ∙ append-nil u in
-          inl (partial_awaits a f u e s.0 x (subst (λ t. Partial a (t ++ (e ∷ []))) same m))
-      | inr (t, g, h) ↦
-          let tb : All (is_of b) t = All-front (is_of b) t (e ∷ [])
-          (subst (All (is_of b)) g (partial_of b v1 s.1 y1)) in
-          let same : (u ≡ u1) × (v ≡ t)
-          = cut_unique (is_of a) (is_of b) u v u1 t s.2.0 (stands_of a f u s.0 x) (stands_of b f v s.1 y)
-          (partial_of a u1 s.0 (complete_partial a u1 x1)) tb (sym q ∙ h) in
-          inr (d, partial_awaits b f v e s.1 y (subst (Partial b) (g ∙ ap (λ z. z ++ (e ∷ [])) (sym same.1)) y1))
+partial_awaits (chain one other) marks word entry sound (inr (front, back, cut, done, here, there)) (inl part) =
+    let in_other : All (is_of other) back = stands_of other marks back sound.1 there in
+    let in_one : All (is_of one) (front ++ back) = subst (All (is_of one)) cut
+    (All-front (is_of one) word (entry ∷ []) (partial_of one (word ++ (entry ∷ [])) sound.0 part)) in
+    let none : back ≡ [] = none_both (is_of one) (is_of other) back sound.2.0
+        (All-back (is_of one) front back in_one) in_other in
+    let same : word ≡ front = cut ∙ ap (λ text. front ++ text) none ∙ append-nil front in
+    inl (partial_awaits one marks front entry sound.0 here
+        (subst (λ middle. Partial one (middle ++ (entry ∷ []))) same part))
+partial_awaits (chain one other) marks word entry sound (inr (front, back, cut, done, here, there))
+    (inr (start, rest, cut1, here1, there1)) =
+    elim (snoc_cut word entry start rest cut1) [
+      | inl ends ↦
+          let part : Partial one (word ++ (entry ∷ [])) =
+              subst (Partial one) (sym ends.1) (complete_partial one start here1) in
+          let in_other : All (is_of other) back = stands_of other marks back sound.1 there in
+          let in_one : All (is_of one) (front ++ back) = subst (All (is_of one)) cut
+          (All-front (is_of one) word (entry ∷ []) (partial_of one (word ++ (entry ∷ [])) sound.0 part)) in
+          let none : back ≡ [] = none_both (is_of one) (is_of other) back sound.2.0
+              (All-back (is_of one) front back in_one) in_other in
+          let same : word ≡ front = cut ∙ ap (λ text. front ++ text) none ∙ append-nil front in
+          inl (partial_awaits one marks front entry sound.0 here
+              (subst (λ middle. Partial one (middle ++ (entry ∷ []))) same part))
+      | inr (middle, ends, starts) ↦
+          let of_other : All (is_of other) middle = All-front (is_of other) middle (entry ∷ [])
+          (subst (All (is_of other)) ends (partial_of other rest sound.1 there1)) in
+          let same : (front ≡ start) × (back ≡ middle)
+          = cut_unique (is_of one) (is_of other) front back start middle sound.2.0
+              (stands_of one marks front sound.0 here) (stands_of other marks back sound.1 there)
+          (partial_of one start sound.0 (complete_partial one start here1)) of_other (sym cut ∙ starts) in
+          inr (done, partial_awaits other marks back entry sound.1 there
+              (subst (Partial other) (ends ∙ ap (λ text. text ++ (entry ∷ [])) (sym same.1)) there1))
     ]
-partial_awaits (beside a b) f w e s (l, x, y) (l1, x1, y1) =
-    elim (or_split (is_of a e) (is_of b e) (All-back (is_of (beside a b)) w (e ∷ []) l1).0) [
-      | inl is ↦ inl (partial_awaits a f (filter (is_of a) w) e s.0 x
-          (subst (Partial a) (filter_in (is_of a) w e is) x1))
-      | inr is ↦ inr (partial_awaits b f (filter (is_of b) w) e s.1 y
-          (subst (Partial b) (filter_in (is_of b) w e is) y1))
+partial_awaits (beside one other) marks word entry sound (all, here, there) (all1, here1, there1) =
+    elim (or_split (is_of one entry) (is_of other entry) (All-back (is_of (beside one other)) word (entry ∷ []) all1).0)
+        [
+      | inl of_it ↦ inl (partial_awaits one marks (filter (is_of one) word) entry sound.0 here
+          (subst (Partial one) (filter_in (is_of one) word entry of_it) here1))
+      | inr of_it ↦ inr (partial_awaits other marks (filter (is_of other) word) entry sound.1 there
+          (subst (Partial other) (filter_in (is_of other) word entry of_it) there1))
     ]
-partial_awaits (select n count o c k) f w e s (inl (x, q, r)) (inl m) = absurd (snoc_not_nil w e [] (sym m))
-partial_awaits (select n count o c k) f w e s (inl (x, q, r)) (inr (a, d, v, q1, l, m, z)) =
-    let one : e ∷ [] ≡ d ∷ v = ap (λ t. t ++ (e ∷ [])) (sym q) ∙ q1 in
-    let same : d ≡ e = cc in
-    inl (x, (a, l, ap c (sym same) ∙ m))
-partial_awaits (select n count o c k) f w e s (inr (a, d, v, q, l, m, x, y)) (inl g) =
-    absurd (snoc_not_nil w e [] (sym g))
-partial_awaits (select n count o c k) f w e s (inr (a, d, v, q, l, m, x, y)) (inr (b, d1, v1, q1, l1, m1, z)) =
-    let one : d ∷ (v ++ (e ∷ [])) ≡ d1 ∷ v1 = ap (λ t. t ++ (e ∷ [])) (sym q) ∙ q1 in
-    let sd : d1 ≡ d = cc in
-    let sv : v1 ≡ v ++ (e ∷ []) = cc in
-    let sa : b ≡ a = cc (ap c sd) in
-    inr (a, x, l, partial_awaits (k a) f v e (s.0 a) y (subst (Partial (k a)) sv (subst (λ t. Partial (k t) v1) sa z)))
-partial_awaits (repeat n after k o tu le) f w e s (inl (x, y)) h =
-    rounds_align (is_of k) (Complete k) tu (Stands k f) (λ v. Partial k v ⊎ Closing (Complete k) le v)
-    (Awaits (repeat n after k o tu le) f e) (e ∷ [])
-    (λ u z. partial_of k u s.0 (complete_partial k u z)) s.3
-    (λ v a b. elim b [
-      | inl z ↦ (x, inl (partial_awaits k f v e s.0 a z))
-      | inr (u, d, q, z, l) ↦
-          let r : (v ≡ u) × (e ≡ d) = snoc_same v u e d q in
-          (x, inr (inr (complete_done k f v s.0 a (subst (Complete k) (sym r.0) z), ap le r.1 ∙ l)))
+partial_awaits (select number count own chooses bodies) marks word entry sound (inl (mark, none, fresh)) (inl none1) =
+    absurd (snoc_not_nil word entry [] (sym none1))
+partial_awaits (select number count own chooses bodies) marks word entry sound (inl (mark, cut, fresh))
+    (inr (arm, first, back, cut1, below, right, run)) =
+    let one : entry ∷ [] ≡ first ∷ back = ap (λ text. text ++ (entry ∷ [])) (sym cut) ∙ cut1 in
+    let same : first ≡ entry = cc in
+    inl (mark, (arm, below, ap chooses (sym same) ∙ right))
+partial_awaits (select number count own chooses bodies) marks word entry sound
+    (inr (arm, first, back, cut, below, right, mark, stands)) (inl none) =
+    absurd (snoc_not_nil word entry [] (sym none))
+partial_awaits (select number count own chooses bodies) marks word entry sound
+    (inr (arm, first, back, cut, below, right, mark, stands)) (inr (arm1, first1, back1, cut1, below1, right1, run)) =
+    let one : first ∷ (back ++ (entry ∷ [])) ≡ first1 ∷ back1 = ap (λ text. text ++ (entry ∷ [])) (sym cut) ∙ cut1 in
+    let firsts : first1 ≡ first = cc in
+    let backs : back1 ≡ back ++ (entry ∷ []) = cc in
+    let arms : arm1 ≡ arm = cc (ap chooses firsts) in
+    inr (arm, mark, below, partial_awaits (bodies arm) marks back entry (sound.0 arm) stands
+        (subst (Partial (bodies arm)) backs (subst (λ each. Partial (bodies each) back1) arms run)))
+partial_awaits (repeat none after body own turns leaves) marks word entry sound (inl (mark, rounds)) part =
+    rounds_align (is_of body) (Complete body) turns (Stands body marks)
+        (λ back. Partial body back ⊎ Closing (Complete body) leaves back)
+    (Awaits (repeat none after body own turns leaves) marks entry) (entry ∷ [])
+    (λ front run. partial_of body front sound.0 (complete_partial body front run)) sound.3
+    (λ back stands part1. elim part1 [
+      | inl run ↦ (mark, inl (partial_awaits body marks back entry sound.0 stands run))
+      | inr (front, final, cut, run, rightly) ↦
+          let both : (back ≡ front) × (entry ≡ final) = snoc_same back front entry final cut in
+          (mark, inr
+          (inr (complete_done body marks back sound.0 stands (subst (Complete body) (sym both.0) run), ap leaves both.1
+          ∙ rightly)))
     ])
-    (λ v u t z a q b l. elim (snoc_cut v e u (t ∷ z) q) [
-      | inl g ↦ (let n : t ∷ z ≡ [] = g.0 in cc)
-      | inr (i, g, j) ↦
-          (elim i as (λ i. t ∷ z ≡ i ++ (e ∷ []) → v ≡ u ++ i → Awaits (repeat n after k o tu le) f e) [
-            | [] ↦ λ g j.
-                let same : t ≡ e = cc in
-                let sv : v ≡ u = j ∙ append-nil u in
-                (x, inr (inl (complete_done k f v s.0 a (subst (Complete k) (sym sv) b), ap tu (sym same) ∙ l)))
-            | (y1 ∷ ys) ↦ λ g j.
-                let same : t ≡ y1 = cc in
-                absurd (s.3 t (ap (is_of k) same ∙ inside (is_of k) u y1 ys
-                (subst (All (is_of k)) j (stands_of k f v s.0 a))) l)
-          ]) g j
+    (λ back front other run stands cut part1 rightly. elim (snoc_cut back entry front (other ∷ run) cut) [
+      | inl ends ↦ (let none : other ∷ run ≡ [] = ends.0 in cc)
+      | inr (middle, ends, behind) ↦
+          (elim middle as (λ middle. other ∷ run ≡ middle ++ (entry ∷ []) → back ≡ front ++ middle
+          → Awaits (repeat none after body own turns leaves) marks entry) [
+            | [] ↦ λ ends behind.
+                let alike : other ≡ entry = cc in
+                let backs : back ≡ front = behind ∙ append-nil front in
+                (mark, inr
+                (inl (complete_done body marks back sound.0 stands (subst (Complete body) (sym backs) part1), ap turns
+                (sym alike) ∙ rightly)))
+            | (head ∷ tail) ↦ λ ends behind.
+                let alike : other ≡ head = cc in
+                absurd (sound.3 other (ap (is_of body) alike ∙ inside (is_of body) front head tail
+                (subst (All (is_of body)) behind (stands_of body marks back sound.0 stands))) rightly)
+          ]) ends behind
     ])
-    (λ u t v b l. elim b [
-      | inl z ↦ absurd (s.3 t (inside (is_of k) u t v (partial_of k (u ++ (t ∷ v)) s.0 z)) l)
-      | inr z ↦ absurd (closing_late (is_of k) (Complete k) tu le u t v
-          (λ u z. partial_of k u s.0 (complete_partial k u z)) s.3 s.5 z l)
+    (λ front other back part1 rightly. elim part1 [
+      | inl run ↦
+          absurd (sound.3 other
+              (inside (is_of body) front other back (partial_of body (front ++ (other ∷ back)) sound.0 run)) rightly)
+      | inr run ↦ absurd (closing_late (is_of body) (Complete body) turns leaves front other back
+          (λ front run. partial_of body front sound.0 (complete_partial body front run)) sound.3 sound.5 run rightly)
     ])
-    w y h
-partial_awaits (repeat n after k o tu le) f w e s (inr (x, y)) h =
+    word rounds part
+partial_awaits (repeat none after body own turns leaves) marks word entry sound (inr (mark, rounds)) part =
     absurd
-    (rounds_align (is_of k) (Complete k) tu (Closing (Complete k) le)
-    (λ v. Partial k v ⊎ Closing (Complete k) le v) ⊥ (e ∷ [])
-    (λ u z. partial_of k u s.0 (complete_partial k u z)) s.3
-    (λ v (u, d, q, b, l) c. elim c [
-      | inl z ↦
-          s.4 d (inside (is_of k) u d [] (subst (All (is_of k)) q
-          (All-front (is_of k) v (e ∷ []) (partial_of k (v ++ (e ∷ [])) s.0 z)))) l
-      | inr (u1, d1, q1, b1, l1) ↦
-          let same : (v ≡ u1) × (e ≡ d1) = snoc_same v u1 e d1 q1 in
-          let va : All (is_of k) v = subst (All (is_of k)) (sym same.0)
-          (partial_of k u1 s.0 (complete_partial k u1 b1)) in
-          s.4 d (inside (is_of k) u d [] (subst (All (is_of k)) q va)) l
+    (rounds_align (is_of body) (Complete body) turns (Closing (Complete body) leaves)
+    (λ back. Partial body back ⊎ Closing (Complete body) leaves back) ⊥ (entry ∷ [])
+    (λ front run. partial_of body front sound.0 (complete_partial body front run)) sound.3
+    (λ back (front, final, cut, part1, rightly) ending. elim ending [
+      | inl run ↦
+          sound.4 final (inside (is_of body) front final [] (subst (All (is_of body)) cut
+          (All-front (is_of body) back (entry ∷ []) (partial_of body (back ++ (entry ∷ [])) sound.0 run)))) rightly
+      | inr (start, final1, cut1, body1, rightly1) ↦
+          let alike : (back ≡ start) × (entry ≡ final1) = snoc_same back start entry final1 cut1 in
+          let in_body : All (is_of body) back = subst (All (is_of body)) (sym alike.0)
+          (partial_of body start sound.0 (complete_partial body start body1)) in
+          sound.4 final (inside (is_of body) front final [] (subst (All (is_of body)) cut in_body)) rightly
     ])
-    (λ v u t z (u0, d, q, b0, l) q1 b k1.
-    let r : u0 ++ (d ∷ (e ∷ [])) ≡ u ++ (t ∷ z)
-    = sym (append_assoc u0 (d ∷ []) (e ∷ [])) ∙ sym (ap (λ t. t ++ (e ∷ [])) q) ∙ q1 in
-    let same : (u0 ≡ u) × (d ≡ t) × (e ∷ [] ≡ z)
-    = turn_unique (is_of k) u0 d (e ∷ []) u t z (partial_of k u0 s.0 (complete_partial k u0 b0))
-    (partial_of k u s.0 (complete_partial k u b))
-    (λ i. s.4 d i l) (λ i. s.3 t i k1) r in
-    s.5 t k1 (ap le (sym same.1) ∙ l))
-    (λ u t v b l. elim b [
-      | inl z ↦ s.3 t (inside (is_of k) u t v (partial_of k (u ++ (t ∷ v)) s.0 z)) l
-      | inr z ↦ closing_late (is_of k) (Complete k) tu le u t v
-          (λ u z. partial_of k u s.0 (complete_partial k u z)) s.3 s.5 z l
+    (λ back front other run (start0, final, cut, body0, rightly) cut1 part1 turned.
+    let both : start0 ++ (final ∷ (entry ∷ [])) ≡ front ++ (other ∷ run)
+    = sym (append_assoc start0 (final ∷ []) (entry ∷ [])) ∙ sym (ap (λ text. text ++ (entry ∷ [])) cut) ∙ cut1 in
+    let alike : (start0 ≡ front) × (final ≡ other) × (entry ∷ [] ≡ run)
+    = turn_unique (is_of body) start0 final (entry ∷ []) front other run
+        (partial_of body start0 sound.0 (complete_partial body start0 body0))
+    (partial_of body front sound.0 (complete_partial body front part1))
+    (λ middle. sound.4 final middle rightly) (λ middle. sound.3 other middle turned) both in
+    sound.5 other turned (ap leaves (sym alike.1) ∙ rightly))
+    (λ front other back part1 rightly. elim part1 [
+      | inl run ↦
+          sound.3 other (inside (is_of body) front other back (partial_of body (front ++ (other ∷ back)) sound.0 run))
+              rightly
+      | inr run ↦ closing_late (is_of body) (Complete body) turns leaves front other back
+          (λ front run. partial_of body front sound.0 (complete_partial body front run)) sound.3 sound.5 run rightly
     ])
-    w y h)
+    word rounds part)
 
 -- Of a word that the state stands for: an entry may follow exactly where it is awaited (this half needs a next state).
 pub awaits_partial :
-    {E : Type 0} (p : Course E) (f : Marks) (w : List E) (e : E) (g : Marks)
-    → Sound p → Stands p f w → Moves p f e g → Partial p (w ++ (e ∷ []))
-awaits_partial p f w e g s h m = stands_partial p g (w ++ (e ∷ [])) s (take_stands p f w e g s h m)
+    {E : Type 0} (course : Course E) (marks : Marks) (word : List E) (entry : E) (later : Marks)
+    → Sound course → Stands course marks word → Moves course marks entry later → Partial course (word ++ (entry ∷ []))
+awaits_partial course marks word entry later sound stands move =
+    stands_partial course later (word ++ (entry ∷ [])) sound
+        (take_stands course marks word entry later sound stands move)

@@ -7,28 +7,29 @@ use Rattle.chart_core.specs.Trees.{StepPlan, Placed, Tree, Trees, Arms, leaf, se
 use Rattle.chart_core.specs.Active.{Phase, or_earlier, or_idle, is_running}
 use Rattle.chart_core.specs.Order.{step_plans, all_step_plans, arm_step_plans, or_before}
 
+-- a step of a chart
 abbrev step_in : Placed → StepPlan
 step_in placed = placed.step
 
 mutual
-  pub plans_are : (each : Tree) (n : ℕ) → map step_in (steps each n) ≡ step_plans each
-  plans_are (leaf step) n = refl
-  plans_are (seq each) n = all_plans_are each (n + 1)
-  plans_are (par each) n = all_plans_are each (n + 1)
-  plans_are (choice each) n = arm_plans_are each (n + 1)
-  plans_are (loop body until) n = plans_are body (n + 1)
+  pub plans_are : (each : Tree) (number : ℕ) → map step_in (steps each number) ≡ step_plans each
+  plans_are (leaf step) number = refl
+  plans_are (seq each) number = all_plans_are each (number + 1)
+  plans_are (par each) number = all_plans_are each (number + 1)
+  plans_are (choice each) number = arm_plans_are each (number + 1)
+  plans_are (loop body until) number = plans_are body (number + 1)
 
-  all_plans_are : (each : Trees) (n : ℕ) → map step_in (all_steps each n) ≡ all_step_plans each
-  all_plans_are no_trees n = refl
-  all_plans_are (more_trees each others) n =
-      map-append step_in (steps each n) (all_steps others (n + size each))
-      ∙ rw (plans_are each n, all_plans_are others (n + size each)) refl
+  all_plans_are : (each : Trees) (number : ℕ) → map step_in (all_steps each number) ≡ all_step_plans each
+  all_plans_are no_trees number = refl
+  all_plans_are (more_trees each others) number =
+      map-append step_in (steps each number) (all_steps others (number + size each))
+      ∙ rw (plans_are each number, all_plans_are others (number + size each)) refl
 
-  arm_plans_are : (each : Arms) (n : ℕ) → map step_in (arm_steps each n) ≡ arm_step_plans each
-  arm_plans_are no_arms n = refl
-  arm_plans_are (more_arms when each others) n =
-      map-append step_in (steps each n) (arm_steps others (n + size each))
-      ∙ rw (plans_are each n, arm_plans_are others (n + size each)) refl
+  arm_plans_are : (each : Arms) (number : ℕ) → map step_in (arm_steps each number) ≡ arm_step_plans each
+  arm_plans_are no_arms number = refl
+  arm_plans_are (more_arms when each others) number =
+      map-append step_in (steps each number) (arm_steps others (number + size each))
+      ∙ rw (plans_are each number, arm_plans_are others (number + size each)) refl
 
 -- what a later entry says of a step, after what an earlier one said
 pub said_before : (later says : Option Phase) (before : Bool) →
@@ -37,6 +38,7 @@ pub said_before : (later says : Option Phase) (before : Bool) →
 said_before None says before = refl
 said_before (Some phase) says before = refl
 
+-- what is said of a step, and idle where nothing was
 pub said_at_last : (said : Option Phase) → or_before (option_map is_running said) (is_running (or_idle None))
     ≡ is_running (or_idle said)
 said_at_last None = refl

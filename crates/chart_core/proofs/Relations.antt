@@ -8,12 +8,14 @@ use Rattle.chart_core.specs.Progress.{Marks, Has, Done}
 
 -- g is f but for the place n, where it is m
 abbrev pub Puts : ℕ → Progress → Marks → Marks → Type 0
-Puts n m f g = (g n ≡ m) × ((i : ℕ) → i ≢ n → g i ≡ f i)
+Puts number progress marks later = (later number ≡ progress)
+    × ((place : ℕ) → place ≢ number → later place ≡ marks place)
 
 -- g is f with the places above n and below after Untouched again
 abbrev pub Clears : ℕ → ℕ → Marks → Marks → Type 0
-Clears n after f g =
-    ((i : ℕ) → n < i → i < after → g i ≡ Untouched) × ((i : ℕ) → (n < i → i < after → ⊥) → g i ≡ f i)
+Clears number after marks later =
+    ((place : ℕ) → number < place → place < after → later place ≡ Untouched)
+    × ((place : ℕ) → (number < place → place < after → ⊥) → later place ≡ marks place)
 
 -- the next point of a step after this stage
 pub data Next (finishes : Bool) : Progress → Option Stage → Progress → Type 0 where
@@ -25,55 +27,61 @@ pub data Next (finishes : Bool) : Progress → Option Stage → Progress → Typ
 
 -- from f the entry leads to g
 abbrev pub Moves : {E : Type 0} → Course E → Marks → E → Marks → Type 0
-Moves nothing f e g = ⊥
-Moves (step n finishes stage) f e g = (m : Progress) × Next finishes (f n) (stage e) m × Puts n m f g
-Moves (chain a b) f e g = Moves a f e g ⊎ (Done a f × Moves b f e g)
-Moves (beside a b) f e g = Moves a f e g ⊎ Moves b f e g
-Moves (select n count own chooses bodies) f e g =
-    ((f n ≡ Untouched) × ((a : ℕ) × (a < count) × (chooses e ≡ Some a) × Puts n (Chosen a) f g))
-    ⊎ ((a : ℕ) × (f n ≡ Chosen a) × (a < count) × Moves (bodies a) f e g)
-Moves (repeat n after body own turns leaves) f e g =
-    (f n ≡ Untouched)
-    × (Moves body f e g
-    ⊎ ((Done body f × (turns e ≡ true) × Clears n after f g)
-    ⊎ (Done body f × (leaves e ≡ true) × Puts n Left f g)))
+Moves nothing marks entry later = ⊥
+Moves (step number finishes stage) marks entry later = (progress : Progress)
+    × Next finishes (marks number) (stage entry) progress × Puts number progress marks later
+Moves (chain one other) marks entry later = Moves one marks entry later
+    ⊎ (Done one marks × Moves other marks entry later)
+Moves (beside one other) marks entry later = Moves one marks entry later ⊎ Moves other marks entry later
+Moves (select number count own chooses bodies) marks entry later =
+    ((marks number ≡ Untouched)
+    × ((arm : ℕ) × (arm < count) × (chooses entry ≡ Some arm) × Puts number (Chosen arm) marks later))
+    ⊎ ((arm : ℕ) × (marks number ≡ Chosen arm) × (arm < count) × Moves (bodies arm) marks entry later)
+Moves (repeat number after body own turns leaves) marks entry later =
+    (marks number ≡ Untouched)
+    × (Moves body marks entry later
+    ⊎ ((Done body marks × (turns entry ≡ true) × Clears number after marks later)
+    ⊎ (Done body marks × (leaves entry ≡ true) × Puts number Left marks later)))
 
 -- the entry may come next
 abbrev pub Awaits : {E : Type 0} → Course E → Marks → E → Type 0
-Awaits nothing f e = ⊥
-Awaits (step n finishes stage) f e = (m : Progress) × Next finishes (f n) (stage e) m
-Awaits (chain a b) f e = Awaits a f e ⊎ (Done a f × Awaits b f e)
-Awaits (beside a b) f e = Awaits a f e ⊎ Awaits b f e
-Awaits (select n count own chooses bodies) f e =
-    ((f n ≡ Untouched) × ((a : ℕ) × (a < count) × (chooses e ≡ Some a)))
-    ⊎ ((a : ℕ) × (f n ≡ Chosen a) × (a < count) × Awaits (bodies a) f e)
-Awaits (repeat n after body own turns leaves) f e =
-    (f n ≡ Untouched)
-    × (Awaits body f e
-    ⊎ ((Done body f × (turns e ≡ true))
-    ⊎ (Done body f × (leaves e ≡ true))))
+Awaits nothing marks entry = ⊥
+Awaits (step number finishes stage) marks entry = (progress : Progress)
+    × Next finishes (marks number) (stage entry) progress
+Awaits (chain one other) marks entry = Awaits one marks entry ⊎ (Done one marks × Awaits other marks entry)
+Awaits (beside one other) marks entry = Awaits one marks entry ⊎ Awaits other marks entry
+Awaits (select number count own chooses bodies) marks entry =
+    ((marks number ≡ Untouched) × ((arm : ℕ) × (arm < count) × (chooses entry ≡ Some arm)))
+    ⊎ ((arm : ℕ) × (marks number ≡ Chosen arm) × (arm < count) × Awaits (bodies arm) marks entry)
+Awaits (repeat number after body own turns leaves) marks entry =
+    (marks number ≡ Untouched)
+    × (Awaits body marks entry
+    ⊎ ((Done body marks × (turns entry ≡ true))
+    ⊎ (Done body marks × (leaves entry ≡ true))))
 
 -- No entry is of two leaves, and no two nodes have one number.
 abbrev pub Apart : {E : Type 0} → Course E → Course E → Type 0
-Apart {E} a b = ((e : E) → is_of a e ≡ true → is_of b e ≡ true → ⊥) × ((i : ℕ) → Has a i → Has b i → ⊥)
+Apart {E} one other = ((entry : E) → is_of one entry ≡ true → is_of other entry ≡ true → ⊥)
+    × ((place : ℕ) → Has one place → Has other place → ⊥)
 
+-- no two parts of the course share an entry or a number, and a decision is one of its own node
 abbrev pub Sound : {E : Type 0} → Course E → Type 0
 Sound nothing = Unit {0}
-Sound (step n finishes stage) = Unit {0}
-Sound (chain a b) = Sound a × Sound b × Apart a b
-Sound (beside a b) = Sound a × Sound b × Apart a b
-Sound {E} (select n count own chooses bodies) =
-    ((a : ℕ) → Sound (bodies a))
-    × ((a : ℕ) → Has (bodies a) n → ⊥)
-    × ((a : ℕ) (e : E) → chooses e ≡ Some a → a < count)
-    × ((a : ℕ) (e : E) → is_of (bodies a) e ≡ true → a < count)
-    × ((a : ℕ) (e : E) → chooses e ≡ Some a → own e ≡ true)
-Sound {E} (repeat n after body own turns leaves) =
+Sound (step number finishes stage) = Unit {0}
+Sound (chain one other) = Sound one × Sound other × Apart one other
+Sound (beside one other) = Sound one × Sound other × Apart one other
+Sound {E} (select number count own chooses bodies) =
+    ((arm : ℕ) → Sound (bodies arm))
+    × ((arm : ℕ) → Has (bodies arm) number → ⊥)
+    × ((arm : ℕ) (entry : E) → chooses entry ≡ Some arm → arm < count)
+    × ((arm : ℕ) (entry : E) → is_of (bodies arm) entry ≡ true → arm < count)
+    × ((arm : ℕ) (entry : E) → chooses entry ≡ Some arm → own entry ≡ true)
+Sound {E} (repeat number after body own turns leaves) =
     Sound body
-    × (n < after)
-    × ((i : ℕ) → Has body i → (n < i) × (i < after))
-    × ((e : E) → is_of body e ≡ true → turns e ≡ true → ⊥)
-    × ((e : E) → is_of body e ≡ true → leaves e ≡ true → ⊥)
-    × ((e : E) → turns e ≡ true → leaves e ≡ true → ⊥)
-    × ((e : E) → turns e ≡ true → own e ≡ true)
-    × ((e : E) → leaves e ≡ true → own e ≡ true)
+    × (number < after)
+    × ((place : ℕ) → Has body place → (number < place) × (place < after))
+    × ((entry : E) → is_of body entry ≡ true → turns entry ≡ true → ⊥)
+    × ((entry : E) → is_of body entry ≡ true → leaves entry ≡ true → ⊥)
+    × ((entry : E) → turns entry ≡ true → leaves entry ≡ true → ⊥)
+    × ((entry : E) → turns entry ≡ true → own entry ≡ true)
+    × ((entry : E) → leaves entry ≡ true → own entry ≡ true)

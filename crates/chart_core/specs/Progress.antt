@@ -12,29 +12,29 @@ Marks = ℕ → Progress
 
 -- the marks in this list; behind it all is untouched
 abbrev pub marks_of : List Progress → Marks
-marks_of list i = get_or list i Untouched
+marks_of list place = get_or list place Untouched
 
 -- the course keeps something at this number
 abbrev pub Has : {E : Type 0} → Course E → ℕ → Type 0
-Has nothing i = ⊥
-Has (step n finishes stage) i = i ≡ n
-Has (chain first rest) i = Has first i ⊎ Has rest i
-Has (beside one other) i = Has one i ⊎ Has other i
-Has (select n count own chooses bodies) i = (i ≡ n) ⊎ ((arm : ℕ) × Has (bodies arm) i)
-Has (repeat n after body own turns leaves) i = (n ≤ i) × (i < after)
+Has nothing place = ⊥
+Has (step number finishes stage) place = place ≡ number
+Has (chain first rest) place = Has first place ⊎ Has rest place
+Has (beside one other) place = Has one place ⊎ Has other place
+Has (select number count own chooses bodies) place = (place ≡ number) ⊎ ((arm : ℕ) × Has (bodies arm) place)
+Has (repeat number after body own turns leaves) place = (number ≤ place) × (place < after)
 
 -- nothing was done of the course
 abbrev pub Fresh : {E : Type 0} → Course E → Marks → Type 0
-Fresh course marks = (i : ℕ) → Has course i → marks i ≡ Untouched
+Fresh course marks = (place : ℕ) → Has course place → marks place ≡ Untouched
 
 -- the course is done
 abbrev pub Done : {E : Type 0} → Course E → Marks → Type 0
 Done nothing marks = Unit {0}
-Done (step n finishes stage) marks = marks n ≡ Ended
+Done (step number finishes stage) marks = marks number ≡ Ended
 Done (chain first rest) marks = Done first marks × Done rest marks
 Done (beside one other) marks = Done one marks × Done other marks
-Done (select n count own chooses bodies) marks = (arm : ℕ) × (marks n ≡ Chosen arm) × Done (bodies arm) marks
-Done (repeat n after body own turns leaves) marks = marks n ≡ Left
+Done (select number count own chooses bodies) marks = (arm : ℕ) × (marks number ≡ Chosen arm) × Done (bodies arm) marks
+Done (repeat number after body own turns leaves) marks = marks number ≡ Left
 
 -- what a step that has come so far has had
 pub data Had (finishes : Bool) : Progress → List (Option Stage) → Type 0 where
@@ -50,18 +50,18 @@ pub data Had (finishes : Bool) : Progress → List (Option Stage) → Type 0 whe
 -- has had the back of the word; of a loop the marks of its body are those of its last round.
 abbrev pub Stands : {E : Type 0} → Course E → Marks → List E → Type 0
 Stands nothing marks word = word ≡ []
-Stands (step n finishes stage) marks word = Had finishes (marks n) (map stage word)
+Stands (step number finishes stage) marks word = Had finishes (marks number) (map stage word)
 Stands {E} (chain first rest) marks word =
     (Stands first marks word × Fresh rest marks)
     ⊎ ((front : List E) × (back : List E) × (word ≡ front ++ back) × Done first marks × Stands first marks front
     × Stands rest marks back)
 Stands (beside one other) marks word =
-    All (λ e. is_of one e || is_of other e) word
+    All (λ entry. is_of one entry || is_of other entry) word
     × Stands one marks (filter (is_of one) word) × Stands other marks (filter (is_of other) word)
-Stands {E} (select n count own chooses bodies) marks word =
-    ((marks n ≡ Untouched) × (word ≡ []) × ((arm : ℕ) → Fresh (bodies arm) marks))
-    ⊎ ((arm : ℕ) × (e : E) × (back : List E) × (word ≡ e ∷ back) × (arm < count) × (chooses e ≡ Some arm)
-    × (marks n ≡ Chosen arm) × Stands (bodies arm) marks back)
-Stands (repeat n after body own turns leaves) marks word =
-    ((marks n ≡ Untouched) × Rounds (Complete body) turns (Stands body marks) word)
-    ⊎ ((marks n ≡ Left) × Rounds (Complete body) turns (Closing (Complete body) leaves) word)
+Stands {E} (select number count own chooses bodies) marks word =
+    ((marks number ≡ Untouched) × (word ≡ []) × ((arm : ℕ) → Fresh (bodies arm) marks))
+    ⊎ ((arm : ℕ) × (entry : E) × (back : List E) × (word ≡ entry ∷ back) × (arm < count) × (chooses entry ≡ Some arm)
+    × (marks number ≡ Chosen arm) × Stands (bodies arm) marks back)
+Stands (repeat number after body own turns leaves) marks word =
+    ((marks number ≡ Untouched) × Rounds (Complete body) turns (Stands body marks) word)
+    ⊎ ((marks number ≡ Left) × Rounds (Complete body) turns (Closing (Complete body) leaves) word)

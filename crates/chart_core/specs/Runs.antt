@@ -79,37 +79,39 @@ leaves_rightly until aside (Some decided) = right_leave until aside decided.deci
 
 -- what an entry decides at the selection or the loop with this number and these reads
 abbrev pub decision_at : ℕ → List Read → Judged → Option Decided
-decision_at n reads e = decided_at n (length reads) e.entry
+decision_at number reads entry = decided_at number (length reads) entry.entry
 
 -- the course of a tree whose first node has the number n
 abbrev mutual
   pub course : Tree → ℕ → Course Judged
-  course (leaf plan) n = step n (is_some plan.finish) (λ e. stage_of plan e.entry)
-  course (seq each) n = in_turn each (n + 1)
-  course (par each) n = at_once each (n + 1)
-  course (choice each) n =
-      select n (arm_count each) (λ e. is_some (decision_at n (arm_reads each) e))
-      (λ e. right_arm each e.aside (decision_at n (arm_reads each) e)) (λ arm. arm_at each (n + 1) arm)
-  course (loop body until) n =
-      repeat n (n + 1 + size body) (course body (n + 1)) (λ e. is_some (decision_at n (loop_reads until) e))
-      (λ e. turns_rightly until e.aside (decision_at n (loop_reads until) e))
-      (λ e. leaves_rightly until e.aside (decision_at n (loop_reads until) e))
+  course (leaf plan) number = step number (is_some plan.finish) (λ entry. stage_of plan entry.entry)
+  course (seq each) number = in_turn each (number + 1)
+  course (par each) number = at_once each (number + 1)
+  course (choice each) number =
+      select number (arm_count each) (λ entry. is_some (decision_at number (arm_reads each) entry))
+      (λ entry. right_arm each entry.aside (decision_at number (arm_reads each) entry))
+      (λ arm. arm_at each (number + 1) arm)
+  course (loop body until) number =
+      repeat number (number + 1 + size body) (course body (number + 1))
+          (λ entry. is_some (decision_at number (loop_reads until) entry))
+      (λ entry. turns_rightly until entry.aside (decision_at number (loop_reads until) entry))
+      (λ entry. leaves_rightly until entry.aside (decision_at number (loop_reads until) entry))
 
   -- each child in order
   pub in_turn : Trees → ℕ → Course Judged
-  in_turn no_trees n = nothing
-  in_turn (more_trees each others) n = chain (course each n) (in_turn others (n + size each))
+  in_turn no_trees number = nothing
+  in_turn (more_trees each others) number = chain (course each number) (in_turn others (number + size each))
 
   -- all children side by side
   pub at_once : Trees → ℕ → Course Judged
-  at_once no_trees n = nothing
-  at_once (more_trees each others) n = beside (course each n) (at_once others (n + size each))
+  at_once no_trees number = nothing
+  at_once (more_trees each others) number = beside (course each number) (at_once others (number + size each))
 
   -- the arm at this place
   pub arm_at : Arms → ℕ → ℕ → Course Judged
-  arm_at no_arms n place = nothing
-  arm_at (more_arms when each others) n zero = course each n
-  arm_at (more_arms when each others) n (suc place) = arm_at others (n + size each) place
+  arm_at no_arms number place = nothing
+  arm_at (more_arms when each others) number zero = course each number
+  arm_at (more_arms when each others) number (suc place) = arm_at others (number + size each) place
 
 -- the course of a chart
 abbrev pub course_of : ChartPlan → Course Judged
@@ -123,27 +125,31 @@ IsComplete chart log = Complete (course_of chart) (word log)
 abbrev pub IsPartial : ChartPlan → List LogEntry → Type 0
 IsPartial chart log = Partial (course_of chart) (word log)
 
--- the entry is of the node with the number i, in a tree whose first node has the number n
+-- the entry is of the node with the wanted number, in a tree whose first node has this number
 abbrev mutual
   pub EntryOf : Tree → ℕ → ℕ → ChartEntry → Type 0
-  EntryOf (leaf plan) n i e = (i ≡ n) × (is_some (stage_of plan (Some e)) ≡ true)
-  EntryOf (seq each) n i e = EntryAmong each (n + 1) i e
-  EntryOf (par each) n i e = EntryAmong each (n + 1) i e
-  EntryOf (choice each) n i e =
-      ((i ≡ n) × (is_some (decided_at n (length (arm_reads each)) (Some e)) ≡ true)) ⊎ EntryInArm each (n + 1) i e
-  EntryOf (loop body until) n i e =
-      ((i ≡ n) × (is_some (decided_at n (length (loop_reads until)) (Some e)) ≡ true)) ⊎ EntryOf body (n + 1) i e
+  EntryOf (leaf plan) number wanted entry = (wanted ≡ number) × (is_some (stage_of plan (Some entry)) ≡ true)
+  EntryOf (seq each) number wanted entry = EntryAmong each (number + 1) wanted entry
+  EntryOf (par each) number wanted entry = EntryAmong each (number + 1) wanted entry
+  EntryOf (choice each) number wanted entry =
+      ((wanted ≡ number) × (is_some (decided_at number (length (arm_reads each)) (Some entry)) ≡ true))
+      ⊎ EntryInArm each (number + 1) wanted entry
+  EntryOf (loop body until) number wanted entry =
+      ((wanted ≡ number) × (is_some (decided_at number (length (loop_reads until)) (Some entry)) ≡ true))
+      ⊎ EntryOf body (number + 1) wanted entry
 
   pub EntryAmong : Trees → ℕ → ℕ → ChartEntry → Type 0
-  EntryAmong no_trees n i e = ⊥
-  EntryAmong (more_trees each others) n i e = EntryOf each n i e ⊎ EntryAmong others (n + size each) i e
+  EntryAmong no_trees number wanted entry = ⊥
+  EntryAmong (more_trees each others) number wanted entry =
+      EntryOf each number wanted entry ⊎ EntryAmong others (number + size each) wanted entry
 
   pub EntryInArm : Arms → ℕ → ℕ → ChartEntry → Type 0
-  EntryInArm no_arms n i e = ⊥
-  EntryInArm (more_arms when each others) n i e = EntryOf each n i e ⊎ EntryInArm others (n + size each) i e
+  EntryInArm no_arms number wanted entry = ⊥
+  EntryInArm (more_arms when each others) number wanted entry =
+      EntryOf each number wanted entry ⊎ EntryInArm others (number + size each) wanted entry
 
 -- The node with this number is awaited after the log: some entry of it makes the log a longer partial run, once the
 -- condition on this last entry's readings is set aside.
 abbrev pub IsAwaited : ChartPlan → List LogEntry → ℕ → Type 0
-IsAwaited chart log i = (e : ChartEntry) × EntryOf chart.root 0 i e
-    × Partial (course_of chart) (word log ++ (loose e ∷ []))
+IsAwaited chart log wanted = (entry : ChartEntry) × EntryOf chart.root 0 wanted entry
+    × Partial (course_of chart) (word log ++ (loose entry ∷ []))
