@@ -33,285 +33,345 @@ use Rattle.chart_cursor.specs.Sights.{Sights}
 
 -- the step runs after the word
 abbrev pub is_live : List Judged → Placed → Bool
-is_live w p = is_running (or_idle (word_phase p.step.name w))
+is_live entries placed = is_running (or_idle (word_phase placed.step.name entries))
 
 -- the steps among these that run
 abbrev pub run_of : ℕ → Tree → Phase → List Placed
-run_of n (leaf step) phase = if is_running phase then record { number = n; step = step } ∷ [] else []
-run_of n (seq each) phase = []
-run_of n (par each) phase = []
-run_of n (choice each) phase = []
-run_of n (loop body until) phase = []
+run_of number (leaf step) phase = if is_running phase then record { number = number; step = step } ∷ [] else []
+run_of number (seq each) phase = []
+run_of number (par each) phase = []
+run_of number (choice each) phase = []
+run_of number (loop body until) phase = []
 
+-- the steps that run among open nodes
 abbrev pub runs : List Spot → List Placed
 runs [] = []
-runs (s ∷ ss) = run_of s.number s.node (phase_of s.progress) ++ runs ss
+runs (spot ∷ others) = run_of spot.number spot.node (phase_of spot.progress) ++ runs others
 
-runs_append : (xs ys : List Spot) → runs (xs ++ ys) ≡ runs xs ++ runs ys
-runs_append [] ys = refl
-runs_append (s ∷ ss) ys =
-    ap (λ ps. run_of s.number s.node (phase_of s.progress) ++ ps) (runs_append ss ys)
-    ∙ sym (append_assoc (run_of s.number s.node (phase_of s.progress)) (runs ss) (runs ys))
+-- those of two lists
+runs_append : (front back : List Spot) → runs (front ++ back) ≡ runs front ++ runs back
+runs_append [] back = refl
+runs_append (spot ∷ front) back =
+    ap (λ rest. run_of spot.number spot.node (phase_of spot.progress) ++ rest) (runs_append front back)
+    ∙ sym (append_assoc (run_of spot.number spot.node (phase_of spot.progress)) (runs front) (runs back))
 
 -- what holds of each name of a tree holds of the names of its steps
 mutual
-  on_names : (t : Tree) (n : ℕ) (P : List ℕ → Type 0) → ((x : List ℕ) → In x (names t) → P x)
-      → Each (λ p. P p.step.name) (steps t n)
-  on_names (leaf s) n P h = (h s.name (inl refl), tt)
-  on_names (seq ts) n P h = on_all_names ts (n + 1) P h
-  on_names (par ts) n P h = on_all_names ts (n + 1) P h
-  on_names (choice each) n P h = on_arm_names each (n + 1) P h
-  on_names (loop t until) n P h = on_names t (n + 1) P h
+  on_names : (node : Tree) (number : ℕ) (Fact : List ℕ → Type 0) → ((name : List ℕ) → In name (names node) → Fact name)
+      → Each (λ placed. Fact placed.step.name) (steps node number)
+  on_names (leaf step) number Fact all = (all step.name (inl refl), tt)
+  on_names (seq nodes) number Fact all = on_all_names nodes (number + 1) Fact all
+  on_names (par nodes) number Fact all = on_all_names nodes (number + 1) Fact all
+  on_names (choice each) number Fact all = on_arm_names each (number + 1) Fact all
+  on_names (loop node until) number Fact all = on_names node (number + 1) Fact all
 
-  on_all_names : (ts : Trees) (n : ℕ) (P : List ℕ → Type 0) → ((x : List ℕ) → In x (all_names ts) → P x)
-      → Each (λ p. P p.step.name) (all_steps ts n)
-  on_all_names no_trees n P h = tt
-  on_all_names (more_trees t ts) n P h =
-      each_append (λ p. P p.step.name) (steps t n) (all_steps ts (n + size t))
-      (on_names t n P (λ x i. h x (in_left x (names t) (all_names ts) i)))
-      (on_all_names ts (n + size t) P (λ x i. h x (in_right x (names t) (all_names ts) i)))
+  on_all_names : (nodes : Trees) (number : ℕ) (Fact : List ℕ → Type 0)
+      → ((name : List ℕ) → In name (all_names nodes) → Fact name)
+      → Each (λ placed. Fact placed.step.name) (all_steps nodes number)
+  on_all_names no_trees number Fact all = tt
+  on_all_names (more_trees node nodes) number Fact all =
+      each_append (λ placed. Fact placed.step.name) (steps node number) (all_steps nodes (number + size node))
+      (on_names node number Fact (λ name known. all name (in_left name (names node) (all_names nodes) known)))
+      (on_all_names nodes (number + size node) Fact
+      (λ name known. all name (in_right name (names node) (all_names nodes) known)))
 
-  on_arm_names : (each : Arms) (n : ℕ) (P : List ℕ → Type 0) → ((x : List ℕ) → In x (arm_names each) → P x)
-      → Each (λ p. P p.step.name) (arm_steps each n)
-  on_arm_names no_arms n P h = tt
-  on_arm_names (more_arms c t each) n P h =
-      each_append (λ p. P p.step.name) (steps t n) (arm_steps each (n + size t))
-      (on_names t n P (λ x i. h x (in_left x (names t) (arm_names each) i)))
-      (on_arm_names each (n + size t) P (λ x i. h x (in_right x (names t) (arm_names each) i)))
+  on_arm_names : (each : Arms) (number : ℕ) (Fact : List ℕ → Type 0)
+      → ((name : List ℕ) → In name (arm_names each) → Fact name)
+      → Each (λ placed. Fact placed.step.name) (arm_steps each number)
+  on_arm_names no_arms number Fact all = tt
+  on_arm_names (more_arms when node each) number Fact all =
+      each_append (λ placed. Fact placed.step.name) (steps node number) (arm_steps each (number + size node))
+      (on_names node number Fact (λ name known. all name (in_left name (names node) (arm_names each) known)))
+      (on_arm_names each (number + size node) Fact
+      (λ name known. all name (in_right name (names node) (arm_names each) known)))
 
 -- a word leaves a step idle
 abbrev LeavesIdle : List Judged → List ℕ → Type 0
-LeavesIdle w x = or_idle (word_phase x w) ≡ idle
+LeavesIdle entries name = or_idle (word_phase name entries) ≡ idle
 
 -- two words leave a step alike
 abbrev LeavesAlike : List Judged → List Judged → List ℕ → Type 0
-LeavesAlike v w x = or_idle (word_phase x w) ≡ or_idle (word_phase x v)
+LeavesAlike before after name = or_idle (word_phase name after) ≡ or_idle (word_phase name before)
 
-quiet : (w : List Judged) (ps : List Placed) → Each (λ p. LeavesIdle w p.step.name) ps → filter (is_live w) ps ≡ []
-quiet w [] h = refl
-quiet w (p ∷ ps) (h, k) = ap (λ o. if is_running o then p ∷ filter (is_live w) ps else filter (is_live w) ps)
-    h ∙ quiet w ps k
+-- where a word leaves each of these steps idle, none of them runs
+quiet : (entries : List Judged) (others : List Placed) → Each (λ placed. LeavesIdle entries placed.step.name) others
+    → filter (is_live entries) others ≡ []
+quiet entries [] here = refl
+quiet entries (placed ∷ others) (here, rest) =
+    ap (λ phase. if is_running phase then placed ∷ filter (is_live entries) others else filter (is_live entries) others)
+    here ∙ quiet entries others rest
 
-alike : (v w : List Judged) (ps : List Placed) → Each (λ p. LeavesAlike v w p.step.name) ps
-    → filter (is_live w) ps ≡ filter (is_live v) ps
-alike v w [] h = refl
-alike v w (p ∷ ps) (h, k) =
-    ap (λ o. if is_running o then p ∷ filter (is_live w) ps else filter (is_live w) ps) h
-    ∙ ap (λ qs. if is_live v p then p ∷ qs else qs) (alike v w ps k)
+-- two words that leave them alike have the same ones run
+alike : (before after : List Judged) (others : List Placed)
+    → Each (λ placed. LeavesAlike before after placed.step.name) others
+    → filter (is_live after) others ≡ filter (is_live before) others
+alike before after [] here = refl
+alike before after (placed ∷ others) (here, rest) =
+    ap (λ phase. if is_running phase then placed ∷ filter (is_live after) others else filter (is_live after) others)
+        here
+    ∙ ap (λ kept. if is_live before placed then placed ∷ kept else kept) (alike before after others rest)
 
-step_runs : (s : StepPlan) (n : ℕ) (m : Progress)
-    → runs (step_spots n (leaf s) m) ≡ (if is_running (phase_of m) then record { number = n; step = s } ∷ [] else [])
-step_runs s n Untouched = refl
-step_runs s n Begun = refl
-step_runs s n Finished = refl
-step_runs s n WasReset = refl
-step_runs s n Ended = refl
-step_runs s n (Chosen a) = refl
-step_runs s n Left = refl
+-- an open step runs where its mark says so
+step_runs : (step : StepPlan) (number : ℕ) (progress : Progress)
+    → runs (step_spots number (leaf step) progress)
+    ≡ (if is_running (phase_of progress) then record { number = number; step = step } ∷ [] else [])
+step_runs step number Untouched = refl
+step_runs step number Begun = refl
+step_runs step number Finished = refl
+step_runs step number WasReset = refl
+step_runs step number Ended = refl
+step_runs step number (Chosen arm) = refl
+step_runs step number Left = refl
 
-choice_runs : (n : ℕ) (each : Arms) (arm : ℕ → List Spot) (m : Progress) → m ≡ Untouched
-    → runs (choice_spots n (choice each) arm m) ≡ []
-choice_runs n each arm m h = ap (λ m. runs (choice_spots n (choice each) arm m)) h
+-- before its choice nothing runs in a selection
+choice_runs : (number : ℕ) (each : Arms) (arm : ℕ → List Spot) (progress : Progress) → progress ≡ Untouched
+    → runs (choice_spots number (choice each) arm progress) ≡ []
+choice_runs number each arm progress untouched =
+    ap (λ progress. runs (choice_spots number (choice each) arm progress)) untouched
 
-if_runs : (d : Bool) (xs ys : List Spot) (ps : List Placed) → (d ≡ true → runs xs ≡ ps) → (d ≡ false → runs ys ≡ ps)
-    → runs (if d then xs else ys) ≡ ps
-if_runs true xs ys ps h k = h refl
-if_runs false xs ys ps h k = k refl
+-- those of one list or of another
+if_runs : (done : Bool) (here there : List Spot) (all : List Placed) → (done ≡ true → runs here ≡ all)
+    → (done ≡ false → runs there ≡ all)
+    → runs (if done then here else there) ≡ all
+if_runs true here there all first second = first refl
+if_runs false here there all first second = second refl
 
 mutual
-  pub lives : (t : Tree) (n : ℕ) (f : Marks) (w : List Judged) → Distinct (names t) → Stands (course t n) f w
-      → runs (spots t n f) ≡ filter (is_live w) (steps t n)
-  lives (leaf s) n f w d h =
-      let phase = ap or_idle (leaf_phase s n s.name w refl (stands_of (course (leaf s) n) f w tt h))
-      ∙ had_phase (is_some s.finish) (f n) _ h in
-      step_runs s n (f n) ∙ ap (λ o. if is_running o then record { number = n; step = s } ∷ [] else []) (sym phase)
-  lives (seq ts) n f w d h = turn_lives ts (n + 1) f w d h
-  lives (par ts) n f w d h = once_lives ts (n + 1) f w d h
-  lives (choice each) n f w d (inl (q, z, r)) =
-      choice_runs n each (λ a. arm_spots each (n + 1) a f) (f n) q
-      ∙ sym (quiet w (arm_steps each (n + 1)) (on_arm_names each (n + 1) (LeavesIdle w)
-      (λ x i. ap (λ w. or_idle (word_phase x w)) z)))
-  lives (choice each) n f w d (inr (a, e, v, q, l, c, x, y)) =
-      ap (λ m. runs (choice_spots n (choice each) (λ a. arm_spots each (n + 1) a f) m)) x
-      ∙ arm_lives each (n + 1) a f v d y
-      ∙ sym (alike v w (arm_steps each (n + 1))
-      (on_arm_names each (n + 1) (LeavesAlike v w)
-      (λ name i. ap or_idle (phase_head name e v w q (arm_says each n name e a c)))))
-  lives (loop t until) n f w d (inr (x, y)) =
-      ap (λ m. runs (loop_spots n (loop t until) (is_done (course t (n + 1)) f) (spots t (n + 1) f) m)) x
-      ∙ sym (quiet w (steps t (n + 1)) (on_names t (n + 1) (LeavesIdle w)
-      (λ name i. complete_idle (loop t until) n w name d i y)))
-  lives (loop t until) n f w d (inl (x, y)) =
-      let r = rounds_last_phase t (n + 1) f (λ e. turns_rightly until e.aside (decision_at n (loop_reads until) e)) d
-      (λ name e k. turns_says until n name e k) w y in
-      let same = alike r.0 w (steps t (n + 1)) (on_names t (n + 1) (LeavesAlike r.0 w) r.2) in
-      ap (λ m. runs (loop_spots n (loop t until) (is_done (course t (n + 1)) f) (spots t (n + 1) f) m)) x
-      ∙ if_runs (is_done (course t (n + 1)) f) (record { number = n; node = loop t until; progress = Untouched } ∷ [])
-      (spots t (n + 1) f) (filter (is_live w) (steps t (n + 1)))
-      (λ z. sym (same ∙ quiet r.0 (steps t (n + 1))
-      (on_names t (n + 1) (LeavesIdle r.0)
-      (λ name i. complete_idle t (n + 1) r.0 name d i (done_complete (course t (n + 1)) f r.0 (sound t (n + 1) d) r.1
-      (done_of (course t (n + 1)) f z))))))
-      (λ z. lives t (n + 1) f r.0 d r.1 ∙ sym same)
+  pub lives : (node : Tree) (number : ℕ) (marks : Marks) (entries : List Judged) → Distinct (names node)
+      → Stands (course node number) marks entries
+      → runs (spots node number marks) ≡ filter (is_live entries) (steps node number)
+  lives (leaf step) number marks entries distinct stands =
+      let phase =
+          ap or_idle
+              (leaf_phase step number step.name entries refl
+              (stands_of (course (leaf step) number) marks entries tt stands))
+      ∙ had_phase (is_some step.finish) (marks number) _ stands in
+      step_runs step number (marks number)
+          ∙ ap (λ said. if is_running said then record { number = number; step = step } ∷ [] else []) (sym phase)
+  lives (seq nodes) number marks entries distinct stands = turn_lives nodes (number + 1) marks entries distinct stands
+  lives (par nodes) number marks entries distinct stands = once_lives nodes (number + 1) marks entries distinct stands
+  lives (choice each) number marks entries distinct (inl (mark, none, fresh)) =
+      choice_runs number each (λ arm. arm_spots each (number + 1) arm marks) (marks number) mark
+      ∙ sym (quiet entries (arm_steps each (number + 1)) (on_arm_names each (number + 1) (LeavesIdle entries)
+      (λ name known. ap (λ entries. or_idle (word_phase name entries)) none)))
+  lives (choice each) number marks entries distinct (inr (arm, entry, back, cut, below, right, mark, stands)) =
+      ap (λ progress. runs (choice_spots number (choice each) (λ arm. arm_spots each (number + 1) arm marks) progress))
+          mark
+      ∙ arm_lives each (number + 1) arm marks back distinct stands
+      ∙ sym (alike back entries (arm_steps each (number + 1))
+      (on_arm_names each (number + 1) (LeavesAlike back entries)
+      (λ name known. ap or_idle (phase_head name entry back entries cut (arm_says each number name entry arm right)))))
+  lives (loop node until) number marks entries distinct (inr (mark, rounds)) =
+      ap (λ progress. runs
+          (loop_spots number (loop node until) (is_done (course node (number + 1)) marks)
+          (spots node (number + 1) marks) progress)) mark
+      ∙ sym (quiet entries (steps node (number + 1)) (on_names node (number + 1) (LeavesIdle entries)
+      (λ name known. complete_idle (loop node until) number entries name distinct known rounds)))
+  lives (loop node until) number marks entries distinct (inl (mark, rounds)) =
+      let latest = rounds_last_phase node (number + 1) marks
+          (λ entry. turns_rightly until entry.aside (decision_at number (loop_reads until) entry)) distinct
+      (λ name entry right. turns_says until number name entry right) entries rounds in
+      let same = alike latest.0 entries (steps node (number + 1))
+          (on_names node (number + 1) (LeavesAlike latest.0 entries) latest.2) in
+      ap (λ progress. runs
+          (loop_spots number (loop node until) (is_done (course node (number + 1)) marks)
+          (spots node (number + 1) marks) progress)) mark
+      ∙ if_runs (is_done (course node (number + 1)) marks)
+      (record { number = number; node = loop node until; progress = Untouched } ∷ [])
+      (spots node (number + 1) marks) (filter (is_live entries) (steps node (number + 1)))
+      (λ tested. sym (same ∙ quiet latest.0 (steps node (number + 1))
+      (on_names node (number + 1) (LeavesIdle latest.0)
+      (λ name known. complete_idle node (number + 1) latest.0 name distinct known
+      (done_complete (course node (number + 1)) marks latest.0 (sound node (number + 1) distinct) latest.1
+      (done_of (course node (number + 1)) marks tested))))))
+      (λ tested. lives node (number + 1) marks latest.0 distinct latest.1 ∙ sym same)
 
-  pub turn_lives : (ts : Trees) (n : ℕ) (f : Marks) (w : List Judged) → Distinct (all_names ts)
-      → Stands (in_turn ts n) f w → runs (turn_spots ts n f) ≡ filter (is_live w) (all_steps ts n)
-  turn_lives no_trees n f w d h = refl
-  turn_lives (more_trees t ts) n f w d (inl (x, r)) =
-      let front = distinct_front (names t) (all_names ts) d in
-      let back = distinct_back (names t) (all_names ts) d in
-      let rest : filter (is_live w) (all_steps ts (n + size t)) ≡ []
-      = quiet w (all_steps ts (n + size t))
-      (on_all_names ts (n + size t) (LeavesIdle w)
-      (λ name i. ap or_idle (silent name (is_of (course t n)) w
-      (tree_silent t n name (λ j. distinct_apart name (names t) (all_names ts) d j i))
-      (stands_of (course t n) f w (sound t n front) x)))) in
-      let none : filter (is_live []) (all_steps ts (n + size t)) ≡ []
-      = quiet [] (all_steps ts (n + size t)) (on_all_names ts (n + size t) (LeavesIdle []) (λ name i. refl)) in
-      let cut : filter (is_live w) (all_steps (more_trees t ts) n) ≡ filter (is_live w) (steps t n)
-      = filter-append (is_live w) (steps t n) (all_steps ts (n + size t))
-      ∙ ap (λ ps. filter (is_live w) (steps t n) ++ ps) rest ∙ append-nil (filter (is_live w) (steps t n)) in
-      if_runs (is_done (course t n) f) (turn_spots ts (n + size t) f) (spots t n f)
-      (filter (is_live w) (all_steps (more_trees t ts) n))
-      (λ z. turn_lives ts (n + size t) f [] back (fresh_stands (in_turn ts (n + size t)) f
-      (turn_sound ts (n + size t) back) r) ∙ none
-      ∙ sym (cut ∙ quiet w (steps t n)
-      (on_names t n (LeavesIdle w)
-      (λ name i. complete_idle t n w name front i (done_complete (course t n) f w (sound t n front) x
-      (done_of (course t n) f z))))))
-      (λ z. lives t n f w front x ∙ sym cut)
-  turn_lives (more_trees t ts) n f w d (inr (u, v, q, g, x, y)) =
-      let front = distinct_front (names t) (all_names ts) d in
-      let back = distinct_back (names t) (all_names ts) d in
-      let first : filter (is_live w) (steps t n) ≡ []
-      = alike u w (steps t n)
-      (on_names t n (LeavesAlike u w)
-      (λ name i. ap or_idle (phase_front name u v w q
-      (silent name (is_of (in_turn ts (n + size t))) v (turn_silent ts (n + size t) name
-      (λ j. distinct_apart name (names t) (all_names ts) d i j))
-      (stands_of (in_turn ts (n + size t)) f v (turn_sound ts (n + size t) back) y)))))
-      ∙ quiet u (steps t n)
-      (on_names t n (LeavesIdle u) (λ name i. complete_idle t n u name front i
-      (done_complete (course t n) f u (sound t n front) x g))) in
-      let rest : filter (is_live w) (all_steps ts (n + size t)) ≡ filter (is_live v) (all_steps ts (n + size t))
-      = alike v w (all_steps ts (n + size t))
-      (on_all_names ts (n + size t) (LeavesAlike v w)
-      (λ name i. ap or_idle (phase_back name u v w q
-      (silent name (is_of (course t n)) u (tree_silent t n name
-      (λ j. distinct_apart name (names t) (all_names ts) d j i))
-      (stands_of (course t n) f u (sound t n front) x))))) in
-      let cut : filter (is_live w) (all_steps (more_trees t ts) n) ≡ filter (is_live v) (all_steps ts (n + size t))
-      = filter-append (is_live w) (steps t n) (all_steps ts (n + size t))
-      ∙ ap (λ ps. ps ++ filter (is_live w) (all_steps ts (n + size t))) first ∙ rest in
-      if_runs (is_done (course t n) f) (turn_spots ts (n + size t) f) (spots t n f)
-      (filter (is_live w) (all_steps (more_trees t ts) n))
-      (λ z. turn_lives ts (n + size t) f v back y ∙ sym cut)
-      (λ z. let clash : true ≡ false = sym (of_done (course t n) f g) ∙ z in cc)
+  pub turn_lives : (nodes : Trees) (number : ℕ) (marks : Marks) (entries : List Judged) → Distinct (all_names nodes)
+      → Stands (in_turn nodes number) marks entries → runs (turn_spots nodes number marks)
+      ≡ filter (is_live entries) (all_steps nodes number)
+  turn_lives no_trees number marks entries distinct stands = refl
+  turn_lives (more_trees node nodes) number marks entries distinct (inl (stands, fresh)) =
+      let front = distinct_front (names node) (all_names nodes) distinct in
+      let back = distinct_back (names node) (all_names nodes) distinct in
+      let rest : filter (is_live entries) (all_steps nodes (number + size node)) ≡ []
+      = quiet entries (all_steps nodes (number + size node))
+      (on_all_names nodes (number + size node) (LeavesIdle entries)
+      (λ name known. ap or_idle (silent name (is_of (course node number)) entries
+      (tree_silent node number name (λ also. distinct_apart name (names node) (all_names nodes) distinct also known))
+      (stands_of (course node number) marks entries (sound node number front) stands)))) in
+      let none : filter (is_live []) (all_steps nodes (number + size node)) ≡ []
+      = quiet [] (all_steps nodes (number + size node))
+          (on_all_names nodes (number + size node) (LeavesIdle []) (λ name known. refl)) in
+      let cut : filter (is_live entries) (all_steps (more_trees node nodes) number)
+          ≡ filter (is_live entries) (steps node number)
+      = filter-append (is_live entries) (steps node number) (all_steps nodes (number + size node))
+      ∙ ap (λ others. filter (is_live entries) (steps node number) ++ others) rest
+      ∙ append-nil (filter (is_live entries) (steps node number)) in
+      if_runs (is_done (course node number) marks) (turn_spots nodes (number + size node) marks)
+          (spots node number marks)
+      (filter (is_live entries) (all_steps (more_trees node nodes) number))
+      (λ tested. turn_lives nodes (number + size node) marks [] back
+      (fresh_stands (in_turn nodes (number + size node)) marks
+      (turn_sound nodes (number + size node) back) fresh) ∙ none
+      ∙ sym (cut ∙ quiet entries (steps node number)
+      (on_names node number (LeavesIdle entries)
+      (λ name known. complete_idle node number entries name front known
+      (done_complete (course node number) marks entries (sound node number front) stands
+      (done_of (course node number) marks tested))))))
+      (λ tested. lives node number marks entries front stands ∙ sym cut)
+  turn_lives (more_trees node nodes) number marks entries distinct (inr (start, ending, joined, done, here, there)) =
+      let front = distinct_front (names node) (all_names nodes) distinct in
+      let back = distinct_back (names node) (all_names nodes) distinct in
+      let first : filter (is_live entries) (steps node number) ≡ []
+      = alike start entries (steps node number)
+      (on_names node number (LeavesAlike start entries)
+      (λ name known. ap or_idle (phase_front name start ending entries joined
+      (silent name (is_of (in_turn nodes (number + size node))) ending (turn_silent nodes (number + size node) name
+      (λ also. distinct_apart name (names node) (all_names nodes) distinct known also))
+      (stands_of (in_turn nodes (number + size node)) marks ending
+      (turn_sound nodes (number + size node) back) there)))))
+      ∙ quiet start (steps node number)
+      (on_names node number (LeavesIdle start) (λ name known. complete_idle node number start name front known
+      (done_complete (course node number) marks start (sound node number front) here done))) in
+      let rest : filter (is_live entries) (all_steps nodes (number + size node))
+          ≡ filter (is_live ending) (all_steps nodes (number + size node))
+      = alike ending entries (all_steps nodes (number + size node))
+      (on_all_names nodes (number + size node) (LeavesAlike ending entries)
+      (λ name known. ap or_idle (phase_back name start ending entries joined
+      (silent name (is_of (course node number)) start (tree_silent node number name
+      (λ also. distinct_apart name (names node) (all_names nodes) distinct also known))
+      (stands_of (course node number) marks start (sound node number front) here))))) in
+      let cut : filter (is_live entries) (all_steps (more_trees node nodes) number)
+          ≡ filter (is_live ending) (all_steps nodes (number + size node))
+      = filter-append (is_live entries) (steps node number) (all_steps nodes (number + size node))
+      ∙ ap (λ others. others ++ filter (is_live entries) (all_steps nodes (number + size node))) first ∙ rest in
+      if_runs (is_done (course node number) marks) (turn_spots nodes (number + size node) marks)
+          (spots node number marks)
+      (filter (is_live entries) (all_steps (more_trees node nodes) number))
+      (λ tested. turn_lives nodes (number + size node) marks ending back there ∙ sym cut)
+      (λ tested. let clash : true ≡ false = sym (of_done (course node number) marks done) ∙ tested in cc)
 
-  pub once_lives : (ts : Trees) (n : ℕ) (f : Marks) (w : List Judged) → Distinct (all_names ts)
-      → Stands (at_once ts n) f w → runs (once_spots ts n f) ≡ filter (is_live w) (all_steps ts n)
-  once_lives no_trees n f w d h = refl
-  once_lives (more_trees t ts) n f w d (l, x, y) =
-      let front = distinct_front (names t) (all_names ts) d in
-      let back = distinct_back (names t) (all_names ts) d in
-      let u = filter (is_of (course t n)) w in
-      let v = filter (is_of (at_once ts (n + size t))) w in
-      let first : filter (is_live w) (steps t n) ≡ filter (is_live u) (steps t n)
-      = alike u w (steps t n)
-      (on_names t n (LeavesAlike u w)
-      (λ name i. ap or_idle (sym (phase_filter name (is_of (course t n)) (is_of (at_once ts (n + size t))) w
-      (once_silent ts (n + size t) name (λ j. distinct_apart name (names t) (all_names ts) d i j)) l)))) in
-      let rest : filter (is_live w) (all_steps ts (n + size t)) ≡ filter (is_live v) (all_steps ts (n + size t))
-      = alike v w (all_steps ts (n + size t))
-      (on_all_names ts (n + size t) (LeavesAlike v w)
-      (λ name i. ap or_idle (sym (phase_filter name (is_of (at_once ts (n + size t))) (is_of (course t n)) w
-      (tree_silent t n name (λ j. distinct_apart name (names t) (all_names ts) d j i))
-      (all_swap (is_of (course t n)) (is_of (at_once ts (n + size t))) w l))))) in
-      runs_append (spots t n f) (once_spots ts (n + size t) f)
-      ∙ ap (λ ps. ps ++ runs (once_spots ts (n + size t) f)) (lives t n f u front x ∙ sym first)
-      ∙ ap (λ ps. filter (is_live w) (steps t n) ++ ps) (once_lives ts (n + size t) f v back y ∙ sym rest)
-      ∙ sym (filter-append (is_live w) (steps t n) (all_steps ts (n + size t)))
+  pub once_lives : (nodes : Trees) (number : ℕ) (marks : Marks) (entries : List Judged) → Distinct (all_names nodes)
+      → Stands (at_once nodes number) marks entries → runs (once_spots nodes number marks)
+      ≡ filter (is_live entries) (all_steps nodes number)
+  once_lives no_trees number marks entries distinct stands = refl
+  once_lives (more_trees node nodes) number marks entries distinct (all, here, there) =
+      let front = distinct_front (names node) (all_names nodes) distinct in
+      let back = distinct_back (names node) (all_names nodes) distinct in
+      let of_first = filter (is_of (course node number)) entries in
+      let of_rest = filter (is_of (at_once nodes (number + size node))) entries in
+      let first : filter (is_live entries) (steps node number) ≡ filter (is_live of_first) (steps node number)
+      = alike of_first entries (steps node number)
+      (on_names node number (LeavesAlike of_first entries)
+      (λ name known. ap or_idle
+      (sym (phase_filter name (is_of (course node number)) (is_of (at_once nodes (number + size node))) entries
+      (once_silent nodes (number + size node) name
+      (λ also. distinct_apart name (names node) (all_names nodes) distinct known also)) all)))) in
+      let rest : filter (is_live entries) (all_steps nodes (number + size node))
+          ≡ filter (is_live of_rest) (all_steps nodes (number + size node))
+      = alike of_rest entries (all_steps nodes (number + size node))
+      (on_all_names nodes (number + size node) (LeavesAlike of_rest entries)
+      (λ name known. ap or_idle
+      (sym (phase_filter name (is_of (at_once nodes (number + size node))) (is_of (course node number)) entries
+      (tree_silent node number name (λ also. distinct_apart name (names node) (all_names nodes) distinct also known))
+      (all_swap (is_of (course node number)) (is_of (at_once nodes (number + size node))) entries all))))) in
+      runs_append (spots node number marks) (once_spots nodes (number + size node) marks)
+      ∙ ap (λ others. others ++ runs (once_spots nodes (number + size node) marks))
+      (lives node number marks of_first front here ∙ sym first)
+      ∙ ap (λ others. filter (is_live entries) (steps node number) ++ others)
+      (once_lives nodes (number + size node) marks of_rest back there ∙ sym rest)
+      ∙ sym (filter-append (is_live entries) (steps node number) (all_steps nodes (number + size node)))
 
-  pub arm_lives : (each : Arms) (n a : ℕ) (f : Marks) (w : List Judged) → Distinct (arm_names each)
-      → Stands (arm_at each n a) f w → runs (arm_spots each n a f) ≡ filter (is_live w) (arm_steps each n)
-  arm_lives no_arms n a f w d h = refl
-  arm_lives (more_arms c t each) n zero f w d h =
-      let front = distinct_front (names t) (arm_names each) d in
-      let rest : filter (is_live w) (arm_steps each (n + size t)) ≡ []
-      = quiet w (arm_steps each (n + size t))
-      (on_arm_names each (n + size t) (LeavesIdle w)
-      (λ name i. ap or_idle (silent name (is_of (course t n)) w
-      (tree_silent t n name (λ j. distinct_apart name (names t) (arm_names each) d j i))
-      (stands_of (course t n) f w (sound t n front) h)))) in
-      lives t n f w front h
-      ∙ sym (filter-append (is_live w) (steps t n) (arm_steps each (n + size t))
-      ∙ ap (λ ps. filter (is_live w) (steps t n) ++ ps) rest ∙ append-nil (filter (is_live w) (steps t n)))
-  arm_lives (more_arms c t each) n (suc a) f w d h =
-      let back = distinct_back (names t) (arm_names each) d in
-      let first : filter (is_live w) (steps t n) ≡ []
-      = quiet w (steps t n)
-      (on_names t n (LeavesIdle w)
-      (λ name i. ap or_idle (silent name (is_of (arm_at each (n + size t) a)) w
-      (λ e z. unnamed name (arm_names each) (n + size t) (n + size t + arm_sizes each) e.entry
-      (arm_within each (n + size t) a e z)
-      (λ j. distinct_apart name (names t) (arm_names each) d i j))
-      (stands_of (arm_at each (n + size t) a) f w (arm_sound each (n + size t) a back) h)))) in
-      arm_lives each (n + size t) a f w back h
-      ∙ sym (filter-append (is_live w) (steps t n) (arm_steps each (n + size t))
-      ∙ ap (λ ps. ps ++ filter (is_live w) (arm_steps each (n + size t))) first)
+  pub arm_lives : (each : Arms) (number arm : ℕ) (marks : Marks) (entries : List Judged) → Distinct (arm_names each)
+      → Stands (arm_at each number arm) marks entries → runs (arm_spots each number arm marks)
+      ≡ filter (is_live entries) (arm_steps each number)
+  arm_lives no_arms number arm marks entries distinct stands = refl
+  arm_lives (more_arms when node each) number zero marks entries distinct stands =
+      let front = distinct_front (names node) (arm_names each) distinct in
+      let rest : filter (is_live entries) (arm_steps each (number + size node)) ≡ []
+      = quiet entries (arm_steps each (number + size node))
+      (on_arm_names each (number + size node) (LeavesIdle entries)
+      (λ name known. ap or_idle (silent name (is_of (course node number)) entries
+      (tree_silent node number name (λ also. distinct_apart name (names node) (arm_names each) distinct also known))
+      (stands_of (course node number) marks entries (sound node number front) stands)))) in
+      lives node number marks entries front stands
+      ∙ sym (filter-append (is_live entries) (steps node number) (arm_steps each (number + size node))
+      ∙ ap (λ others. filter (is_live entries) (steps node number) ++ others) rest
+      ∙ append-nil (filter (is_live entries) (steps node number)))
+  arm_lives (more_arms when node each) number (suc arm) marks entries distinct stands =
+      let back = distinct_back (names node) (arm_names each) distinct in
+      let first : filter (is_live entries) (steps node number) ≡ []
+      = quiet entries (steps node number)
+      (on_names node number (LeavesIdle entries)
+      (λ name known. ap or_idle (silent name (is_of (arm_at each (number + size node) arm)) entries
+      (λ entry of_arm. unnamed name (arm_names each) (number + size node)
+      (number + size node + arm_sizes each) entry.entry
+      (arm_within each (number + size node) arm entry of_arm)
+      (λ also. distinct_apart name (names node) (arm_names each) distinct known also))
+      (stands_of (arm_at each (number + size node) arm) marks entries
+      (arm_sound each (number + size node) arm back) stands)))) in
+      arm_lives each (number + size node) arm marks entries back stands
+      ∙ sym (filter-append (is_live entries) (steps node number) (arm_steps each (number + size node))
+      ∙ ap (λ others. others ++ filter (is_live entries) (arm_steps each (number + size node))) first)
 
 -- the active steps, told by the log or by its word
-active_live : (chart : ChartPlan) (log : List LogEntry) (ps : List Placed) → All (is_of (course_of chart)) (word log)
-    → filter (is_active log) ps ≡ filter (is_live (word log)) ps
-active_live chart log [] a = refl
-active_live chart log (p ∷ ps) a =
-    ap (λ o. if is_running (or_idle o) then p ∷ filter (is_active log) ps else filter (is_active log) ps)
-    (log_phase chart p.step.name log a)
-    ∙ ap (λ qs. if is_live (word log) p then p ∷ qs else qs) (active_live chart log ps a)
+active_live : (chart : ChartPlan) (log : List LogEntry) (others : List Placed)
+    → All (is_of (course_of chart)) (word log)
+    → filter (is_active log) others ≡ filter (is_live (word log)) others
+active_live chart log [] all = refl
+active_live chart log (placed ∷ others) all =
+    ap (λ phase. if is_running (or_idle phase) then placed ∷ filter (is_active log) others else filter
+        (is_active log) others)
+    (log_phase chart placed.step.name log all)
+    ∙ ap (λ kept. if is_live (word log) placed then placed ∷ kept else kept) (active_live chart log others all)
 
 -- Of every log that the marks stand for: the running steps among the open nodes are the active ones.
-pub runs_active : (chart : ChartPlan) (f : Marks) (log : List LogEntry) → IsValid chart
-    → Stands (course_of chart) f (word log) → runs (spots chart.root 0 f) ≡ active_steps chart log
-runs_active chart f log valid h =
-    lives chart.root 0 f (word log) (valid_distinct chart valid) h
-    ∙ sym (active_live chart log (steps chart.root 0) (stands_of (course_of chart) f (word log)
-    (chart_sound chart valid) h))
+pub runs_active : (chart : ChartPlan) (marks : Marks) (log : List LogEntry) → IsValid chart
+    → Stands (course_of chart) marks (word log) → runs (spots chart.root 0 marks) ≡ active_steps chart log
+runs_active chart marks log valid stands =
+    lives chart.root 0 marks (word log) (valid_distinct chart valid) stands
+    ∙ sym (active_live chart log (steps chart.root 0) (stands_of (course_of chart) marks (word log)
+    (chart_sound chart valid) stands))
 
-placed_one : (wanted : ℕ → StepPlan → Bool) (n : ℕ) (node : Tree) (phase : Phase) (rest : List Placed)
-    → option_or (running_node wanted n node phase) (first_placed wanted rest)
-    ≡ first_placed wanted (run_of n node phase ++ rest)
-placed_one wanted n (leaf s) phase rest =
-    elim (is_running phase) as (λ b. option_or (if b && wanted n s then Some (running_step n s) else None)
+-- the first wanted one of a node and of those behind it
+placed_one : (wanted : ℕ → StepPlan → Bool) (number : ℕ) (node : Tree) (phase : Phase) (rest : List Placed)
+    → option_or (running_node wanted number node phase) (first_placed wanted rest)
+    ≡ first_placed wanted (run_of number node phase ++ rest)
+placed_one wanted number (leaf step) phase rest =
+    elim (is_running phase) as
+        (λ test. option_or (if test && wanted number step then Some (running_step number step) else None)
     (first_placed wanted rest)
-    ≡ first_placed wanted ((if b then record { number = n; step = s } ∷ [] else []) ++ rest)) [
-      | true ↦ (elim (wanted n s) as
-          (λ b. option_or (if b then Some (running_step n s) else None) (first_placed wanted rest)
-          ≡ (if b then Some (running_step n s) else first_placed wanted rest)) [
+    ≡ first_placed wanted ((if test then record { number = number; step = step } ∷ [] else []) ++ rest)) [
+      | true ↦ (elim (wanted number step) as
+          (λ test. option_or (if test then Some (running_step number step) else None) (first_placed wanted rest)
+          ≡ (if test then Some (running_step number step) else first_placed wanted rest)) [
             | true ↦ refl
             | false ↦ refl
           ])
       | false ↦ refl
     ]
-placed_one wanted n (seq each) phase rest = refl
-placed_one wanted n (par each) phase rest = refl
-placed_one wanted n (choice each) phase rest = refl
-placed_one wanted n (loop body until) phase rest = refl
+placed_one wanted number (seq each) phase rest = refl
+placed_one wanted number (par each) phase rest = refl
+placed_one wanted number (choice each) phase rest = refl
+placed_one wanted number (loop body until) phase rest = refl
 
-pub running_placed : (wanted : ℕ → StepPlan → Bool) (ss : List Spot)
-    → first_running wanted ss ≡ first_placed wanted (runs ss)
+-- the first wanted one among the running steps
+pub running_placed : (wanted : ℕ → StepPlan → Bool) (others : List Spot)
+    → first_running wanted others ≡ first_placed wanted (runs others)
 running_placed wanted [] = refl
-running_placed wanted (s ∷ ss) =
-    ap (option_or (running_node wanted s.number s.node (phase_of s.progress))) (running_placed wanted ss)
-    ∙ placed_one wanted s.number s.node (phase_of s.progress) (runs ss)
+running_placed wanted (spot ∷ others) =
+    ap (option_or (running_node wanted spot.number spot.node (phase_of spot.progress))) (running_placed wanted others)
+    ∙ placed_one wanted spot.number spot.node (phase_of spot.progress) (runs others)
 
 -- the first wanted step that runs is the first wanted active step of the log
 pub first_active :
-    (chart : ChartPlan) (f : Marks) (log : List LogEntry) (wanted : ℕ → StepPlan → Bool) → IsValid chart
-    → Stands (course_of chart) f (word log)
-    → first_running wanted (spots chart.root 0 f) ≡ first_placed wanted (active_steps chart log)
-first_active chart f log wanted valid h = running_placed wanted (spots chart.root 0 f)
-    ∙ ap (first_placed wanted) (runs_active chart f log valid h)
+    (chart : ChartPlan) (marks : Marks) (log : List LogEntry) (wanted : ℕ → StepPlan → Bool) → IsValid chart
+    → Stands (course_of chart) marks (word log)
+    → first_running wanted (spots chart.root 0 marks) ≡ first_placed wanted (active_steps chart log)
+first_active chart marks log wanted valid stands = running_placed wanted (spots chart.root 0 marks)
+    ∙ ap (first_placed wanted) (runs_active chart marks log valid stands)
 
+-- the first broken one of a node and of those behind it
 broken_one : (seen : Sights) (number : ℕ) (node : Tree) (phase : Phase) (rest : List Placed)
     → option_or (broken_node seen node phase) (first_broken seen (map (λ placed. placed.step) rest))
     ≡ first_broken seen (map (λ placed. placed.step) (run_of number node phase ++ rest))
@@ -329,6 +389,7 @@ broken_one seen number (par each) phase rest = refl
 broken_one seen number (choice each) phase rest = refl
 broken_one seen number (loop body until) phase rest = refl
 
+-- the first broken one among the running steps
 broken_among : (seen : Sights) (spots : List Spot)
     → first_broken_node seen spots ≡ first_broken seen (map (λ placed. placed.step) (runs spots))
 broken_among seen [] = refl

@@ -25,105 +25,118 @@ use Rattle.chart_cursor.specs.declared.breaking.FirstBroken.{FirstBroken}
 
 -- ---- a part that is done has no open node
 
-ended_step : (n : ℕ) (node : Tree) (progress : Progress) → is_ended progress ≡ true → step_spots n node progress ≡ []
-ended_step n node Untouched h = absurd cc
-ended_step n node Begun h = absurd cc
-ended_step n node Finished h = absurd cc
-ended_step n node WasReset h = absurd cc
-ended_step n node Ended h = refl
-ended_step n node (Chosen arm) h = refl
-ended_step n node Left h = refl
+-- an ended step is not open
+ended_step : (number : ℕ) (node : Tree) (progress : Progress) → is_ended progress ≡ true
+    → step_spots number node progress ≡ []
+ended_step number node Untouched ended = absurd cc
+ended_step number node Begun ended = absurd cc
+ended_step number node Finished ended = absurd cc
+ended_step number node WasReset ended = absurd cc
+ended_step number node Ended ended = refl
+ended_step number node (Chosen arm) ended = refl
+ended_step number node Left ended = refl
 
+-- a selection whose chosen arm is done has nothing open
 done_choice :
-    (n : ℕ) (node : Tree) (arm : ℕ → List Spot) (test : ℕ → Bool) (progress : Progress)
+    (number : ℕ) (node : Tree) (arm : ℕ → List Spot) (test : ℕ → Bool) (progress : Progress)
     → ((place : ℕ) → test place ≡ true → arm place ≡ [])
-    → has_chosen test progress ≡ true → choice_spots n node arm progress ≡ []
-done_choice n node arm test Untouched k h = absurd cc
-done_choice n node arm test Begun k h = refl
-done_choice n node arm test Finished k h = refl
-done_choice n node arm test WasReset k h = refl
-done_choice n node arm test Ended k h = refl
-done_choice n node arm test (Chosen place) k h = k place h
-done_choice n node arm test Left k h = refl
+    → has_chosen test progress ≡ true → choice_spots number node arm progress ≡ []
+done_choice number node arm test Untouched closed chosen = absurd cc
+done_choice number node arm test Begun closed chosen = refl
+done_choice number node arm test Finished closed chosen = refl
+done_choice number node arm test WasReset closed chosen = refl
+done_choice number node arm test Ended closed chosen = refl
+done_choice number node arm test (Chosen place) closed chosen = closed place chosen
+done_choice number node arm test Left closed chosen = refl
 
-left_loop : (n : ℕ) (node : Tree) (done : Bool) (body : List Spot) (progress : Progress) → is_left progress ≡ true
-    → loop_spots n node done body progress ≡ []
-left_loop n node done body Untouched h = absurd cc
-left_loop n node done body Begun h = refl
-left_loop n node done body Finished h = refl
-left_loop n node done body WasReset h = refl
-left_loop n node done body Ended h = refl
-left_loop n node done body (Chosen arm) h = refl
-left_loop n node done body Left h = refl
+-- a loop that was left has nothing open
+left_loop : (number : ℕ) (node : Tree) (done : Bool) (body : List Spot) (progress : Progress) → is_left progress ≡ true
+    → loop_spots number node done body progress ≡ []
+left_loop number node done body Untouched left = absurd cc
+left_loop number node done body Begun left = refl
+left_loop number node done body Finished left = refl
+left_loop number node done body WasReset left = refl
+left_loop number node done body Ended left = refl
+left_loop number node done body (Chosen arm) left = refl
+left_loop number node done body Left left = refl
 
 mutual
-  pub done_closed : (each : Tree) (n : ℕ) (marks : Marks) → is_done (course each n) marks ≡ true
-      → spots each n marks ≡ []
-  done_closed (leaf step) n marks h = ended_step n (leaf step) (marks n) h
-  done_closed (seq each) n marks h = turn_closed each (n + 1) marks h
-  done_closed (par each) n marks h = once_closed each (n + 1) marks h
-  done_closed (choice each) n marks h =
-      done_choice n (choice each) (λ arm. arm_spots each (n + 1) arm marks)
-      (λ arm. is_done (arm_at each (n + 1) arm) marks) (marks n)
-      (λ place. arm_closed each (n + 1) place marks) h
-  done_closed (loop body until) n marks h =
-      left_loop n (loop body until) (is_done (course body (n + 1)) marks) (spots body (n + 1) marks) (marks n) h
+  pub done_closed : (each : Tree) (number : ℕ) (marks : Marks) → is_done (course each number) marks ≡ true
+      → spots each number marks ≡ []
+  done_closed (leaf step) number marks done = ended_step number (leaf step) (marks number) done
+  done_closed (seq each) number marks done = turn_closed each (number + 1) marks done
+  done_closed (par each) number marks done = once_closed each (number + 1) marks done
+  done_closed (choice each) number marks done =
+      done_choice number (choice each) (λ arm. arm_spots each (number + 1) arm marks)
+      (λ arm. is_done (arm_at each (number + 1) arm) marks) (marks number)
+      (λ place. arm_closed each (number + 1) place marks) done
+  done_closed (loop body until) number marks done =
+      left_loop number (loop body until) (is_done (course body (number + 1)) marks) (spots body (number + 1) marks)
+          (marks number) done
 
-  turn_closed : (each : Trees) (n : ℕ) (marks : Marks) → is_done (in_turn each n) marks ≡ true
-      → turn_spots each n marks ≡ []
-  turn_closed no_trees n marks h = refl
-  turn_closed (more_trees each others) n marks h =
-      let both = and_parts (is_done (course each n) marks) (is_done (in_turn others (n + size each)) marks) h in
-      rw both.0 (turn_closed others (n + size each) marks both.1)
+  turn_closed : (each : Trees) (number : ℕ) (marks : Marks) → is_done (in_turn each number) marks ≡ true
+      → turn_spots each number marks ≡ []
+  turn_closed no_trees number marks done = refl
+  turn_closed (more_trees each others) number marks done =
+      let both = and_parts (is_done (course each number) marks)
+          (is_done (in_turn others (number + size each)) marks) done in
+      rw both.0 (turn_closed others (number + size each) marks both.1)
 
-  once_closed : (each : Trees) (n : ℕ) (marks : Marks) → is_done (at_once each n) marks ≡ true
-      → once_spots each n marks ≡ []
-  once_closed no_trees n marks h = refl
-  once_closed (more_trees each others) n marks h =
-      let both = and_parts (is_done (course each n) marks) (is_done (at_once others (n + size each)) marks) h in
-      rw (done_closed each n marks both.0) (once_closed others (n + size each) marks both.1)
+  once_closed : (each : Trees) (number : ℕ) (marks : Marks) → is_done (at_once each number) marks ≡ true
+      → once_spots each number marks ≡ []
+  once_closed no_trees number marks done = refl
+  once_closed (more_trees each others) number marks done =
+      let both = and_parts (is_done (course each number) marks)
+          (is_done (at_once others (number + size each)) marks) done in
+      rw (done_closed each number marks both.0) (once_closed others (number + size each) marks both.1)
 
-  arm_closed : (each : Arms) (n place : ℕ) (marks : Marks) → is_done (arm_at each n place) marks ≡ true
-      → arm_spots each n place marks ≡ []
-  arm_closed no_arms n place marks h = refl
-  arm_closed (more_arms when each others) n zero marks h = done_closed each n marks h
-  arm_closed (more_arms when each others) n (suc place) marks h = arm_closed others (n + size each) place marks h
+  arm_closed : (each : Arms) (number place : ℕ) (marks : Marks) → is_done (arm_at each number place) marks ≡ true
+      → arm_spots each number place marks ≡ []
+  arm_closed no_arms number place marks done = refl
+  arm_closed (more_arms when each others) number zero marks done = done_closed each number marks done
+  arm_closed (more_arms when each others) number (suc place) marks done =
+      arm_closed others (number + size each) place marks done
 
 -- ---- one part more
 
 -- a walk over a part that is done looks at nothing
 pub done_same :
-    {A : Type 0} (after : A → Spot → A) (old new : A) (each : Tree) (n : ℕ) (marks : Marks)
-    → new ≡ fold after old (spots each n marks) → is_done (course each n) marks ≡ true → new ≡ old
-done_same after old new each n marks looked done = looked ∙ ap (fold after old) (done_closed each n marks done)
+    {A : Type 0} (after : A → Spot → A) (old new : A) (each : Tree) (number : ℕ) (marks : Marks)
+    → new ≡ fold after old (spots each number marks) → is_done (course each number) marks ≡ true → new ≡ old
+done_same after old new each number marks looked done = looked
+    ∙ ap (fold after old) (done_closed each number marks done)
 
 -- parts in order: where the first of them is done, the walk goes on with the others
 pub turn_more :
-    {A : Type 0} (after : A → Spot → A) (old new : A) (each : Tree) (others : Trees) (n : ℕ) (marks : Marks)
-    → new ≡ fold after old (spots each n marks)
-    → (if is_done (course each n) marks then fold after new (turn_spots others (n + size each) marks) else new)
-    ≡ fold after old (turn_spots (more_trees each others) n marks)
-turn_more after old new each others n marks looked =
-    (elim (is_done (course each n) marks) as
-    (λ done. is_done (course each n) marks ≡ done →
-    (if done then fold after new (turn_spots others (n + size each) marks) else new)
-    ≡ fold after old (if done then turn_spots others (n + size each) marks else spots each n marks)) [
-      | true ↦ λ done. ap (λ look. fold after look (turn_spots others (n + size each) marks))
-          (done_same after old new each n marks looked done)
+    {A : Type 0} (after : A → Spot → A) (old new : A) (each : Tree) (others : Trees) (number : ℕ) (marks : Marks)
+    → new ≡ fold after old (spots each number marks)
+    → (if is_done (course each number) marks then fold after new
+    (turn_spots others (number + size each) marks) else new)
+    ≡ fold after old (turn_spots (more_trees each others) number marks)
+turn_more after old new each others number marks looked =
+    (elim (is_done (course each number) marks) as
+    (λ done. is_done (course each number) marks ≡ done →
+    (if done then fold after new (turn_spots others (number + size each) marks) else new)
+    ≡ fold after old (if done then turn_spots others (number + size each) marks else spots each number marks)) [
+      | true ↦ λ done. ap (λ look. fold after look (turn_spots others (number + size each) marks))
+          (done_same after old new each number marks looked done)
       | false ↦ λ done. looked
     ]) refl
 
 -- ---- what is found at the end of a walk
 
-pub first_next_assoc : (x y z : CursorNext) → first_next (first_next x y) z ≡ first_next x (first_next y z)
-first_next_assoc (Entry e) y z = refl
-first_next_assoc (Wait w) (Entry e) z = refl
-first_next_assoc (Wait w) (Wait v) (Entry e) = refl
-first_next_assoc (Wait w) (Wait v) (Wait u) = refl
-first_next_assoc (Wait w) (Wait v) Whole = refl
-first_next_assoc (Wait w) Whole z = refl
-first_next_assoc Whole y z = refl
+-- the first of three answers
+pub first_next_assoc : (one other third : CursorNext) → first_next (first_next one other) third
+    ≡ first_next one (first_next other third)
+first_next_assoc (Entry entry) other third = refl
+first_next_assoc (Wait obstacle) (Entry entry) third = refl
+first_next_assoc (Wait obstacle) (Wait second) (Entry entry) = refl
+first_next_assoc (Wait obstacle) (Wait second) (Wait last_one) = refl
+first_next_assoc (Wait obstacle) (Wait second) Whole = refl
+first_next_assoc (Wait obstacle) Whole third = refl
+first_next_assoc Whole other third = refl
 
+-- one answer, and nothing behind it
 first_next_whole : (one : CursorNext) → first_next one Whole ≡ one
 first_next_whole (Entry entry) = refl
 first_next_whole (Wait obstacle) = refl
@@ -138,11 +151,14 @@ ready_found sights ready (spot ∷ others) =
     ready_found sights (look_ready sights ready spot) others
     ∙ first_next_assoc ready.next (spot_ready (sights ready.seen.now) spot) (first_among (sights ready.seen.now) others)
 
-or_assoc : {A : Type 0} (x y z : Option A) → option_or (option_or x y) z ≡ option_or x (option_or y z)
-or_assoc None y z = refl
-or_assoc (Some first) y z = refl
+-- the first of three that is there
+or_assoc : {A : Type 0} (one other third : Option A) → option_or (option_or one other) third
+    ≡ option_or one (option_or other third)
+or_assoc None other third = refl
+or_assoc (Some first) other third = refl
 
-or_none : {A : Type 0} (x : Option A) → option_or x None ≡ x
+-- one, and nothing behind it
+or_none : {A : Type 0} (one : Option A) → option_or one None ≡ one
 or_none None = refl
 or_none (Some first) = refl
 
@@ -171,6 +187,7 @@ broken_found sights broken (spot ∷ others) =
 
 -- ---- a selection has no more arms than nodes
 
+-- a tree has a node
 size_some : (each : Tree) → 1 ≤ size each
 size_some (leaf step) = omega arith
 size_some (seq each) = omega arith
@@ -178,6 +195,7 @@ size_some (par each) = omega arith
 size_some (choice each) = omega arith
 size_some (loop body until) = omega arith
 
+-- no more arms than nodes
 pub few_arms : (each : List Arm) → length each ≤ arm_sizes (arms each)
 few_arms [] = omega arith
 few_arms (arm ∷ each) =
