@@ -31,6 +31,3 @@ pub use laws::{
 pub use next::CursorNext;
 pub use running::RunningStep;
 pub use sight::{ReadingSight, Seen, Sight};
-
-#[cfg(test)]
-mod tests;
