@@ -1,6 +1,7 @@
 -- A valid chart has few nodes.
 use Rattle.std.specs.Prelude.{◌≡◌, ◌≤◌, ◌<◌, ◌^◌, List, length}
 use Rattle.std.proofs.Common.{arith}
+use Rattle.chart_core.specs.declared.limits.TheConstants.{MOST_NODES}
 use Rattle.chart_core.specs.Trees.{tree, size}
 use Rattle.chart_core.specs.Charts.{plan}
 use Rattle.chart_core.specs.Valid.{IsValid}
@@ -9,7 +10,7 @@ use Rattle.chart_core.specs.declared.progress.Progress.{Progress}
 use Rattle.chart_core.proofs.Validity.{valid_small}
 
 -- at most 4,096 nodes
-pub few_nodes : (chart : Chart) → IsValid (plan chart) → size (tree chart.root) ≤ 4096
+pub few_nodes : (chart : Chart) → IsValid (plan chart) → size (tree chart.root) ≤ MOST_NODES
 few_nodes chart valid = valid_small (plan chart) chart.form valid
 
 -- and so few marks

@@ -1,6 +1,7 @@
 -- What is read only grows.
 use Rattle.std.specs.Prelude.{◌≤◌, ◌<◌, Bool, true, false, List, [], ◌∷◌, ◌++◌, length, if◌then◌else◌}
 use Rattle.std.proofs.Common.{arith, length-append}
+use Rattle.chart_core.specs.declared.limits.TheConstants.{MOST_READS}
 use Rattle.chart_core.specs.Formulas.{Formula, Formulas, constant, all_of, any_of, not_of, test, no_formulas, more_formulas}
 use Rattle.chart_core.specs.Reads.{has_read, with_reads, with_all_reads}
 use Rattle.chart_core.specs.declared.reads.Read.{Read}
@@ -28,5 +29,5 @@ mutual
 -- what is too much for one condition is too much for all of them
 pub too_many :
     (each : Formula) (others : Formulas) (reads : List Read)
-    → 4 < length (with_reads each reads) → 4 < length (with_all_reads (more_formulas each others) reads)
+    → MOST_READS < length (with_reads each reads) → MOST_READS < length (with_all_reads (more_formulas each others) reads)
 too_many each others reads many = omega (arith, all_grow others (with_reads each reads))

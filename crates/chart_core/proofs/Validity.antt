@@ -8,6 +8,7 @@ use Rattle.std.specs.Option.{option_or}
 use Rattle.mtp_codes.specs.Names.{is_among, same_name}
 use Rattle.mtp_codes.specs.Numbers.{is_between}
 use Rattle.mtp_codes.specs.Faults.{first_of, when}
+use Rattle.chart_core.specs.declared.limits.TheConstants.{MOST_ARMS, DEEPEST_NODE, MOST_STEPS, MOST_NODES}
 use Rattle.chart_core.specs.Form.{is_tree_formed, are_trees_formed, are_arms_formed, is_formula_formed, tree_count}
 use Rattle.chart_core.specs.Roles.{ChartPlan, role_names, are_roles_formed, is_chart_form}
 use Rattle.chart_core.specs.Trees.{StepPlan, Placed, Tree, Trees, Arms, leaf, seq, par, choice, loop, no_trees, more_trees, no_arms, more_arms, size, sizes, arm_sizes, arm_count, steps, all_steps, arm_steps}
@@ -73,11 +74,11 @@ none_first (fault ∷ faults) none = let both = first_clear fault (first_of faul
     (both.0, none_first faults both.1)
 
 -- what the test of depth says
-shallow_told : (depth : ℕ) → nat_lt 16 depth ≡ false → depth ≤ 16
+shallow_told : (depth : ℕ) → nat_lt DEEPEST_NODE depth ≡ false → depth ≤ DEEPEST_NODE
 shallow_told depth tested = grind (arith, nat_tests)
 
 -- what the test of the number of steps says
-few_told : (earlier : ℕ) → nat_le 256 earlier ≡ false → earlier < 256
+few_told : (earlier : ℕ) → nat_le MOST_STEPS earlier ≡ false → earlier < MOST_STEPS
 few_told earlier tested = grind (arith, nat_tests)
 
 -- what the test of roles says
@@ -87,8 +88,8 @@ among_told false reads tested = cc
 
 -- what no fault of a step says
 record StepClear (chart : ChartPlan) (step : StepPlan) (number depth earlier : ℕ) : Type 0 where
-  pub shallow : depth ≤ 16
-  pub few : earlier < 256
+  pub shallow : depth ≤ DEEPEST_NODE
+  pub few : earlier < MOST_STEPS
   pub new_name : has_name chart.root number step.name ≡ false
   pub known_role : is_among (role_names chart) step.role ≡ true
 
@@ -98,8 +99,8 @@ step_clear : (chart : ChartPlan) (step : StepPlan) (number depth earlier : ℕ)
 step_clear chart step number depth earlier clear =
     let none = none_first (node_faults chart (visit (leaf step) number depth earlier)) clear in
     record {
-      shallow = shallow_told depth (no_fault (nat_lt 16 depth) (TooDeep number) none.0);
-      few = few_told earlier (no_fault (nat_le 256 earlier) (TooManySteps number) none.1.0);
+      shallow = shallow_told depth (no_fault (nat_lt DEEPEST_NODE depth) (TooDeep number) none.0);
+      few = few_told earlier (no_fault (nat_le MOST_STEPS earlier) (TooManySteps number) none.1.0);
       new_name = no_fault (has_name chart.root number step.name) (StepTwice number) none.1.1.0;
       known_role = among_told _ _ (no_fault _ (UnknownRole number) none.1.1.1.0);
     }
@@ -366,8 +367,8 @@ valid_roles chart valid =
 
 -- as many nodes as sixteen for each step
 record Bound (number nodes earlier count : ℕ) : Type 0 where
-  pub near : number + nodes ≤ 16 * (earlier + count)
-  pub few : earlier + count ≤ 256
+  pub near : number + nodes ≤ DEEPEST_NODE * (earlier + count)
+  pub few : earlier + count ≤ MOST_STEPS
 
 -- what the test for some says
 some_told : (count : ℕ) → nat_le 1 count ≡ true → 0 < count
@@ -380,7 +381,7 @@ two_told count tested = grind (arith, nat_tests)
 mutual
   bounded : (chart : ChartPlan) (node : Tree) (number depth earlier : ℕ)
       → Each (IsClear chart) (visits node number depth earlier)
-      → is_tree_formed node ≡ true → number < 16 * earlier + depth → earlier ≤ 256
+      → is_tree_formed node ≡ true → number < DEEPEST_NODE * earlier + depth → earlier ≤ MOST_STEPS
       → Bound number (size node) earlier (step_count node)
   bounded chart (leaf step) number depth earlier clear formed near few =
       let step_is_clear = step_clear chart step number depth earlier clear.0 in
@@ -399,9 +400,9 @@ mutual
       record { near = omega arith; few = bound.few }
   bounded chart (choice each) number depth earlier clear formed near few =
       let bound = arms_bounded chart each (number + 1) (depth + 1) earlier clear.1
-          (and_right (is_between 1 16 (arm_count each)) _ formed)
+          (and_right (is_between 1 MOST_ARMS (arm_count each)) _ formed)
       (some_told (arm_count each) (and_left (nat_le 1 (arm_count each)) _
-      (and_left (is_between 1 16 (arm_count each)) _ formed)))
+      (and_left (is_between 1 MOST_ARMS (arm_count each)) _ formed)))
       (omega arith) (omega arith) few in
       record { near = omega arith; few = bound.few }
   bounded chart (loop body until) number depth earlier clear formed near few =
@@ -412,7 +413,7 @@ mutual
   all_bounded : (chart : ChartPlan) (nodes : Trees) (number depth earlier : ℕ)
       → Each (IsClear chart) (all_visits nodes number depth earlier)
       → are_trees_formed nodes ≡ true → 0 < tree_count nodes
-      → 0 < depth → number < 16 * earlier + depth → earlier ≤ 256
+      → 0 < depth → number < DEEPEST_NODE * earlier + depth → earlier ≤ MOST_STEPS
       → Bound number (sizes nodes) earlier (step_counts nodes)
   all_bounded chart no_trees number depth earlier clear formed some deep near few = absurd (omega arith)
   all_bounded chart (more_trees node no_trees) number depth earlier clear formed some deep near few =
@@ -434,7 +435,7 @@ mutual
   arms_bounded : (chart : ChartPlan) (nodes : Arms) (number depth earlier : ℕ)
       → Each (IsClear chart) (arm_visits nodes number depth earlier)
       → are_arms_formed nodes ≡ true → 0 < arm_count nodes
-      → 0 < depth → number < 16 * earlier + depth → earlier ≤ 256
+      → 0 < depth → number < DEEPEST_NODE * earlier + depth → earlier ≤ MOST_STEPS
       → Bound number (arm_sizes nodes) earlier (arm_step_counts nodes)
   arms_bounded chart no_arms number depth earlier clear formed some deep near few = absurd (omega arith)
   arms_bounded chart (more_arms when node no_arms) number depth earlier clear formed some deep near few =
@@ -461,7 +462,7 @@ pub form_tree : (chart : ChartPlan) → IsTrue (is_chart_form chart) → is_tree
 form_tree chart form = and_right (are_roles_formed chart) (is_tree_formed chart.root) form
 
 -- A valid chart has at most 4,096 nodes.
-pub valid_small : (chart : ChartPlan) → IsTrue (is_chart_form chart) → IsValid chart → size chart.root ≤ 4096
+pub valid_small : (chart : ChartPlan) → IsTrue (is_chart_form chart) → IsValid chart → size chart.root ≤ MOST_NODES
 valid_small chart form valid =
     let bound = bounded chart chart.root 0 1 0 (all_clear chart (visits chart.root 0 1 0) valid) (form_tree chart form)
     (omega arith) (omega arith) in

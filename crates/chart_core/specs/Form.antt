@@ -4,6 +4,7 @@ use Rattle.mtp_codes.specs.Numbers.{is_between}
 use Rattle.mtp_codes.specs.declared.value.Reading.{Reading}
 use Rattle.mtp_codes.specs.declared.value.Reading.TheVariants.{Whole, Bit}
 use Rattle.mtp_codes.specs.Names.{is_among}
+use Rattle.chart_core.specs.declared.limits.TheConstants.{MOST_SETTINGS, MOST_ARMS, MOST_JOINED, MOST_TESTS, DEEPEST_CONDITION}
 use Rattle.chart_core.specs.Formulas.{Formula, Formulas, constant, all_of, any_of, not_of, test, no_formulas, more_formulas}
 use Rattle.chart_core.specs.Trees.{StepPlan, Tree, Trees, Arms, leaf, seq, par, choice, loop, no_trees, more_trees, no_arms, more_arms, arm_count}
 use Rattle.chart_core.specs.declared.condition.Op.{Op}
@@ -33,8 +34,8 @@ formula_count (more_formulas each others) = suc (formula_count others)
 abbrev mutual
   pub has_parts_formed : Formula → Bool
   has_parts_formed (constant value) = true
-  has_parts_formed (all_of each) = is_between 1 16 (formula_count each) && have_parts_formed each
-  has_parts_formed (any_of each) = is_between 1 16 (formula_count each) && have_parts_formed each
+  has_parts_formed (all_of each) = is_between 1 MOST_JOINED (formula_count each) && have_parts_formed each
+  has_parts_formed (any_of each) = is_between 1 MOST_JOINED (formula_count each) && have_parts_formed each
   has_parts_formed (not_of inner) = has_parts_formed inner
   has_parts_formed (test role variable op value) = may_compare op value
 
@@ -70,7 +71,7 @@ abbrev mutual
 
 -- a condition has at most 16 tests and is nested at most 8 deep
 abbrev pub is_formula_formed : Formula → Bool
-is_formula_formed each = has_parts_formed each && (nat_le (test_count each) 16 && nat_le (nesting each) 8)
+is_formula_formed each = has_parts_formed each && (nat_le (test_count each) MOST_TESTS && nat_le (nesting each) DEEPEST_CONDITION)
 
 -- a finish, where there is one, has such a condition
 abbrev pub is_finish_formed : Option Formula → Bool
@@ -81,7 +82,7 @@ is_finish_formed (Some condition) = is_formula_formed condition
 abbrev pub is_step_formed : StepPlan → Bool
 is_step_formed step =
     nat_le 1 step.procedure
-    && (nat_le (length step.settings) 32
+    && (nat_le (length step.settings) MOST_SETTINGS
     && (are_distinct (map (λ setting. setting.name) step.settings) && is_finish_formed step.finish))
 
 -- how many nodes stand in the list
@@ -95,7 +96,7 @@ abbrev mutual
   is_tree_formed (leaf step) = is_step_formed step
   is_tree_formed (seq each) = nat_le 1 (tree_count each) && are_trees_formed each
   is_tree_formed (par each) = nat_le 2 (tree_count each) && are_trees_formed each
-  is_tree_formed (choice each) = is_between 1 16 (arm_count each) && are_arms_formed each
+  is_tree_formed (choice each) = is_between 1 MOST_ARMS (arm_count each) && are_arms_formed each
   is_tree_formed (loop body until) = is_tree_formed body && is_formula_formed until
 
   pub are_trees_formed : Trees → Bool

@@ -4,16 +4,17 @@ use Rattle.std.proofs.Common.{take-append-drop, arith}
 use Rattle.std.proofs.lemmas.List.{length-take-le}
 use Rattle.mtp_codes.specs.declared.value.Reading.{Reading}
 use Rattle.mtp_codes.specs.declared.value.Reading.TheVariants.{Bit}
+use Rattle.chart_core.specs.declared.limits.TheConstants.{MOST_READS}
 
 -- the first `len` items are in use, and the others are blank
 pub record IsKept (items : List Reading) (len : ℕ) : Type 0 where
-  pub whole : length items ≡ 4
-  pub fits : len ≤ 4
-  pub blanks : drop len items ≡ replicate (4 - len) (Bit false)
+  pub whole : length items ≡ MOST_READS
+  pub fits : len ≤ MOST_READS
+  pub blanks : drop len items ≡ replicate (MOST_READS - len) (Bit false)
 
 -- these readings with blanks behind them
 abbrev pub filled_up : List Reading → List Reading
-filled_up used = used ++ replicate (4 - length used) (Bit false)
+filled_up used = used ++ replicate (MOST_READS - length used) (Bit false)
 
 -- as many items are in use as the length says
 pub length-used : (items : List Reading) (len : ℕ) → IsKept items len → length (take len items) ≡ len

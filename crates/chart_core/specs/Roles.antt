@@ -2,6 +2,7 @@
 use Rattle.std.specs.Prelude.{ℕ, length, List, map, Bool, ◌&&◌, nat_le}
 use Rattle.std.specs.List.{list_all}
 use Rattle.mtp_codes.specs.Numbers.{is_between}
+use Rattle.chart_core.specs.declared.limits.TheConstants.{MOST_ROLES, LONGEST_WANTED}
 use Rattle.chart_core.specs.Form.{are_distinct, is_tree_formed}
 use Rattle.chart_core.specs.Trees.{Tree, tree}
 use Rattle.chart_core.specs.declared.role.Role.{Role}
@@ -29,8 +30,8 @@ role_names chart = map (λ role. role.role) chart.roles
 -- there are 1 to 64 distinct roles, each with a text of at most 64 bytes
 abbrev pub are_roles_formed : ChartPlan → Bool
 are_roles_formed chart =
-    is_between 1 64 (length chart.roles)
-    && (are_distinct (role_names chart) && list_all (λ role. nat_le (length role.wants) 64) chart.roles)
+    is_between 1 MOST_ROLES (length chart.roles)
+    && (are_distinct (role_names chart) && list_all (λ role. nat_le (length role.wants) LONGEST_WANTED) chart.roles)
 
 -- the chart's roles and its nodes are formed
 abbrev pub is_chart_form : ChartPlan → Bool

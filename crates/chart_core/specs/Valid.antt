@@ -3,6 +3,7 @@ use Rattle.std.specs.Prelude.{ℕ, ◌+◌, ◌-◌, ◌≡◌, length, List, []
 use Rattle.std.specs.Option.{option_or}
 use Rattle.mtp_codes.specs.Faults.{when, first_of}
 use Rattle.mtp_codes.specs.Names.{is_among, same_name}
+use Rattle.chart_core.specs.declared.limits.TheConstants.{MOST_READS, DEEPEST_NODE, MOST_STEPS}
 use Rattle.chart_core.specs.Formulas.{Formula, Formulas, constant, all_of, any_of, not_of, test, no_formulas, more_formulas}
 use Rattle.chart_core.specs.Reads.{reads_of}
 use Rattle.chart_core.specs.Trees.{StepPlan, Tree, Trees, Arms, leaf, seq, par, choice, loop, no_trees, more_trees, no_arms, more_arms, size, arm_conditions}
@@ -182,15 +183,15 @@ on_step (Some step) property = property step
 -- of a common parallel has its role and service; it reads more than four variables.
 abbrev pub node_faults : ChartPlan → Visit → List (Option ChartFault)
 node_faults chart node =
-    when (nat_lt 16 node.depth) (TooDeep node.number)
-    ∷ when (on_step node.step (λ step. nat_le 256 node.earlier)) (TooManySteps node.number)
+    when (nat_lt DEEPEST_NODE node.depth) (TooDeep node.number)
+    ∷ when (on_step node.step (λ step. nat_le MOST_STEPS node.earlier)) (TooManySteps node.number)
     ∷ when (on_step node.step (λ step. has_name chart.root node.number step.name)) (StepTwice node.number)
     ∷ when
     (on_step node.step (λ step. not (is_among (role_names chart) step.role))
     || some_reads_unknown node.conditions (role_names chart))
     (UnknownRole node.number)
     ∷ when (on_step node.step (λ step. clashes chart.root node.number step.role step.service)) (SameService node.number)
-    ∷ when (nat_lt 4 (length (reads_of node.conditions))) (TooManyReads node.number)
+    ∷ when (nat_lt MOST_READS (length (reads_of node.conditions))) (TooManyReads node.number)
     ∷ []
 
 -- the first fault of one node

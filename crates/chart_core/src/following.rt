@@ -8,6 +8,7 @@ ghost use Rattle.chart_core.specs.Runs.{is_first_true, judged, right_arm, decisi
 ghost use Rattle.chart_core.specs.Progress.{marks_of};
 ghost use Rattle.chart_core.specs.Deciding.{judged_until, round_change};
 ghost use Rattle.chart_core.specs.Changes.{is_done, next_progress, put_at, choose_at, change_by, FitsIn};
+ghost use Rattle.chart_core.specs.declared.limits.TheConstants.{MOST_READS};
 
 use super::condition::Condition;
 use super::entry::LogEntry;
@@ -125,7 +126,7 @@ fn choice(each: &[Arm], number: u32, entry: &LogEntry) -> Option<u32>
 
 // Whether the condition is true on these readings; None where they aren't as many as it reads.
 fn until_holds(until: &Condition, values: &[Reading]) -> Option<bool>
-    requires { length values.now ≤ 4 }
+    requires { length values.now ≤ MOST_READS }
     ensures { result ≡ judged_until (formula until.now) values.now }
 {
     match reads_of_condition(until) {

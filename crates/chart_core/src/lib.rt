@@ -13,6 +13,7 @@ mod entry;
 mod fault;
 mod following;
 mod laws;
+mod limits;
 mod marks;
 mod next;
 mod node;
@@ -33,6 +34,10 @@ pub use entry::LogEntry;
 pub use fault::ChartFault;
 pub use following::{Followed, follow};
 pub use laws::{names_are_distinct, nothing_is_partial, steps_have_roles};
+pub use limits::{
+    DEEPEST_CONDITION, DEEPEST_NODE, LONGEST_WANTED, MOST_ARMS, MOST_JOINED, MOST_NODES, MOST_READS, MOST_ROLES,
+    MOST_SETTINGS, MOST_STEPS, MOST_TESTS,
+};
 pub use marks::{chart_size, is_done, take_entry, untouched};
 pub use next::{Next, Outcome};
 pub use node::{Arm, Node, Step};

@@ -9,6 +9,7 @@ ghost use Rattle.chart_core.specs.Changes.{change_by, changed, moved, FitsIn};
 ghost use Rattle.chart_core.specs.Standing.{StandsFor};
 ghost use Rattle.chart_core.specs.declared.entry.LogEntry.{LogEntry};
 ghost use Rattle.chart_core.specs.declared.progress.Progress.TheVariants.{Untouched};
+ghost use Rattle.chart_core.specs.declared.limits.TheConstants.{MOST_NODES};
 
 use super::chart::Chart;
 use super::entry::LogEntry;
@@ -35,7 +36,7 @@ fn make(marks: &mut [Progress], change: Change)
 pub fn chart_size(chart: &Chart) -> u32
     requires { IsValid (plan chart.now) }
     ensures size { result ≡ size (tree chart.now.root) }
-    ensures small { result ≤ 4096 }
+    ensures small { result ≤ MOST_NODES }
 {
     node_count(&chart.root)
 }

@@ -1,6 +1,8 @@
 //! The readings by which a node decided.
 ghost use Rattle.std.specs.Prelude.{◌≡◌, ◌≤◌, ◌<◌, ◌++◌, ◌∷◌, [], length, nat_le, Some, None, if◌then◌else◌};
+ghost use Rattle.chart_core.specs.declared.limits.TheConstants.{MOST_READS};
 
+use super::limits::MOST_READS;
 use mtp_codes::Reading;
 use std::fmt;
 use std::marker::Model;
@@ -43,9 +45,9 @@ impl Readings {
 
     /// These readings; None exactly where they are more than four.
     pub fn of_list(list: &[Reading]) -> Option<Readings>
-        ensures { result ≡ if nat_le (length list.now) 4 then Some list.now else None }
+        ensures { result ≡ if nat_le (length list.now) MOST_READS then Some list.now else None }
     {
-        if list.len() > 4 {
+        if list.len() > MOST_READS {
             return None;
         }
         let mut items = [Reading::Bit(false); 4];
@@ -58,7 +60,7 @@ impl Readings {
 
     /// These readings with one more behind them.
     pub fn with(self, reading: Reading) -> Readings
-        requires { length self < 4 }
+        requires { length self < MOST_READS }
         ensures { result ≡ self ++ (reading ∷ []) }
     {
         let mut items = self.items;
@@ -72,7 +74,7 @@ impl Readings {
     /// The readings.
     pub fn as_list(&self) -> &[Reading]
         ensures list { result.now ≡ self.now }
-        ensures few { length self.now ≤ 4 }
+        ensures few { length self.now ≤ MOST_READS }
     {
         &self.items[..self.len]
     }

@@ -4,6 +4,7 @@ ghost use Rattle.chart_core.specs.Formulas.{formula, formulas};
 ghost use Rattle.chart_core.specs.Reads.{has_read, with_read, with_reads, with_all_reads, place_of, reads_of};
 ghost use Rattle.chart_core.specs.Trees.{arms, arm_conditions};
 ghost use Rattle.chart_core.specs.Runs.{arm_reads, loop_reads};
+ghost use Rattle.chart_core.specs.declared.limits.TheConstants.{MOST_READS};
 
 use super::condition::Condition;
 use super::node::Arm;
@@ -46,10 +47,10 @@ fn has(reads: &[Read], read: Read) -> bool
 
 // Adds the variable where it isn't there yet; false where there is no room for it.
 fn add(role: Name, var: Name, reads: &mut Reads) -> bool
-    requires { length reads.old.items ≤ 4 }
-    ensures few { IsTrue result → length reads.new.items ≤ 4 }
+    requires { length reads.old.items ≤ MOST_READS }
+    ensures few { IsTrue result → length reads.new.items ≤ MOST_READS }
     ensures yes { IsTrue result → reads.new.items ≡ with_read (record { role = role; var = var }) reads.old.items }
-    ensures no { IsFalse result → 4 < length (with_read (record { role = role; var = var }) reads.old.items) }
+    ensures no { IsFalse result → MOST_READS < length (with_read (record { role = role; var = var }) reads.old.items) }
 {
     if has(reads, Read { role, var }) {
         return true;
@@ -64,10 +65,10 @@ fn add(role: Name, var: Name, reads: &mut Reads) -> bool
 // Adds what the condition reads; false where that is too much.
 #[cycle(gather)]
 fn gather(condition: &Condition, reads: &mut Reads) -> bool
-    requires { length reads.old.items ≤ 4 }
-    ensures few { IsTrue result → length reads.new.items ≤ 4 }
+    requires { length reads.old.items ≤ MOST_READS }
+    ensures few { IsTrue result → length reads.new.items ≤ MOST_READS }
     ensures yes { IsTrue result → reads.new.items ≡ with_reads (formula condition.now) reads.old.items }
-    ensures no { IsFalse result → 4 < length (with_reads (formula condition.now) reads.old.items) }
+    ensures no { IsFalse result → MOST_READS < length (with_reads (formula condition.now) reads.old.items) }
 {
     match condition {
         Condition::Const(_) => true,
@@ -81,10 +82,10 @@ fn gather(condition: &Condition, reads: &mut Reads) -> bool
 #[cycle(gather)]
 #[tactic(auto, using(crate::proofs::Growing::all_grow))]
 fn gather_all(conditions: &[Condition], reads: &mut Reads) -> bool
-    requires { length reads.old.items ≤ 4 }
-    ensures few { IsTrue result → length reads.new.items ≤ 4 }
+    requires { length reads.old.items ≤ MOST_READS }
+    ensures few { IsTrue result → length reads.new.items ≤ MOST_READS }
     ensures yes { IsTrue result → reads.new.items ≡ with_all_reads (formulas conditions.now) reads.old.items }
-    ensures no { IsFalse result → 4 < length (with_all_reads (formulas conditions.now) reads.old.items) }
+    ensures no { IsFalse result → MOST_READS < length (with_all_reads (formulas conditions.now) reads.old.items) }
 {
     for each in conditions {
         if !gather(each, reads) {
@@ -98,8 +99,8 @@ fn gather_all(conditions: &[Condition], reads: &mut Reads) -> bool
 #[tactic(auto, using(crate::proofs::Growing::all_grow))]
 pub fn reads_of_arms(each: &[Arm]) -> Option<Reads>
     ensures some { IfSome result (λ reads. reads.items ≡ arm_reads (arms each.now)) }
-    ensures few { IfSome result (λ reads. length reads.items ≤ 4) }
-    ensures none { IfNone result (4 < length (arm_reads (arms each.now))) }
+    ensures few { IfSome result (λ reads. length reads.items ≤ MOST_READS) }
+    ensures none { IfNone result (MOST_READS < length (arm_reads (arms each.now))) }
 {
     let mut reads = ArrayVec::new();
     for arm in each {
@@ -113,8 +114,8 @@ pub fn reads_of_arms(each: &[Arm]) -> Option<Reads>
 /// What a loop or a step's finish reads; None exactly where that is more than four variables.
 pub fn reads_of_condition(condition: &Condition) -> Option<Reads>
     ensures some { IfSome result (λ reads. reads.items ≡ loop_reads (formula condition.now)) }
-    ensures few { IfSome result (λ reads. length reads.items ≤ 4) }
-    ensures none { IfNone result (4 < length (loop_reads (formula condition.now))) }
+    ensures few { IfSome result (λ reads. length reads.items ≤ MOST_READS) }
+    ensures none { IfNone result (MOST_READS < length (loop_reads (formula condition.now))) }
 {
     let mut reads = ArrayVec::new();
     if gather(condition, &mut reads) {

@@ -11,10 +11,12 @@ ghost use Rattle.chart_core.specs.Valid.{reads_unknown, some_reads_unknown, fini
 ghost use Rattle.chart_core.specs.Reads.{reads_of};
 ghost use Rattle.chart_core.specs.Runs.{arm_reads, loop_reads};
 ghost use Rattle.chart_core.specs.Walks.{walked, walked_all, walked_arms};
+ghost use Rattle.chart_core.specs.declared.limits.TheConstants.{DEEPEST_NODE, MOST_READS, MOST_STEPS};
 
 use super::chart::Chart;
 use super::condition::Condition;
 use super::fault::ChartFault;
+use super::limits::{DEEPEST_NODE, MOST_STEPS};
 use super::node::{Arm, Node, Step};
 use super::reads::{reads_of_arms, reads_of_condition};
 use super::role::Role;
@@ -78,7 +80,7 @@ fn an_arm_has_unknown(each: &[Arm], roles: &[Role]) -> bool
 
 // Whether a selection reads more than four variables.
 fn arms_read_too_much(each: &[Arm]) -> bool
-    ensures { result ≡ nat_lt 4 (length (arm_reads (arms each.now))) }
+    ensures { result ≡ nat_lt MOST_READS (length (arm_reads (arms each.now))) }
 {
     match reads_of_arms(each) {
         Some(_) => false,
@@ -88,7 +90,7 @@ fn arms_read_too_much(each: &[Arm]) -> bool
 
 // Whether a loop or a step's finish reads more than four variables.
 fn reads_too_much(condition: &Condition) -> bool
-    ensures { result ≡ nat_lt 4 (length (loop_reads (formula condition.now))) }
+    ensures { result ≡ nat_lt MOST_READS (length (loop_reads (formula condition.now))) }
 {
     match reads_of_condition(condition) {
         Some(_) => false,
@@ -107,7 +109,7 @@ fn finish_has_unknown(finish: &Option<Condition>, roles: &[Role]) -> bool
 }
 
 fn finish_reads_too_much(finish: &Option<Condition>) -> bool
-    ensures { result ≡ nat_lt 4 (length (reads_of (finish_conditions (finish_plan finish.now)))) }
+    ensures { result ≡ nat_lt MOST_READS (length (reads_of (finish_conditions (finish_plan finish.now)))) }
 {
     match finish {
         Some(condition) => reads_too_much(condition),
@@ -118,14 +120,14 @@ fn finish_reads_too_much(finish: &Option<Condition>) -> bool
 fn step_fault(step: &Step, depth: u32, here: Reached, chart: &Chart) -> Option<ChartFault>
     requires { here.number + 1 < 2 ^ 32 }
     ensures fault { result ≡ node_fault (plan chart.now) (visit (leaf (step_plan step.now)) here.number depth here.steps) }
-    ensures shallow { IfNone result (depth ≤ 16) }
-    ensures few { IfNone result (here.steps < 256) }
+    ensures shallow { IfNone result (depth ≤ DEEPEST_NODE) }
+    ensures few { IfNone result (here.steps < MOST_STEPS) }
 {
     let node = here.number;
-    if depth > 16 {
+    if depth > DEEPEST_NODE {
         return Some(ChartFault::TooDeep { node });
     }
-    if here.steps >= 256 {
+    if here.steps >= MOST_STEPS {
         return Some(ChartFault::TooManySteps { node });
     }
     if is_named(&chart.root, node, step.name) {
@@ -147,12 +149,12 @@ fn step_fault(step: &Step, depth: u32, here: Reached, chart: &Chart) -> Option<C
 fn other_fault(node: u32, depth: u32, unknown: bool, too_much: bool) -> Option<ChartFault>
     ensures fault { result
         ≡ first_of
-        (when (nat_lt 16 depth) (ChartFault.TooDeep node)
+        (when (nat_lt DEEPEST_NODE depth) (ChartFault.TooDeep node)
         ∷ when unknown (ChartFault.UnknownRole node)
         ∷ when too_much (ChartFault.TooManyReads node) ∷ []) }
-    ensures shallow { IfNone result (depth ≤ 16) }
+    ensures shallow { IfNone result (depth ≤ DEEPEST_NODE) }
 {
-    if depth > 16 {
+    if depth > DEEPEST_NODE {
         return Some(ChartFault::TooDeep { node });
     }
     if unknown {
@@ -167,12 +169,12 @@ fn other_fault(node: u32, depth: u32, unknown: bool, too_much: bool) -> Option<C
 #[cycle(walk)]
 fn walk(node: &Node, depth: u32, here: Reached, chart: &Chart) -> Result<Reached, ChartFault>
     requires formed { IsTrue (is_tree_formed (tree node.now)) }
-    requires deep { depth ≤ 17 }
-    requires near { here.number < 16 * here.steps + depth }
-    requires few { here.steps ≤ 256 }
+    requires deep { depth ≤ DEEPEST_NODE + 1 }
+    requires near { here.number < DEEPEST_NODE * here.steps + depth }
+    requires few { here.steps ≤ MOST_STEPS }
     ensures value { result ≡ walked (plan chart.now) (tree node.now) depth here }
-    ensures near { IfOk result (λ there. there.number ≤ 16 * there.steps) }
-    ensures few { IfOk result (λ there. there.steps ≤ 256) }
+    ensures near { IfOk result (λ there. there.number ≤ DEEPEST_NODE * there.steps) }
+    ensures few { IfOk result (λ there. there.steps ≤ MOST_STEPS) }
 {
     let next = Reached {
         number: here.number + 1,
@@ -220,12 +222,12 @@ fn walk_all(kids: &[Node], depth: u32, first: Reached, chart: &Chart) -> Result<
     requires formed { IsTrue (are_trees_formed (trees kids.now)) }
     requires some { 0 < length kids.now }
     requires below { 0 < depth }
-    requires deep { depth ≤ 17 }
-    requires near { first.number < 16 * first.steps + depth }
-    requires few { first.steps ≤ 256 }
+    requires deep { depth ≤ DEEPEST_NODE + 1 }
+    requires near { first.number < DEEPEST_NODE * first.steps + depth }
+    requires few { first.steps ≤ MOST_STEPS }
     ensures value { result ≡ walked_all (plan chart.now) (trees kids.now) depth first }
-    ensures near { IfOk result (λ there. there.number ≤ 16 * there.steps) }
-    ensures few { IfOk result (λ there. there.steps ≤ 256) }
+    ensures near { IfOk result (λ there. there.number ≤ DEEPEST_NODE * there.steps) }
+    ensures few { IfOk result (λ there. there.steps ≤ MOST_STEPS) }
 {
     let mut here = first;
     for kid in kids {
@@ -239,12 +241,12 @@ fn walk_arms(each: &[Arm], depth: u32, first: Reached, chart: &Chart) -> Result<
     requires formed { IsTrue (are_arms_formed (arms each.now)) }
     requires some { 0 < length each.now }
     requires below { 0 < depth }
-    requires deep { depth ≤ 17 }
-    requires near { first.number < 16 * first.steps + depth }
-    requires few { first.steps ≤ 256 }
+    requires deep { depth ≤ DEEPEST_NODE + 1 }
+    requires near { first.number < DEEPEST_NODE * first.steps + depth }
+    requires few { first.steps ≤ MOST_STEPS }
     ensures value { result ≡ walked_arms (plan chart.now) (arms each.now) depth first }
-    ensures near { IfOk result (λ there. there.number ≤ 16 * there.steps) }
-    ensures few { IfOk result (λ there. there.steps ≤ 256) }
+    ensures near { IfOk result (λ there. there.number ≤ DEEPEST_NODE * there.steps) }
+    ensures few { IfOk result (λ there. there.steps ≤ MOST_STEPS) }
 {
     let mut here = first;
     for arm in each {

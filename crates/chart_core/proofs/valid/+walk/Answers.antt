@@ -1,4 +1,5 @@
 use Rattle.std.proofs.Common.{◌+◌, ◌*◌, ◌≤◌, drop, ap, sym, ◌∙◌, arith}
+use Rattle.chart_core.specs.declared.limits.TheConstants.{DEEPEST_NODE}
 use Rattle.chart_core.specs.Formulas.{formula}
 use Rattle.chart_core.specs.Trees.{tree, arms}
 use Rattle.chart_core.specs.Charts.{plan}
@@ -14,7 +15,7 @@ walk_arms-loop-arm-preserved t c =
     let rest = arms (drop (c.loop-arm.arm-index + 1) c.args.each.now) in
     let cut = arms_cut c.args.each.now c.loop-arm.arm-index c.arm-item.result c.loop-arm-test.true c.arm-item.is in
     let passed = sym c.walk.ensures.value ∙ c.in_ok-here.was in
-    let near : c.in_ok-here.here.number ≤ 16 * c.in_ok-here.here.steps = c.in_ok-here.ensures.near in
+    let near : c.in_ok-here.here.number ≤ DEEPEST_NODE * c.in_ok-here.here.steps = c.in_ok-here.ensures.near in
     record {
       formed = arms_formed (formula c.arm-item.result.when) (tree c.arm-item.result.body) rest
           (rw cut at c.loop-arm.invariant.formed);

@@ -1,4 +1,5 @@
 use Rattle.std.proofs.Common.{◌≡◌, ◌+◌, ◌*◌, ◌<◌, ◌≤◌, drop, IsTrue}
+use Rattle.chart_core.specs.declared.limits.TheConstants.{DEEPEST_NODE, MOST_STEPS}
 use Rattle.chart_core.specs.Trees.{trees, arms}
 use Rattle.chart_core.specs.Form.{are_trees_formed, are_arms_formed}
 use Rattle.chart_core.specs.Charts.{plan}
@@ -8,9 +9,9 @@ use Rattle.chart_core.proofs.valid.+walk.Given as goal
 abbrev pub invariant-walk_all-loop-kid : goal.invariant-walk_all-loop-kid
 invariant-walk_all-loop-kid l = record {
   formed : IsTrue (are_trees_formed (trees (drop l.kid-index l.kids)));
-  near : l.here.number < 16 * l.here.steps + l.depth;
-  behind : 0 < l.kid-index → l.here.number ≤ 16 * l.here.steps;
-  few : l.here.steps ≤ 256;
+  near : l.here.number < DEEPEST_NODE * l.here.steps + l.depth;
+  behind : 0 < l.kid-index → l.here.number ≤ DEEPEST_NODE * l.here.steps;
+  few : l.here.steps ≤ MOST_STEPS;
   rest : walked_all (plan l.chart) (trees (drop l.kid-index l.kids)) l.depth l.here
       ≡ walked_all (plan l.chart) (trees l.kids) l.depth l.fn.first;
 }
@@ -18,9 +19,9 @@ invariant-walk_all-loop-kid l = record {
 abbrev pub invariant-walk_arms-loop-arm : goal.invariant-walk_arms-loop-arm
 invariant-walk_arms-loop-arm l = record {
   formed : IsTrue (are_arms_formed (arms (drop l.arm-index l.each)));
-  near : l.here.number < 16 * l.here.steps + l.depth;
-  behind : 0 < l.arm-index → l.here.number ≤ 16 * l.here.steps;
-  few : l.here.steps ≤ 256;
+  near : l.here.number < DEEPEST_NODE * l.here.steps + l.depth;
+  behind : 0 < l.arm-index → l.here.number ≤ DEEPEST_NODE * l.here.steps;
+  few : l.here.steps ≤ MOST_STEPS;
   rest : walked_arms (plan l.chart) (arms (drop l.arm-index l.each)) l.depth l.here
       ≡ walked_arms (plan l.chart) (arms l.each) l.depth l.fn.first;
 }

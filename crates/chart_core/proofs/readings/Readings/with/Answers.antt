@@ -1,6 +1,7 @@
 use Rattle.std.proofs.Common.{◌≡◌, ◌+◌, ◌-◌, ◌<◌, ◌∷◌, List, length, drop, get_or, replicate, arith, sym, ◌∙◌, ap, false, zero, suc, ℕ}
 use Rattle.std.proofs.lemmas.List.{drop-set-lt, length-set}
 use Rattle.std.proofs.Math.Seq.{drop-cons}
+use Rattle.chart_core.specs.declared.limits.TheConstants.{MOST_READS}
 use Rattle.chart_core.specs.Readings.{length-used}
 use Rattle.mtp_codes.specs.declared.value.Reading.{Reading}
 use Rattle.mtp_codes.specs.declared.value.Reading.TheVariants.{Bit}
@@ -20,12 +21,12 @@ invariant_of-result c =
     let len = c.self.inside.len in
     let kept = c.self.invariant in
     let used = length-used items len kept in
-    let room : len < 4 = omega (arith, used, ap length c.self.view_is, c.requires) in
+    let room : len < MOST_READS = omega (arith, used, ap length c.self.view_is, c.requires) in
     let inside : len < length items = omega (arith, kept.whole) in
-    let last = one_blank_less (4 - len) (get_or items len (Bit false)) (drop (suc len) items)
+    let last = one_blank_less (MOST_READS - len) (get_or items len (Bit false)) (drop (suc len) items)
     (sym (drop-cons items len (Bit false) inside) ∙ kept.blanks) in
     let next : len + 1 ≡ suc len = omega arith in
-    let less : 4 - len - 1 ≡ 4 - (len + 1) = omega arith in
+    let less : MOST_READS - len - 1 ≡ MOST_READS - (len + 1) = omega arith in
     record {
       whole = length-set items len c.args.reading ∙ kept.whole;
       fits = omega arith;
