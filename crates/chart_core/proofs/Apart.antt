@@ -128,7 +128,7 @@ choice_below : (each : Arms) (aside : Bool) (decision : Decision) (values : List
 choice_below each aside (chose arm) values chosen same =
     let found = some_if_is _ arm chosen same in
     let below : arm < arm_count each = lt_told arm (arm_count each)
-        (and_left (nat_lt arm (arm_count each)) _ found.0) in
+    (and_left (nat_lt arm (arm_count each)) _ found.0) in
     subst (λ number. number < arm_count each) found.1 below
 choice_below each aside turn values chosen same = cc
 choice_below each aside leave values chosen same = cc
@@ -232,11 +232,11 @@ mutual
   of_within (leaf step) number judged own = stage_named step number (number + 1) judged.entry own
   of_within (seq nodes) number judged own =
       within_more (all_names nodes) (all_names nodes) (number + 1) (number + 1 + sizes nodes) number
-          (number + (1 + sizes nodes)) judged.entry (λ name known. known)
+      (number + (1 + sizes nodes)) judged.entry (λ name known. known)
       (omega arith) (omega arith) (turn_within nodes (number + 1) judged own)
   of_within (par nodes) number judged own =
       within_more (all_names nodes) (all_names nodes) (number + 1) (number + 1 + sizes nodes) number
-          (number + (1 + sizes nodes)) judged.entry (λ name known. known)
+      (number + (1 + sizes nodes)) judged.entry (λ name known. known)
       (omega arith) (omega arith) (once_within nodes (number + 1) judged own)
   of_within (choice each) number judged own =
       elim (or_split (is_some (decision_at number (arm_reads each) judged))
@@ -257,7 +257,7 @@ mutual
             (decided_number number (length (loop_reads until)) judged.entry here)
         | inr here ↦
             within_more (names node) (names node) (number + 1) (number + 1 + size node) number
-                (number + (1 + size node)) judged.entry (λ name known. known)
+            (number + (1 + size node)) judged.entry (λ name known. known)
             (omega arith) (omega arith) (of_within node (number + 1) judged here)
       ]
 
@@ -298,12 +298,12 @@ mutual
   arm_within no_arms number arm judged own = cc
   arm_within (more_arms when node each) number zero judged own =
       within_more (names node) (names node ++ arm_names each) number (number + size node) number
-          (number + (size node + arm_sizes each)) judged.entry
+      (number + (size node + arm_sizes each)) judged.entry
       (λ name known. in_left name (names node) (arm_names each) known) (omega arith) (omega arith)
       (of_within node number judged own)
   arm_within (more_arms when node each) number (suc arm) judged own =
       within_more (arm_names each) (names node ++ arm_names each) (number + size node)
-          (number + size node + arm_sizes each) number
+      (number + size node + arm_sizes each) number
       (number + (size node + arm_sizes each))
       judged.entry (λ name known. in_right name (names node) (arm_names each) known) (omega arith) (omega arith)
       (arm_within each (number + size node) arm judged own)

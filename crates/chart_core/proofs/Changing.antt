@@ -51,15 +51,19 @@ chosen_of test Left is = cc
 pub done_of : {E : Type 0} (course : Course E) (marks : Marks) → is_done course marks ≡ true → Done course marks
 done_of nothing marks done = tt
 done_of (step number finishes stage) marks done = ended_of (marks number) done
-done_of (chain one other) marks done =
-    (done_of one marks (and_left (is_done one marks) (is_done other marks) done), done_of other marks
-    (and_right (is_done one marks) (is_done other marks) done))
-done_of (beside one other) marks done =
-    (done_of one marks (and_left (is_done one marks) (is_done other marks) done), done_of other marks
-    (and_right (is_done one marks) (is_done other marks) done))
+done_of (chain one other) marks done = (
+  done_of one marks (and_left (is_done one marks) (is_done other marks) done),
+  done_of other marks
+      (and_right (is_done one marks) (is_done other marks) done),
+)
+done_of (beside one other) marks done = (
+  done_of one marks (and_left (is_done one marks) (is_done other marks) done),
+  done_of other marks
+      (and_right (is_done one marks) (is_done other marks) done),
+)
 done_of (select number count own chooses bodies) marks done =
     let chosen = chosen_of (λ arm. is_done (bodies arm) marks) (marks number) done in
-        (chosen.0, chosen.1, done_of (bodies chosen.0) marks chosen.2)
+    (chosen.0, chosen.1, done_of (bodies chosen.0) marks chosen.2)
 done_of (repeat number after body own turns leaves) marks done = left_of (marks number) done
 
 -- what is done passes the test
@@ -141,12 +145,12 @@ clear_clears number below marks = (
 abbrev loop_change : {E : Type 0} → Course E → Marks → E → ℕ → ℕ → Bool → Bool → Bool → Option Change
 loop_change body marks entry number after turned left done =
     cond done (cond turned (Some (Clear number after)) (cond left (Some (Put number Left)) None))
-        (change_by body marks entry)
+    (change_by body marks entry)
 
 -- a change that is worked out leads on
 pub change_moves :
     {E : Type 0} (course : Course E) (marks : Marks) (entry : E) (change : Change) → Sound course
-        → change_by course marks entry ≡ Some change
+    → change_by course marks entry ≡ Some change
     → Moves course marks entry (changed change marks)
 change_moves nothing marks entry change sound is = cc
 change_moves (step number finishes stage) marks entry change sound is =
@@ -155,9 +159,12 @@ change_moves (step number finishes stage) marks entry change sound is =
     → Moves (step number finishes stage) marks entry (changed change marks)) [
       | None ↦ λ found is. cc
       | Some progress ↦ λ found is.
-          let same : Put number progress ≡ change = cc in
-          (progress, next_of finishes (marks number) (stage entry) progress found, subst
-          (λ change. Puts number progress marks (changed change marks)) same (put_puts number progress marks))
+          let same : Put number progress ≡ change = cc in (
+            progress,
+            next_of finishes (marks number) (stage entry) progress found,
+            subst
+                (λ change. Puts number progress marks (changed change marks)) same (put_puts number progress marks),
+          )
     ]) refl is
 change_moves (chain one other) marks entry change sound is =
     (elim (is_done one marks) as (λ done. is_done one marks ≡ done
@@ -197,10 +204,15 @@ change_moves (select number count own chooses bodies) marks entry change sound i
           ]) refl is
       | Chosen arm ↦ λ mark is.
           let move : Moves (bodies arm) marks entry (changed change marks) =
-              change_moves (bodies arm) marks entry change (sound.0 arm) is in
-          inr (arm, mark, sound.3 arm entry
-              (await_of (bodies arm) marks entry (sound.0 arm)
-              (move_await (bodies arm) marks entry (changed change marks) move)), move)
+          change_moves (bodies arm) marks entry change (sound.0 arm) is in
+          inr (
+            arm,
+            mark,
+            sound.3 arm entry
+                (await_of (bodies arm) marks entry (sound.0 arm)
+                (move_await (bodies arm) marks entry (changed change marks) move)),
+            move,
+          )
       | _ ↦ λ mark is. cc
     ]) refl is
 change_moves (repeat number after body own turns leaves) marks entry change sound is =
@@ -258,7 +270,7 @@ await_change (step number finishes stage) marks entry sound (progress, next) =
 await_change (chain one other) marks entry sound (inl awaits) =
     let found = await_change one marks entry sound.0 awaits in
     let no : is_done one marks ≡ false = not_true (is_done one marks)
-        (λ ended. done_no_await one marks entry (done_of one marks ended) awaits) in
+    (λ ended. done_no_await one marks entry (done_of one marks ended) awaits) in
     (found.0, rw no found.1)
 await_change (chain one other) marks entry sound (inr (done, awaits)) =
     let found = await_change other marks entry sound.1 awaits in (found.0, rw (of_done one marks done) found.1)
@@ -267,7 +279,7 @@ await_change (beside one other) marks entry sound (inl awaits) =
 await_change (beside one other) marks entry sound (inr awaits) =
     let found = await_change other marks entry sound.1 awaits in
     elim (change_by one marks entry) as (λ found1. (change : Change)
-        × (either_change found1 (change_by other marks entry) ≡ Some change)) [
+    × (either_change found1 (change_by other marks entry) ≡ Some change)) [
       | None ↦ (found.0, found.1)
       | Some change ↦ (change, refl)
     ]
@@ -278,7 +290,7 @@ await_change (select number count own chooses bodies) marks entry sound (inr (ar
 await_change (repeat number after body own turns leaves) marks entry sound (mark, inl awaits) =
     let found = await_change body marks entry sound.0 awaits in
     let no : is_done body marks ≡ false = not_true (is_done body marks)
-        (λ ended. done_no_await body marks entry (done_of body marks ended) awaits) in
+    (λ ended. done_no_await body marks entry (done_of body marks ended) awaits) in
     (found.0, rw (mark, no) found.1)
 await_change (repeat number after body own turns leaves) marks entry sound (mark, inr (inl (done, right))) =
     (Clear number after, rw (mark, of_done body marks done, right) refl)

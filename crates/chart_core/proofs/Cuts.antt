@@ -70,16 +70,16 @@ module _ {E : Type 0} where
   cut_unique one other [] back [] rest apart in_front in_back in_start in_rest same = (refl, same)
   cut_unique one other [] back (head ∷ start) rest apart in_front in_back (here, in_start) in_rest same =
       let found : (other head ≡ true) × All other (start ++ rest) = subst (All other) same in_back in
-          absurd (apart head here found.0)
+      absurd (apart head here found.0)
   cut_unique one other (first ∷ front) back [] rest apart (here, in_front) in_back in_start in_rest same =
       let found : (other first ≡ true) × All other (front ++ back) = subst (All other) (sym same) in_rest in
-          absurd (apart first here found.0)
+      absurd (apart first here found.0)
   cut_unique one other (first ∷ front) back (head ∷ start) rest apart (here, in_front) in_back
       (there, in_start) in_rest same =
       let tails : front ++ back ≡ start ++ rest = cc in
       let heads : first ≡ head = cc in
       let found : (front ≡ start) × (back ≡ rest) =
-          cut_unique one other front back start rest apart in_front in_back in_start in_rest tails in
+      cut_unique one other front back start rest apart in_front in_back in_start in_rest tails in
       (let fronts : front ≡ start = found.0 in cc, found.1)
 
   -- the first entry outside
@@ -98,7 +98,7 @@ module _ {E : Type 0} where
       let tails : front ++ (entry ∷ back) ≡ start ++ (other ∷ rest) = cc in
       let heads : first ≡ head = cc in
       let found : (front ≡ start) × (entry ≡ other) × (back ≡ rest) =
-          turn_unique test front entry back start other rest in_front in_start outside beyond tails in
+      turn_unique test front entry back start other rest in_front in_start outside beyond tails in
       (let fronts : front ≡ start = found.0 in cc, found.1, found.2)
 
   -- what stands last in a cut
@@ -111,8 +111,8 @@ module _ {E : Type 0} where
         | inl ends ↦ inl (ends, same ∙ ap (λ rest. front ++ rest) ends ∙ append-nil front)
         | inr (middle, final, ends) ↦
             let whole : word ++ (entry ∷ []) ≡ (front ++ middle) ++ (final ∷ []) =
-                same ∙ ap (λ rest. front ++ rest) ends ∙ sym (append_assoc front middle (final ∷ [])) in
+            same ∙ ap (λ rest. front ++ rest) ends ∙ sym (append_assoc front middle (final ∷ [])) in
             let found : (word ≡ front ++ middle) × (entry ≡ final) =
-                snoc_same word (front ++ middle) entry final whole in
+            snoc_same word (front ++ middle) entry final whole in
             inr (middle, ends ∙ ap (λ rest. middle ++ (rest ∷ [])) (sym found.1), found.0)
       ]

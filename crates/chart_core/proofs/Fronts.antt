@@ -47,8 +47,14 @@ rounds_front Body turns leaves Part fronts whole front back word same (last (inr
             | (head ∷ tail) ↦ λ fits ends.
                 let none : tail ≡ [] = nil_front tail back (sym (let empty : [] ≡ tail ++ back = cc in empty)) in
                 let same : entry ≡ head = cc in
-                last (inr (lap, head, fits ∙ ap (λ behind. lap ++ (head ∷ behind)) none, run, ap leaves (sym same)
-                    ∙ rightly))
+                last (inr (
+                  lap,
+                  head,
+                  fits ∙ ap (λ behind. lap ++ (head ∷ behind)) none,
+                  run,
+                  ap leaves (sym same)
+                      ∙ rightly,
+                ))
           ]) fits ends
     ]
 rounds_front Body turns leaves Part fronts whole front back word same (round lap entry rest cut run turned others) =
@@ -62,7 +68,7 @@ rounds_front Body turns leaves Part fronts whole front back word same (round lap
                 let same : entry ≡ head = cc in
                 let remains : rest ≡ tail ++ back = cc in
                 round lap head tail fits run (ap turns (sym same) ∙ turned)
-                    (rounds_front Body turns leaves Part fronts whole tail back rest remains others)
+                (rounds_front Body turns leaves Part fronts whole tail back rest remains others)
           ]) fits ends
     ]
 

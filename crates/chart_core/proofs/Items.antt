@@ -15,7 +15,7 @@ pub one_more : {A : Type 0} (items : List A) (place : ℕ) (item : A) → place 
 one_more items place item inside same =
     let next : suc place ≡ place + 1 = omega arith in
     drop-cons items place item inside ∙ ap (λ front. front ∷ drop (suc place) items) (sym same)
-        ∙ ap (λ start. item ∷ drop start items) next
+    ∙ ap (λ start. item ∷ drop start items) next
 
 -- an arm as plain data, by its parts
 pub arm_laid : (arm : Arm) → arm_plan arm ≡ record { when = formula arm.when; body = tree arm.body }

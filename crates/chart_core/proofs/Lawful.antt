@@ -28,8 +28,11 @@ each_member Fact (first ∷ others) member (fact, rest) among = elim (member_cas
 name_in : (placed : List Placed) (step : Placed) → Contains placed step → In (name_of step) (map name_of placed)
 name_in [] step (place, inside, same) = absurd (omega arith)
 name_in (first ∷ placed) step among =
-    elim (member_cases first step placed among) [ inl same ↦ inl (ap name_of (sym same)) | inr behind ↦
-        inr (name_in placed step behind) ]
+    elim (member_cases first step placed among) [
+      | inl same ↦ inl (ap name_of (sym same))
+      | inr behind ↦
+          inr (name_in placed step behind)
+    ]
 
 -- of steps with distinct names, one has a name
 one_named : (placed : List Placed) (one other : Placed) → Distinct (map name_of placed) → Contains placed one
@@ -47,8 +50,8 @@ one_named (first ∷ placed) one other (new, distinct) here there same =
       | inr behind ↦ elim (member_cases first other placed there) [
         | inl first_too ↦
             absurd (new
-                (subst (λ name. In name (map name_of placed)) (same ∙ ap name_of (sym first_too))
-                (name_in placed one behind)))
+            (subst (λ name. In name (map name_of placed)) (same ∙ ap name_of (sym first_too))
+            (name_in placed one behind)))
         | inr behind_too ↦ one_named placed one other distinct behind behind_too same
       ]
     ]

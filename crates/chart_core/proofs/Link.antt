@@ -23,7 +23,7 @@ pub rounds_map :
 rounds_map Body NewBody turns Before After bodies ends word (last ending) = last (ends word ending)
 rounds_map Body NewBody turns Before After bodies ends word (round front entry back cut body turned others) =
     round front entry back cut (bodies front body) turned
-        (rounds_map Body NewBody turns Before After bodies ends back others)
+    (rounds_map Body NewBody turns Before After bodies ends back others)
 
 -- Steps
 
@@ -111,39 +111,49 @@ had_awaits finishes progress stages stage others (had_all could) (inr (can, has)
 -- marks that agree on a course have it done alike
 pub agree_done :
     {E : Type 0} (course : Course E) (marks later : Marks)
-        → ((place : ℕ) → Has course place → later place ≡ marks place) → Sound course → Done course marks
-        → Done course later
+    → ((place : ℕ) → Has course place → later place ≡ marks place) → Sound course → Done course marks
+    → Done course later
 agree_done nothing marks later agree sound done = tt
 agree_done (step number finishes stage) marks later agree sound done = agree number refl ∙ done
-agree_done (chain one other) marks later agree sound done =
-    (agree_done one marks later (λ place has. agree place (inl has)) sound.0 done.0, agree_done other marks later
-    (λ place has. agree place (inr has)) sound.1 done.1)
-agree_done (beside one other) marks later agree sound done =
-    (agree_done one marks later (λ place has. agree place (inl has)) sound.0 done.0, agree_done other marks later
-    (λ place has. agree place (inr has)) sound.1 done.1)
-agree_done (select number count own chooses bodies) marks later agree sound (arm, chosen, done) =
-    (arm, agree number (inl refl) ∙ chosen, agree_done (bodies arm) marks later
-    (λ place has. agree place (inr (arm, has))) (sound.0 arm) done)
+agree_done (chain one other) marks later agree sound done = (
+  agree_done one marks later (λ place has. agree place (inl has)) sound.0 done.0,
+  agree_done other marks later
+      (λ place has. agree place (inr has)) sound.1 done.1,
+)
+agree_done (beside one other) marks later agree sound done = (
+  agree_done one marks later (λ place has. agree place (inl has)) sound.0 done.0,
+  agree_done other marks later
+      (λ place has. agree place (inr has)) sound.1 done.1,
+)
+agree_done (select number count own chooses bodies) marks later agree sound (arm, chosen, done) = (
+  arm,
+  agree number (inl refl) ∙ chosen,
+  agree_done (bodies arm) marks later
+      (λ place has. agree place (inr (arm, has))) (sound.0 arm) done,
+)
 agree_done (repeat number after body own turns leaves) marks later agree sound done =
     agree number (omega arith, sound.1) ∙ done
 
 -- and fresh alike
 pub agree_fresh :
     {E : Type 0} (course : Course E) (marks later : Marks)
-        → ((place : ℕ) → Has course place → later place ≡ marks place) → Fresh course marks → Fresh course later
+    → ((place : ℕ) → Has course place → later place ≡ marks place) → Fresh course marks → Fresh course later
 agree_fresh course marks later agree fresh place has = agree place has ∙ fresh place has
 
 -- and stand for the same words
 pub agree_stands :
     {E : Type 0} (course : Course E) (marks later : Marks) (word : List E)
-        → ((place : ℕ) → Has course place → later place ≡ marks place) → Sound course
+    → ((place : ℕ) → Has course place → later place ≡ marks place) → Sound course
     → Stands course marks word → Stands course later word
 agree_stands nothing marks later word agree sound stands = stands
 agree_stands (step number finishes stage) marks later word agree sound stands =
     subst (λ mark. Had finishes mark (map stage word)) (sym (agree number refl)) stands
 agree_stands (chain one other) marks later word agree sound (inl (stands, fresh)) =
-    inl (agree_stands one marks later word (λ place has. agree place (inl has)) sound.0 stands, agree_fresh other marks
-        later (λ place has. agree place (inr has)) fresh)
+    inl (
+      agree_stands one marks later word (λ place has. agree place (inl has)) sound.0 stands,
+      agree_fresh other marks
+          later (λ place has. agree place (inr has)) fresh,
+    )
 agree_stands (chain one other) marks later word agree sound (inr (front, back, cut, done, here, there)) =
     inr (
       front,
@@ -173,7 +183,7 @@ agree_stands (repeat n after k o tu le) f g w h s (inr (e, d)) = inr (h n (omega
 -- a move touches the plan's own places alone
 pub move_frame :
     {E : Type 0} (course : Course E) (marks : Marks) (entry : E) (later : Marks) → Sound course
-        → Moves course marks entry later → (place : ℕ)
+    → Moves course marks entry later → (place : ℕ)
     → (Has course place → ⊥) → later place ≡ marks place
 move_frame nothing marks entry later sound move place outside = absurd move
 move_frame (step number finishes stage) marks entry later sound (progress, next, puts) place outside =
@@ -193,7 +203,7 @@ move_frame (select number count own chooses bodies) marks entry later sound
     move_frame (bodies arm) marks entry later (sound.0 arm) move place (λ has. outside (inr (arm, has)))
 move_frame (repeat number after body own turns leaves) marks entry later sound (mark, inl move) place outside =
     move_frame body marks entry later sound.0 move place
-        (λ has. outside (let range = sound.2 place has in omega arith, (sound.2 place has).1))
+    (λ has. outside (let range = sound.2 place has in omega arith, (sound.2 place has).1))
 move_frame (repeat number after body own turns leaves) marks entry later sound
     (mark, inr (inl (done, right, clears))) place outside = clears.1 place (λ above under. outside (omega arith, under))
 move_frame (repeat number after body own turns leaves) marks entry later sound
@@ -210,15 +220,21 @@ fresh_stands (step number finishes stage) marks sound fresh =
     subst (λ mark. Had finishes mark []) (sym (fresh number refl)) had_nothing
 fresh_stands (chain one other) marks sound fresh =
     inl (fresh_stands one marks sound.0 (λ place has. fresh place (inl has)), λ place has. fresh place (inr has))
-fresh_stands (beside one other) marks sound fresh =
-    (tt, fresh_stands one marks sound.0 (λ place has. fresh place (inl has)), fresh_stands other marks sound.1
-    (λ place has. fresh place (inr has)))
+fresh_stands (beside one other) marks sound fresh = (
+  tt,
+  fresh_stands one marks sound.0 (λ place has. fresh place (inl has)),
+  fresh_stands other marks sound.1
+      (λ place has. fresh place (inr has)),
+)
 fresh_stands (select number count own chooses bodies) marks sound fresh =
     inl (fresh number (inl refl), refl, λ arm place has. fresh place (inr (arm, has)))
 fresh_stands (repeat number after body own turns leaves) marks sound fresh =
-    inl (fresh number (omega arith, sound.1), last
-        (fresh_stands body marks sound.0
-        (λ place has. fresh place (let range = sound.2 place has in omega arith, (sound.2 place has).1))))
+    inl (
+      fresh number (omega arith, sound.1),
+      last
+          (fresh_stands body marks sound.0
+          (λ place has. fresh place (let range = sound.2 place has in omega arith, (sound.2 place has).1))),
+    )
 
 -- a complete run is a partial one
 pub complete_partial : {E : Type 0} (course : Course E) (word : List E) → Complete course word → Partial course word
@@ -244,22 +260,42 @@ pub done_complete : {E : Type 0} (course : Course E) (marks : Marks) (word : Lis
 done_complete nothing marks word sound stands done = stands
 done_complete (step number finishes stage) marks word sound stands done =
     had_whole finishes (marks number) (map stage word) stands done
-done_complete (chain one other) marks word sound (inl (stands, fresh)) (done, ended) =
-    (word, [], sym (append-nil word), done_complete one marks word sound.0 stands done, done_complete other marks []
-    sound.1 (fresh_stands other marks sound.1 fresh) ended)
-done_complete (chain one other) marks word sound (inr (front, back, cut, done, here, there)) (again, ended) =
-    (front, back, cut, done_complete one marks front sound.0 here done, done_complete other marks back sound.1 there
-    ended)
-done_complete (beside one other) marks word sound (all, here, there) (done, ended) =
-    (all, done_complete one marks (filter (is_of one) word) sound.0 here done, done_complete other marks
-    (filter (is_of other) word) sound.1 there ended)
+done_complete (chain one other) marks word sound (inl (stands, fresh)) (done, ended) = (
+  word,
+  [],
+  sym (append-nil word),
+  done_complete one marks word sound.0 stands done,
+  done_complete other marks []
+      sound.1 (fresh_stands other marks sound.1 fresh) ended,
+)
+done_complete (chain one other) marks word sound (inr (front, back, cut, done, here, there)) (again, ended) = (
+  front,
+  back,
+  cut,
+  done_complete one marks front sound.0 here done,
+  done_complete other marks back sound.1 there
+      ended,
+)
+done_complete (beside one other) marks word sound (all, here, there) (done, ended) = (
+  all,
+  done_complete one marks (filter (is_of one) word) sound.0 here done,
+  done_complete other marks
+      (filter (is_of other) word) sound.1 there ended,
+)
 done_complete (select number count own chooses bodies) marks word sound (inl (mark, none, fresh)) (arm, chosen, done) =
     cc
 done_complete (select number count own chooses bodies) marks word sound
     (inr (arm, entry, back, cut, below, right, mark, stands)) (other, chosen, done) =
-    let same : other ≡ arm = cc in
-    (arm, entry, back, cut, below, right, done_complete (bodies arm) marks back (sound.0 arm) stands
-    (subst (λ each. Done (bodies each) marks) same done))
+    let same : other ≡ arm = cc in (
+      arm,
+      entry,
+      back,
+      cut,
+      below,
+      right,
+      done_complete (bodies arm) marks back (sound.0 arm) stands
+          (subst (λ each. Done (bodies each) marks) same done),
+    )
 done_complete (repeat number after body own turns leaves) marks word sound (inl (mark, rounds)) done = cc
 done_complete (repeat number after body own turns leaves) marks word sound (inr (mark, rounds)) done = rounds
 
@@ -325,8 +361,8 @@ pub rounds_of :
 rounds_of one test Body turns Last body turned closed word (last ending) = closed word ending
 rounds_of one test Body turns Last body turned closed word (round front entry back cut run rightly others) =
     subst (All test) (sym cut)
-        (All-append test front (entry ∷ back) (body front run)
-        (turned entry rightly, rounds_of one test Body turns Last body turned closed back others))
+    (All-append test front (entry ∷ back) (body front run)
+    (turned entry rightly, rounds_of one test Body turns Last body turned closed back others))
 
 -- every entry of a partial run is of the course, whether it decides rightly or not
 pub partial_of : {E : Type 0} (course : Course E) (word : List E) → Sound course → Partial course word
@@ -359,7 +395,7 @@ partial_of (select number count own chooses bodies) word sound (inr (arm, first,
     )
 partial_of (repeat number after body own turns leaves) word sound part =
     let inside : (entry : _) → is_of body entry ≡ true → is_of (repeat number after body own turns leaves) entry
-        ≡ true =
+    ≡ true =
     λ entry is. or_right (own entry) (is_of body entry) is in
     let whole : (front : List _) → Complete body front → All (is_of (repeat number after body own turns leaves)) front
     = λ front run. All-mono (is_of body) (is_of (repeat number after body own turns leaves)) front inside
@@ -439,7 +475,7 @@ await_of (select number count own chooses bodies) marks entry sound (inl (mark, 
     or_left (own entry) (any_below count (λ each. is_of (bodies each) entry)) (sound.4 arm entry right)
 await_of (select number count own chooses bodies) marks entry sound (inr (arm, mark, below, awaits)) =
     or_right (own entry) (any_below count (λ each. is_of (bodies each) entry))
-        (any_at count (λ each. is_of (bodies each) entry) arm below
+    (any_at count (λ each. is_of (bodies each) entry) arm below
     (await_of (bodies arm) marks entry (sound.0 arm) awaits))
 await_of (repeat number after body own turns leaves) marks entry sound (mark, inl awaits) =
     or_right (own entry) (is_of body entry) (await_of body marks entry sound.0 awaits)
@@ -462,19 +498,19 @@ done_no_await (select number count own chooses bodies) marks entry (arm, mark, d
 done_no_await (select number count own chooses bodies) marks entry (arm, mark, done)
     (inr (other, chosen, below, awaits)) =
     let same : arm ≡ other = cc in done_no_await (bodies other) marks entry
-        (subst (λ each. Done (bodies each) marks) same done) awaits
+    (subst (λ each. Done (bodies each) marks) same done) awaits
 done_no_await (repeat number after body own turns leaves) marks entry done (mark, awaits) = cc
 
 -- a last entry that passes stays
 pub filter_in :
     {E : Type 0} (test : E → Bool) (word : List E) (entry : E) → test entry ≡ true
-        → filter test (word ++ (entry ∷ [])) ≡ filter test word ++ (entry ∷ [])
+    → filter test (word ++ (entry ∷ [])) ≡ filter test word ++ (entry ∷ [])
 filter_in test word entry tested = rw (filter-append, tested) refl
 
 -- one that does not pass goes
 pub filter_out :
     {E : Type 0} (test : E → Bool) (word : List E) (entry : E) → test entry ≡ false
-        → filter test (word ++ (entry ∷ [])) ≡ filter test word
+    → filter test (word ++ (entry ∷ [])) ≡ filter test word
 filter_out test word entry tested = rw (filter-append, tested) (append-nil (filter test word))
 
 -- an entry behind the ending lengthens it
@@ -485,7 +521,7 @@ pub rounds_snoc :
 rounds_snoc Body turns Before After added close word (last ending) = last (close word ending)
 rounds_snoc Body turns Before After added close word (round front entry back cut body turned others) =
     round front entry (back ++ added) (ap (λ text. text ++ added) cut ∙ append_assoc front (entry ∷ back) added) body
-        turned (rounds_snoc Body turns Before After added close back others)
+    turned (rounds_snoc Body turns Before After added close back others)
 
 -- behind a whole lap an entry turns the loop
 pub rounds_turn :
@@ -497,5 +533,5 @@ rounds_turn Body turns Before After entry whole right none word (last ending) =
     round word entry [] refl (whole word ending) right (last none)
 rounds_turn Body turns Before After entry whole right none word (round front other back cut body turned others) =
     round front other (back ++ (entry ∷ [])) (ap (λ text. text ++ (entry ∷ [])) cut
-        ∙ append_assoc front (other ∷ back) (entry ∷ [])) body turned
+    ∙ append_assoc front (other ∷ back) (entry ∷ [])) body turned
     (rounds_turn Body turns Before After entry whole right none back others)

@@ -18,9 +18,9 @@ pub take_stands :
 take_stands nothing marks word entry later sound stands move = absurd move
 take_stands (step number finishes stage) marks word entry later sound stands (progress, next, puts) =
     let had : Had finishes progress (map stage word ++ (stage entry ∷ [])) =
-        had_next finishes (marks number) (map stage word) (stage entry) progress stands next in
+    had_next finishes (marks number) (map stage word) (stage entry) progress stands next in
     let at : Had finishes (later number) (map stage word ++ (stage entry ∷ [])) =
-        subst (λ mark. Had finishes mark (map stage word ++ (stage entry ∷ []))) (sym puts.0) had in
+    subst (λ mark. Had finishes mark (map stage word ++ (stage entry ∷ []))) (sym puts.0) had in
     rw map-append at
 take_stands (chain one other) marks word entry later sound (inl (stands, fresh)) (inl move) =
     inl (
@@ -30,7 +30,7 @@ take_stands (chain one other) marks word entry later sound (inl (stands, fresh))
     )
 take_stands (chain one other) marks word entry later sound (inl (stands, fresh)) (inr (done, move)) =
     let same : (place : ℕ) → Has one place → later place ≡ marks place =
-        λ place has. move_frame other marks entry later sound.1 move place (λ also. sound.2.1 place has also) in
+    λ place has. move_frame other marks entry later sound.1 move place (λ also. sound.2.1 place has also) in
     inr (
       word,
       entry ∷ [],
@@ -44,7 +44,7 @@ take_stands (chain one other) marks word entry later sound (inr (front, back, cu
 take_stands (chain one other) marks word entry later sound (inr (front, back, cut, done, here, there))
     (inr (again, move)) =
     let same : (place : ℕ) → Has one place → later place ≡ marks place =
-        λ place has. move_frame other marks entry later sound.1 move place (λ also. sound.2.1 place has also) in
+    λ place has. move_frame other marks entry later sound.1 move place (λ also. sound.2.1 place has also) in
     inr (
       front,
       back ++ (entry ∷ []),
@@ -57,7 +57,7 @@ take_stands (beside one other) marks word entry later sound (all, here, there) (
     let of_it : is_of one entry ≡ true = await_of one marks entry sound.0 (move_await one marks entry later move) in
     let isnt : is_of other entry ≡ false = not_true (is_of other entry) (λ also. sound.2.0 entry of_it also) in
     let same : (place : ℕ) → Has other place → later place ≡ marks place =
-        λ place has. move_frame one marks entry later sound.0 move place (λ also. sound.2.1 place also has) in (
+    λ place has. move_frame one marks entry later sound.0 move place (λ also. sound.2.1 place also has) in (
       All-append (is_of (beside one other)) word (entry ∷ []) all
           (or_left (is_of one entry) (is_of other entry) of_it, tt),
       subst (Stands one later) (sym (filter_in (is_of one) word entry of_it))
@@ -67,10 +67,10 @@ take_stands (beside one other) marks word entry later sound (all, here, there) (
     )
 take_stands (beside one other) marks word entry later sound (all, here, there) (inr move) =
     let of_it : is_of other entry ≡ true = await_of other marks entry sound.1
-        (move_await other marks entry later move) in
+    (move_await other marks entry later move) in
     let isnt : is_of one entry ≡ false = not_true (is_of one entry) (λ also. sound.2.0 entry also of_it) in
     let same : (place : ℕ) → Has one place → later place ≡ marks place =
-        λ place has. move_frame other marks entry later sound.1 move place (λ also. sound.2.1 place has also) in (
+    λ place has. move_frame other marks entry later sound.1 move place (λ also. sound.2.1 place has also) in (
       All-append (is_of (beside one other)) word (entry ∷ []) all
           (or_right (is_of one entry) (is_of other entry) of_it, tt),
       subst (Stands one later) (sym (filter_out (is_of one) word entry isnt))
@@ -100,7 +100,7 @@ take_stands (select number count own chooses bodies) marks word entry later soun
     (inr (arm, first, back, cut, below, right, mark, stands)) (inr (other, chosen, lower, move)) =
     let same : other ≡ arm = cc in
     let moved : Moves (bodies arm) marks entry later = subst
-        (λ each. Moves (bodies each) marks entry later) same move in
+    (λ each. Moves (bodies each) marks entry later) same move in
     inr (
       arm,
       first,
@@ -156,16 +156,16 @@ rounds_align test Body turns Before After Goal added of_body apart both early la
 rounds_align test Body turns Before After Goal added of_body apart both early late word
     (round front entry back cut body turned others) (last ending) =
     late front entry (back ++ added)
-        (subst After (ap (λ text. text ++ added) cut ∙ append_assoc front (entry ∷ back) added) ending) turned
+    (subst After (ap (λ text. text ++ added) cut ∙ append_assoc front (entry ∷ back) added) ending) turned
 rounds_align test Body turns Before After Goal added of_body apart both early late word
     (round front entry back cut body turned others) (round start next tail cut1 body1 turned1 others1) =
     let whole : front ++ (entry ∷ (back ++ added)) ≡ start ++ (next ∷ tail) =
-        sym (append_assoc front (entry ∷ back) added) ∙ sym (ap (λ text. text ++ added) cut) ∙ cut1 in
+    sym (append_assoc front (entry ∷ back) added) ∙ sym (ap (λ text. text ++ added) cut) ∙ cut1 in
     let same : (front ≡ start) × (entry ≡ next) × (back ++ added ≡ tail)
     = turn_unique test front entry (back ++ added) start next tail (of_body front body) (of_body start body1)
-        (λ holds. apart entry holds turned) (λ holds. apart next holds turned1) whole in
+    (λ holds. apart entry holds turned) (λ holds. apart next holds turned1) whole in
     rounds_align test Body turns Before After Goal added of_body apart both early late back others
-        (subst (Rounds Body turns After) (sym same.2) others1)
+    (subst (Rounds Body turns After) (sym same.2) others1)
 
 -- in a word that is all of p, nothing else stands
 pub inside : {E : Type 0} (test : E → Bool) (front : List E) (entry : E) (back : List E)
@@ -175,7 +175,7 @@ inside test front entry back all = (All-back test front (entry ∷ back) all).0
 -- a closing does not go on past its leave
 pub closing_late :
     {E : Type 0} (test : E → Bool) (Body : List E → Type 0) (turns leaves : E → Bool) (front : List E) (entry : E)
-        (back : List E)
+    (back : List E)
     → ((word : List E) → Body word → All test word) → ((each : E) → test each ≡ true → turns each ≡ true → ⊥)
     → ((each : E) → turns each ≡ true → leaves each ≡ true → ⊥)
     → Closing Body leaves (front ++ (entry ∷ back)) → turns entry ≡ true → ⊥
@@ -201,7 +201,7 @@ complete_done (step number finishes stage) marks word sound stands whole =
     had_ended finishes (marks number) (map stage word) stands whole
 complete_done (chain one other) marks word sound (inl (stands, fresh)) (front, back, cut, here, there) =
     let in_one : All (is_of one) back = All-back (is_of one) front back
-        (subst (All (is_of one)) cut (stands_of one marks word sound.0 stands)) in
+    (subst (All (is_of one)) cut (stands_of one marks word sound.0 stands)) in
     let in_other : All (is_of other) back = partial_of other back sound.1 (complete_partial other back there) in
     let none : back ≡ [] = none_both (is_of one) (is_of other) back sound.2.0 in_one in_other in
     let same : word ≡ front = cut ∙ ap (λ text. front ++ text) none ∙ append-nil front in (
@@ -212,60 +212,65 @@ complete_done (chain one other) marks word sound (inr (front, back, cut, done, h
     (start, rest, cut1, here1, there1) =
     let same : (front ≡ start) × (back ≡ rest)
     = cut_unique (is_of one) (is_of other) front back start rest sound.2.0 (stands_of one marks front sound.0 here)
-        (stands_of other marks back sound.1 there)
+    (stands_of other marks back sound.1 there)
     (partial_of one start sound.0 (complete_partial one start here1))
     (partial_of other rest sound.1 (complete_partial other rest there1)) (sym cut ∙ cut1) in
     (done, complete_done other marks back sound.1 there (subst (Complete other) (sym same.1) there1))
-complete_done (beside one other) marks word sound (all, here, there) (all1, here1, there1) =
-    (complete_done one marks (filter (is_of one) word) sound.0 here here1, complete_done other marks
-    (filter (is_of other) word) sound.1 there there1)
+complete_done (beside one other) marks word sound (all, here, there) (all1, here1, there1) = (
+  complete_done one marks (filter (is_of one) word) sound.0 here here1,
+  complete_done other marks
+      (filter (is_of other) word) sound.1 there there1,
+)
 complete_done (select number count own chooses bodies) marks word sound (inl (mark, none, fresh))
     (arm, entry, back, cut, below, right, run) = cc
 complete_done (select number count own chooses bodies) marks word sound
     (inr (arm, entry, back, cut, below, right, mark, stands)) (arm1, entry1, back1, cut1, below1, right1, run) =
     let entries : entry1 ≡ entry = cc in
     let backs : back1 ≡ back = cc in
-    let arms : arm1 ≡ arm = cc (ap chooses entries) in
-    (arm, mark, complete_done (bodies arm) marks back (sound.0 arm) stands
-    (subst (Complete (bodies arm)) backs (subst (λ each. Complete (bodies each) back1) arms run)))
+    let arms : arm1 ≡ arm = cc (ap chooses entries) in (
+      arm,
+      mark,
+      complete_done (bodies arm) marks back (sound.0 arm) stands
+          (subst (Complete (bodies arm)) backs (subst (λ each. Complete (bodies each) back1) arms run)),
+    )
 complete_done (repeat number after body own turns leaves) marks word sound (inl (mark, rounds)) whole =
     absurd
     (rounds_align (is_of body) (Complete body) turns (Stands body marks) (Closing (Complete body) leaves) ⊥ []
     (λ front run. partial_of body front sound.0 (complete_partial body front run)) sound.3
     (λ back stands (front, final, cut, run, rightly).
     sound.4 final
-        (inside (is_of body) front final []
-        (subst (All (is_of body)) (sym (append-nil back) ∙ cut) (stands_of body marks back sound.0 stands))) rightly)
+    (inside (is_of body) front final []
+    (subst (All (is_of body)) (sym (append-nil back) ∙ cut) (stands_of body marks back sound.0 stands))) rightly)
     (λ back front entry behind stands cut run rightly. sound.3 entry
     (inside (is_of body) front entry behind
     (subst (All (is_of body)) (sym (append-nil back) ∙ cut) (stands_of body marks back sound.0 stands))) rightly)
     (λ front entry back run rightly.
     closing_late (is_of body) (Complete body) turns leaves front entry back
-        (λ front run. partial_of body front sound.0 (complete_partial body front run)) sound.3 sound.5 run rightly)
+    (λ front run. partial_of body front sound.0 (complete_partial body front run)) sound.3 sound.5 run rightly)
     word rounds (subst (Rounds (Complete body) turns (Closing (Complete body) leaves)) (sym (append-nil word)) whole))
 complete_done (repeat number after body own turns leaves) marks word sound (inr (mark, rounds)) whole = mark
 
 -- An entry after which the word is still a part is awaited.
 pub partial_awaits :
     {E : Type 0} (course : Course E) (marks : Marks) (word : List E) (entry : E) → Sound course
-        → Stands course marks word
+    → Stands course marks word
     → Partial course (word ++ (entry ∷ [])) → Awaits course marks entry
 partial_awaits nothing marks word entry sound stands part = absurd (snoc_not_nil word entry [] (sym part))
 partial_awaits (step number finishes stage) marks word entry sound has (others, run) =
     had_awaits finishes (marks number) (map stage word) (stage entry) others has
-        (subst (λ stages. StepRun finishes (stages ++ others)) (map-append stage word (entry ∷ [])) run)
+    (subst (λ stages. StepRun finishes (stages ++ others)) (map-append stage word (entry ∷ [])) run)
 partial_awaits (chain one other) marks word entry sound (inl (stands, fresh)) (inl part) =
     inl (partial_awaits one marks word entry sound.0 stands part)
 partial_awaits (chain one other) marks word entry sound (inl (stands, fresh)) (inr (front, back, cut, here, there)) =
     elim (snoc_cut word entry front back cut) [
       | inl ends ↦
           inl (partial_awaits one marks word entry sound.0 stands
-              (subst (Partial one) (sym ends.1) (complete_partial one front here)))
+          (subst (Partial one) (sym ends.1) (complete_partial one front here)))
       | inr (middle, ends, starts) ↦
           let in_one : All (is_of one) middle = All-back (is_of one) front middle
-              (subst (All (is_of one)) starts (stands_of one marks word sound.0 stands)) in
+          (subst (All (is_of one)) starts (stands_of one marks word sound.0 stands)) in
           let in_other : All (is_of other) middle = All-front (is_of other) middle (entry ∷ [])
-              (subst (All (is_of other)) ends (partial_of other back sound.1 there)) in
+          (subst (All (is_of other)) ends (partial_of other back sound.1 there)) in
           let none : middle ≡ [] = none_both (is_of one) (is_of other) middle sound.2.0 in_one in_other in
           let same : word ≡ front = starts ∙ ap (λ text. front ++ text) none ∙ append-nil front in
           let ending : back ≡ entry ∷ [] = ends ∙ ap (λ text. text ++ (entry ∷ [])) none in
@@ -280,37 +285,39 @@ partial_awaits (chain one other) marks word entry sound (inr (front, back, cut, 
     let in_one : All (is_of one) (front ++ back) = subst (All (is_of one)) cut
     (All-front (is_of one) word (entry ∷ []) (partial_of one (word ++ (entry ∷ [])) sound.0 part)) in
     let none : back ≡ [] = none_both (is_of one) (is_of other) back sound.2.0
-        (All-back (is_of one) front back in_one) in_other in
+    (All-back (is_of one) front back in_one) in_other in
     let same : word ≡ front = cut ∙ ap (λ text. front ++ text) none ∙ append-nil front in
     inl (partial_awaits one marks front entry sound.0 here
-        (subst (λ middle. Partial one (middle ++ (entry ∷ []))) same part))
+    (subst (λ middle. Partial one (middle ++ (entry ∷ []))) same part))
 partial_awaits (chain one other) marks word entry sound (inr (front, back, cut, done, here, there))
     (inr (start, rest, cut1, here1, there1)) =
     elim (snoc_cut word entry start rest cut1) [
       | inl ends ↦
           let part : Partial one (word ++ (entry ∷ [])) =
-              subst (Partial one) (sym ends.1) (complete_partial one start here1) in
+          subst (Partial one) (sym ends.1) (complete_partial one start here1) in
           let in_other : All (is_of other) back = stands_of other marks back sound.1 there in
           let in_one : All (is_of one) (front ++ back) = subst (All (is_of one)) cut
           (All-front (is_of one) word (entry ∷ []) (partial_of one (word ++ (entry ∷ [])) sound.0 part)) in
           let none : back ≡ [] = none_both (is_of one) (is_of other) back sound.2.0
-              (All-back (is_of one) front back in_one) in_other in
+          (All-back (is_of one) front back in_one) in_other in
           let same : word ≡ front = cut ∙ ap (λ text. front ++ text) none ∙ append-nil front in
           inl (partial_awaits one marks front entry sound.0 here
-              (subst (λ middle. Partial one (middle ++ (entry ∷ []))) same part))
+          (subst (λ middle. Partial one (middle ++ (entry ∷ []))) same part))
       | inr (middle, ends, starts) ↦
           let of_other : All (is_of other) middle = All-front (is_of other) middle (entry ∷ [])
           (subst (All (is_of other)) ends (partial_of other rest sound.1 there1)) in
           let same : (front ≡ start) × (back ≡ middle)
           = cut_unique (is_of one) (is_of other) front back start middle sound.2.0
-              (stands_of one marks front sound.0 here) (stands_of other marks back sound.1 there)
+          (stands_of one marks front sound.0 here) (stands_of other marks back sound.1 there)
           (partial_of one start sound.0 (complete_partial one start here1)) of_other (sym cut ∙ starts) in
-          inr (done, partial_awaits other marks back entry sound.1 there
-              (subst (Partial other) (ends ∙ ap (λ text. text ++ (entry ∷ [])) (sym same.1)) there1))
+          inr (
+            done,
+            partial_awaits other marks back entry sound.1 there
+                (subst (Partial other) (ends ∙ ap (λ text. text ++ (entry ∷ [])) (sym same.1)) there1),
+          )
     ]
 partial_awaits (beside one other) marks word entry sound (all, here, there) (all1, here1, there1) =
-    elim (or_split (is_of one entry) (is_of other entry) (All-back (is_of (beside one other)) word (entry ∷ []) all1).0)
-        [
+    elim (or_split (is_of one entry) (is_of other entry) (All-back (is_of (beside one other)) word (entry ∷ []) all1).0) [
       | inl of_it ↦ inl (partial_awaits one marks (filter (is_of one) word) entry sound.0 here
           (subst (Partial one) (filter_in (is_of one) word entry of_it) here1))
       | inr of_it ↦ inr (partial_awaits other marks (filter (is_of other) word) entry sound.1 there
@@ -332,20 +339,30 @@ partial_awaits (select number count own chooses bodies) marks word entry sound
     let firsts : first1 ≡ first = cc in
     let backs : back1 ≡ back ++ (entry ∷ []) = cc in
     let arms : arm1 ≡ arm = cc (ap chooses firsts) in
-    inr (arm, mark, below, partial_awaits (bodies arm) marks back entry (sound.0 arm) stands
-        (subst (Partial (bodies arm)) backs (subst (λ each. Partial (bodies each) back1) arms run)))
+    inr (
+      arm,
+      mark,
+      below,
+      partial_awaits (bodies arm) marks back entry (sound.0 arm) stands
+          (subst (Partial (bodies arm)) backs (subst (λ each. Partial (bodies each) back1) arms run)),
+    )
 partial_awaits (repeat none after body own turns leaves) marks word entry sound (inl (mark, rounds)) part =
     rounds_align (is_of body) (Complete body) turns (Stands body marks)
-        (λ back. Partial body back ⊎ Closing (Complete body) leaves back)
+    (λ back. Partial body back ⊎ Closing (Complete body) leaves back)
     (Awaits (repeat none after body own turns leaves) marks entry) (entry ∷ [])
     (λ front run. partial_of body front sound.0 (complete_partial body front run)) sound.3
     (λ back stands part1. elim part1 [
       | inl run ↦ (mark, inl (partial_awaits body marks back entry sound.0 stands run))
       | inr (front, final, cut, run, rightly) ↦
-          let both : (back ≡ front) × (entry ≡ final) = snoc_same back front entry final cut in
-          (mark, inr
-          (inr (complete_done body marks back sound.0 stands (subst (Complete body) (sym both.0) run), ap leaves both.1
-          ∙ rightly)))
+          let both : (back ≡ front) × (entry ≡ final) = snoc_same back front entry final cut in (
+            mark,
+            inr
+                (inr (
+                  complete_done body marks back sound.0 stands (subst (Complete body) (sym both.0) run),
+                  ap leaves both.1
+                      ∙ rightly,
+                )),
+          )
     ])
     (λ back front other run stands cut part1 rightly. elim (snoc_cut back entry front (other ∷ run) cut) [
       | inl ends ↦ (let none : other ∷ run ≡ [] = ends.0 in cc)
@@ -354,10 +371,15 @@ partial_awaits (repeat none after body own turns leaves) marks word entry sound 
           → Awaits (repeat none after body own turns leaves) marks entry) [
             | [] ↦ λ ends behind.
                 let alike : other ≡ entry = cc in
-                let backs : back ≡ front = behind ∙ append-nil front in
-                (mark, inr
-                (inl (complete_done body marks back sound.0 stands (subst (Complete body) (sym backs) part1), ap turns
-                (sym alike) ∙ rightly)))
+                let backs : back ≡ front = behind ∙ append-nil front in (
+                  mark,
+                  inr
+                      (inl (
+                        complete_done body marks back sound.0 stands (subst (Complete body) (sym backs) part1),
+                        ap turns
+                            (sym alike) ∙ rightly,
+                      )),
+                )
             | (head ∷ tail) ↦ λ ends behind.
                 let alike : other ≡ head = cc in
                 absurd (sound.3 other (ap (is_of body) alike ∙ inside (is_of body) front head tail
@@ -367,7 +389,7 @@ partial_awaits (repeat none after body own turns leaves) marks word entry sound 
     (λ front other back part1 rightly. elim part1 [
       | inl run ↦
           absurd (sound.3 other
-              (inside (is_of body) front other back (partial_of body (front ++ (other ∷ back)) sound.0 run)) rightly)
+          (inside (is_of body) front other back (partial_of body (front ++ (other ∷ back)) sound.0 run)) rightly)
       | inr run ↦ absurd (closing_late (is_of body) (Complete body) turns leaves front other back
           (λ front run. partial_of body front sound.0 (complete_partial body front run)) sound.3 sound.5 run rightly)
     ])
@@ -392,14 +414,14 @@ partial_awaits (repeat none after body own turns leaves) marks word entry sound 
     = sym (append_assoc start0 (final ∷ []) (entry ∷ [])) ∙ sym (ap (λ text. text ++ (entry ∷ [])) cut) ∙ cut1 in
     let alike : (start0 ≡ front) × (final ≡ other) × (entry ∷ [] ≡ run)
     = turn_unique (is_of body) start0 final (entry ∷ []) front other run
-        (partial_of body start0 sound.0 (complete_partial body start0 body0))
+    (partial_of body start0 sound.0 (complete_partial body start0 body0))
     (partial_of body front sound.0 (complete_partial body front part1))
     (λ middle. sound.4 final middle rightly) (λ middle. sound.3 other middle turned) both in
     sound.5 other turned (ap leaves (sym alike.1) ∙ rightly))
     (λ front other back part1 rightly. elim part1 [
       | inl run ↦
           sound.3 other (inside (is_of body) front other back (partial_of body (front ++ (other ∷ back)) sound.0 run))
-              rightly
+          rightly
       | inr run ↦ closing_late (is_of body) (Complete body) turns leaves front other back
           (λ front run. partial_of body front sound.0 (complete_partial body front run)) sound.3 sound.5 run rightly
     ])
@@ -411,4 +433,4 @@ pub awaits_partial :
     → Sound course → Stands course marks word → Moves course marks entry later → Partial course (word ++ (entry ∷ []))
 awaits_partial course marks word entry later sound stands move =
     stands_partial course later (word ++ (entry ∷ [])) sound
-        (take_stands course marks word entry later sound stands move)
+    (take_stands course marks word entry later sound stands move)

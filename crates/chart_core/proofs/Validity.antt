@@ -65,7 +65,7 @@ all_clear : (chart : ChartPlan) (nodes : List Visit) → first_fault chart nodes
 all_clear chart [] none = tt
 all_clear chart (node ∷ nodes) none =
     let both = first_clear (node_fault chart node) (first_fault chart nodes) none in
-        (both.0, all_clear chart nodes both.1)
+    (both.0, all_clear chart nodes both.1)
 
 -- where the first of some faults is none, all are
 none_first : (faults : List (Option ChartFault)) → first_of faults ≡ None → Each (λ fault. fault ≡ None) faults
@@ -209,7 +209,7 @@ mutual
   all_found no_trees number = tt
   all_found (more_trees node nodes) number =
       each_append (IsFound (some_has_name (more_trees node nodes)) number) (steps node number)
-          (all_steps nodes (number + size node))
+      (all_steps nodes (number + size node))
       (each_map _ _ (front_found (has_name node) (some_has_name nodes) number (size node)) (steps node number)
       (found node number))
       (each_map _ _ (behind_found (has_name node) (some_has_name nodes) number (size node))
@@ -220,7 +220,7 @@ mutual
   arm_found no_arms number = tt
   arm_found (more_arms when node nodes) number =
       each_append (IsFound (arm_has_name (more_arms when node nodes)) number) (steps node number)
-          (arm_steps nodes (number + size node))
+      (arm_steps nodes (number + size node))
       (each_map _ _ (front_found (has_name node) (arm_has_name nodes) number (size node)) (steps node number)
       (found node number))
       (each_map _ _ (behind_found (has_name node) (arm_has_name nodes) number (size node))
@@ -236,9 +236,12 @@ Rise low high (placed ∷ others) = (low ≤ placed.number) × (placed.number < 
 rise_wider : (low high lower higher : ℕ) (placed : List Placed) → lower ≤ low → high ≤ higher → Rise low high placed
     → Rise lower higher placed
 rise_wider low high lower higher [] below above from = tt
-rise_wider low high lower higher (first ∷ placed) below above (from, under, others) =
-    (omega arith, omega arith, rise_wider (first.number + 1) high (first.number + 1) higher placed
-    (omega arith) above others)
+rise_wider low high lower higher (first ∷ placed) below above (from, under, others) = (
+  omega arith,
+  omega arith,
+  rise_wider (first.number + 1) high (first.number + 1) higher placed
+      (omega arith) above others,
+)
 
 -- numbers that rise, and go on rising
 rise_append : (low middle high : ℕ) (front back : List Placed) → low ≤ middle → middle ≤ high → Rise low middle front
@@ -254,26 +257,26 @@ mutual
   steps_rise (leaf step) number = (omega arith, omega arith, tt)
   steps_rise (seq each) number =
       rise_wider (number + 1) (number + 1 + sizes each) number (number + (1 + sizes each)) (all_steps each (number + 1))
-          (omega arith)
+      (omega arith)
       (omega arith) (all_rise each (number + 1))
   steps_rise (par each) number =
       rise_wider (number + 1) (number + 1 + sizes each) number (number + (1 + sizes each)) (all_steps each (number + 1))
-          (omega arith)
+      (omega arith)
       (omega arith) (all_rise each (number + 1))
   steps_rise (choice each) number =
       rise_wider (number + 1) (number + 1 + arm_sizes each) number (number + (1 + arm_sizes each))
-          (arm_steps each (number + 1)) (omega arith)
+      (arm_steps each (number + 1)) (omega arith)
       (omega arith) (arms_rise each (number + 1))
   steps_rise (loop body until) number =
       rise_wider (number + 1) (number + 1 + size body) number (number + (1 + size body)) (steps body (number + 1))
-          (omega arith) (omega arith)
+      (omega arith) (omega arith)
       (steps_rise body (number + 1))
 
   all_rise : (nodes : Trees) (number : ℕ) → Rise number (number + sizes nodes) (all_steps nodes number)
   all_rise no_trees number = tt
   all_rise (more_trees node nodes) number =
       rise_append number (number + size node) (number + (size node + sizes nodes)) (steps node number)
-          (all_steps nodes (number + size node)) (omega arith)
+      (all_steps nodes (number + size node)) (omega arith)
       (omega arith) (steps_rise node number)
       (rise_wider (number + size node) (number + size node + sizes nodes) (number + size node)
       (number + (size node + sizes nodes))
@@ -283,7 +286,7 @@ mutual
   arms_rise no_arms number = tt
   arms_rise (more_arms when node nodes) number =
       rise_append number (number + size node) (number + (size node + arm_sizes nodes)) (steps node number)
-          (arm_steps nodes (number + size node)) (omega arith)
+      (arm_steps nodes (number + size node)) (omega arith)
       (omega arith) (steps_rise node number)
       (rise_wider (number + size node) (number + size node + arm_sizes nodes) (number + size node)
       (number + (size node + arm_sizes nodes))
@@ -305,7 +308,7 @@ mutual
   all_names_are no_trees number = refl
   all_names_are (more_trees node nodes) number =
       ap (λ others. others ++ all_names nodes) (names_are node number)
-          ∙ ap (λ others. map name_of (steps node number) ++ others)
+      ∙ ap (λ others. map name_of (steps node number) ++ others)
       (all_names_are nodes (number + size node))
       ∙ sym (map-append name_of (steps node number) (all_steps nodes (number + size node)))
 
@@ -313,7 +316,7 @@ mutual
   arm_names_are no_arms number = refl
   arm_names_are (more_arms when node nodes) number =
       ap (λ others. others ++ arm_names nodes) (names_are node number)
-          ∙ ap (λ others. map name_of (steps node number) ++ others)
+      ∙ ap (λ others. map name_of (steps node number) ++ others)
       (arm_names_are nodes (number + size node))
       ∙ sym (map-append name_of (steps node number) (arm_steps nodes (number + size node)))
 
@@ -385,29 +388,29 @@ mutual
       → Bound number (size node) earlier (step_count node)
   bounded chart (leaf step) number depth earlier clear formed near few =
       let step_is_clear = step_clear chart step number depth earlier clear.0 in
-          record { near = omega arith; few = omega arith }
+      record { near = omega arith; few = omega arith }
   bounded chart (seq each) number depth earlier clear formed near few =
       let bound = all_bounded chart each (number + 1) (depth + 1) earlier clear.1
-          (and_right (nat_le 1 (tree_count each)) _ formed)
+      (and_right (nat_le 1 (tree_count each)) _ formed)
       (some_told (tree_count each) (and_left (nat_le 1 (tree_count each)) _ formed))
       (omega arith) (omega arith) few in
       record { near = omega arith; few = bound.few }
   bounded chart (par each) number depth earlier clear formed near few =
       let bound = all_bounded chart each (number + 1) (depth + 1) earlier clear.1
-          (and_right (nat_le 2 (tree_count each)) _ formed)
+      (and_right (nat_le 2 (tree_count each)) _ formed)
       (two_told (tree_count each) (and_left (nat_le 2 (tree_count each)) _ formed))
       (omega arith) (omega arith) few in
       record { near = omega arith; few = bound.few }
   bounded chart (choice each) number depth earlier clear formed near few =
       let bound = arms_bounded chart each (number + 1) (depth + 1) earlier clear.1
-          (and_right (is_between 1 MOST_ARMS (arm_count each)) _ formed)
+      (and_right (is_between 1 MOST_ARMS (arm_count each)) _ formed)
       (some_told (arm_count each) (and_left (nat_le 1 (arm_count each)) _
       (and_left (is_between 1 MOST_ARMS (arm_count each)) _ formed)))
       (omega arith) (omega arith) few in
       record { near = omega arith; few = bound.few }
   bounded chart (loop body until) number depth earlier clear formed near few =
       let bound = bounded chart body (number + 1) (depth + 1) earlier clear.1 (and_left (is_tree_formed body) _ formed)
-          (omega arith) few in
+      (omega arith) few in
       record { near = omega arith; few = bound.few }
 
   all_bounded : (chart : ChartPlan) (nodes : Trees) (number depth earlier : ℕ)
@@ -418,7 +421,7 @@ mutual
   all_bounded chart no_trees number depth earlier clear formed some deep near few = absurd (omega arith)
   all_bounded chart (more_trees node no_trees) number depth earlier clear formed some deep near few =
       let bound = bounded chart node number depth earlier
-          (each_front (IsClear chart) (visits node number depth earlier) [] clear)
+      (each_front (IsClear chart) (visits node number depth earlier) [] clear)
       (and_left (is_tree_formed node) _ formed) near few in
       record { near = omega (arith, bound.near); few = omega (arith, bound.few) }
   all_bounded chart (more_trees node (more_trees other nodes)) number depth earlier clear formed some deep near few =
@@ -440,7 +443,7 @@ mutual
   arms_bounded chart no_arms number depth earlier clear formed some deep near few = absurd (omega arith)
   arms_bounded chart (more_arms when node no_arms) number depth earlier clear formed some deep near few =
       let bound = bounded chart node number depth earlier
-          (each_front (IsClear chart) (visits node number depth earlier) [] clear)
+      (each_front (IsClear chart) (visits node number depth earlier) [] clear)
       (and_left (is_tree_formed node) _ formed) near few in
       record { near = omega (arith, bound.near); few = omega (arith, bound.few) }
   arms_bounded chart (more_arms when node (more_arms guard other nodes)) number depth earlier clear formed some deep

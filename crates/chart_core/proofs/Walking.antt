@@ -90,7 +90,7 @@ none_behind here =
     let at_number : here.number ≡ here.number + 0 = omega arith in
     let at_step : here.steps ≡ here.steps + 0 = omega arith in
     ap (λ each. record { number = each; steps = here.steps }) at_number
-        ∙ ap (λ each. record { number = here.number + 0; steps = each }) at_step
+    ∙ ap (λ each. record { number = here.number + 0; steps = each }) at_step
 
 mutual
   pub walk_ends :

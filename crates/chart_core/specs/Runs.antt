@@ -93,7 +93,7 @@ abbrev mutual
       (λ arm. arm_at each (number + 1) arm)
   course (loop body until) number =
       repeat number (number + 1 + size body) (course body (number + 1))
-          (λ entry. is_some (decision_at number (loop_reads until) entry))
+      (λ entry. is_some (decision_at number (loop_reads until) entry))
       (λ entry. turns_rightly until entry.aside (decision_at number (loop_reads until) entry))
       (λ entry. leaves_rightly until entry.aside (decision_at number (loop_reads until) entry))
 

@@ -35,8 +35,8 @@ pub use fault::ChartFault;
 pub use following::{Followed, follow};
 pub use laws::{names_are_distinct, nothing_is_partial, steps_have_roles};
 pub use limits::{
-    DEEPEST_CONDITION, DEEPEST_NODE, LONGEST_WANTED, MOST_ARMS, MOST_JOINED, MOST_NODES, MOST_READS, MOST_ROLES,
-    MOST_SETTINGS, MOST_STEPS, MOST_TESTS,
+    DEEPEST_CONDITION, DEEPEST_NODE, LONGEST_WANTED, MOST_ARMS, MOST_JOINED, MOST_NODES,
+    MOST_READS, MOST_ROLES, MOST_SETTINGS, MOST_STEPS, MOST_TESTS,
 };
 pub use marks::{chart_size, is_done, take_entry, untouched};
 pub use next::{Next, Outcome};

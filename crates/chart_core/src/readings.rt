@@ -10,7 +10,7 @@ use std::marker::Model;
 /// A list of at most four readings, held inline.
 #[derive(Clone, Copy, PartialEq, Eq)]
 pub struct Readings {
-    items: [Reading; 4],
+    items: [Reading; MOST_READS],
     len: usize,
 }
 
@@ -38,7 +38,7 @@ impl Readings {
         ensures { result ≡ [] }
     {
         Readings {
-            items: [Reading::Bit(false); 4],
+            items: [Reading::Bit(false); MOST_READS],
             len: 0,
         }
     }
@@ -50,7 +50,7 @@ impl Readings {
         if list.len() > MOST_READS {
             return None;
         }
-        let mut items = [Reading::Bit(false); 4];
+        let mut items = [Reading::Bit(false); MOST_READS];
         items[..list.len()].copy_from_slice(list);
         Some(Readings {
             items,

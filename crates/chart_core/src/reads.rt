@@ -7,6 +7,7 @@ ghost use Rattle.chart_core.specs.Runs.{arm_reads, loop_reads};
 ghost use Rattle.chart_core.specs.declared.limits.TheConstants.{MOST_READS};
 
 use super::condition::Condition;
+use super::limits::MOST_READS;
 use super::node::Arm;
 use arrayvec::ArrayVec;
 use mtp_codes::Name;
@@ -32,7 +33,7 @@ impl Default for Read {
 }
 
 /// The distinct variables that a deciding node reads, in order of first appearance: at most four.
-pub type Reads = ArrayVec<Read, 4>;
+pub type Reads = ArrayVec<Read, MOST_READS>;
 
 fn has(reads: &[Read], read: Read) -> bool
     ensures { result ≡ has_read read reads.now }

@@ -108,7 +108,7 @@ alike : (before after : List Judged) (others : List Placed)
 alike before after [] here = refl
 alike before after (placed ∷ others) (here, rest) =
     ap (λ phase. if is_running phase then placed ∷ filter (is_live after) others else filter (is_live after) others)
-        here
+    here
     ∙ ap (λ kept. if is_live before placed then placed ∷ kept else kept) (alike before after others rest)
 
 -- an open step runs where its mark says so
@@ -142,12 +142,12 @@ mutual
       → runs (spots node number marks) ≡ filter (is_live entries) (steps node number)
   lives (leaf step) number marks entries distinct stands =
       let phase =
-          ap or_idle
-              (leaf_phase step number step.name entries refl
-              (stands_of (course (leaf step) number) marks entries tt stands))
+      ap or_idle
+      (leaf_phase step number step.name entries refl
+      (stands_of (course (leaf step) number) marks entries tt stands))
       ∙ had_phase (is_some step.finish) (marks number) _ stands in
       step_runs step number (marks number)
-          ∙ ap (λ said. if is_running said then record { number = number; step = step } ∷ [] else []) (sym phase)
+      ∙ ap (λ said. if is_running said then record { number = number; step = step } ∷ [] else []) (sym phase)
   lives (seq nodes) number marks entries distinct stands = turn_lives nodes (number + 1) marks entries distinct stands
   lives (par nodes) number marks entries distinct stands = once_lives nodes (number + 1) marks entries distinct stands
   lives (choice each) number marks entries distinct (inl (mark, none, fresh)) =
@@ -156,26 +156,26 @@ mutual
       (λ name known. ap (λ entries. or_idle (word_phase name entries)) none)))
   lives (choice each) number marks entries distinct (inr (arm, entry, back, cut, below, right, mark, stands)) =
       ap (λ progress. runs (choice_spots number (choice each) (λ arm. arm_spots each (number + 1) arm marks) progress))
-          mark
+      mark
       ∙ arm_lives each (number + 1) arm marks back distinct stands
       ∙ sym (alike back entries (arm_steps each (number + 1))
       (on_arm_names each (number + 1) (LeavesAlike back entries)
       (λ name known. ap or_idle (phase_head name entry back entries cut (arm_says each number name entry arm right)))))
   lives (loop node until) number marks entries distinct (inr (mark, rounds)) =
       ap (λ progress. runs
-          (loop_spots number (loop node until) (is_done (course node (number + 1)) marks)
-          (spots node (number + 1) marks) progress)) mark
+      (loop_spots number (loop node until) (is_done (course node (number + 1)) marks)
+      (spots node (number + 1) marks) progress)) mark
       ∙ sym (quiet entries (steps node (number + 1)) (on_names node (number + 1) (LeavesIdle entries)
       (λ name known. complete_idle (loop node until) number entries name distinct known rounds)))
   lives (loop node until) number marks entries distinct (inl (mark, rounds)) =
       let latest = rounds_last_phase node (number + 1) marks
-          (λ entry. turns_rightly until entry.aside (decision_at number (loop_reads until) entry)) distinct
+      (λ entry. turns_rightly until entry.aside (decision_at number (loop_reads until) entry)) distinct
       (λ name entry right. turns_says until number name entry right) entries rounds in
       let same = alike latest.0 entries (steps node (number + 1))
-          (on_names node (number + 1) (LeavesAlike latest.0 entries) latest.2) in
+      (on_names node (number + 1) (LeavesAlike latest.0 entries) latest.2) in
       ap (λ progress. runs
-          (loop_spots number (loop node until) (is_done (course node (number + 1)) marks)
-          (spots node (number + 1) marks) progress)) mark
+      (loop_spots number (loop node until) (is_done (course node (number + 1)) marks)
+      (spots node (number + 1) marks) progress)) mark
       ∙ if_runs (is_done (course node (number + 1)) marks)
       (record { number = number; node = loop node until; progress = Untouched } ∷ [])
       (spots node (number + 1) marks) (filter (is_live entries) (steps node (number + 1)))
@@ -201,14 +201,14 @@ mutual
       (stands_of (course node number) marks entries (sound node number front) stands)))) in
       let none : filter (is_live []) (all_steps nodes (number + size node)) ≡ []
       = quiet [] (all_steps nodes (number + size node))
-          (on_all_names nodes (number + size node) (LeavesIdle []) (λ name known. refl)) in
+      (on_all_names nodes (number + size node) (LeavesIdle []) (λ name known. refl)) in
       let cut : filter (is_live entries) (all_steps (more_trees node nodes) number)
-          ≡ filter (is_live entries) (steps node number)
+      ≡ filter (is_live entries) (steps node number)
       = filter-append (is_live entries) (steps node number) (all_steps nodes (number + size node))
       ∙ ap (λ others. filter (is_live entries) (steps node number) ++ others) rest
       ∙ append-nil (filter (is_live entries) (steps node number)) in
       if_runs (is_done (course node number) marks) (turn_spots nodes (number + size node) marks)
-          (spots node number marks)
+      (spots node number marks)
       (filter (is_live entries) (all_steps (more_trees node nodes) number))
       (λ tested. turn_lives nodes (number + size node) marks [] back
       (fresh_stands (in_turn nodes (number + size node)) marks
@@ -234,7 +234,7 @@ mutual
       (on_names node number (LeavesIdle start) (λ name known. complete_idle node number start name front known
       (done_complete (course node number) marks start (sound node number front) here done))) in
       let rest : filter (is_live entries) (all_steps nodes (number + size node))
-          ≡ filter (is_live ending) (all_steps nodes (number + size node))
+      ≡ filter (is_live ending) (all_steps nodes (number + size node))
       = alike ending entries (all_steps nodes (number + size node))
       (on_all_names nodes (number + size node) (LeavesAlike ending entries)
       (λ name known. ap or_idle (phase_back name start ending entries joined
@@ -242,11 +242,11 @@ mutual
       (λ also. distinct_apart name (names node) (all_names nodes) distinct also known))
       (stands_of (course node number) marks start (sound node number front) here))))) in
       let cut : filter (is_live entries) (all_steps (more_trees node nodes) number)
-          ≡ filter (is_live ending) (all_steps nodes (number + size node))
+      ≡ filter (is_live ending) (all_steps nodes (number + size node))
       = filter-append (is_live entries) (steps node number) (all_steps nodes (number + size node))
       ∙ ap (λ others. others ++ filter (is_live entries) (all_steps nodes (number + size node))) first ∙ rest in
       if_runs (is_done (course node number) marks) (turn_spots nodes (number + size node) marks)
-          (spots node number marks)
+      (spots node number marks)
       (filter (is_live entries) (all_steps (more_trees node nodes) number))
       (λ tested. turn_lives nodes (number + size node) marks ending back there ∙ sym cut)
       (λ tested. let clash : true ≡ false = sym (of_done (course node number) marks done) ∙ tested in cc)
@@ -268,7 +268,7 @@ mutual
       (once_silent nodes (number + size node) name
       (λ also. distinct_apart name (names node) (all_names nodes) distinct known also)) all)))) in
       let rest : filter (is_live entries) (all_steps nodes (number + size node))
-          ≡ filter (is_live of_rest) (all_steps nodes (number + size node))
+      ≡ filter (is_live of_rest) (all_steps nodes (number + size node))
       = alike of_rest entries (all_steps nodes (number + size node))
       (on_all_names nodes (number + size node) (LeavesAlike of_rest entries)
       (λ name known. ap or_idle
@@ -321,7 +321,7 @@ active_live : (chart : ChartPlan) (log : List LogEntry) (others : List Placed)
 active_live chart log [] all = refl
 active_live chart log (placed ∷ others) all =
     ap (λ phase. if is_running (or_idle phase) then placed ∷ filter (is_active log) others else filter
-        (is_active log) others)
+    (is_active log) others)
     (log_phase chart placed.step.name log all)
     ∙ ap (λ kept. if is_live (word log) placed then placed ∷ kept else kept) (active_live chart log others all)
 
@@ -339,7 +339,7 @@ placed_one : (wanted : ℕ → StepPlan → Bool) (number : ℕ) (node : Tree) (
     ≡ first_placed wanted (run_of number node phase ++ rest)
 placed_one wanted number (leaf step) phase rest =
     elim (is_running phase) as
-        (λ test. option_or (if test && wanted number step then Some (running_step number step) else None)
+    (λ test. option_or (if test && wanted number step then Some (running_step number step) else None)
     (first_placed wanted rest)
     ≡ first_placed wanted ((if test then record { number = number; step = step } ∷ [] else []) ++ rest)) [
       | true ↦ (elim (wanted number step) as

@@ -72,14 +72,14 @@ mutual
       (λ place. arm_closed each (number + 1) place marks) done
   done_closed (loop body until) number marks done =
       left_loop number (loop body until) (is_done (course body (number + 1)) marks) (spots body (number + 1) marks)
-          (marks number) done
+      (marks number) done
 
   turn_closed : (each : Trees) (number : ℕ) (marks : Marks) → is_done (in_turn each number) marks ≡ true
       → turn_spots each number marks ≡ []
   turn_closed no_trees number marks done = refl
   turn_closed (more_trees each others) number marks done =
       let both = and_parts (is_done (course each number) marks)
-          (is_done (in_turn others (number + size each)) marks) done in
+      (is_done (in_turn others (number + size each)) marks) done in
       rw both.0 (turn_closed others (number + size each) marks both.1)
 
   once_closed : (each : Trees) (number : ℕ) (marks : Marks) → is_done (at_once each number) marks ≡ true
@@ -87,7 +87,7 @@ mutual
   once_closed no_trees number marks done = refl
   once_closed (more_trees each others) number marks done =
       let both = and_parts (is_done (course each number) marks)
-          (is_done (at_once others (number + size each)) marks) done in
+      (is_done (at_once others (number + size each)) marks) done in
       rw (done_closed each number marks both.0) (once_closed others (number + size each) marks both.1)
 
   arm_closed : (each : Arms) (number place : ℕ) (marks : Marks) → is_done (arm_at each number place) marks ≡ true

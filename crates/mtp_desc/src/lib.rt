@@ -21,7 +21,8 @@ mod writing;
 
 pub use description::Description;
 pub use limits::{
-    GREATEST_PROCEDURE, LONGEST_VERSION, MOST_PARAMS, MOST_PROCEDURES, MOST_SERVICES, MOST_VARIABLES,
+    GREATEST_PROCEDURE, LONGEST_VERSION, MOST_PARAMS, MOST_PROCEDURES, MOST_SERVICES,
+    MOST_VARIABLES,
 };
 pub use procedure::Procedure;
 pub use reading::{DescriptionJson, read_description};
