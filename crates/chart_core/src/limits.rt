@@ -16,10 +16,10 @@ pub const MOST_ARMS: usize = 16;
 pub const MOST_JOINED: usize = 16;
 
 /// The most tests of a condition.
-pub const MOST_TESTS: usize = 16;
+pub const MOST_TESTS: u32 = 16;
 
 /// How deep a condition may be nested.
-pub const DEEPEST_CONDITION: usize = 8;
+pub const DEEPEST_CONDITION: u32 = 8;
 
 /// The most variables that a node reads to decide.
 pub const MOST_READS: usize = 4;

@@ -15,6 +15,7 @@ use Rattle.mtp_json.specs.Form.{each, object_here, repeats_by}
 use Rattle.mtp_json.specs.Leaf.{word}
 use Rattle.mtp_json.specs.Written.{is_scalar}
 use Rattle.mtp_json.proofs.Again.{whole_again, each_again, len_again, scalar_again}
+use Rattle.chart_core.specs.declared.limits.TheConstants.{MOST_ROLES, LONGEST_WANTED, MOST_SETTINGS, MOST_ARMS, MOST_JOINED, MOST_TESTS, DEEPEST_CONDITION}
 use Rattle.chart_core.specs.Form.{are_distinct, formula_count, has_parts_formed, have_parts_formed, may_compare, test_count, nesting, nestings, is_formula_formed, is_finish_formed, is_step_formed, tree_count, is_tree_formed, are_trees_formed, are_arms_formed}
 use Rattle.chart_core.specs.Formulas.{Formula, Formulas, constant, all_of, any_of, not_of, test, no_formulas, more_formulas, formulas_of}
 use Rattle.chart_core.specs.Roles.{ChartPlan, RolePlan, are_roles_formed, is_chart_form, role_names}
@@ -81,10 +82,10 @@ mutual
   within_again (test role variable op value) zero formed sound deep = absurd (omega arith)
   within_again (constant holds) (suc depth) formed sound deep = refl
   within_again (all_of each) (suc depth) formed sound deep =
-      let parts = and_parts (is_between 1 16 (formula_count each)) (have_parts_formed each) formed in
+      let parts = and_parts (is_between 1 MOST_JOINED (formula_count each)) (have_parts_formed each) formed in
       rw (formulas_len each, parts.0, all_again each depth 0 parts.1 sound (omega arith), listed_again each) refl
   within_again (any_of each) (suc depth) formed sound deep =
-      let parts = and_parts (is_between 1 16 (formula_count each)) (have_parts_formed each) formed in
+      let parts = and_parts (is_between 1 MOST_JOINED (formula_count each)) (have_parts_formed each) formed in
       rw (formulas_len each, parts.0, all_again each depth 0 parts.1 sound (omega arith), listed_again each) refl
   within_again (not_of inner) (suc depth) formed sound deep =
       rw (within_again inner depth formed sound (omega arith)) refl
@@ -131,9 +132,9 @@ pub condition_again : (condition : Formula) → is_formula_formed condition ≡ 
     → condition_of (written_formula condition) ≡ Ok condition
 unfolding condition_of
 condition_again condition formed sound =
-    let parts = and_parts (has_parts_formed condition) (nat_le (test_count condition) 16 && nat_le
-    (nesting condition) 8) formed in
-    let small = and_parts (nat_le (test_count condition) 16) (nat_le (nesting condition) 8) parts.1 in
+    let parts = and_parts (has_parts_formed condition) (nat_le (test_count condition) MOST_TESTS && nat_le
+    (nesting condition) DEEPEST_CONDITION) formed in
+    let small = and_parts (nat_le (test_count condition) MOST_TESTS) (nat_le (nesting condition) DEEPEST_CONDITION) parts.1 in
     rw (formula_again condition parts.0 sound, small.0, small.1) refl
 
 -- ---- steps
@@ -151,7 +152,7 @@ record AreFields (step : StepPlan) : Type 0 where
   pub role : is_name step.role ≡ true
   pub service : is_name step.service ≡ true
   pub procedure : is_between 1 65535 step.procedure ≡ true
-  pub few : is_between 0 32 (length step.settings) ≡ true
+  pub few : is_between 0 MOST_SETTINGS (length step.settings) ≡ true
   pub settings : list_all is_setting_sound step.settings ≡ true
   pub unlike : repeats_by same_setting step.settings ≡ false
 
@@ -188,7 +189,7 @@ fields_again step (Some finish) are formed sound =
       are.unlike,
     ) refl
 
-some_settings : (n : ℕ) → nat_le n 32 ≡ true → is_between 0 32 n ≡ true
+some_settings : (n : ℕ) → nat_le n MOST_SETTINGS ≡ true → is_between 0 MOST_SETTINGS n ≡ true
 some_settings n few = rw few (grind (arith, nat_tests))
 
 -- a step that is written is read back
@@ -197,9 +198,9 @@ step_again : (step : StepPlan) → is_step_formed step ≡ true → is_step_soun
 unfolding written_step
 step_again step formed sound =
     let a = and_parts (nat_le 1 step.procedure)
-    (nat_le (length step.settings) 32
+    (nat_le (length step.settings) MOST_SETTINGS
     && (are_distinct (map (λ setting. setting.name) step.settings) && is_finish_formed step.finish)) formed in
-    let b = and_parts (nat_le (length step.settings) 32) (are_distinct
+    let b = and_parts (nat_le (length step.settings) MOST_SETTINGS) (are_distinct
     (map (λ setting. setting.name) step.settings) && is_finish_formed step.finish) a.1 in
     let c = and_parts (are_distinct (map (λ setting. setting.name) step.settings)) (is_finish_formed step.finish) b.1 in
     let n = and_parts (is_name step.name)
@@ -301,7 +302,7 @@ mutual
       let parts = and_parts (nat_le 2 (tree_count each)) (are_trees_formed each) formed in
       rw (trees_len each, parts.0, trees_again each depth 0 parts.1 sound (omega arith), nodes_again each) refl
   tree_within_again (choice each) (suc depth) formed sound deep =
-      let parts = and_parts (is_between 1 16 (arm_count each)) (are_arms_formed each) formed in
+      let parts = and_parts (is_between 1 MOST_ARMS (arm_count each)) (are_arms_formed each) formed in
       rw (arms_len each, parts.0, arms_again each depth 0 parts.1 sound (omega arith), plans_again each) refl
   tree_within_again (loop body until) (suc depth) formed sound deep =
       let parts = and_parts (is_tree_formed body) (is_formula_formed until) formed in
@@ -368,24 +369,24 @@ what_is_ok (Err error) ok = absurd (true≢false (sym ok))
 
 -- the role is sound, and its text has at most 64 bytes
 abbrev is_role_written : RolePlan → Bool
-is_role_written role = is_role_sound role && nat_le (length role.wants) 64
+is_role_written role = is_role_sound role && nat_le (length role.wants) LONGEST_WANTED
 
 role_again : (role : RolePlan) → is_role_written role ≡ true → role_of (written_role role) ≡ Ok role
 unfolding role_of written_role
 role_again role written =
-    let parts = and_parts (is_role_sound role) (nat_le (length role.wants) 64) written in
+    let parts = and_parts (is_role_sound role) (nat_le (length role.wants) LONGEST_WANTED) written in
     let named = and_parts (is_name role.role) (is_name role.type_name && is_ok (requirement_of role.wants)) parts.0 in
     let typed = and_parts (is_name role.type_name) (is_ok (requirement_of role.wants)) named.1 in
     let required = what_is_ok (requirement_of role.wants) typed.1 in
     rw (named.0, typed.0, parts.1, required.1) refl
 
 all_of_both : (roles : List RolePlan) → list_all is_role_sound roles ≡ true
-    → list_all (λ role. nat_le (length role.wants) 64) roles ≡ true → list_all is_role_written roles ≡ true
+    → list_all (λ role. nat_le (length role.wants) LONGEST_WANTED) roles ≡ true → list_all is_role_written roles ≡ true
 all_of_both [] sound short = refl
 all_of_both (role ∷ roles) sound short =
     let sounds = and_parts (is_role_sound role) (list_all is_role_sound roles) sound in
-    let shorts = and_parts (nat_le (length role.wants) 64) (list_all
-    (λ role. nat_le (length role.wants) 64) roles) short in
+    let shorts = and_parts (nat_le (length role.wants) LONGEST_WANTED) (list_all
+    (λ role. nat_le (length role.wants) LONGEST_WANTED) roles) short in
     rw (sounds.0, shorts.0, all_of_both roles sounds.1 shorts.1) refl
 
 -- roles that are written are read back
@@ -393,8 +394,8 @@ pub roles_again : (roles : List RolePlan) → are_roles_sized roles ≡ true →
     → roles_of (written_roles roles) ≡ Ok roles
 unfolding roles_of written_roles
 roles_again roles sized sound =
-    let parts = and_parts (is_between 1 64 (length roles)) (list_all
-    (λ role. nat_le (length role.wants) 64) roles) sized in
+    let parts = and_parts (is_between 1 MOST_ROLES (length roles)) (list_all
+    (λ role. nat_le (length role.wants) LONGEST_WANTED) roles) sized in
     rw (
       len_again written_role roles,
       parts.0,
@@ -407,19 +408,19 @@ roles_again roles sized sound =
 sized_told : (chart : ChartPlan) → is_chart_form chart ≡ true → are_roles_sized chart.roles ≡ true
 sized_told chart formed =
     let parts = and_parts (are_roles_formed chart) (is_tree_formed chart.root) formed in
-    let sizes = and_parts (is_between 1 64 (length chart.roles))
-    (are_distinct (role_names chart) && list_all (λ role. nat_le (length role.wants) 64) chart.roles) parts.0 in
+    let sizes = and_parts (is_between 1 MOST_ROLES (length chart.roles))
+    (are_distinct (role_names chart) && list_all (λ role. nat_le (length role.wants) LONGEST_WANTED) chart.roles) parts.0 in
     let texts = and_parts (are_distinct (role_names chart)) (list_all
-    (λ role. nat_le (length role.wants) 64) chart.roles) sizes.1 in
+    (λ role. nat_le (length role.wants) LONGEST_WANTED) chart.roles) sizes.1 in
     rw (sizes.0, texts.1) refl
 
 unlike_told : (chart : ChartPlan) → is_chart_form chart ≡ true → repeats_by same_role chart.roles ≡ false
 unlike_told chart formed =
     let parts = and_parts (are_roles_formed chart) (is_tree_formed chart.root) formed in
-    let sizes = and_parts (is_between 1 64 (length chart.roles))
-    (are_distinct (role_names chart) && list_all (λ role. nat_le (length role.wants) 64) chart.roles) parts.0 in
+    let sizes = and_parts (is_between 1 MOST_ROLES (length chart.roles))
+    (are_distinct (role_names chart) && list_all (λ role. nat_le (length role.wants) LONGEST_WANTED) chart.roles) parts.0 in
     let texts = and_parts (are_distinct (role_names chart)) (list_all
-    (λ role. nat_le (length role.wants) 64) chart.roles) sizes.1 in
+    (λ role. nat_le (length role.wants) LONGEST_WANTED) chart.roles) sizes.1 in
     not-true (repeats_by same_role chart.roles) (sym (distinct_told (λ role. role.role) chart.roles) ∙ texts.0)
 
 -- a chart's own roles and root make the chart

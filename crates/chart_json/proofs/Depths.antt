@@ -12,6 +12,7 @@ use Rattle.mtp_codes.specs.declared.value.Value.TheVariants.{Whole, Bit, Text}
 use Rattle.mtp_codes.specs.Numbers.{is_between}
 use Rattle.mtp_json.specs.Written.{scalar_data}
 use Rattle.mtp_json.proofs.Again.{items_depth_below}
+use Rattle.chart_core.specs.declared.limits.TheConstants.{MOST_SETTINGS, MOST_ARMS, MOST_TESTS, DEEPEST_CONDITION, DEEPEST_NODE}
 use Rattle.chart_core.specs.Form.{are_distinct, has_parts_formed, test_count, nesting, nestings, is_formula_formed, is_finish_formed, is_step_formed, tree_count, is_tree_formed, are_trees_formed, are_arms_formed}
 use Rattle.chart_core.specs.Formulas.{Formula, Formulas, constant, all_of, any_of, not_of, test, no_formulas, more_formulas}
 use Rattle.chart_core.specs.Trees.{StepPlan, Tree, Trees, Arms, leaf, seq, par, choice, loop, no_trees, more_trees, no_arms, more_arms, arm_count}
@@ -47,15 +48,15 @@ mutual
   formulas_depth (more_formulas one each) = omega (arith, formula_depth one, formulas_depth each)
 
 -- what the test of a nesting says
-pub nesting_told : (n : ℕ) → nat_le n 8 ≡ true → n ≤ 8
+pub nesting_told : (n : ℕ) → nat_le n DEEPEST_CONDITION ≡ true → n ≤ DEEPEST_CONDITION
 nesting_told n few = grind (arith, nat_tests)
 
 -- a whole condition nests at most 16 deep
 condition_depth : (condition : Formula) → is_formula_formed condition ≡ true → depth (written_formula condition) ≤ 16
 condition_depth condition formed =
-    let parts = and_parts (has_parts_formed condition) (nat_le (test_count condition) 16 && nat_le
-    (nesting condition) 8) formed in
-    let small = and_parts (nat_le (test_count condition) 16) (nat_le (nesting condition) 8) parts.1 in
+    let parts = and_parts (has_parts_formed condition) (nat_le (test_count condition) MOST_TESTS && nat_le
+    (nesting condition) DEEPEST_CONDITION) formed in
+    let small = and_parts (nat_le (test_count condition) MOST_TESTS) (nat_le (nesting condition) DEEPEST_CONDITION) parts.1 in
     omega (arith, formula_depth condition, nesting_told (nesting condition) small.1)
 
 -- a single value nests nothing
@@ -78,9 +79,9 @@ finish_depth step (Some finish) formed =
 step_parts : (step : StepPlan) → is_step_formed step ≡ true → is_finish_formed step.finish ≡ true
 step_parts step formed =
     let a = and_parts (nat_le 1 step.procedure)
-    (nat_le (length step.settings) 32
+    (nat_le (length step.settings) MOST_SETTINGS
     && (are_distinct (map (λ setting. setting.name) step.settings) && is_finish_formed step.finish)) formed in
-    let b = and_parts (nat_le (length step.settings) 32) (are_distinct
+    let b = and_parts (nat_le (length step.settings) MOST_SETTINGS) (are_distinct
     (map (λ setting. setting.name) step.settings) && is_finish_formed step.finish) a.1 in
     (and_parts (are_distinct (map (λ setting. setting.name) step.settings)) (is_finish_formed step.finish) b.1).1
 
@@ -107,7 +108,7 @@ mutual
   tree_depth (choice each) formed = omega (
     arith,
     arms_depth each
-        (and_parts (is_between 1 16 (arm_count each)) (are_arms_formed each) formed).1,
+        (and_parts (is_between 1 MOST_ARMS (arm_count each)) (are_arms_formed each) formed).1,
   )
   tree_depth (loop body until) formed =
       let parts = and_parts (is_tree_formed body) (is_formula_formed until) formed in
@@ -128,7 +129,7 @@ mutual
       omega (arith, tree_depth one parts.0, condition_depth when others.0, arms_depth each others.1)
 
 -- the written root of a chart that lies at most 16 deep nests at most 65 deep
-pub root_depth : (chart : ChartPlan) → is_chart_form chart ≡ true → levels chart.root ≤ 16
+pub root_depth : (chart : ChartPlan) → is_chart_form chart ≡ true → levels chart.root ≤ DEEPEST_NODE
     → depth (written_tree chart.root) ≤ 65
 root_depth chart formed shallow = omega (
   arith,

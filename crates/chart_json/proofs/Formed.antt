@@ -18,6 +18,7 @@ use Rattle.mtp_json.specs.declared.path.PathPart.TheVariants.{Key}
 use Rattle.mtp_json.specs.Form.{each, inside, inside_if_there, list, list_or_none, need, nothing_but, object_here, refused_if, repeats_by}
 use Rattle.mtp_json.specs.Leaf.{count, text_to, items_in}
 use Rattle.mtp_json.specs.Reading.{Reading, ◌>>=◌, here, under}
+use Rattle.chart_core.specs.declared.limits.TheConstants.{MOST_ROLES, LONGEST_WANTED, MOST_SETTINGS, MOST_ARMS, MOST_JOINED}
 use Rattle.chart_core.specs.Form.{are_distinct, formula_count, has_parts_formed, have_parts_formed, may_compare, is_formula_formed, is_finish_formed, is_step_formed, tree_count, is_tree_formed, are_trees_formed, are_arms_formed}
 use Rattle.chart_core.specs.declared.condition.Op.{Op}
 use Rattle.chart_core.specs.Formulas.{Formula, all_of, any_of, not_of, formulas_of, test}
@@ -53,9 +54,9 @@ all_parts : (inner : Data → Reading Formula) → ((value : Data) → IfOk (inn
     → IfOk (all_form inner value) HasParts
 unfolding all_form
 all_parts inner told value =
-    told_before (IsListOf (is_between 1 16) has_parts_formed) HasParts (list (codes "all") 1 16 inner value)
+    told_before (IsListOf (is_between 1 MOST_JOINED) has_parts_formed) HasParts (list (codes "all") 1 MOST_JOINED inner value)
     (λ each. nothing_but (codes "all") value >>= λ _. Ok (all_of (formulas_of each)))
-    (told_list (is_between 1 16) has_parts_formed (codes "all") (items_in 1 16) inner (told_items 1 16) told value)
+    (told_list (is_between 1 MOST_JOINED) has_parts_formed (codes "all") (items_in 1 MOST_JOINED) inner (told_items 1 MOST_JOINED) told value)
     (λ each are. any_before HasParts (nothing_but (codes "all") value) (λ _. Ok (all_of (formulas_of each)))
     (λ _. rw (count_formulas each, are.0, parts_of_all each, are.1) refl))
 
@@ -63,9 +64,9 @@ any_parts : (inner : Data → Reading Formula) → ((value : Data) → IfOk (inn
     → IfOk (any_form inner value) HasParts
 unfolding any_form
 any_parts inner told value =
-    told_before (IsListOf (is_between 1 16) has_parts_formed) HasParts (list (codes "any") 1 16 inner value)
+    told_before (IsListOf (is_between 1 MOST_JOINED) has_parts_formed) HasParts (list (codes "any") 1 MOST_JOINED inner value)
     (λ each. nothing_but (codes "any") value >>= λ _. Ok (any_of (formulas_of each)))
-    (told_list (is_between 1 16) has_parts_formed (codes "any") (items_in 1 16) inner (told_items 1 16) told value)
+    (told_list (is_between 1 MOST_JOINED) has_parts_formed (codes "any") (items_in 1 MOST_JOINED) inner (told_items 1 MOST_JOINED) told value)
     (λ each are. any_before HasParts (nothing_but (codes "any") value) (λ _. Ok (any_of (formulas_of each)))
     (λ _. rw (count_formulas each, are.0, parts_of_all each, are.1) refl))
 
@@ -187,7 +188,7 @@ ruled_step named role service procedure settings finish value =
     })
 
 ruled : (named role service : List ℕ) (procedure : ℕ) (settings : List Setting) (finish : Option Formula) (value : Data)
-    → nat_le 1 procedure ≡ true → nat_le (length settings) 32 ≡ true → is_finish_formed finish ≡ true
+    → nat_le 1 procedure ≡ true → nat_le (length settings) MOST_SETTINGS ≡ true → is_finish_formed finish ≡ true
     → IfOk (ruled_step named role service procedure settings finish value) IsStep
 ruled named role service procedure settings finish value numbered few formed =
     any_before IsStep (nothing_but (codes "step role service procedure settings finish") value)
@@ -219,30 +220,30 @@ ruled named role service procedure settings finish value numbered few formed =
 -- the fields from the procedure on
 rest_of_step : (named role service : List ℕ) (value : Data)
     → IfOk (need (codes "procedure") (count 1 65535) value >>= λ procedure.
-    list_or_none (codes "settings") 0 32 setting_of value >>= λ settings.
+    list_or_none (codes "settings") 0 MOST_SETTINGS setting_of value >>= λ settings.
     inside_if_there (codes "finish") condition_of value >>= λ finish.
     ruled_step named role service procedure settings finish value) IsStep
 rest_of_step named role service value =
     told_before (λ procedure. is_between 1 65535 procedure ≡ true) IsStep
     (need (codes "procedure") (count 1 65535) value)
-    (λ procedure. list_or_none (codes "settings") 0 32 setting_of value
+    (λ procedure. list_or_none (codes "settings") 0 MOST_SETTINGS setting_of value
     >>= λ settings. inside_if_there (codes "finish") condition_of value
     >>= λ finish. ruled_step named role service procedure settings finish value)
     (told_need (λ procedure. is_between 1 65535 procedure ≡ true) (codes "procedure") (count 1 65535)
     (told_count 1 65535) value)
     (λ procedure numbered.
-    told_before (IsListOf (is_between 0 32) (λ _. true)) IsStep (list_or_none (codes "settings") 0 32 setting_of value)
+    told_before (IsListOf (is_between 0 MOST_SETTINGS) (λ _. true)) IsStep (list_or_none (codes "settings") 0 MOST_SETTINGS setting_of value)
     (λ settings. inside_if_there (codes "finish") condition_of value >>= λ finish. ruled_step named role service
     procedure settings finish value)
-    (told_list_or_none (is_between 0 32) (λ _. true) (codes "settings") (items_in 0 32) setting_of refl
-    (told_items 0 32) (λ value. any_value (setting_of value)) value)
+    (told_list_or_none (is_between 0 MOST_SETTINGS) (λ _. true) (codes "settings") (items_in 0 MOST_SETTINGS) setting_of refl
+    (told_items 0 MOST_SETTINGS) (λ value. any_value (setting_of value)) value)
     (λ settings few.
     told_before (λ finish. is_finish_formed finish ≡ true) IsStep (inside_if_there (codes "finish") condition_of value)
     (λ finish. ruled_step named role service procedure settings finish value)
     (told_inside_if_there (λ finish. is_finish_formed finish ≡ true)
     (codes "finish") condition_of refl condition_formed value)
     (λ finish formed. ruled named role service procedure settings finish value (from_one procedure numbered)
-    (and_parts (nat_le 0 (length settings)) (nat_le (length settings) 32) few.0).1 formed)))
+    (and_parts (nat_le 0 (length settings)) (nat_le (length settings) MOST_SETTINGS) few.0).1 formed)))
 
 step_formed : (value : Data) → IfOk (step_of value) IsStep
 unfolding step_of
@@ -328,9 +329,9 @@ sel_formed : (inner : Data → Reading Tree) → ((value : Data) → IfOk (inner
     → IfOk (sel_form inner value) IsNode
 unfolding sel_form
 sel_formed inner told value =
-    told_before (IsListOf (is_between 1 16) is_arm_formed) IsNode (list (codes "sel") 1 16 (arm_of inner) value)
+    told_before (IsListOf (is_between 1 MOST_ARMS) is_arm_formed) IsNode (list (codes "sel") 1 MOST_ARMS (arm_of inner) value)
     (λ arms. nothing_but (codes "sel") value >>= λ _. Ok (choice (arms_of arms)))
-    (told_list (is_between 1 16) is_arm_formed (codes "sel") (items_in 1 16) (arm_of inner) (told_items 1 16)
+    (told_list (is_between 1 MOST_ARMS) is_arm_formed (codes "sel") (items_in 1 MOST_ARMS) (arm_of inner) (told_items 1 MOST_ARMS)
     (arm_formed inner told) value)
     (λ arms are. any_before IsNode (nothing_but (codes "sel") value) (λ _. Ok (choice (arms_of arms)))
     (λ _. rw (count_arms arms, are.0, arms_all arms, are.1) refl))
@@ -382,23 +383,23 @@ tree_formed value = within_formed (suc (depth value)) value
 
 -- the role's text has at most 64 bytes
 abbrev is_role_short : RolePlan → Bool
-is_role_short role = nat_le (length role.wants) 64
+is_role_short role = nat_le (length role.wants) LONGEST_WANTED
 
 -- the same as a fact
 abbrev IsShort : RolePlan → Type 0
 IsShort role = is_role_short role ≡ true
 
 wants_short : (role type_name : List ℕ) (value : Data)
-    → IfOk (need (codes "version") (text_to 64) value >>= λ wants.
+    → IfOk (need (codes "version") (text_to LONGEST_WANTED) value >>= λ wants.
     under (codes "version") (here (requirement_of wants)) >>= λ _.
     nothing_but (codes "role type version") value >>= λ _.
     Ok (record { role = role; type_name = type_name; wants = wants })) IsShort
 wants_short role type_name value =
-    told_before (λ wants. nat_le (length wants) 64 ≡ true) IsShort (need (codes "version") (text_to 64) value)
+    told_before (λ wants. nat_le (length wants) LONGEST_WANTED ≡ true) IsShort (need (codes "version") (text_to LONGEST_WANTED) value)
     (λ wants. under (codes "version") (here (requirement_of wants))
     >>= λ _. nothing_but (codes "role type version") value
     >>= λ _. Ok (record { role = role; type_name = type_name; wants = wants }))
-    (told_need (λ wants. nat_le (length wants) 64 ≡ true) (codes "version") (text_to 64) (told_text 64) value)
+    (told_need (λ wants. nat_le (length wants) LONGEST_WANTED ≡ true) (codes "version") (text_to LONGEST_WANTED) (told_text LONGEST_WANTED) value)
     (λ wants short. search (any_before, short))
 
 role_short : (value : Data) → IfOk (role_of value) IsShort
@@ -409,17 +410,17 @@ role_short value = search (any_before, wants_short) depth 12
 pub roles_sized : (value : Data) → IfOk (roles_of value) (λ roles. are_roles_sized roles ≡ true)
 unfolding roles_of
 roles_sized value =
-    told_before (HasSize (is_between 1 64)) (λ roles. are_roles_sized roles ≡ true) (here (items_in 1 64 value))
+    told_before (HasSize (is_between 1 MOST_ROLES)) (λ roles. are_roles_sized roles ≡ true) (here (items_in 1 MOST_ROLES value))
     (λ values. each role_of 0 values)
-    (told_here (HasSize (is_between 1 64)) (items_in 1 64 value) (told_items 1 64 value))
+    (told_here (HasSize (is_between 1 MOST_ROLES)) (items_in 1 MOST_ROLES value) (told_items 1 MOST_ROLES value))
     (λ values sized.
-    IfOk-weaker (each role_of 0 values) (IsListOf (is_between 1 64) is_role_short)
+    IfOk-weaker (each role_of 0 values) (IsListOf (is_between 1 MOST_ROLES) is_role_short)
     (λ roles. are_roles_sized roles ≡ true) (λ roles are. rw (are.0, are.1) refl)
-    (told_all (is_between 1 64) is_role_short role_of role_short values sized))
+    (told_all (is_between 1 MOST_ROLES) is_role_short role_of role_short values sized))
 
 -- sized roles of which none is named twice, and a formed node, are a chart's form
 pub chart_formed : (roles : List RolePlan) (root : Tree) → are_roles_sized roles ≡ true → is_tree_formed root ≡ true
     → repeats_by same_role roles ≡ false → is_chart_form (record { roles = roles; root = root }) ≡ true
 chart_formed roles root sized formed unlike =
-    let parts = and_parts (is_between 1 64 (length roles)) (list_all is_role_short roles) sized in
+    let parts = and_parts (is_between 1 MOST_ROLES (length roles)) (list_all is_role_short roles) sized in
     rw (parts.0, distinct_told (λ role. role.role) roles, unlike, parts.1, formed) refl

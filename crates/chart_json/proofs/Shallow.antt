@@ -4,6 +4,7 @@ use Rattle.std.specs.Prelude.{nat_lt}
 use Rattle.std.proofs.lemmas.Bool.Decides.{nat_tests}
 use Rattle.std.specs.Option.{option_or}
 use Rattle.mtp_codes.specs.Faults.{when}
+use Rattle.chart_core.specs.declared.limits.TheConstants.{DEEPEST_NODE}
 use Rattle.chart_core.specs.Roles.{ChartPlan}
 use Rattle.chart_core.specs.Trees.{Tree, Trees, Arms, leaf, seq, par, choice, loop, no_trees, more_trees, no_arms, more_arms, size}
 use Rattle.chart_core.specs.Valid.{Visit, visit, visits, all_visits, arm_visits, step_count, node_fault, first_fault, IsValid}
@@ -19,16 +20,16 @@ not_there : (here : Bool) (fault : ChartFault) → when here fault ≡ None → 
 not_there true fault none = absurd cc
 not_there false fault none = refl
 
-depth_told : (depth : ℕ) → nat_lt 16 depth ≡ false → depth ≤ 16
+depth_told : (depth : ℕ) → nat_lt DEEPEST_NODE depth ≡ false → depth ≤ DEEPEST_NODE
 depth_told depth test = grind (arith, nat_tests)
 
 -- a node with no fault lies at most 16 deep
 node_shallow : (chart : ChartPlan) (node : Visit) (rest : Option ChartFault)
-    → option_or (when (nat_lt 16 node.depth) (TooDeep node.number)) rest ≡ None → node.depth ≤ 16
+    → option_or (when (nat_lt DEEPEST_NODE node.depth) (TooDeep node.number)) rest ≡ None → node.depth ≤ DEEPEST_NODE
 node_shallow chart node rest none =
     depth_told node.depth
-    (not_there (nat_lt 16 node.depth) (TooDeep node.number)
-    (neither_faulty (when (nat_lt 16 node.depth) (TooDeep node.number)) rest none).0)
+    (not_there (nat_lt DEEPEST_NODE node.depth) (TooDeep node.number)
+    (neither_faulty (when (nat_lt DEEPEST_NODE node.depth) (TooDeep node.number)) rest none).0)
 
 both_clear : (chart : ChartPlan) (xs ys : List Visit) → first_fault chart (xs ++ ys) ≡ None
     → (first_fault chart xs ≡ None) × (first_fault chart ys ≡ None)
@@ -41,22 +42,22 @@ both_clear chart (x ∷ xs) ys none =
 mutual
   shallow : (chart : ChartPlan) (t : Tree) (n d k : ℕ) → first_fault chart (visits t n d k) ≡ None → levels t + d ≤ 17
   shallow chart (leaf step) n d k none =
-      let here : d ≤ 16 = node_shallow chart (visit (leaf step) n d k) _
+      let here : d ≤ DEEPEST_NODE = node_shallow chart (visit (leaf step) n d k) _
       (neither_faulty (node_fault chart (visit (leaf step) n d k)) None none).0 in omega arith
   shallow chart (seq each) n d k none =
       let parts = neither_faulty (node_fault chart (visit (seq each) n d k))
       (first_fault chart (all_visits each (n + 1) (d + 1) k)) none in
-      let here : d ≤ 16 = node_shallow chart (visit (seq each) n d k) _ parts.0 in
+      let here : d ≤ DEEPEST_NODE = node_shallow chart (visit (seq each) n d k) _ parts.0 in
       omega (arith, all_shallow chart each (n + 1) (d + 1) k parts.1 (omega arith))
   shallow chart (par each) n d k none =
       let parts = neither_faulty (node_fault chart (visit (par each) n d k))
       (first_fault chart (all_visits each (n + 1) (d + 1) k)) none in
-      let here : d ≤ 16 = node_shallow chart (visit (par each) n d k) _ parts.0 in
+      let here : d ≤ DEEPEST_NODE = node_shallow chart (visit (par each) n d k) _ parts.0 in
       omega (arith, all_shallow chart each (n + 1) (d + 1) k parts.1 (omega arith))
   shallow chart (choice each) n d k none =
       let parts = neither_faulty (node_fault chart (visit (choice each) n d k))
       (first_fault chart (arm_visits each (n + 1) (d + 1) k)) none in
-      let here : d ≤ 16 = node_shallow chart (visit (choice each) n d k) _ parts.0 in
+      let here : d ≤ DEEPEST_NODE = node_shallow chart (visit (choice each) n d k) _ parts.0 in
       omega (arith, arms_shallow chart each (n + 1) (d + 1) k parts.1 (omega arith))
   shallow chart (loop body until) n d k none =
       let parts = neither_faulty (node_fault chart (visit (loop body until) n d k))
@@ -78,5 +79,5 @@ mutual
       omega (arith, shallow chart t n d k parts.0, arms_shallow chart ts (n + size t) d (k + step_count t) parts.1 few)
 
 -- a valid chart's nodes lie at most 16 deep
-pub valid_shallow : (chart : ChartPlan) → IsValid chart → levels chart.root ≤ 16
+pub valid_shallow : (chart : ChartPlan) → IsValid chart → levels chart.root ≤ DEEPEST_NODE
 valid_shallow chart valid = omega (arith, shallow chart chart.root 0 1 0 valid)

@@ -15,6 +15,7 @@ use Rattle.mtp_json.specs.declared.fault.FaultKind.TheVariants.{OutOfRange}
 use Rattle.mtp_json.specs.Form.{each, inside, list, need, nothing_but, object_here, present}
 use Rattle.mtp_json.specs.Leaf.{anything, items_in, sized}
 use Rattle.mtp_json.specs.Reading.{Finding, Reading, ◌>>=◌, here, in_place, under}
+use Rattle.chart_core.specs.declared.limits.TheConstants.{MOST_ARMS, MOST_JOINED}
 use Rattle.chart_core.specs.Formulas.{Formula}
 use Rattle.chart_core.specs.Trees.{Tree}
 use Rattle.chart_json.specs.Form.{all_form, any_form, not_form, condition_by_key, condition_within, condition_of, formula_of, items_from, sized_from, seq_form, par_form, arm_of, sel_form, loop_form, node_by_key, tree_within, tree_of}
@@ -179,8 +180,8 @@ key-agree : (one other : Data → Reading Formula) (value : Data) → Agree one 
 unfolding condition_by_key all_form any_form not_form
 key-agree one other value agree =
     rw (
-      items-agree (codes "all") (items_in 1 16) (in-finds 1 16) one other value agree,
-      items-agree (codes "any") (items_in 1 16) (in-finds 1 16) one other value agree,
+      items-agree (codes "all") (items_in 1 MOST_JOINED) (in-finds 1 MOST_JOINED) one other value agree,
+      items-agree (codes "any") (items_in 1 MOST_JOINED) (in-finds 1 MOST_JOINED) one other value agree,
       inside-agree (codes "not") one other value agree,
     ) refl
 
@@ -220,7 +221,7 @@ node-agree one other value agree =
     rw (
       items-agree (codes "seq") (items_from 1) (from-finds 1) one other value agree,
       items-agree (codes "par") (items_from 2) (from-finds 2) one other value agree,
-      items-agree (codes "sel") (items_in 1 16) (in-finds 1 16) (arm_of one) (arm_of other) value
+      items-agree (codes "sel") (items_in 1 MOST_ARMS) (in-finds 1 MOST_ARMS) (arm_of one) (arm_of other) value
           (λ inner below. arm-agree one other inner (λ body less. agree body (omega arith))),
       inside-agree (codes "loop") one other value agree,
     ) refl

@@ -13,6 +13,7 @@ use Rattle.mtp_json.specs.Form.{each, need, inside, inside_if_there, list, list_
 use Rattle.mtp_json.specs.Leaf.{count, items_in, name, scalar, text_to, truth, whole_in, word}
 use Rattle.mtp_json.specs.Reading.{Finding, Reading, ◌>>=◌, here, under}
 use Rattle.mtp_json.specs.declared.fault.FaultKind.TheVariants.{Missing, WrongKind, OutOfRange, Repeated, Unsound}
+use Rattle.chart_core.specs.declared.limits.TheConstants.{MOST_ROLES, LONGEST_WANTED, MOST_SETTINGS, MOST_ARMS, MOST_JOINED, MOST_TESTS, DEEPEST_CONDITION}
 use Rattle.chart_core.specs.Formulas.{Formula, constant, all_of, any_of, not_of, test, formulas_of}
 use Rattle.chart_core.specs.Form.{may_compare, test_count, nesting}
 use Rattle.chart_core.specs.Trees.{StepPlan, Tree, ArmPlan, leaf, seq, par, choice, loop, trees_of, arms_of}
@@ -28,7 +29,7 @@ role_of value =
     object_here value >>= λ _.
     need (codes "role") name value >>= λ role.
     need (codes "type") name value >>= λ type_name.
-    need (codes "version") (text_to 64) value >>= λ wants.
+    need (codes "version") (text_to LONGEST_WANTED) value >>= λ wants.
     under (codes "version") (here (requirement_of wants)) >>= λ _.
     nothing_but (codes "role type version") value >>= λ _.
     Ok (record { role = role; type_name = type_name; wants = wants })
@@ -36,12 +37,12 @@ role_of value =
 -- the roles of a chart: a list of 1 to 64
 unfoldable pub roles_of : Data → Reading (List RolePlan)
 roles_of value =
-    here (items_in 1 64 value) >>= λ values.
+    here (items_in 1 MOST_ROLES value) >>= λ values.
     each role_of 0 values
 
 -- 1 to 64 roles, each with a text of at most 64 bytes
 abbrev pub are_roles_sized : List RolePlan → Bool
-are_roles_sized roles = is_between 1 64 (length roles) && list_all (λ role. nat_le (length role.wants) 64) roles
+are_roles_sized roles = is_between 1 MOST_ROLES (length roles) && list_all (λ role. nat_le (length role.wants) LONGEST_WANTED) roles
 
 -- ---- conditions
 
@@ -69,14 +70,14 @@ const_form value =
 -- a condition that is true where each of some conditions is
 unfoldable pub all_form : (Data → Reading Formula) → Data → Reading Formula
 all_form inner value =
-    list (codes "all") 1 16 inner value >>= λ conditions.
+    list (codes "all") 1 MOST_JOINED inner value >>= λ conditions.
     nothing_but (codes "all") value >>= λ _.
     Ok (all_of (formulas_of conditions))
 
 -- a condition that is true where one of some conditions is
 unfoldable pub any_form : (Data → Reading Formula) → Data → Reading Formula
 any_form inner value =
-    list (codes "any") 1 16 inner value >>= λ conditions.
+    list (codes "any") 1 MOST_JOINED inner value >>= λ conditions.
     nothing_but (codes "any") value >>= λ _.
     Ok (any_of (formulas_of conditions))
 
@@ -125,7 +126,7 @@ formula_of value = condition_within (suc (depth value)) value
 
 -- the condition has at most 16 tests and is nested at most 8 deep
 abbrev pub is_small : Formula → Bool
-is_small condition = nat_le (test_count condition) 16 && nat_le (nesting condition) 8
+is_small condition = nat_le (test_count condition) MOST_TESTS && nat_le (nesting condition) DEEPEST_CONDITION
 
 -- a whole condition; its size is asked when all of it has been read
 unfoldable pub condition_of : Data → Reading Formula
@@ -156,7 +157,7 @@ step_of value =
     need (codes "role") name value >>= λ role.
     need (codes "service") name value >>= λ service.
     need (codes "procedure") (count 1 65535) value >>= λ procedure.
-    list_or_none (codes "settings") 0 32 setting_of value >>= λ settings.
+    list_or_none (codes "settings") 0 MOST_SETTINGS setting_of value >>= λ settings.
     inside_if_there (codes "finish") condition_of value >>= λ finish.
     nothing_but (codes "step role service procedure settings finish") value >>= λ _.
     under (codes "settings") (refused_if (repeats_by same_setting settings) Repeated) >>= λ _.
@@ -217,7 +218,7 @@ arm_of inner value =
 -- a selection: 1 to 16 arms
 unfoldable pub sel_form : (Data → Reading Tree) → Data → Reading Tree
 sel_form inner value =
-    list (codes "sel") 1 16 (arm_of inner) value >>= λ arms.
+    list (codes "sel") 1 MOST_ARMS (arm_of inner) value >>= λ arms.
     nothing_but (codes "sel") value >>= λ _.
     Ok (choice (arms_of arms))
 

@@ -12,7 +12,7 @@ ghost use Rattle.chart_json.specs.Form.{all_form, any_form, compared, condition_
 
 use crate::sizes::is_small;
 use crate::words::OpWords;
-use chart_core::{Condition, Op};
+use chart_core::{Condition, MOST_JOINED, Op};
 use mtp_codes::Reading;
 use mtp_json::{
     FaultKind, FromJson, JsonRefusal, in_place, keyed, list_at, name_at, nothing_but, object_here,
@@ -122,7 +122,7 @@ fn read_inner(alloc: Global, value: &Value) -> Result<Condition, JsonRefusal>
 fn read_all(alloc: Global, value: &Value) -> Result<Condition, JsonRefusal>
     ensures { Gives formula result (all_form formula_of (view value.now)) }
 {
-    let values = list_at(alloc, value, "all", 1, 16)?;
+    let values = list_at(alloc, value, "all", 1, MOST_JOINED)?;
     let all = read_each_under(alloc, "all", values)?;
     nothing_but(alloc, value, "all")?;
     Ok(Condition::All(all))
@@ -133,7 +133,7 @@ fn read_all(alloc: Global, value: &Value) -> Result<Condition, JsonRefusal>
 fn read_any(alloc: Global, value: &Value) -> Result<Condition, JsonRefusal>
     ensures { Gives formula result (any_form formula_of (view value.now)) }
 {
-    let values = list_at(alloc, value, "any", 1, 16)?;
+    let values = list_at(alloc, value, "any", 1, MOST_JOINED)?;
     let any = read_each_under(alloc, "any", values)?;
     nothing_but(alloc, value, "any")?;
     Ok(Condition::Any(any))

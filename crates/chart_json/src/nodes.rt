@@ -13,7 +13,7 @@ ghost use Rattle.chart_json.specs.Form.{arm_of, loop_form, node_by_key, par_form
 use crate::conditions::ConditionJson;
 use crate::lists::list_from_at;
 use crate::steps::read_step;
-use chart_core::{Arm, Node};
+use chart_core::{Arm, MOST_ARMS, Node};
 use mtp_json::{
     FaultKind, JsonRefusal, form_at, in_place, keyed, list_at, nothing_but, object_here, under,
     value_at,
@@ -92,7 +92,7 @@ fn read_par(alloc: Global, value: &Value) -> Result<Node, JsonRefusal>
 fn read_sel(alloc: Global, value: &Value) -> Result<Node, JsonRefusal>
     ensures { Gives tree result (sel_form tree_of (view value.now)) }
 {
-    let values = list_at(alloc, value, "sel", 1, 16)?;
+    let values = list_at(alloc, value, "sel", 1, MOST_ARMS)?;
     let arms = read_arms_under(alloc, "sel", values)?;
     nothing_but(alloc, value, "sel")?;
     Ok(Node::Sel(arms))

@@ -10,8 +10,9 @@ ghost use Rattle.chart_core.specs.Requirements.{IsReadTo};
 ghost use Rattle.chart_core.specs.Roles.{RolePlan, role_plan};
 ghost use Rattle.chart_json.specs.Form.{are_roles_sized, role_of, roles_of, same_role};
 ghost use Rattle.chart_json.specs.Requirement.{requirement_of};
+ghost use Rattle.chart_core.specs.declared.limits.TheConstants.{MOST_ROLES};
 
-use chart_core::Role;
+use chart_core::{LONGEST_WANTED, MOST_ROLES, Role};
 use mtp_json::{
     Alike, FaultKind, FromJson, JsonRefusal, here, keyed, list_in, name_at, nothing_but,
     object_here, read_every, short_at,
@@ -47,7 +48,7 @@ fn read_role(alloc: Global, value: &Value) -> Result<Role, JsonRefusal>
     object_here(alloc, value)?;
     let role = name_at(alloc, value, "role")?;
     let type_name = name_at(alloc, value, "type")?;
-    let wants = short_at(alloc, value, "version", 64)?;
+    let wants = short_at(alloc, value, "version", LONGEST_WANTED)?;
     let req = requirement_under(alloc, wants.as_str())?;
     nothing_but(alloc, value, "role type version")?;
     Ok(Role {
@@ -87,9 +88,9 @@ impl Alike for RoleJson {
 }
 
 fn roles_here(alloc: Global, value: &Value) -> Result<&[Value], JsonRefusal>
-    ensures { Gives (λ list. items_view list.now) result (found_here (items_in 1 64 (view value.now))) }
+    ensures { Gives (λ list. items_view list.now) result (found_here (items_in 1 MOST_ROLES (view value.now))) }
 {
-    here(alloc, list_in(value, 1, 64))
+    here(alloc, list_in(value, 1, MOST_ROLES))
 }
 
 /// The roles of a chart (1 to 64) that this value is in the form of; else the first fault in reading order, with its

@@ -4,8 +4,9 @@ ghost use Rattle.std.specs.Prelude.{◌≡◌, ◌-◌, nat_le};
 ghost use Rattle.chart_core.specs.Formulas.{formula, formulas};
 ghost use Rattle.chart_core.specs.Form.{nesting, nestings, test_count, test_counts};
 ghost use Rattle.chart_json.specs.Form.{is_small};
+ghost use Rattle.chart_core.specs.declared.limits.TheConstants.{MOST_TESTS};
 
-use chart_core::Condition;
+use chart_core::{Condition, DEEPEST_CONDITION, MOST_TESTS};
 
 // How many of `room` tests are left beside those of the condition: none where it has more.
 #[cycle(room)]
@@ -62,14 +63,14 @@ fn are_shallow(conditions: &[Condition], depth: u32) -> bool
 }
 
 fn has_few_tests(condition: &Condition) -> bool
-    ensures { result ≡ nat_le (test_count (formula condition.now)) 16 }
+    ensures { result ≡ nat_le (test_count (formula condition.now)) MOST_TESTS }
 {
-    room_beside(condition, 17) > 0
+    room_beside(condition, MOST_TESTS + 1) > 0
 }
 
 /// Whether the condition has at most 16 tests and is nested at most 8 deep. Walks it twice.
 pub fn is_small(condition: &Condition) -> bool
     ensures { result ≡ is_small (formula condition.now) }
 {
-    has_few_tests(condition) && is_shallow(condition, 8)
+    has_few_tests(condition) && is_shallow(condition, DEEPEST_CONDITION)
 }

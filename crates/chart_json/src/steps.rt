@@ -6,10 +6,11 @@ ghost use Rattle.mtp_json.specs.Form.{inside_if_there, list_or_none};
 ghost use Rattle.mtp_json.specs.Gives.{Gives};
 ghost use Rattle.chart_core.specs.Trees.{finish_plan, step_plan};
 ghost use Rattle.chart_json.specs.Form.{condition_of, setting_of, step_of};
+ghost use Rattle.chart_core.specs.declared.limits.TheConstants.{MOST_SETTINGS};
 
 use crate::conditions::ConditionJson;
 use crate::settings::SettingJson;
-use chart_core::{Condition, Step};
+use chart_core::{Condition, MOST_SETTINGS, Step};
 use mtp_codes::Setting;
 use mtp_json::{
     JsonRefusal, form_if_there, list_or_none, name_at, nothing_but, u16_at, unlike_under,
@@ -19,9 +20,9 @@ use std::alloc::Global;
 
 #[tactic(auto, using(crate::proofs::Views::settings_seen))]
 fn settings_at(alloc: Global, value: &Value) -> Result<Vec<Setting>, JsonRefusal>
-    ensures { Gives (λ settings. settings.items) result (list_or_none (codes "settings") 0 32 setting_of (view value.now)) }
+    ensures { Gives (λ settings. settings.items) result (list_or_none (codes "settings") 0 MOST_SETTINGS setting_of (view value.now)) }
 {
-    list_or_none::<SettingJson>(alloc, value, "settings", 0, 32)
+    list_or_none::<SettingJson>(alloc, value, "settings", 0, MOST_SETTINGS)
 }
 
 #[tactic(auto, using(crate::proofs::Views::finish_seen))]
@@ -39,7 +40,7 @@ pub fn read_step(alloc: Global, value: &Value) -> Result<Step, JsonRefusal>
     let name = name_at(alloc, value, "step")?;
     let role = name_at(alloc, value, "role")?;
     let service = name_at(alloc, value, "service")?;
-    let procedure = u16_at(alloc, value, "procedure", 1, 65535)?;
+    let procedure = u16_at(alloc, value, "procedure", 1, u16::MAX)?;
     let settings = settings_at(alloc, value)?;
     let finish = finish_at(alloc, value)?;
     nothing_but(alloc, value, "step role service procedure settings finish")?;

@@ -2,6 +2,7 @@ use Rattle.std.proofs.Common.{arith, codes, map, refl, rules}
 use Rattle.serde_json.specs.View.{items_view, view}
 use Rattle.std.proofs.lemmas.Result.{err_from_is_err_and}
 use Rattle.mtp_json.proofs.Each.{reads_next, stops_at, is_done}
+use Rattle.chart_core.specs.declared.limits.TheConstants.{MOST_JOINED}
 use Rattle.chart_core.specs.Formulas.{formula}
 use Rattle.chart_json.specs.Form.{formula_of}
 use Rattle.chart_json.proofs.Within.{formula_steps, item_below, list_below, needed_below}
@@ -29,13 +30,13 @@ read_each-returns t c =
 
 pub read_all-read_each_under-requires : goal.read_all-read_each_under-requires
 read_all-read_each_under-requires t c =
-    let below = list_below 1 16 (codes "all") (view c.args.value.now)
+    let below = list_below 1 MOST_JOINED (codes "all") (view c.args.value.now)
     (items_view c.in_ok-values.values.now) c.in_ok-values.ensures.gives in
     (omega (arith, below, c.decreases), refl)
 
 pub read_any-read_each_under-requires : goal.read_any-read_each_under-requires
 read_any-read_each_under-requires t c =
-    let below = list_below 1 16 (codes "any") (view c.args.value.now)
+    let below = list_below 1 MOST_JOINED (codes "any") (view c.args.value.now)
     (items_view c.in_ok-values.values.now) c.in_ok-values.ensures.gives in
     (omega (arith, below, c.decreases), refl)
 

@@ -2,6 +2,7 @@ use Rattle.std.proofs.Common.{arith, codes, map, refl, rules}
 use Rattle.serde_json.specs.View.{items_view, view}
 use Rattle.std.proofs.lemmas.Result.{err_from_is_err_and}
 use Rattle.mtp_json.proofs.Each.{reads_next, stops_at, is_done}
+use Rattle.chart_core.specs.declared.limits.TheConstants.{MOST_ARMS}
 use Rattle.chart_core.specs.Trees.{arm_plan, tree}
 use Rattle.chart_json.specs.Form.{arm_of, tree_of}
 use Rattle.chart_json.proofs.Within.{item_below, list_below, list_from_below, needed_below, tree_steps}
@@ -60,7 +61,7 @@ read_par-read_each_under-requires t c =
 
 pub read_sel-read_arms_under-requires : goal.read_sel-read_arms_under-requires
 read_sel-read_arms_under-requires t c =
-    let below = list_below 1 16 (codes "sel") (view c.args.value.now)
+    let below = list_below 1 MOST_ARMS (codes "sel") (view c.args.value.now)
     (items_view c.in_ok-values.values.now) c.in_ok-values.ensures.gives in
     (omega (arith, below, c.decreases), refl)
 
