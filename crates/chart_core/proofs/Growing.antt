@@ -29,5 +29,6 @@ mutual
 -- what is too much for one condition is too much for all of them
 pub too_many :
     (each : Formula) (others : Formulas) (reads : List Read)
-    → MOST_READS < length (with_reads each reads) → MOST_READS < length (with_all_reads (more_formulas each others) reads)
+    → MOST_READS < length (with_reads each reads)
+    → MOST_READS < length (with_all_reads (more_formulas each others) reads)
 too_many each others reads many = omega (arith, all_grow others (with_reads each reads))

@@ -317,7 +317,8 @@ partial_awaits (chain one other) marks word entry sound (inr (front, back, cut, 
           )
     ]
 partial_awaits (beside one other) marks word entry sound (all, here, there) (all1, here1, there1) =
-    elim (or_split (is_of one entry) (is_of other entry) (All-back (is_of (beside one other)) word (entry ∷ []) all1).0) [
+    elim
+    (or_split (is_of one entry) (is_of other entry) (All-back (is_of (beside one other)) word (entry ∷ []) all1).0) [
       | inl of_it ↦ inl (partial_awaits one marks (filter (is_of one) word) entry sound.0 here
           (subst (Partial one) (filter_in (is_of one) word entry of_it) here1))
       | inr of_it ↦ inr (partial_awaits other marks (filter (is_of other) word) entry sound.1 there

@@ -71,7 +71,8 @@ abbrev mutual
 
 -- a condition has at most 16 tests and is nested at most 8 deep
 abbrev pub is_formula_formed : Formula → Bool
-is_formula_formed each = has_parts_formed each && (nat_le (test_count each) MOST_TESTS && nat_le (nesting each) DEEPEST_CONDITION)
+is_formula_formed each =
+    has_parts_formed each && (nat_le (test_count each) MOST_TESTS && nat_le (nesting each) DEEPEST_CONDITION)
 
 -- a finish, where there is one, has such a condition
 abbrev pub is_finish_formed : Option Formula → Bool
