@@ -8,11 +8,13 @@ pub fn names_are_distinct()
 {}
 
 /// In a valid chart the role of each step is one of the chart's roles.
+#[tactic(auto, using(crate::proofs::Lawful::roles_of_steps))]
 pub fn steps_have_roles()
     ensures { StepsHaveRoles }
 {}
 
 /// The empty log is a partial run of each valid chart.
+#[tactic(auto, using(crate::proofs::Lawful::nothing_partial))]
 pub fn nothing_is_partial()
     ensures { NothingIsPartial }
 {}

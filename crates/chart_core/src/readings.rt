@@ -20,12 +20,12 @@ impl Model for Readings {
 
     ghost Value = { List Reading };
 
-    ghost use Rattle.chart_core.specs.Readings.{IsKept};
+    ghost use Rattle.chart_core.specs.Readings.{IsFilledUp};
     ghost use Rattle.chart_core.specs.ReadingsFields.{fields_of, fields_of-kept};
 
     ghost view = { λ readings. take readings.len readings.items };
 
-    ghost invariant = { λ readings. IsKept readings.items readings.len };
+    ghost invariant = { λ readings. IsFilledUp readings.items readings.len };
 
     ghost inverse = { fields_of };
 

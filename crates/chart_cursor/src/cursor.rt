@@ -35,7 +35,7 @@ pub struct Cursor {
 }
 
 impl Model for Cursor {
-    ghost use Rattle.chart_cursor.specs.Kept.{Kept, IsKept};
+    ghost use Rattle.chart_cursor.specs.Kept.{Kept, IsMarked};
     ghost use Rattle.chart_core.specs.contracts.chart.Chart as chart_type;
     ghost use Rattle.chart_core.specs.contracts.progress.Progress as progress_type;
     ghost use Rattle.std.specs.Coded.{codes};
@@ -46,7 +46,7 @@ impl Model for Cursor {
 
     ghost view = { λ cursor. record { chart = cursor.chart.value; marks = cursor.marks.items } };
 
-    ghost invariant = { λ cursor. IsKept (record { chart = cursor.chart.value; marks = cursor.marks.items }) };
+    ghost invariant = { λ cursor. IsMarked (record { chart = cursor.chart.value; marks = cursor.marks.items }) };
 }
 
 impl Cursor {

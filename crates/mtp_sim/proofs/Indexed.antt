@@ -17,7 +17,7 @@ use Rattle.mtp_sim.specs.Sims.{first_service}
 use Rattle.mtp_sim.specs.declared.service.SimService.{SimService}
 use Rattle.mtp_codes.specs.declared.command.Command.{Command}
 use Rattle.mtp_sim.specs.Commands.{service_took}
-use Rattle.mtp_sim.specs.Kept.{IsKept}
+use Rattle.mtp_sim.specs.Kept.{IsIndexed}
 use Rattle.mtp_sim.specs.Ticks.{is_untold, service_ticked}
 use Rattle.mtp_sim.proofs.Edges.{firsts-next, name-taken, name-ticked, next-taken-at, next-ticked-at, none-at}
 
@@ -120,14 +120,14 @@ place_named services name =
 -- a module at first keeps its index and its services
 pub kept-first : (names : List (List ℕ)) (services : List ServiceForm)
     → names ≡ map (λ service. service.name) services →
-    IsKept names (map (λ service. first_service service.name) services)
+    IsIndexed names (map (λ service. first_service service.name) services)
 kept-first names services named = record { indexed = named ∙ sym (first_named services); next = firsts-next services }
 
 -- so does a tick that looks at the service at a place
 pub kept-ticked : (names : List (List ℕ)) (d : DescriptionForm) (limit : ℕ) (services : List SimService) (place : ℕ)
     (s : SimService)
-    → IsKept names services → slice_get services place ≡ Some s
-    → IsKept names (slice_set services place (service_ticked d limit s))
+    → IsIndexed names services → slice_get services place ≡ Some s
+    → IsIndexed names (slice_set services place (service_ticked d limit s))
 kept-ticked names d limit services place s kept at =
     record {
       indexed = kept.indexed ∙ sym (named-set services place s (service_ticked d limit s) at (name-ticked d limit s));
@@ -137,9 +137,9 @@ kept-ticked names d limit services place s kept at =
 -- and a command that the service at a place takes, where each state was reported
 pub kept-taken : (names : List (List ℕ)) (d : DescriptionForm) (services : List SimService) (place : ℕ) (s : SimService)
     (command : Command)
-    (procedure : ℕ) (after : SimService) → list_any is_untold services ≡ false → IsKept names services
+    (procedure : ℕ) (after : SimService) → list_any is_untold services ≡ false → IsIndexed names services
     → slice_get services place ≡ Some s
-    → service_took d s command procedure ≡ Some after → IsKept names (slice_set services place after)
+    → service_took d s command procedure ≡ Some after → IsIndexed names (slice_set services place after)
 kept-taken names d services place s command procedure after calm kept at took =
     record {
       indexed = kept.indexed ∙ sym (named-set services place s after at (name-taken d s command procedure after took));

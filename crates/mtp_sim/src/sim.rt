@@ -41,7 +41,7 @@ pub struct Sim {
 impl Model for Sim {
     ghost use Rattle.mtp_desc.specs.DescriptionView.{description_view};
     ghost use Rattle.mtp_sim.specs.Sims.{SimForm};
-    ghost use Rattle.mtp_sim.specs.Kept.{IsKept};
+    ghost use Rattle.mtp_sim.specs.Kept.{IsIndexed};
 
     ghost Value = { SimForm };
 
@@ -54,7 +54,7 @@ impl Model for Sim {
       place = sim.place;
     } };
 
-    ghost invariant = { λ sim. IsKept sim.names.keys sim.services.items };
+    ghost invariant = { λ sim. IsIndexed sim.names.keys sim.services.items };
 }
 
 // The services of a description at first.

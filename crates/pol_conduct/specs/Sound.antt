@@ -14,7 +14,7 @@ use Rattle.pol_history.specs.Answers.{answer_of}
 use Rattle.pol_history.specs.Runs.{IsLegal, IsOrderly}
 use Rattle.pol_conduct.specs.Advances.{IsAdvanced}
 use Rattle.pol_conduct.specs.Charts.{FollowsChart}
-use Rattle.pol_conduct.specs.Kept.{IsOpen, IsKept, IsHolder}
+use Rattle.pol_conduct.specs.Kept.{IsOpen, IsSteady, IsHolder}
 use Rattle.pol_conduct.specs.Known.{HasChart, CountsTags, SeesModules, is_there}
 use Rattle.pol_conduct.specs.Permitted.{WasPermitted}
 
@@ -29,7 +29,7 @@ pub record IsSound (history : History) : Type 0 where
       (found : HasChart history batch) × FollowsChart history batch found.chart
   -- what is kept of each open batch, what it sees of its modules, and which batch holds a module
   pub batches : (batch : List ℕ) (started : Started) (chart : ChartPlan) → IsOpen history batch started chart →
-      IsKept history batch started chart
+      IsSteady history batch started chart
   pub sights : (batch : List ℕ) (started : Started) (chart : ChartPlan) → IsOpen history batch started chart →
       SeesModules history batch started chart
   pub holders : (tag batch : List ℕ) → holder_of history tag ≡ Some batch → IsHolder history tag batch
