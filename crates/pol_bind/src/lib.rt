@@ -14,6 +14,3 @@ mod variables;
 
 pub use cover::{covers, held_back_by};
 pub use roles::{one_module_twice, role_unbound, role_unknown};
-
-#[cfg(test)]
-mod tests;

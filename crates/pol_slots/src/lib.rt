@@ -16,6 +16,3 @@ mod told;
 
 pub use refusal::SlotRefusal;
 pub use slot::Slot;
-
-#[cfg(test)]
-mod tests;
