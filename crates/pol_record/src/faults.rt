@@ -12,7 +12,8 @@ use mtp_json::{FaultKind, JsonFault};
 use pol_events::{Fields, LineFault};
 use std::alloc::{AllocError, Global};
 
-fn kind_name(kind: FaultKind) -> &'static str
+/// The name of a kind of fault of a text, as lines tell it.
+pub fn kind_name(kind: FaultKind) -> &'static str
     ensures { result.now ≡ kind_name kind }
 {
     match kind {
