@@ -1,5 +1,5 @@
 -- The lines of the entries of a history, one after another, and then what closes the output.
-use Rattle.std.proofs.Common.{ℕ, zero, suc, ◌≡◌, ◌<◌, List, [], ◌∷◌, ◌++◌, length, true, arith, get_or, refl, sym, ap, subst, ◌∙◌, append_assoc, length-append, map}
+use Rattle.std.proofs.Common.{ℕ, zero, suc, ◌≡◌, ◌<◌, List, [], ◌∷◌, ◌++◌, length, true, arith, get_or, refl, sym, ap, subst, ◌∙◌, append_assoc, length-append, map, take}
 use Rattle.std.proofs.lemmas.List.{reverse-append, reverse-reverse}
 use Rattle.std.proofs.lemmas.List.Folds.{flat_map-map}
 use Rattle.std.specs.Prelude.{Option, reverse}
@@ -12,8 +12,8 @@ use Rattle.pol_events.specs.declared.event.Entry.{Entry}
 use Rattle.pol_history.specs.Looking.{History}
 use Rattle.pol_history.specs.Runs.{IsOrderly}
 use Rattle.pol_record.specs.Lines.{closing_text}
-use Rattle.pol_record.specs.Texts.{batches_text, end_text, entry_line_text}
-use Rattle.pol_cli.specs.SiteRuns.{entries_text, entry_lines, run_text}
+use Rattle.pol_record.specs.Texts.{IsReadBack, batches_text, end_text, entry_line_text}
+use Rattle.pol_cli.specs.SiteRuns.{AreReadBack, entries_text, entry_lines, run_text}
 use Rattle.pol_cli.specs.Written.{WritesPart, WritesSome}
 use Rattle.pol_cli.proofs.BatchLines.{some_end}
 
@@ -48,6 +48,31 @@ entry_orderly entries i entry orderly inside same =
     subst (λ each. is_orderly (entry_view each).event ≡ true) (sym same)
     (each-orderly entries i entry
     (all-reverse (λ each. is_orderly each.event ≡ true) (map entry_view entries) orderly) inside)
+
+-- ---- entries that are read back
+
+-- of the entries up to this one, the next of them among them
+pub read_back_next : (entries : List Entry) (place : ℕ) (entry : Entry) → place < length entries →
+    entry ≡ get_or entries place entry → AreReadBack (map entry_view (take place entries)) →
+    IsReadBack (entry_view entry) → AreReadBack (map entry_view (take (suc place) entries))
+read_back_next [] place entry inside same before this = absurd (omega arith)
+read_back_next (first ∷ entries) zero entry inside same before this =
+    (subst (λ each. IsReadBack (entry_view each)) same this, tt)
+read_back_next (first ∷ entries) (suc place) entry inside same before this =
+    (before.0, read_back_next entries place entry (omega arith) same before.1 this)
+
+-- what holds of all of two lists holds of all of the two one behind the other
+all-joined : {A : Type 0} (P : A → Type 0) (xs ys : List A) → AllByRecursion P xs → AllByRecursion P ys →
+    AllByRecursion P (xs ++ ys)
+all-joined P [] ys of_xs of_ys = of_ys
+all-joined P (x ∷ xs) ys of_xs of_ys = (of_xs.0, all-joined P xs ys of_xs.1 of_ys)
+
+-- what holds of all in one order holds of all in the other
+pub all_turned : {A : Type 0} (P : A → Type 0) (xs : List A) → AllByRecursion P xs → AllByRecursion P (reverse xs)
+all_turned P [] all = tt
+all_turned P (x ∷ xs) all =
+    subst (AllByRecursion P) (sym (reverse-append (x ∷ []) xs))
+    (all-joined P (reverse xs) (x ∷ []) (all_turned P xs all.1) (all.0, tt))
 
 -- ---- their lines
 

@@ -1,6 +1,6 @@
 -- How the job plant ends: the site that the input says, the history that its run leaves, and what is written of it.
 use Rattle.std.specs.Prelude.{ℕ, ◌≡◌, ◌≢◌, ◌≤◌, ◌++◌, ◌⊎◌, List, length, reverse, Option, IfSome, Ok, Err}
-use Rattle.std.specs.List.{flat_map}
+use Rattle.std.specs.List.{AllByRecursion, flat_map}
 use Rattle.std.specs.Io.KnownBytes.{Appends, Keeps}
 use Rattle.mtp_json.specs.Reading.{Reading}
 use Rattle.mtp_json.specs.declared.fault.FaultKind.{FaultKind}
@@ -9,12 +9,12 @@ use Rattle.pol_io.specs.Causes.{Rose}
 use Rattle.pol_io.specs.Edge.{Edge}
 use Rattle.pol_io.specs.Known.{Between}
 use Rattle.pol_io.specs.declared.limits.TheConstants.{LONGEST_INPUT}
-use Rattle.pol_events.specs.Events.{entry_view}
+use Rattle.pol_events.specs.Events.{EntryForm, entry_view}
 use Rattle.pol_events.specs.declared.event.Entry.{Entry}
 use Rattle.pol_history.specs.Looking.{History}
 use Rattle.pol_history.specs.Runs.{IsLegal, IsOrderly}
 use Rattle.pol_record.specs.Lines.{closing_text}
-use Rattle.pol_record.specs.Texts.{entry_line_text}
+use Rattle.pol_record.specs.Texts.{IsReadBack, entry_line_text}
 use Rattle.pol_site.specs.Commanded.{IsCommanded}
 use Rattle.pol_site.specs.Following.{FollowsSite}
 use Rattle.pol_site.specs.Settled.{IsSettled}
@@ -51,11 +51,16 @@ entries_text history = flat_map entry_line_text (reverse history)
 abbrev pub run_text : History → List ℕ
 run_text history = entries_text history ++ closing_text history
 
--- all that a run of the site is to write was written
+-- each of these entries' events is read back from what is written of it
+abbrev pub AreReadBack : List EntryForm → Type 0
+AreReadBack entries = AllByRecursion IsReadBack entries
+
+-- all that a run of the site is to write was written, and the events of its entries are read back from it
 pub record PutsRun (site : SiteForm) (held held' : Option (List ℕ)) : Type 0 where
   pub history : History
   pub is_run : IsRunOf site history
   pub written : Appends held held' (run_text history)
+  pub read_back : AreReadBack history
 
 -- a proper front part of it was
 pub record PutsPart (site : SiteForm) (held held' : Option (List ℕ)) : Type 0 where
@@ -93,6 +98,11 @@ IsUnbegun WriteFault = ⊥
 IsUnbegun OutOfMemory = ⊥
 IsUnbegun TooMuchInput = Unit {0}
 IsUnbegun (BadSite path fault) = Unit {0}
+
+-- the status tells a fault of a site
+abbrev pub TellsOfSite : Status → Type 0
+TellsOfSite (BadSite path fault) = Unit {0}
+TellsOfSite _ = ⊥
 
 -- the status where nothing failed, by what the text says: a site is run to its end, and a fault is told, unless there was
 -- no memory

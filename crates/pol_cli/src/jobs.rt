@@ -2,6 +2,7 @@
 ghost use Rattle.std.specs.Prelude.{◌≡◌, ◌≢◌, ℕ, List};
 ghost use Rattle.pol_cli.specs.Ends.{edge};
 ghost use Rattle.pol_cli.specs.Journal.{JournalTheorem, Laws};
+ghost use Rattle.pol_cli.specs.SiteRuns.{TellsOfSite};
 ghost use Rattle.pol_cli.specs.Tasks.{TaskEnds};
 
 mod closing;
@@ -37,6 +38,7 @@ pub fn serve<S: Source, K: Sink>(
     ensures theorem { (bytes : List ℕ) → JournalTheorem bytes }
     ensures laws { Laws }
     ensures words { result ≢ Status.BadWords }
+    ensures no_site { ¬ TellsOfSite result }
 {
     journals_are_sound();
     match task {

@@ -8,6 +8,7 @@ ghost use Rattle.pol_io.specs.Causes.{HasCauseOf};
 ghost use Rattle.pol_cli.specs.LineWork.{output_by};
 ghost use Rattle.pol_cli.specs.Written.{WritesSome};
 ghost use Rattle.pol_cli.specs.Ends.{Ends, Fits, IsTooMuch, Writes, edge};
+ghost use Rattle.pol_cli.specs.SiteRuns.{TellsOfSite};
 ghost use Rattle.pol_cli.specs.Moments.{moment, IsFresh, IsNext, Replied, Leaves};
 
 use crate::job_fault::{JobFault, hand_on, put, status_of};
@@ -122,6 +123,7 @@ pub fn work<S: Source, K: Sink, J: LineJob>(
         (edge (S.left source.old) (S.faults source.old)) (edge (S.left source.new) (S.faults source.new))
         (edge (K.held sink.old) (K.faults sink.old)) (edge (K.held sink.new) (K.faults sink.new)) result }
     ensures words { result ≢ Status.BadWords }
+    ensures no_site { ¬ TellsOfSite result }
 {
     status_of(reply_and_close(alloc, job, source, sink))
 }

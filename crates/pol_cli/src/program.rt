@@ -6,7 +6,7 @@ ghost use Rattle.pol_words.specs.declared.SerialTask.{SerialTask};
 ghost use Rattle.pol_words.specs.declared.Task.{Task};
 ghost use Rattle.pol_cli.specs.Ends.{edge};
 ghost use Rattle.pol_cli.specs.Journal.{JournalTheorem, Laws};
-ghost use Rattle.pol_cli.specs.SiteRuns.{IsUnbegun, PlantEnds};
+ghost use Rattle.pol_cli.specs.SiteRuns.{IsUnbegun, PlantEnds, TellsOfSite};
 ghost use Rattle.pol_cli.specs.Tasks.{TaskEnds};
 
 use crate::jobs::{live, serve};
@@ -39,6 +39,7 @@ pub fn top<R: Threads + Wait + Sync, S: Source, K: Sink, C: Clock + Send, G: Gat
         (edge (K.held sink.old) (K.faults sink.old)) (edge (K.held sink.new) (K.faults sink.new)) result }
     ensures unbegun { (task : LiveTask) → Means (texts_of words.now) (Task.Live task)
         → IsUnbegun result → sink.new ≡ sink.old }
+    ensures of_site { TellsOfSite result → (task : LiveTask) × Means (texts_of words.now) (Task.Live task) }
     ensures theorem { (bytes : List ℕ) → JournalTheorem bytes }
     ensures laws { Laws }
     ensures unread { (seed : ℕ) → Means (texts_of words.now) (Task.Serial (SerialTask.Demo seed))

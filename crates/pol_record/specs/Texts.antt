@@ -1,5 +1,5 @@
 -- The output lines: each is one JSON object and a line feed.
-use Rattle.std.specs.Prelude.{ℕ, List, [], ◌∷◌, ◌++◌, map, true, codes, Option, Some, None}
+use Rattle.std.specs.Prelude.{ℕ, ◌≡◌, List, [], ◌∷◌, ◌++◌, map, true, codes, Ok, Option, Some, None}
 use Rattle.std.specs.List.{flat_map}
 use Rattle.chart_core.specs.declared.entry.LogEntry.{LogEntry}
 use Rattle.chart_core.specs.declared.fault.ChartFault.{ChartFault}
@@ -17,6 +17,7 @@ use Rattle.mtp_json.specs.declared.fault.FaultKind.{FaultKind}
 use Rattle.mtp_json.specs.declared.fault.FaultKind.TheVariants.{NotJson, Missing, WrongKind, OutOfRange, Unknown, Repeated, Unsound, BadChart, TooLong as TooLongKind}
 use Rattle.pol_events.specs.Events.{EntryForm}
 use Rattle.pol_events.specs.Fields.{FieldForm, number_field, text_field}
+use Rattle.pol_events.specs.Lines.{event_of}
 use Rattle.pol_events.specs.RuleTable.{rule_row}
 use Rattle.pol_events.specs.Written.{written_binds, written_event}
 use Rattle.pol_events.specs.declared.answer.Answer.{Answer}
@@ -92,6 +93,10 @@ entry_object answer event =
 -- the line of an entry of a history
 abbrev pub entry_line_text : EntryForm → List ℕ
 entry_line_text entry = line_text (entry_object (answer_data entry.answer) (written_event entry.event))
+
+-- what is written of an entry's event is read as that event
+abbrev pub IsReadBack : EntryForm → Type 0
+IsReadBack entry = event_of (compact_text (written_event entry.event)) ≡ Ok entry.event
 
 -- the last line of every output
 abbrev pub end_text : List ℕ

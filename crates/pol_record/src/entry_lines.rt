@@ -1,10 +1,11 @@
 //! Lines of entries of a history: an answer and its event.
-ghost use Rattle.std.specs.Prelude.{◌≡◌, ◌++◌, IfOk, IsTrue};
+ghost use Rattle.std.specs.Prelude.{◌≡◌, ◌++◌, IfOk, IsTrue, Ok, OnOk};
 ghost use Rattle.serde_json.specs.Written.{compact_text};
 ghost use Rattle.pol_events.specs.Events.{entry_view, event_view};
+ghost use Rattle.pol_events.specs.Lines.{event_of};
 ghost use Rattle.pol_events.specs.Orderly.{is_orderly};
 ghost use Rattle.pol_events.specs.Written.{written_event};
-ghost use Rattle.pol_record.specs.Texts.{answer_data, entry_line_text};
+ghost use Rattle.pol_record.specs.Texts.{IsReadBack, answer_data, entry_line_text};
 
 use crate::answers::write_answer;
 use json::Writer;
@@ -29,19 +30,21 @@ fn put_answer(buffer: Vec<u8>, answer: &Answer) -> Result<Vec<u8>, AllocError>
 
 fn event_text(alloc: Global, event: &Event) -> Result<Vec<u8>, AllocError>
     requires { IsTrue (is_orderly (event_view event.now)) }
-    ensures { IfOk result (λ text. text.items ≡ compact_text (written_event (event_view event.now))) }
+    ensures text { IfOk result (λ text. text.items ≡ compact_text (written_event (event_view event.now))) }
+    ensures reads_back { IfOk result (λ text. event_of text.items ≡ Ok (event_view event.now)) }
 {
     let value = event_value(alloc, event)?;
     value.to_vec(alloc)
 }
 
 /// The buffer with the line of an entry behind what it holds: the answer and the event. The event has to be one that a
-/// line can say: a recipe's chart is valid, and a start binds at most 64 roles, each once and in byte order. The buffer
-/// is lost where there is no memory.
+/// line can say: a recipe's chart is valid, and a start binds at most 64 roles, each once and in byte order; what is
+/// written of it is read as the same event. The buffer is lost where there is no memory.
 #[tactic(auto, using(crate::proofs::Pieces::entry_pieces))]
 pub fn put_entry_line(alloc: Global, buffer: Vec<u8>, entry: &Entry) -> Result<Vec<u8>, AllocError>
     requires { IsTrue (is_orderly (event_view entry.now.event)) }
-    ensures { IfOk result (λ line. line.items ≡ buffer.items ++ entry_line_text (entry_view entry.now)) }
+    ensures line { IfOk result (λ line. line.items ≡ buffer.items ++ entry_line_text (entry_view entry.now)) }
+    ensures reads_back { OnOk result (IsReadBack (entry_view entry.now)) }
 {
     let event = event_text(alloc, &entry.event)?;
     let mut buffer = buffer;

@@ -4,6 +4,7 @@ ghost use Rattle.std.specs.Io.KnownBytes.{Appends};
 ghost use Rattle.pol_io.specs.Causes.{HasCauseOf};
 ghost use Rattle.pol_demo.specs.Summary.{demo_output};
 ghost use Rattle.pol_cli.specs.Ends.{Ends, edge};
+ghost use Rattle.pol_cli.specs.SiteRuns.{TellsOfSite};
 ghost use Rattle.pol_cli.specs.Tasks.{demonstrated, no_input};
 ghost use Rattle.pol_cli.specs.Written.{WritesPart};
 
@@ -30,6 +31,7 @@ pub fn demonstrate<K: Sink>(alloc: Global, seed: u32, sink: &mut K) -> Status
     ensures ends { Ends (demonstrated seed) no_input no_input
         (edge (K.held sink.old) (K.faults sink.old)) (edge (K.held sink.new) (K.faults sink.new)) result }
     ensures words { result ≢ Status.BadWords }
+    ensures no_site { ¬ TellsOfSite result }
 {
     status_of(put_summary(alloc, seed, sink))
 }

@@ -1,14 +1,14 @@
 //! The plant: a site is run with simulated modules, and its history is written.
-ghost use Rattle.std.specs.Prelude.{◌≡◌, ◌≢◌, [], IfOk, IfErr, IsTrue, OnOk, OnErr};
+ghost use Rattle.std.specs.Prelude.{◌≡◌, ◌≢◌, [], IfOk, IfErr, IsTrue, OnOk, OnErr, map};
 ghost use Rattle.std.specs.Io.KnownBytes.{Appends};
 ghost use Rattle.pol_events.specs.Events.{entry_view, event_view, history_view};
 ghost use Rattle.pol_events.specs.Orderly.{is_orderly};
 ghost use Rattle.pol_history.specs.Runs.{IsOrderly};
-ghost use Rattle.pol_record.specs.Texts.{entry_line_text};
+ghost use Rattle.pol_record.specs.Texts.{IsReadBack, entry_line_text};
 ghost use Rattle.pol_io.specs.Causes.{HasCauseOf};
 ghost use Rattle.pol_site.specs.SiteView.{site_view};
 ghost use Rattle.pol_cli.specs.Ends.{edge};
-ghost use Rattle.pol_cli.specs.SiteRuns.{IsRunOf, IsUnbegun, LeavesRun, PlantEnds, PutsRun, entries_text, entry_lines, run_text};
+ghost use Rattle.pol_cli.specs.SiteRuns.{AreReadBack, IsRunOf, IsUnbegun, LeavesRun, PlantEnds, PutsRun, entries_text, entry_lines, run_text};
 ghost use Rattle.pol_cli.specs.Written.{WritesPart, WritesSome};
 
 use crate::job_fault::{JobFault, put, status_of};
@@ -38,6 +38,7 @@ fn put_entry<K: Sink>(
     requires empty { buffer.items ≡ [] }
     ensures empty { IfOk result (λ buffer. buffer.items ≡ []) }
     ensures line { OnOk result (Appends (K.held sink.old) (K.held sink.new) (entry_line_text (entry_view entry.now))) }
+    ensures read_back { OnOk result (IsReadBack (entry_view entry.now)) }
     ensures part { OnErr result (WritesSome (K.held sink.old) (K.held sink.new)
         (entry_line_text (entry_view entry.now))) }
     ensures cause { HasCauseOf JobFault.Write (K.faults sink.old) (K.faults sink.new) result }
@@ -53,6 +54,7 @@ fn put_entry<K: Sink>(
 fn put_each<K: Sink>(alloc: Global, entries: &[Entry], sink: &mut K) -> Result<(), JobFault>
     requires { IsOrderly (history_view entries.now) }
     ensures text { OnOk result (Appends (K.held sink.old) (K.held sink.new) (entry_lines entries.now)) }
+    ensures read_back { OnOk result (AreReadBack (map entry_view entries.now)) }
     ensures part { OnErr result (WritesSome (K.held sink.old) (K.held sink.new) (entry_lines entries.now)) }
     ensures cause { HasCauseOf JobFault.Write (K.faults sink.old) (K.faults sink.new) result }
     ensures only { IfErr result (λ fault. (fault ≢ JobFault.Read) × (fault ≢ JobFault.TooMuch)) }
@@ -68,6 +70,7 @@ fn put_each<K: Sink>(alloc: Global, entries: &[Entry], sink: &mut K) -> Result<(
 fn put_entries<K: Sink>(alloc: Global, history: &[Entry], sink: &mut K) -> Result<(), JobFault>
     requires { IsOrderly (history_view history.now) }
     ensures text { OnOk result (Appends (K.held sink.old) (K.held sink.new) (entries_text (history_view history.now))) }
+    ensures read_back { OnOk result (AreReadBack (history_view history.now)) }
     ensures part { OnErr result (WritesSome (K.held sink.old) (K.held sink.new)
         (entries_text (history_view history.now))) }
     ensures cause { HasCauseOf JobFault.Write (K.faults sink.old) (K.faults sink.new) result }
@@ -80,6 +83,7 @@ fn put_entries<K: Sink>(alloc: Global, history: &[Entry], sink: &mut K) -> Resul
 fn put_run<K: Sink>(alloc: Global, history: &[Entry], sink: &mut K) -> Result<(), JobFault>
     requires { IsOrderly (history_view history.now) }
     ensures text { OnOk result (Appends (K.held sink.old) (K.held sink.new) (run_text (history_view history.now))) }
+    ensures read_back { OnOk result (AreReadBack (history_view history.now)) }
     ensures part { OnErr result (WritesPart (K.held sink.old) (K.held sink.new)
         (run_text (history_view history.now))) }
     ensures cause { HasCauseOf JobFault.Write (K.faults sink.old) (K.faults sink.new) result }

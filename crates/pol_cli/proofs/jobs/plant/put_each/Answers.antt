@@ -6,7 +6,7 @@ use Rattle.pol_record.specs.Texts.{entry_line_text}
 use Rattle.pol_cli.specs.BatchLines.{WritesUpTo}
 use Rattle.pol_cli.specs.SiteRuns.{entry_lines}
 use Rattle.pol_cli.proofs.BatchLines.{up_to_next, up_to_part, cut_lines}
-use Rattle.pol_cli.proofs.EntryLines.{entry_orderly}
+use Rattle.pol_cli.proofs.EntryLines.{entry_orderly, read_back_next}
 use Rattle.pol_cli.proofs.jobs.plant.put_each.Goals as goal
 
 pub put_entry-requires-clause-orderly : goal.put_entry-requires-clause-orderly
@@ -24,6 +24,8 @@ loop-entry-preserved g c =
       so_far = up_to_next _ _ _ (text c.entry-item.result) _ _
           (subst (λ rest. WritesUpTo (g.K.Sink.held c.args.sink.now) (g.K.Sink.held c.loop-entry.sink) rest all) cut
           c.loop-entry.invariant.so_far) c.in_ok-buffer.ensures.line;
+      read_back = read_back_next c.args.entries.now c.loop-entry.entry-index c.entry-item.result c.loop-entry-test.true
+          c.entry-item.is c.loop-entry.invariant.read_back c.in_ok-buffer.ensures.read_back;
       empty = c.in_ok-buffer.ensures.empty;
       sound = c.in_ok-buffer.ensures.cause.done ∙ c.loop-entry.invariant.sound;
     }

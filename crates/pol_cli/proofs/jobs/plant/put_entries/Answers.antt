@@ -1,8 +1,11 @@
-use Rattle.std.proofs.Common.{subst}
+use Rattle.std.proofs.Common.{map, subst}
 use Rattle.std.specs.Prelude.{OnErr, OnOk}
+use Rattle.std.proofs.lemmas.Result.{on_ok_weaker}
 use Rattle.std.specs.Io.KnownBytes.{Appends}
+use Rattle.pol_events.specs.Events.{entry_view}
+use Rattle.pol_record.specs.Texts.{IsReadBack}
 use Rattle.pol_cli.specs.Written.{WritesSome}
-use Rattle.pol_cli.proofs.EntryLines.{lines_of_entries}
+use Rattle.pol_cli.proofs.EntryLines.{all_turned, lines_of_entries}
 use Rattle.pol_cli.proofs.jobs.plant.put_entries.Goals as goal
 
 pub returns-clause-text : goal.returns-clause-text
@@ -16,3 +19,8 @@ returns-clause-part g c =
     subst (λ text. OnErr c.put_each.result
     (WritesSome (g.K.Sink.held c.args.sink.now) (g.K.Sink.held c.put_each.new.sink) text))
     (lines_of_entries c.args.history.now) c.put_each.ensures.part
+
+pub returns-clause-read_back : goal.returns-clause-read_back
+returns-clause-read_back g c =
+    on_ok_weaker c.put_each.result (all_turned IsReadBack (map entry_view c.args.history.now))
+    c.put_each.ensures.read_back
