@@ -10,7 +10,8 @@ use Rattle.pol_shown.specs.Displays.{Displayed, Shows, name_of_module, said_by}
 alike : {A : Type 0} (count place : ℕ) (item : A) → slice_index_or (replicate count item) place item ≡ item
 alike count place item =
     ⊎_elim (λ inside. get_or-replicate count place item item inside)
-    (λ past. get_or_past (replicate count item) place item (subst (λ long. long ≤ place) (sym (length-replicate count item)) past))
+    (λ past. get_or_past (replicate count item) place item
+    (subst (λ long. long ≤ place) (sym (length-replicate count item)) past))
     (cases_lt place count)
 
 nothing-said : (found : Option SiteModuleForm) (place : ℕ) → said_by (word_of_module found place []) ≡ 0

@@ -64,7 +64,8 @@ pub begun : (site : SiteForm) (entry : EntryForm) (older : History) (display : D
     ShowsBelow 0 site entry older display
 begun site entry older display =
     moved site (λ _. older) (λ word. history_at entry older (nat_lt word 0)) display
-    (λ word. sym (at-bound (λ history. board_word site history word) entry older word 0 false (le-ltb word 0 (omega arith))))
+    (λ word. sym (at-bound (λ history. board_word site history word) entry older word 0 false
+    (le-ltb word 0 (omega arith))))
     (λ word. sym (at-bound (λ history. service_of_word site history word) entry older word 0 false
     (le-ltb word 0 (omega arith))))
 
@@ -73,7 +74,8 @@ pub passed : (site : SiteForm) (entry : EntryForm) (older : History) (display : 
     ((word : ℕ) → low ≤ word → word < high → IsQuiet site entry word) →
     ShowsBelow low site entry older display → ShowsBelow high site entry older display
 passed site entry older display low high order quiet =
-    moved site (λ word. history_at entry older (nat_lt word low)) (λ word. history_at entry older (nat_lt word high)) display
+    moved site (λ word. history_at entry older (nat_lt word low)) (λ word. history_at entry older (nat_lt word high))
+    display
     (λ word. same-between (λ history. board_word site history word) entry older low high word order
     (λ above less. sym (quiet-word site entry older word (quiet word above less))))
     (λ word. same-between (λ history. service_of_word site history word) entry older low high word order
@@ -160,7 +162,8 @@ module _ (site : SiteForm) (entry : EntryForm) (older : History) (word : ℕ) (u
       ap (λ words. slice_index words word) is
       ∙ published-here (shown_by (name_in before.names word) entry.event) word (length older) before.words
       (board_word site older word) (omega (arith, inside, shows.long)) word-before
-      ∙ ap (λ name. said_by (word_after (shown_by name entry.event) (length older) (board_word site older word))) name-before
+      ∙ ap (λ name. said_by (word_after (shown_by name entry.event) (length older) (board_word site older word)))
+      name-before
       ∙ ap said_by (sym (word-followed site entry older word unit there accepted))
       ∙ sym (at-bound (λ history. said_by (board_word site history word)) entry older word (suc word) true at-after)
 
@@ -169,7 +172,8 @@ module _ (site : SiteForm) (entry : EntryForm) (older : History) (word : ℕ) (u
       slice_index words at ≡ said_by (board_word site (at_next at) at)
   word-elsewhere words at other is =
       ap (λ words. slice_index words at) is
-      ∙ published-elsewhere (shown_by (name_in before.names word) entry.event) word (suc (length older)) before.words at other
+      ∙ published-elsewhere (shown_by (name_in before.names word) entry.event) word (suc (length older)) before.words at
+      other
       ∙ shows.words at
       ∙ ap (λ below. said_by (board_word site (history_at entry older below) at)) (one-higher at word other)
 
@@ -189,13 +193,15 @@ module _ (site : SiteForm) (entry : EntryForm) (older : History) (word : ℕ) (u
       name_in names at ≡ service_of_word site (at_next at) at
   name-elsewhere names at other is =
       ap (λ names. name_in names at) is
-      ∙ get_or-set_other before.names word at (name_after (word % 32) entry.event (name_in before.names word)) None other
+      ∙ get_or-set_other before.names word at (name_after (word % 32) entry.event (name_in before.names word)) None
+      other
       ∙ shows.names at
       ∙ ap (λ below. service_of_word site (history_at entry older below) at) (one-higher at word other)
 
   -- the display that followed an accepted entry at one word of its module shows it at one word more
   pub followed : after.board ≡ before.board →
-      after.words ≡ published (shown_by (name_in before.names word) entry.event) word (suc (length older)) before.words →
+      after.words
+      ≡ published (shown_by (name_in before.names word) entry.event) word (suc (length older)) before.words →
       after.names ≡ slice_set before.names word (name_after (word % 32) entry.event (name_in before.names word)) →
       ShowsBelow (suc word) site entry older after
   followed board words names = record {
@@ -246,7 +252,8 @@ unit-there entry (Some unit) is = (unit, refl, same_Some (is_accepted_of unit.ta
 -- one word of the module more
 pub follows-on : (site : SiteForm) (entry : EntryForm) (older : History) (place word next number : ℕ)
     (before after : Displayed) → IsAcceptedAt site entry place → 32 * place ≤ word → word < 32 * (place + 1) →
-    next ≡ suc word → number ≡ suc (length older) → ShowsBelow word site entry older before → after.board ≡ before.board →
+    next ≡ suc word → number ≡ suc (length older) → ShowsBelow word site entry older before →
+    after.board ≡ before.board →
     after.words ≡ published (shown_by (name_in before.names word) entry.event) word number before.words →
     after.names ≡ slice_set before.names word (name_after (word % 32) entry.event (name_in before.names word)) →
     ShowsBelow next site entry older after

@@ -26,7 +26,8 @@ word-number-short tag place (entry ∷ older) =
     ]
 
 -- no word has a higher number than the history's length
-pub number-short : (site : SiteForm) (history : History) (word : ℕ) → (board_word site history word).number ≤ length history
+pub number-short : (site : SiteForm) (history : History) (word : ℕ) →
+    (board_word site history word).number ≤ length history
 number-short site history word =
     elim (slice_get site.modules (word / 32))
     as (λ unit. (word_of_module unit (word % 32) history).number ≤ length history) [
@@ -45,8 +46,8 @@ quiet-found : (entry : EntryForm) (older : History) (place : ℕ) (found : Optio
     word_of_module found place (entry ∷ older) ≡ word_of_module found place older
 quiet-found entry older place None quiet = refl
 quiet-found entry older place (Some unit) quiet =
-    ap (λ accepted. word_after (if accepted then shown_by (name_at place (description_of older unit.tag)) entry.event else None)
-    (length older) (word_of unit.tag place older)) (quiet unit refl)
+    ap (λ accepted. word_after (if accepted then shown_by (name_at place (description_of older unit.tag)) entry.event
+    else None) (length older) (word_of unit.tag place older)) (quiet unit refl)
 
 quiet-named : (entry : EntryForm) (older : History) (place : ℕ) (found : Option SiteModuleForm) →
     ((unit : SiteModuleForm) → found ≡ Some unit → is_accepted_of unit.tag entry ≡ false) →
@@ -80,8 +81,8 @@ pub word-followed : (site : SiteForm) (entry : EntryForm) (older : History) (wor
     ≡ word_after (shown_by (service_of_word site older word) entry.event) (length older) (board_word site older word)
 word-followed site entry older word unit there accepted =
     ap (λ found. word_of_module found (word % 32) (entry ∷ older)) there
-    ∙ ap (λ accepted. word_after (if accepted then shown_by (name_at (word % 32) (description_of older unit.tag)) entry.event
-    else None) (length older) (word_of unit.tag (word % 32) older)) accepted
+    ∙ ap (λ accepted. word_after (if accepted then shown_by (name_at (word % 32) (description_of older unit.tag))
+    entry.event else None) (length older) (word_of unit.tag (word % 32) older)) accepted
     ∙ ap (λ found. word_after (shown_by (name_of_module found (word % 32) older) entry.event) (length older)
     (word_of_module found (word % 32) older)) (sym there)
 
@@ -96,8 +97,8 @@ pub name-followed : (site : SiteForm) (entry : EntryForm) (older : History) (wor
     service_of_word site (entry ∷ older) word ≡ name_after (word % 32) entry.event (service_of_word site older word)
 name-followed site entry older word unit there accepted =
     ap (λ found. name_of_module found (word % 32) (entry ∷ older)) there
-    ∙ ap (λ accepted. name_at (word % 32) (description_by (cond accepted (entry ∷ past unit.tag older) (past unit.tag older))))
-    accepted
+    ∙ ap (λ accepted. name_at (word % 32) (description_by (cond accepted (entry ∷ past unit.tag older)
+    (past unit.tag older)))) accepted
     ∙ name-described (word % 32) (described entry.event) (description_of older unit.tag)
     ∙ ap (λ found. name_after (word % 32) entry.event (name_of_module found (word % 32) older)) (sym there)
 

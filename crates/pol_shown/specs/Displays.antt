@@ -8,7 +8,8 @@ use Rattle.pol_history.specs.Modules.{description_of}
 use Rattle.pol_site.specs.Shown.{BoardWord, board_word, name_at}
 use Rattle.pol_site.specs.Sites.{SiteForm, SiteModuleForm}
 
--- which board it publishes on, the words that it published last, and at each word the name of its service, if it has one
+-- which board it publishes on, the words that it published last, and at each word the name of its service, if there is
+-- one
 pub record Displayed : Type 0 where
   pub board : TableId
   pub words : List ℕ
@@ -46,8 +47,8 @@ name_of_module (Some unit) place history = name_at place (description_of history
 abbrev pub service_of_word : SiteForm → History → ℕ → Option (List ℕ)
 service_of_word site history word = name_of_module (slice_get site.modules (word / 32)) (word % 32) history
 
--- each word is what a history shows there, and its name is that of the word's service; the history may be another one at
--- each word
+-- each word is what a history shows there, and its name is that of the word's service; the history may be another one
+-- at each word
 pub record ShowsAt (site : SiteForm) (at : ℕ → History) (display : Displayed) : Type 0 where
   pub of_board : display.board.words ≡ 32 * length site.modules
   pub long : length display.words ≡ 32 * length site.modules
@@ -55,6 +56,6 @@ pub record ShowsAt (site : SiteForm) (at : ℕ → History) (display : Displayed
   pub words : (word : ℕ) → slice_index display.words word ≡ said_by (board_word site (at word) word)
   pub names : (word : ℕ) → name_in display.names word ≡ service_of_word site (at word) word
 
--- the display shows the history: the board has 32 words for each module, and each word was published as the history has it
+-- the display shows the history: the board has 32 words for each module, and each was published as the history has it
 abbrev pub Shows : SiteForm → History → Displayed → Type 0
 Shows site history display = ShowsAt site (λ _. history) display

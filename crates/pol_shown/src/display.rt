@@ -22,8 +22,8 @@ use std::sync::Arc;
 /// How many words of the board a module has.
 const WORDS: usize = 32;
 
-/// A status board with its publisher. Contracts see which board it is, the words that were published last, and at each word
-/// the name of the service that it is about.
+/// A status board with its publisher. Contracts see which board it is, the words that were published last, and at each
+/// word the name of the service that it is about.
 #[derive(Drop)]
 pub struct Display {
     board: Arc<Board>,
@@ -90,8 +90,8 @@ impl Display {
         ensures board { self.new.board ≡ self.old.board }
         ensures words { self.new.words
             ≡ published (shown_by (name_in self.old.names word) (event_view event.now)) word number self.old.words }
-        ensures names { self.new.names
-            ≡ slice_set self.old.names word (name_after (word % 32) (event_view event.now) (name_in self.old.names word)) }
+        ensures names { self.new.names ≡ slice_set self.old.names word
+            (name_after (word % 32) (event_view event.now) (name_in self.old.names word)) }
     {
         let shown = shown_by(self.names[word], event);
         if let Some(state) = shown {
@@ -135,10 +135,10 @@ impl Display {
         }
     }
 
-    /// Follows the history by its newest entry, the last: the display showed the history before that, and shows all of it
-    /// then. Where the entry is an accepted report, the word of its service says its state; where it is an accepted begin of
-    /// an exchange, the words of all services of the module say none; both with the history's length as number. Nothing
-    /// else is published. It takes no memory and never waits.
+    /// Follows the history by its newest entry, the last: the display showed the history before that, and shows all of
+    /// it then. Where the entry is an accepted report, the word of its service says its state; where it is an accepted
+    /// begin of an exchange, the words of all services of the module say none; both with the history's length as number.
+    /// Nothing else is published. It takes no memory and never waits.
     pub fn follow(&mut self, site: &Site, history: &[Entry])
         requires short { length history.now ≤ LONGEST_HISTORY }
         requires shown { Shows (site_view site.now) (before_newest (history_view history.now)) self.old }

@@ -6,8 +6,8 @@ use pol_board::{Board, Reader};
 use std::marker::Model;
 use std::sync::Arc;
 
-/// A reader with its board. Contracts see which board it is, and at each word what was seen there last or what the reader
-/// was told of.
+/// A reader with its board. Contracts see which board it is, and at each word what was seen there last or what the
+/// reader was told of.
 #[derive(Drop)]
 pub struct Watcher {
     board: Arc<Board>,

@@ -12,8 +12,8 @@ follow_module-requires-clause-accepted c =
     let site = c.args.site.now in
     let inside : c.loop-place.place < length site.modules.items =
     omega (arith, c.loop-place-test.true, c.loop-place.invariant.1) in
-    accepted-at (site_view site) (entry_view c.args.entry.now) c.loop-place.place (module_view c.index.result.now) c.args.tag
-    (module-at site.modules.items c.loop-place.place c.index.result.now inside c.index.ensures) c.requires.tag
+    accepted-at (site_view site) (entry_view c.args.entry.now) c.loop-place.place (module_view c.index.result.now)
+    c.args.tag (module-at site.modules.items c.loop-place.place c.index.result.now inside c.index.ensures) c.requires.tag
     (sym c.eq.ensures ∙ c.if-eq.true)
 
 pub loop-place-preserved : goal.loop-place-preserved
@@ -29,8 +29,8 @@ loop-place-preserved c =
           rw w.self-is (
             kept.0,
             kept.1,
-            other-module (site_view site) (entry_view c.args.entry.now) (history_view c.args.older.now) c.loop-place.self
-                c.loop-place.place (module_view c.index.result.now) c.args.tag there c.requires.tag
+            other-module (site_view site) (entry_view c.args.entry.now) (history_view c.args.older.now)
+                c.loop-place.self c.loop-place.place (module_view c.index.result.now) c.args.tag there c.requires.tag
                 (sym c.eq.ensures ∙ w.if-eq.false) kept.2,
           )
     ]
@@ -38,6 +38,8 @@ loop-place-preserved c =
 pub returns-clause-shown : goal.returns-clause-shown
 returns-clause-shown c =
     let site = c.args.site.now in
-    let all : 32 * length (site_view site).modules ≤ 32 * c.loop-place.place = omega (arith, c.loop-place-test.false, c.loop-place.invariant.1, length-modules site.modules.items) in
+    let count = length-modules site.modules.items in
+    let all : 32 * length (site_view site).modules ≤ 32 * c.loop-place.place =
+    omega (arith, c.loop-place-test.false, c.loop-place.invariant.1, count) in
     shows-all (site_view site) (entry_view c.args.entry.now) (history_view c.args.older.now) c.loop-place.self
     (32 * c.loop-place.place) all c.loop-place.invariant.2
