@@ -1,0 +1,35 @@
+-- A display may lie under a lock that threads share, and a watcher may go to another thread.
+use denote.Param.Send.{IsSend, IsSync, sendable}
+use Rattle.std.proofs.Crossing as heap
+use Rattle.atomic_table.proofs.send_lease.SendLease.TheSendSync as leases
+use Rattle.atomic_table.proofs.shared.Seat.TheSendSync as seats
+use Rattle.atomic_table.proofs.shared.Shared.TheSendSync as tables
+use Rattle.mtp_codes.specs.contracts.name.Name as name
+use Rattle.pol_board.specs.contracts.board.Board as board
+use Rattle.pol_board.specs.contracts.publisher.Publisher as publisher
+use Rattle.pol_board.specs.contracts.reader.Reader as reader
+use Rattle.pol_shown.specs.contracts.display.Display as display
+use Rattle.pol_shown.specs.contracts.watcher.Watcher as watcher
+
+name-send : IsSend name.the_row
+name-send = search (sendable, heap.crosses) depth 40 fits 100000
+
+board-send : IsSend board.the_row
+board-send = search (sendable, heap.crosses, tables.the_send, leases.the_send) depth 40 fits 100000
+
+board-sync : IsSync board.the_row
+board-sync = search (sendable, heap.crosses, tables.the_sync, leases.the_sync) depth 40 fits 100000
+
+publisher-send : IsSend publisher.the_row
+publisher-send = search (sendable, heap.crosses, seats.the_send) depth 40 fits 100000
+
+reader-send : IsSend reader.the_row
+reader-send = search (sendable, heap.crosses, seats.the_send) depth 40 fits 100000
+
+-- a display may go to another thread
+pub display-send : IsSend display.the_row
+display-send = search (sendable, heap.crosses, name-send, board-send, board-sync, publisher-send) depth 40 fits 100000
+
+-- a watcher too
+pub watcher-send : IsSend watcher.the_row
+watcher-send = search (sendable, heap.crosses, board-send, board-sync, reader-send) depth 40 fits 100000

@@ -1,0 +1,39 @@
+-- A display at first.
+use Rattle.std.proofs.Common.{◌≡◌, ◌∙◌, ℕ, ◌*◌, ◌/◌, ◌%◌, [], Option, Some, None, length, refl, sym, ap, subst, ⊎_elim, ◌≤◌}
+use Rattle.std.specs.Prelude.{replicate, slice_get, slice_index_or}
+use Rattle.std.proofs.lemmas.Bool.{cases_lt}
+use Rattle.std.proofs.lemmas.List.{get_or-replicate, get_or_past, length-replicate}
+use Rattle.pol_site.specs.Shown.{word_of_module}
+use Rattle.pol_site.specs.Sites.{SiteForm, SiteModuleForm}
+use Rattle.pol_shown.specs.Displays.{Displayed, Shows, name_of_module, said_by}
+
+alike : {A : Type 0} (count place : ℕ) (item : A) → slice_index_or (replicate count item) place item ≡ item
+alike count place item =
+    ⊎_elim (λ inside. get_or-replicate count place item item inside)
+    (λ past. get_or_past (replicate count item) place item
+    (subst (λ long. long ≤ place) (sym (length-replicate count item)) past))
+    (cases_lt place count)
+
+nothing-said : (found : Option SiteModuleForm) (place : ℕ) → said_by (word_of_module found place []) ≡ 0
+nothing-said None place = refl
+nothing-said (Some unit) place = refl
+
+nothing-named : (found : Option SiteModuleForm) (place : ℕ) → name_of_module found place [] ≡ None
+nothing-named None place = refl
+nothing-named (Some unit) place = refl
+
+-- words that say nothing, without names, show the empty history
+pub shows-nothing : (site : SiteForm) (display : Displayed) (count : ℕ) → count ≡ 32 * length site.modules →
+    display.board.words ≡ count → display.words ≡ replicate count 0 → display.names ≡ replicate count None →
+    Shows site [] display
+shows-nothing site display count all board words names = record {
+  of_board = board ∙ all;
+  long = ap length words ∙ length-replicate count 0 ∙ all;
+  named = ap length names ∙ length-replicate count None ∙ all;
+  words = λ word.
+      ap (λ words. slice_index_or words word 0) words ∙ alike count word 0
+      ∙ sym (nothing-said (slice_get site.modules (word / 32)) (word % 32));
+  names = λ word.
+      ap (λ names. slice_index_or names word None) names ∙ alike count word None
+      ∙ sym (nothing-named (slice_get site.modules (word / 32)) (word % 32));
+}
