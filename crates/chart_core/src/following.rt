@@ -100,7 +100,8 @@ fn step_next(step: &Step, progress: Progress, entry: &LogEntry) -> Option<Progre
 // The arm that the entry chooses at this selection, where that is right.
 #[tactic(auto, using(crate::proofs::Counts::count_arms))]
 fn choice(each: &[Arm], number: u32, entry: &LogEntry) -> Option<u32>
-    ensures { result ≡ right_arm (arms each.now) false (decision_at number (arm_reads (arms each.now)) (judged entry.now)) }
+    ensures { result ≡ right_arm (arms each.now) false
+        (decision_at number (arm_reads (arms each.now)) (judged entry.now)) }
 {
     match entry {
         LogEntry::Chose { node, arm, values } => {
@@ -255,7 +256,8 @@ pub fn follow(node: &Node, number: u32, marks: &[Progress], entry: &LogEntry) ->
 fn follow_in_turn(kids: &[Node], first: u32, marks: &[Progress], entry: &LogEntry) -> Followed
     requires fits { first + sizes (trees kids.now) ≤ length marks.now }
     requires short { length marks.now < 2 ^ 32 }
-    ensures change { result.change ≡ change_by (in_turn (trees kids.now) first) (marks_of marks.now) (judged entry.now) }
+    ensures change { result.change ≡ change_by (in_turn (trees kids.now) first) (marks_of marks.now)
+        (judged entry.now) }
     ensures inside { IfSome result.change (FitsIn (first + sizes (trees kids.now))) }
     ensures done { result.done ≡ is_done (in_turn (trees kids.now) first) (marks_of marks.now) }
     ensures next { result.next ≡ first + sizes (trees kids.now) }
@@ -282,7 +284,8 @@ fn follow_in_turn(kids: &[Node], first: u32, marks: &[Progress], entry: &LogEntr
 fn follow_at_once(kids: &[Node], first: u32, marks: &[Progress], entry: &LogEntry) -> Followed
     requires fits { first + sizes (trees kids.now) ≤ length marks.now }
     requires short { length marks.now < 2 ^ 32 }
-    ensures change { result.change ≡ change_by (at_once (trees kids.now) first) (marks_of marks.now) (judged entry.now) }
+    ensures change { result.change ≡ change_by (at_once (trees kids.now) first) (marks_of marks.now)
+        (judged entry.now) }
     ensures inside { IfSome result.change (FitsIn (first + sizes (trees kids.now))) }
     ensures done { result.done ≡ is_done (at_once (trees kids.now) first) (marks_of marks.now) }
     ensures next { result.next ≡ first + sizes (trees kids.now) }
@@ -309,7 +312,8 @@ fn follow_at_once(kids: &[Node], first: u32, marks: &[Progress], entry: &LogEntr
 fn follow_arm(each: &[Arm], arm: u32, first: u32, marks: &[Progress], entry: &LogEntry) -> Followed
     requires fits { first + arm_sizes (arms each.now) ≤ length marks.now }
     requires short { length marks.now < 2 ^ 32 }
-    ensures change { result.change ≡ change_by (arm_at (arms each.now) first arm) (marks_of marks.now) (judged entry.now) }
+    ensures change { result.change ≡ change_by (arm_at (arms each.now) first arm) (marks_of marks.now)
+        (judged entry.now) }
     ensures inside { IfSome result.change (FitsIn (first + arm_sizes (arms each.now))) }
     ensures done { result.done ≡ is_done (arm_at (arms each.now) first arm) (marks_of marks.now) }
     ensures next { result.next ≡ first + arm_sizes (arms each.now) }

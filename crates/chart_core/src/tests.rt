@@ -38,7 +38,9 @@ fn role(alloc: Global, name: &str, type_name: &str, wants: &str) -> Result<Role,
 
 // Two roles: A for dosers and B for mixers.
 fn roles(alloc: Global) -> Result<Vec<Role>, Fail>
-    ensures { IfOk result (λ roles. (root : Tree) → IsTrue (are_roles_formed (record { roles = map role_plan roles.items; root = root }))) }
+    ensures { IfOk result
+        (λ roles. (root : Tree)
+        → IsTrue (are_roles_formed (record { roles = map role_plan roles.items; root = root }))) }
 {
     let doser = role(alloc, "A", "Doser", "^1")?;
     let mixer = role(alloc, "B", "Mixer", "^2")?;

@@ -57,7 +57,8 @@ fn has_unknown(condition: &Condition, roles: &[Role]) -> bool
 
 #[cycle(unknown)]
 fn some_has_unknown(conditions: &[Condition], roles: &[Role]) -> bool
-    ensures { result ≡ some_reads_unknown (formulas conditions.now) (map (λ role. role.role) (map role_plan roles.now)) }
+    ensures { result ≡ some_reads_unknown (formulas conditions.now)
+        (map (λ role. role.role) (map role_plan roles.now)) }
 {
     for each in conditions {
         if has_unknown(each, roles) {
@@ -68,7 +69,8 @@ fn some_has_unknown(conditions: &[Condition], roles: &[Role]) -> bool
 }
 
 fn an_arm_has_unknown(each: &[Arm], roles: &[Role]) -> bool
-    ensures { result ≡ some_reads_unknown (arm_conditions (arms each.now)) (map (λ role. role.role) (map role_plan roles.now)) }
+    ensures { result ≡ some_reads_unknown (arm_conditions (arms each.now))
+        (map (λ role. role.role) (map role_plan roles.now)) }
 {
     for arm in each {
         if has_unknown(&arm.when, roles) {
@@ -119,7 +121,8 @@ fn finish_reads_too_much(finish: &Option<Condition>) -> bool
 
 fn step_fault(step: &Step, depth: u32, here: Reached, chart: &Chart) -> Option<ChartFault>
     requires { here.number + 1 < 2 ^ 32 }
-    ensures fault { result ≡ node_fault (plan chart.now) (visit (leaf (step_plan step.now)) here.number depth here.steps) }
+    ensures fault { result ≡ node_fault (plan chart.now)
+        (visit (leaf (step_plan step.now)) here.number depth here.steps) }
     ensures shallow { IfNone result (depth ≤ DEEPEST_NODE) }
     ensures few { IfNone result (here.steps < MOST_STEPS) }
 {

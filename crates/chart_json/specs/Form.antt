@@ -42,7 +42,8 @@ roles_of value =
 
 -- 1 to 64 roles, each with a text of at most 64 bytes
 abbrev pub are_roles_sized : List RolePlan → Bool
-are_roles_sized roles = is_between 1 MOST_ROLES (length roles) && list_all (λ role. nat_le (length role.wants) LONGEST_WANTED) roles
+are_roles_sized roles = is_between 1 MOST_ROLES (length roles)
+    && list_all (λ role. nat_le (length role.wants) LONGEST_WANTED) roles
 
 -- ---- conditions
 

@@ -20,7 +20,8 @@ use std::alloc::Global;
 
 #[tactic(auto, using(mtp_json::proofs::Each::gives_below, crate::proofs::Told::told_below))]
 fn roles_under(alloc: Global, value: &Value) -> Result<Vec<Role>, JsonRefusal>
-    ensures gives { Gives (λ roles. map role_plan roles.items) result (under (codes "roles") (roles_of (view value.now))) }
+    ensures gives { Gives (λ roles. map role_plan roles.items) result
+        (under (codes "roles") (roles_of (view value.now))) }
     ensures sized { IfOk result (λ roles. IsTrue (are_roles_sized (map role_plan roles.items))) }
 {
     under("roles", read_roles(alloc, value))
@@ -36,7 +37,8 @@ fn node_under(alloc: Global, value: &Value) -> Result<Node, JsonRefusal>
 
 /// The roles at the key `roles` of an object, as `read_roles`.
 pub fn roles_at(alloc: Global, object: &Value) -> Result<Vec<Role>, JsonRefusal>
-    ensures gives { Gives (λ roles. map role_plan roles.items) result (inside (codes "roles") roles_of (view object.now)) }
+    ensures gives { Gives (λ roles. map role_plan roles.items) result
+        (inside (codes "roles") roles_of (view object.now)) }
     ensures sized { IfOk result (λ roles. IsTrue (are_roles_sized (map role_plan roles.items))) }
 {
     let value = value_at(alloc, object, "roles")?;

@@ -20,7 +20,8 @@ use std::alloc::Global;
 
 #[tactic(auto, using(crate::proofs::Views::settings_seen))]
 fn settings_at(alloc: Global, value: &Value) -> Result<Vec<Setting>, JsonRefusal>
-    ensures { Gives (λ settings. settings.items) result (list_or_none (codes "settings") 0 MOST_SETTINGS setting_of (view value.now)) }
+    ensures { Gives (λ settings. settings.items) result (list_or_none (codes "settings") 0 MOST_SETTINGS setting_of
+        (view value.now)) }
 {
     list_or_none::<SettingJson>(alloc, value, "settings", 0, MOST_SETTINGS)
 }

@@ -52,7 +52,8 @@ fn write_both(alloc: Global, chart: &Chart) -> Result<(Value, Value), AllocError
 pub fn write_chart(alloc: Global, chart: &Chart) -> Result<(Value, Value), AllocError>
     ensures values { IfOk result (λ pair. IsWritten (plan chart.now) (view pair.0) (view pair.1)) }
     ensures reads_back { IfOk result (λ pair. chart_of (view pair.0) (view pair.1) ≡ Ok (plan chart.now)) }
-    ensures nests { IfOk result (λ pair. IsValid (plan chart.now) → (depth (view pair.0) ≤ 2) × (depth (view pair.1) ≤ 65)) }
+    ensures nests { IfOk result (λ pair. IsValid (plan chart.now) → (depth (view pair.0) ≤ 2)
+        × (depth (view pair.1) ≤ 65)) }
     ensures whole { IfOk result (λ pair. (has_float (view pair.0) ≡ false) × (has_float (view pair.1) ≡ false)) }
 {
     write_both(alloc, chart)

@@ -59,7 +59,8 @@ fn write_each(alloc: Global, nodes: &[Node]) -> Result<Value, AllocError>
 fn write_arm(alloc: Global, arm: &Arm) -> Result<Value, AllocError>
     ensures value { IfOk result (λ value. view value
         ≡ written_arm (written_formula (formula arm.now.when)) (written_tree (tree arm.now.body))) }
-    ensures sound { IfOk result (λ _. IsTrue (is_formula_sound (formula arm.now.when) && is_tree_sound (tree arm.now.body))) }
+    ensures sound { IfOk result
+        (λ _. IsTrue (is_formula_sound (formula arm.now.when) && is_tree_sound (tree arm.now.body))) }
 {
     let when = write_condition(alloc, &arm.when)?;
     let body = write_node(alloc, &arm.body)?;

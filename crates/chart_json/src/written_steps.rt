@@ -45,7 +45,8 @@ fn bare_step(
     service: &str,
     settings: Value,
 ) -> Result<Value, AllocError>
-    ensures { IfOk result (λ value. view value ≡ object (step_keys name.now procedure role.now service.now (view settings))) }
+    ensures { IfOk result
+        (λ value. view value ≡ object (step_keys name.now procedure role.now service.now (view settings))) }
 {
     json!(in alloc; {
         "procedure": procedure,

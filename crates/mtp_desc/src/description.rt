@@ -53,7 +53,8 @@ fn place_of_service(services: &[Service], name: Name) -> Option<usize>
 }
 
 fn find_variable(variables: &[View], name: Name) -> Option<&View>
-    ensures { option_map (λ variable. variable.now) result ≡ find (λ variable. bytes_eq variable.name name) variables.now }
+    ensures { option_map (λ variable. variable.now) result ≡ find (λ variable. bytes_eq variable.name name)
+        variables.now }
 {
     variables.iter().find(|variable| variable.name == name)
 }
@@ -70,7 +71,8 @@ impl Description {
 
     /// The service of this name.
     pub fn service(&self, name: Name) -> Option<&Service>
-        ensures { option_map (λ service. service_view service.now) result ≡ service_named name (description_view self.now) }
+        ensures { option_map (λ service. service_view service.now) result
+            ≡ service_named name (description_view self.now) }
     {
         find_service(&self.services, name)
     }
@@ -84,7 +86,8 @@ impl Description {
 
     /// The variable of this name.
     pub fn variable(&self, name: Name) -> Option<&View>
-        ensures { option_map (λ variable. variable_view variable.now) result ≡ variable_named name (description_view self.now) }
+        ensures { option_map (λ variable. variable_view variable.now) result
+            ≡ variable_named name (description_view self.now) }
     {
         find_variable(&self.variables, name)
     }

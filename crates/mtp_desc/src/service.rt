@@ -26,7 +26,8 @@ pub struct Service {
 }
 
 fn find_procedure(procedures: &[Procedure], number: u16) -> Option<&Procedure>
-    ensures { option_map (λ procedure. procedure.now) result ≡ find (λ procedure. procedure.number == number) procedures.now }
+    ensures { option_map (λ procedure. procedure.now) result ≡ find (λ procedure. procedure.number == number)
+        procedures.now }
 {
     procedures
         .iter()

@@ -50,7 +50,8 @@ fn read_under<T: FromJson>(
     values: &[Value],
 ) -> Result<Vec<T::Item>, JsonRefusal>
     requires { IsTrue (is_name key.now) }
-    ensures gives { Gives (λ found. map T.plain found.items) result (under key.now (each T.form 0 (items_view values.now))) }
+    ensures gives { Gives (λ found. map T.plain found.items) result
+        (under key.now (each T.form 0 (items_view values.now))) }
     ensures size { IfOk result (λ found. length found.items ≡ length values.now) }
 {
     under(key, read_every::<T>(alloc, values))
@@ -81,7 +82,8 @@ pub fn list_or_none<T: FromJson>(
     high: usize,
 ) -> Result<Vec<T::Item>, JsonRefusal>
     requires { IsTrue (is_name key.now) }
-    ensures gives { Gives (λ found. map T.plain found.items) result (list_or_none key.now low high T.form (view object.now)) }
+    ensures gives { Gives (λ found. map T.plain found.items) result
+        (list_or_none key.now low high T.form (view object.now)) }
     ensures size { IfOk result (λ found. IsTrue (is_between 0 high (length found.items))) }
 {
     match list_if(alloc, object, key, low, high)? {

@@ -106,7 +106,8 @@ pub fn covers(chart: &Chart, role: Name, description: &Description) -> Result<()
 /// What keeps a module with this description from playing the role that it holds: the role's own name where the type or
 /// the version is wrong, else the step or the variable that `covers` names; None exactly where `covers` answers Ok.
 pub fn held_back_by(chart: &Chart, role: Name, description: &Description) -> Option<Name>
-    ensures { result ≡ option_map (missing_by role) (cover_fault (plan chart.now) role (description_view description.now)) }
+    ensures { result ≡ option_map (missing_by role)
+        (cover_fault (plan chart.now) role (description_view description.now)) }
 {
     match check_cover(chart, role, description) {
         Ok(()) => None,

@@ -73,7 +73,8 @@ fn walk_arms(each: &[Arm], role: Name, description: &Description) -> Option<Name
 /// The name of the first step of the role in chart order that the module can't do. Walks the chart once.
 #[tactic(auto, using(crate::proofs::Firsts::first_is))]
 pub fn refused_step(root: &Node, role: Name, description: &Description) -> Option<Name>
-    ensures { result ≡ name_of_first (is_refused_step role (description_view description.now)) (steps (tree root.now) 0) }
+    ensures { result ≡ name_of_first (is_refused_step role (description_view description.now))
+        (steps (tree root.now) 0) }
 {
     walk(root, role, description)
 }

@@ -74,7 +74,8 @@ impl<'a> Fields<'a> {
 
     fn with(self, key: &'static str, value: FieldValue<'a>) -> Fields<'a>
         requires { length (fields_of self) < MOST_FIELDS }
-        ensures fields { fields_of result ≡ fields_of self.entry ++ field_view (record { key = key.entry; value = value.entry }) ∷ [] }
+        ensures fields { fields_of result ≡ fields_of self.entry
+            ++ field_view (record { key = key.entry; value = value.entry }) ∷ [] }
         ensures count { length (fields_of result) ≡ length (fields_of self.entry) + 1 }
     {
         let mut items = self.items;

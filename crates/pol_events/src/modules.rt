@@ -20,7 +20,8 @@ use std::alloc::Global;
 use std::sync::Arc;
 
 fn description_at(alloc: Global, object: &Value) -> Result<Arc<Description>, JsonRefusal>
-    ensures { Gives (λ shared. description_view shared.value) result (inside (codes "desc") description_of (view object.now)) }
+    ensures { Gives (λ shared. description_view shared.value) result
+        (inside (codes "desc") description_of (view object.now)) }
 {
     let description = form_at::<DescriptionJson>(alloc, object, "desc")?;
     Ok(Arc::new(alloc, description)?)

@@ -34,7 +34,8 @@ pub fn write_plug(
     tag: Name,
     desc: &Description,
 ) -> Result<Value, AllocError>
-    ensures value { IfOk result (λ value. view value ≡ written_plug at tag (written_description (description_view desc.now))) }
+    ensures value { IfOk result
+        (λ value. view value ≡ written_plug at tag (written_description (description_view desc.now))) }
     ensures held { IfOk result (λ _. is_held (plug at tag (description_view desc.now)) ≡ true) }
 {
     let desc = write_description(alloc, desc)?;

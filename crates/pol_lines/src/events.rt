@@ -110,7 +110,8 @@ fn read_report(members: &[Member]) -> Option<Event>
 }
 
 fn are_of_desk(members: &[Member]) -> bool
-    ensures { result ≡ list_all (λ member. is_listed (codes "ev at tag service CommandOp") (key_text member.key)) members.now }
+    ensures { result ≡ list_all (λ member. is_listed (codes "ev at tag service CommandOp") (key_text member.key))
+        members.now }
 {
     members.iter().all(|member| {
         matches!(
@@ -175,7 +176,8 @@ fn are_of_tag(members: &[Member]) -> bool
 /// The stamp and the tag of an event that names nothing more.
 #[tactic(auto, using(crate::proofs::Lookups::only_listed), unfolding(pol_events::specs::Forms::tag_in))]
 fn read_of_tag(members: &[Member]) -> Option<(u64, Name)>
-    ensures { IfSome result (λ read. (event : ℕ → List ℕ → EventForm) → tag_in event (flat_data members.now) ≡ Ok (event read.0 read.1)) }
+    ensures { IfSome result (λ read. (event : ℕ → List ℕ → EventForm) → tag_in event (flat_data members.now)
+        ≡ Ok (event read.0 read.1)) }
 {
     if !are_of_tag(members) {
         return None;
@@ -194,7 +196,8 @@ fn are_of_batch(members: &[Member]) -> bool
 /// The stamp and the batch of an event that names nothing more.
 #[tactic(auto, using(crate::proofs::Lookups::only_listed), unfolding(pol_events::specs::Forms::batch_in))]
 fn read_of_batch(members: &[Member]) -> Option<(u64, Name)>
-    ensures { IfSome result (λ read. (event : ℕ → List ℕ → EventForm) → batch_in event (flat_data members.now) ≡ Ok (event read.0 read.1)) }
+    ensures { IfSome result (λ read. (event : ℕ → List ℕ → EventForm) → batch_in event (flat_data members.now)
+        ≡ Ok (event read.0 read.1)) }
 {
     if !are_of_batch(members) {
         return None;

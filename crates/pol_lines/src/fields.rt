@@ -52,7 +52,8 @@ pub fn name_at(members: &[Member], key: Key) -> Option<Name>
 /// The whole number from `least` to `most` at a key.
 #[inline(always)]
 pub fn count_at(members: &[Member], key: Key, least: u64, most: u64) -> Option<u64>
-    ensures value { IfSome result (λ found. field (key_text key) (count least most) (flat_data members.now) ≡ Ok found) }
+    ensures value { IfSome result (λ found. field (key_text key) (count least most) (flat_data members.now)
+        ≡ Ok found) }
     ensures most { IfSome result (λ found. found ≤ most) }
 {
     match leaf_at(members, key)? {

@@ -32,7 +32,8 @@ pub fn read_list<'a, T: Front>(
     found: &mut Vec<T::Item>,
 ) -> Option<&'a [u8]>
     requires { found.old.items ≡ [] }
-    ensures list { IfSome result (λ rest. ReadsList T.form (suc T.deep) text.now (map T.plain found.new.items) rest.now) }
+    ensures list { IfSome result
+        (λ rest. ReadsList T.form (suc T.deep) text.now (map T.plain found.new.items) rest.now) }
     ensures few { IfSome result (λ _. length found.new.items ≤ most) }
 {
     let mut rest = eat(text, b"[")?;

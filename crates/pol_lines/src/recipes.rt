@@ -23,7 +23,8 @@ use std::alloc::Global;
 use std::sync::Arc;
 
 fn are_of_recipe(members: &[Member]) -> bool
-    ensures { result ≡ list_all (λ member. is_listed (codes "ev at recipe roles chart") (key_text member.key)) members.now }
+    ensures { result ≡ list_all (λ member. is_listed (codes "ev at recipe roles chart") (key_text member.key))
+        members.now }
 {
     members.iter().all(|member| matches!(member.key, Key::Ev | Key::At | Key::Recipe))
 }

@@ -77,7 +77,8 @@ impl Alike for SettingForms {
 }
 
 fn are_of_step(members: &[Member]) -> bool
-    ensures { result ≡ list_all (λ member. is_listed (codes "step role service procedure settings finish") (key_text member.key)) members.now }
+    ensures { result ≡ list_all (λ member. is_listed (codes "step role service procedure settings finish")
+        (key_text member.key)) members.now }
 {
     members.iter().all(|member| {
         matches!(

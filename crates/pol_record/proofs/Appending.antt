@@ -18,23 +18,31 @@ events_in-append (happening piece event ∷ items) others = ap (λ events. event
 history_after-append : (history : History) (events others : List EventForm)
     → history_after history (events ++ others) ≡ history_after (history_after history events) others
 history_after-append history [] others = refl
-history_after-append history (event ∷ events) others = history_after-append (recorded (entry_of history event) history) events others
+history_after-append history (event ∷ events) others = history_after-append (recorded (entry_of history event) history)
+    events others
 
 rows_after-append : (history : History) (items others : List Item) →
-    rows_after history (items ++ others) ≡ rows_after history items ++ rows_after (history_after history (events_in items)) others
+    rows_after history (items ++ others) ≡ rows_after history items
+        ++ rows_after (history_after history (events_in items)) others
 rows_after-append history [] others = refl
-rows_after-append history (blank piece ∷ items) others = ap (λ rows. skipped piece ∷ rows) (rows_after-append history items others)
-rows_after-append history (faulty piece fault ∷ items) others = ap (λ rows. bad piece fault ∷ rows) (rows_after-append history items others)
+rows_after-append history (blank piece ∷ items) others = ap (λ rows. skipped piece ∷ rows)
+    (rows_after-append history items others)
+rows_after-append history (faulty piece fault ∷ items) others = ap (λ rows. bad piece fault ∷ rows)
+    (rows_after-append history items others)
 rows_after-append history (happening piece event ∷ items) others =
-    ap (λ rows. answered piece (entry_of history event) ∷ rows) (rows_after-append (recorded (entry_of history event) history) items others)
+    ap (λ rows. answered piece (entry_of history event) ∷ rows)
+        (rows_after-append (recorded (entry_of history event) history) items others)
 
 rows_text-append : (rows others : List Row) → rows_text (rows ++ others) ≡ rows_text rows ++ rows_text others
 rows_text-append [] others = refl
 rows_text-append (row ∷ rows) others =
-    ap (λ text. row_text row ++ text) (rows_text-append rows others) ∙ sym (append_assoc (row_text row) (rows_text rows) (rows_text others))
+    ap (λ text. row_text row ++ text) (rows_text-append rows others)
+        ∙ sym (append_assoc (row_text row) (rows_text rows) (rows_text others))
 
-items_of-append : (done more : List ℕ) → IsTrue (is_whole done) → items_of (done ++ more) ≡ items_of done ++ items_of more
-items_of-append done more whole = ap (map item_of) (pieces-append done more whole) ∙ map-append item_of (pieces done) (pieces more)
+items_of-append : (done more : List ℕ) → IsTrue (is_whole done) → items_of (done ++ more) ≡ items_of done
+    ++ items_of more
+items_of-append done more whole = ap (map item_of) (pieces-append done more whole) ∙ map-append item_of (pieces done)
+    (pieces more)
 
 -- the answers to more lines
 pub answers_of-append : (done more : List ℕ) → IsTrue (is_whole done) →
@@ -45,7 +53,8 @@ answers_of-append done more whole =
     ∙ rows_text-append (rows_after [] (items_of done)) (rows_after (history_of done) (items_of more))
 
 -- and the history that they leave
-pub history_of-append : (done more : List ℕ) → IsTrue (is_whole done) → history_of (done ++ more) ≡ history_after (history_of done) (events_in (items_of more))
+pub history_of-append : (done more : List ℕ) → IsTrue (is_whole done) → history_of (done ++ more)
+    ≡ history_after (history_of done) (events_in (items_of more))
 history_of-append done more whole =
     ap (λ items. history_after [] (events_in items)) (items_of-append done more whole)
     ∙ ap (history_after []) (events_in-append (items_of done) (items_of more))

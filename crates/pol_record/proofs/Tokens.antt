@@ -44,14 +44,16 @@ abbrev pub binds_tokens : List Bind → List Token
 binds_tokens binds = members_tokens (members_outline (bind_members binds))
 
 -- two items behind others
-pub two_behind : {X : Type 0} (items : List X) (next last : X) → (items ++ next ∷ []) ++ last ∷ [] ≡ items ++ next ∷ last ∷ []
+pub two_behind : {X : Type 0} (items : List X) (next last : X) → (items ++ next ∷ []) ++ last ∷ [] ≡ items
+    ++ next ∷ last ∷ []
 two_behind items next last = append_assoc items (next ∷ []) (last ∷ [])
 
 -- the tokens of a value behind a front part, and a line feed, are the front part and the line
 pub line_of_tokens : (front : List ℕ) (value : Data) →
     (front ++ print (data_tokens value)) ++ 10 ∷ [] ≡ front ++ line_text value
 line_of_tokens front value =
-    append_assoc front (print (data_tokens value)) (10 ∷ []) ∙ ap (λ text. front ++ (text ++ 10 ∷ [])) (print-outline value)
+    append_assoc front (print (data_tokens value)) (10 ∷ []) ∙ ap (λ text. front ++ (text ++ 10 ∷ []))
+        (print-outline value)
 
 -- the line of Done
 pub done_text : line_text (under_key (codes "done") (boolean true)) ≡ codes "{\"done\":true}\n"

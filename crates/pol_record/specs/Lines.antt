@@ -93,7 +93,8 @@ answers_of bytes = rows_text (rows_after [] (items_of bytes))
 abbrev pub history_of : List ℕ → History
 history_of bytes = history_after [] (events_in (items_of bytes))
 
--- what ends the output of a job that leaves this history: the line of each batch in the order of the starts, and the end
+-- what ends the output of a job that leaves this history: the line of each batch in the order of the starts, and the
+-- end
 -- line
 abbrev pub closing_text : History → List ℕ
 closing_text history = batches_text history ++ end_text

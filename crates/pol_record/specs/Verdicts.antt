@@ -29,7 +29,8 @@ wrong_object place says = object
 -- the tokens of a bad verdict's place
 abbrev pub place_tokens : ℕ → List Token
 place_tokens place =
-    token.key (codes "audit") ∷ token.string (codes "bad") ∷ token.key (codes "place") ∷ token.number (decimal place) ∷ []
+    token.key (codes "audit") ∷ token.string (codes "bad") ∷ token.key (codes "place") ∷ token.number
+        (decimal place) ∷ []
 
 -- a verdict as JSON
 abbrev pub verdict_data : Verdict → Data

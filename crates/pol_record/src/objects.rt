@@ -32,7 +32,8 @@ fn write_readings(writer: &mut Writer, readings: &[Reading]) -> Result<(), Alloc
 }
 
 fn write_value(writer: &mut Writer, value: &FieldValue<'_>) -> Result<(), AllocError>
-    ensures tokens { OnOk result (writer.new.tokens ≡ writer.old.tokens ++ data_tokens (value_data (value_view value.now))) }
+    ensures tokens { OnOk result (writer.new.tokens ≡ writer.old.tokens
+        ++ data_tokens (value_data (value_view value.now))) }
     ensures before { writer.new.before ≡ writer.old.before }
 {
     match value {
@@ -53,7 +54,8 @@ fn write_field(writer: &mut Writer, field: &Field<'_>) -> Result<(), AllocError>
 
 /// Writes an object of these fields, in byte order of their keys.
 pub fn write_fields(writer: &mut Writer, fields: &Fields<'_>) -> Result<(), AllocError>
-    ensures tokens { OnOk result (writer.new.tokens ≡ writer.old.tokens ++ data_tokens (fields_data (fields_of fields.now))) }
+    ensures tokens { OnOk result (writer.new.tokens ≡ writer.old.tokens
+        ++ data_tokens (fields_data (fields_of fields.now))) }
     ensures before { writer.new.before ≡ writer.old.before }
 {
     let sorted = fields.in_order();

@@ -66,7 +66,8 @@ impl<T: Drop> Table<T> {
 
     /// The part that is docked under the tag, to be changed in its place; None exactly where the tag is not docked.
     pub fn get_mut(&mut self, tag: Name) -> Option<&mut T>
-        ensures* writes_back { sem 𝓛 (LendsIf (the_row T.row) T.row self.entry result (with_part tag self.old) self.old) }
+        ensures* writes_back { sem 𝓛
+            (LendsIf (the_row T.row) T.row self.entry result (with_part tag self.old) self.old) }
         ensures value { option_copied_mut result ≡ part_of tag self.old }
     {
         let place = self.seats.get(&tag)?.place;

@@ -161,7 +161,8 @@ fn task_of(job: Option<&str>, seed: Option<&str>, watchers: Option<&str>) -> Opt
 /// 0 to 4294967295, another job with a seed, a plant with watchers other than 0 to 16, and another job with watchers.
 pub fn read_words(alloc: Global, words: &[String]) -> Result<Task, WordFault>
     ensures ok { IfOk result (Means (texts_of words.now)) }
-    ensures refused { IfErr result (λ fault. fault ≡ WordFault.Refused → (task : Task) → Means (texts_of words.now) task → ⊥) }
+    ensures refused { IfErr result (λ fault. fault ≡ WordFault.Refused → (task : Task)
+        → Means (texts_of words.now) task → ⊥) }
 {
     let matches = matches(alloc, words)?;
     match task_of(
