@@ -135,7 +135,7 @@ condition_again condition formed sound =
     let parts = and_parts (has_parts_formed condition) (nat_le (test_count condition) MOST_TESTS && nat_le
     (nesting condition) DEEPEST_CONDITION) formed in
     let small = and_parts (nat_le (test_count condition) MOST_TESTS)
-        (nat_le (nesting condition) DEEPEST_CONDITION) parts.1 in
+    (nat_le (nesting condition) DEEPEST_CONDITION) parts.1 in
     rw (formula_again condition parts.0 sound, small.0, small.1) refl
 
 -- ---- steps
@@ -411,7 +411,7 @@ sized_told chart formed =
     let parts = and_parts (are_roles_formed chart) (is_tree_formed chart.root) formed in
     let sizes = and_parts (is_between 1 MOST_ROLES (length chart.roles))
     (are_distinct (role_names chart) && list_all (λ role. nat_le (length role.wants) LONGEST_WANTED)
-        chart.roles) parts.0 in
+    chart.roles) parts.0 in
     let texts = and_parts (are_distinct (role_names chart)) (list_all
     (λ role. nat_le (length role.wants) LONGEST_WANTED) chart.roles) sizes.1 in
     rw (sizes.0, texts.1) refl
@@ -421,7 +421,7 @@ unlike_told chart formed =
     let parts = and_parts (are_roles_formed chart) (is_tree_formed chart.root) formed in
     let sizes = and_parts (is_between 1 MOST_ROLES (length chart.roles))
     (are_distinct (role_names chart) && list_all (λ role. nat_le (length role.wants) LONGEST_WANTED)
-        chart.roles) parts.0 in
+    chart.roles) parts.0 in
     let texts = and_parts (are_distinct (role_names chart)) (list_all
     (λ role. nat_le (length role.wants) LONGEST_WANTED) chart.roles) sizes.1 in
     not-true (repeats_by same_role chart.roles) (sym (distinct_told (λ role. role.role) chart.roles) ∙ texts.0)

@@ -57,7 +57,7 @@ condition_depth condition formed =
     let parts = and_parts (has_parts_formed condition) (nat_le (test_count condition) MOST_TESTS && nat_le
     (nesting condition) DEEPEST_CONDITION) formed in
     let small = and_parts (nat_le (test_count condition) MOST_TESTS)
-        (nat_le (nesting condition) DEEPEST_CONDITION) parts.1 in
+    (nat_le (nesting condition) DEEPEST_CONDITION) parts.1 in
     omega (arith, formula_depth condition, nesting_told (nesting condition) small.1)
 
 -- a single value nests nothing

@@ -55,10 +55,10 @@ all_parts : (inner : Data → Reading Formula) → ((value : Data) → IfOk (inn
 unfolding all_form
 all_parts inner told value =
     told_before (IsListOf (is_between 1 MOST_JOINED) has_parts_formed) HasParts
-        (list (codes "all") 1 MOST_JOINED inner value)
+    (list (codes "all") 1 MOST_JOINED inner value)
     (λ each. nothing_but (codes "all") value >>= λ _. Ok (all_of (formulas_of each)))
     (told_list (is_between 1 MOST_JOINED) has_parts_formed (codes "all") (items_in 1 MOST_JOINED) inner
-        (told_items 1 MOST_JOINED) told value)
+    (told_items 1 MOST_JOINED) told value)
     (λ each are. any_before HasParts (nothing_but (codes "all") value) (λ _. Ok (all_of (formulas_of each)))
     (λ _. rw (count_formulas each, are.0, parts_of_all each, are.1) refl))
 
@@ -67,10 +67,10 @@ any_parts : (inner : Data → Reading Formula) → ((value : Data) → IfOk (inn
 unfolding any_form
 any_parts inner told value =
     told_before (IsListOf (is_between 1 MOST_JOINED) has_parts_formed) HasParts
-        (list (codes "any") 1 MOST_JOINED inner value)
+    (list (codes "any") 1 MOST_JOINED inner value)
     (λ each. nothing_but (codes "any") value >>= λ _. Ok (any_of (formulas_of each)))
     (told_list (is_between 1 MOST_JOINED) has_parts_formed (codes "any") (items_in 1 MOST_JOINED) inner
-        (told_items 1 MOST_JOINED) told value)
+    (told_items 1 MOST_JOINED) told value)
     (λ each are. any_before HasParts (nothing_but (codes "any") value) (λ _. Ok (any_of (formulas_of each)))
     (λ _. rw (count_formulas each, are.0, parts_of_all each, are.1) refl))
 
@@ -237,11 +237,11 @@ rest_of_step named role service value =
     (told_count 1 65535) value)
     (λ procedure numbered.
     told_before (IsListOf (is_between 0 MOST_SETTINGS) (λ _. true)) IsStep
-        (list_or_none (codes "settings") 0 MOST_SETTINGS setting_of value)
+    (list_or_none (codes "settings") 0 MOST_SETTINGS setting_of value)
     (λ settings. inside_if_there (codes "finish") condition_of value >>= λ finish. ruled_step named role service
     procedure settings finish value)
     (told_list_or_none (is_between 0 MOST_SETTINGS) (λ _. true) (codes "settings") (items_in 0 MOST_SETTINGS)
-        setting_of refl
+    setting_of refl
     (told_items 0 MOST_SETTINGS) (λ value. any_value (setting_of value)) value)
     (λ settings few.
     told_before (λ finish. is_finish_formed finish ≡ true) IsStep (inside_if_there (codes "finish") condition_of value)
@@ -336,10 +336,10 @@ sel_formed : (inner : Data → Reading Tree) → ((value : Data) → IfOk (inner
 unfolding sel_form
 sel_formed inner told value =
     told_before (IsListOf (is_between 1 MOST_ARMS) is_arm_formed) IsNode
-        (list (codes "sel") 1 MOST_ARMS (arm_of inner) value)
+    (list (codes "sel") 1 MOST_ARMS (arm_of inner) value)
     (λ arms. nothing_but (codes "sel") value >>= λ _. Ok (choice (arms_of arms)))
     (told_list (is_between 1 MOST_ARMS) is_arm_formed (codes "sel") (items_in 1 MOST_ARMS) (arm_of inner)
-        (told_items 1 MOST_ARMS)
+    (told_items 1 MOST_ARMS)
     (arm_formed inner told) value)
     (λ arms are. any_before IsNode (nothing_but (codes "sel") value) (λ _. Ok (choice (arms_of arms)))
     (λ _. rw (count_arms arms, are.0, arms_all arms, are.1) refl))
@@ -404,12 +404,12 @@ wants_short : (role type_name : List ℕ) (value : Data)
     Ok (record { role = role; type_name = type_name; wants = wants })) IsShort
 wants_short role type_name value =
     told_before (λ wants. nat_le (length wants) LONGEST_WANTED ≡ true) IsShort
-        (need (codes "version") (text_to LONGEST_WANTED) value)
+    (need (codes "version") (text_to LONGEST_WANTED) value)
     (λ wants. under (codes "version") (here (requirement_of wants))
     >>= λ _. nothing_but (codes "role type version") value
     >>= λ _. Ok (record { role = role; type_name = type_name; wants = wants }))
     (told_need (λ wants. nat_le (length wants) LONGEST_WANTED ≡ true) (codes "version") (text_to LONGEST_WANTED)
-        (told_text LONGEST_WANTED) value)
+    (told_text LONGEST_WANTED) value)
     (λ wants short. search (any_before, short))
 
 role_short : (value : Data) → IfOk (role_of value) IsShort
@@ -421,7 +421,7 @@ pub roles_sized : (value : Data) → IfOk (roles_of value) (λ roles. are_roles_
 unfolding roles_of
 roles_sized value =
     told_before (HasSize (is_between 1 MOST_ROLES)) (λ roles. are_roles_sized roles ≡ true)
-        (here (items_in 1 MOST_ROLES value))
+    (here (items_in 1 MOST_ROLES value))
     (λ values. each role_of 0 values)
     (told_here (HasSize (is_between 1 MOST_ROLES)) (items_in 1 MOST_ROLES value) (told_items 1 MOST_ROLES value))
     (λ values sized.

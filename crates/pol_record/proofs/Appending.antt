@@ -23,7 +23,7 @@ history_after-append history (event ∷ events) others = history_after-append (r
 
 rows_after-append : (history : History) (items others : List Item) →
     rows_after history (items ++ others) ≡ rows_after history items
-        ++ rows_after (history_after history (events_in items)) others
+    ++ rows_after (history_after history (events_in items)) others
 rows_after-append history [] others = refl
 rows_after-append history (blank piece ∷ items) others = ap (λ rows. skipped piece ∷ rows)
     (rows_after-append history items others)
@@ -31,13 +31,13 @@ rows_after-append history (faulty piece fault ∷ items) others = ap (λ rows. b
     (rows_after-append history items others)
 rows_after-append history (happening piece event ∷ items) others =
     ap (λ rows. answered piece (entry_of history event) ∷ rows)
-        (rows_after-append (recorded (entry_of history event) history) items others)
+    (rows_after-append (recorded (entry_of history event) history) items others)
 
 rows_text-append : (rows others : List Row) → rows_text (rows ++ others) ≡ rows_text rows ++ rows_text others
 rows_text-append [] others = refl
 rows_text-append (row ∷ rows) others =
     ap (λ text. row_text row ++ text) (rows_text-append rows others)
-        ∙ sym (append_assoc (row_text row) (rows_text rows) (rows_text others))
+    ∙ sym (append_assoc (row_text row) (rows_text rows) (rows_text others))
 
 items_of-append : (done more : List ℕ) → IsTrue (is_whole done) → items_of (done ++ more) ≡ items_of done
     ++ items_of more

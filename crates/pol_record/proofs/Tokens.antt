@@ -53,7 +53,7 @@ pub line_of_tokens : (front : List ℕ) (value : Data) →
     (front ++ print (data_tokens value)) ++ 10 ∷ [] ≡ front ++ line_text value
 line_of_tokens front value =
     append_assoc front (print (data_tokens value)) (10 ∷ []) ∙ ap (λ text. front ++ (text ++ 10 ∷ []))
-        (print-outline value)
+    (print-outline value)
 
 -- the line of Done
 pub done_text : line_text (under_key (codes "done") (boolean true)) ≡ codes "{\"done\":true}\n"

@@ -30,7 +30,7 @@ wrong_object place says = object
 abbrev pub place_tokens : ℕ → List Token
 place_tokens place =
     token.key (codes "audit") ∷ token.string (codes "bad") ∷ token.key (codes "place") ∷ token.number
-        (decimal place) ∷ []
+    (decimal place) ∷ []
 
 -- a verdict as JSON
 abbrev pub verdict_data : Verdict → Data
