@@ -6,6 +6,7 @@ use Rattle.mtp_codes.specs.declared.command.Command.TheVariants as command
 use Rattle.mtp_codes.specs.declared.mode.Speaker.TheVariants as speaker
 use Rattle.mtp_codes.specs.declared.state.State.{State}
 use Rattle.mtp_modes.specs.Permission.{forbidden_by}
+use Rattle.chart_core.specs.declared.limits.TheConstants.{MOST_NODES}
 use Rattle.chart_core.specs.Active.{is_active, active_steps}
 use Rattle.chart_core.specs.Charts.{plan}
 use Rattle.chart_core.specs.Entries.{chart_entry}
@@ -46,7 +47,7 @@ use Rattle.pol_runs.proofs.Wanted.{first_step, wanted-first}
 
 -- a step that is found has a small number
 pub found-small : (chart : Chart) (word : List LogEntry) (from : ℕ) (found : RunningStep) → IsValid (plan chart) →
-    first_placed (is_wanted from None) (active_steps (plan chart) word) ≡ Some found → found.number < 4096
+    first_placed (is_wanted from None) (active_steps (plan chart) word) ≡ Some found → found.number < MOST_NODES
 found-small chart word from found valid is =
     let each = steps (plan chart).root 0 in
     let rise = steps_rise (plan chart).root 0 in
