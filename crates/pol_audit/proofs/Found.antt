@@ -71,8 +71,8 @@ judges-after history (entry ∷ later) legal few =
           wrong = λ is. true≢false (sym ((same_decides entry.answer right).1 is) ∙ same);
         }
 
-judges-all : (entries : List EntryForm) → length entries ≤ 20000 → (found : Judged) → found ≡ judged entries → Judges entries found
-judges-all entries few found is = go found (subst (JudgesAfter [] entries) (sym is) (judges-after [] entries tt (omega (arith, few))))
+pub judges_all : (entries : List EntryForm) → length entries ≤ 20000 → (found : Judged) → found ≡ judged entries → Judges entries found
+judges_all entries few found is = go found (subst (JudgesAfter [] entries) (sym is) (judges-after [] entries tt (omega (arith, few))))
   where
     go : (found : Judged) → JudgesAfter [] entries found → Judges entries found
     go Good legal = subst IsLegal (append-nil (reverse entries)) legal
@@ -85,7 +85,7 @@ length-map f (x ∷ xs) = ap suc (length-map f xs)
 -- what is found of a history is right
 pub judges : (entries : List Entry) (found : Judged) → length entries ≤ 20000 → found ≡ judged (map entry_view entries)
     → Judges (map entry_view entries) found
-judges entries found few is = judges-all (map entry_view entries) (rw (length-map entry_view entries) few) found is
+judges entries found few is = judges_all (map entry_view entries) (rw (length-map entry_view entries) few) found is
 
 -- ---- the loop
 

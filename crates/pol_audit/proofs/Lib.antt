@@ -7,3 +7,9 @@ pub mod Answered
 pub mod Uncovered
 pub mod Asked
 pub mod Found
+pub mod Reading
+pub mod Ends
+pub mod Orderly
+pub mod Truth
+pub mod ClosingLines
+pub mod Audited

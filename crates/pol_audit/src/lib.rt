@@ -1,19 +1,26 @@
-//! The answer to an event, worked out by looking back in a history: plain and slow.
+//! The answer to an event, worked out by looking back in a history, and the verdict over the lines of one: plain and
+//! slow, and a second way beside the plant's.
 //!
-//! No job uses it: the worked journals are answered by it a second time, beside the program (`pol_examples`).
+//! The job audit stands on it, and the worked journals are answered by it a second time, beside the program
+//! (`pol_examples`).
 //!
-//! Its main contracts are those of `says`, which answers as `pol_history` defines, and of `judge`, which tells the first
-//! answer of a history that is another one. It keeps nothing, as each value is searched in the history that it is lent;
-//! and it knows nothing of plants and their tables, of lines, texts, threads or clocks.
+//! Its main contracts are those of `says`, which answers as `pol_history` defines; of `judge`, which tells the first
+//! answer of a history that is another one; and of `Audit`, which is fed the lines of a history and gives the verdict that
+//! `specs/Verdict.antt` defines. Each value is searched in the history that it is lent; it knows nothing of plants and
+//! their tables, of sources and sinks, threads or clocks.
 //!
 //! Each rule that can refuse an event is the function of its name: in `module_rules` where a module's past decides it, in
 //! `batch_rules` where recipes, batches or holders do, in `start_rules` where it asks about the binds of a start. The
 //! order of the rules of each kind of event stands in `answers`.
 #![tactic(auto)]
 
+ghost use Rattle.pol_audit.specs.Truth.{GoodIsTrue};
+
 mod answers;
+mod audit;
 mod batch_rules;
 mod batches;
+mod closing;
 mod entries;
 mod following;
 mod judging;
@@ -21,10 +28,18 @@ mod module_rules;
 mod modules;
 mod sights;
 mod start_rules;
+mod tails;
 
 pub use answers::says;
+pub use audit::Audit;
 pub use batches::{Start, log_of, outcome_of, start_of};
 pub use judging::{Judged, MOST_JUDGED, judge};
+
+/// Where the verdict over some lines is good, the history that their entries spell is legal and its events are as a line
+/// says them.
+pub fn good_verdicts_are_true()
+    ensures { GoodIsTrue }
+{}
 
 #[cfg(test)]
 mod tests;

@@ -90,9 +90,13 @@ kind-orderly value ExchangeBegin = search (rules, any_before)
 kind-orderly value ExchangeEnd = search (rules, any_before)
 kind-orderly value ExchangeCancel = search (rules, any_before)
 
-read-orderly : (line : List ℕ) → IfOk (read_of line) IsOrderly
+-- and so is one that a value says
+pub value_orderly : (value : Data) → IfOk (event_in value) IsOrderly
 unfolding event_in
-read-orderly line = search (rules, any_before, kind-orderly)
+value_orderly value = search (rules, any_before, kind-orderly)
+
+read-orderly : (line : List ℕ) → IfOk (read_of line) IsOrderly
+read-orderly line = search (rules, any_before, value_orderly)
 
 valid-orderly : (found event : EventForm) (fault : Option ChartFault) → fault_within found ≡ fault → IsOrderly found
     → unless_faulty found fault ≡ Ok event → is_orderly event ≡ true

@@ -1,12 +1,14 @@
 -- The values that clap found are the first ones of its rows.
-use Rattle.std.proofs.Common.{◌≡◌, ℕ, [], Option, codes, refl, sym, subst, ◌∙◌, ap}
+use Rattle.std.proofs.Common.{◌≡◌, ℕ, [], Option, codes, false, true≢false, refl, sym, subst, ◌∙◌, ap}
 use Rattle.std.proofs.lemmas.Option.{same_Some}
+use Rattle.std.proofs.lemmas.Slice.Eq.{bytes_eq-Decides}
 use Rattle.std.specs.Prelude.{List, Some, None, MatchOption}
+use Rattle.std.specs.Str.{bytes_eq}
 use Rattle.std.specs.Str.Parse.{digits_value, without_leading_plus}
 use Rattle.clap.specs.Words.{Text, first_of, first_value, found_of, matches_of, rows_of, fault_of}
 use Rattle.clap.specs.declared.parser.matches.ArgMatches.{ArgMatches}
 use Rattle.clap.proofs.WalkLemmas.{first_value-rows}
-use Rattle.pol_words.specs.declared.SerialTask.TheVariants.{Replay, Demo}
+use Rattle.pol_words.specs.declared.SerialTask.TheVariants.{Replay, Demo, Audit}
 use Rattle.pol_words.specs.declared.Task.{Task}
 use Rattle.pol_words.specs.declared.Task.TheVariants.{Serial, Live}
 use Rattle.pol_words.specs.Words.{pol, Asks, IsCount, IsSeed, Means, Options, options_of}
@@ -42,8 +44,9 @@ asked words options task are given = subst (λ values. Asks values task) (sym ar
 
 -- two jobs have two names
 two_jobs : {A : Type 0} (options : Options) (one other : Text) → options.job ≡ Some one → options.job ≡ Some other →
-    (one ≡ other → ⊥) → A
-two_jobs options one other is also differ = absurd (differ (same_Some one other (sym is ∙ also)))
+    bytes_eq one other ≡ false → A
+two_jobs options one other is also differ =
+    absurd (true≢false (sym ((bytes_eq-Decides one other).1 (same_Some one other (sym is ∙ also))) ∙ differ))
 
 -- a plant is asked for, with the watchers that are given, and nothing else
 pub plant_asked : (options : Options) (result : Option Task) → options.job ≡ Some (codes "plant") →
@@ -54,8 +57,9 @@ pub plant_asked : (options : Options) (result : Option Task) → options.job ≡
 plant_asked options None job seed none = no_task
   where
     no_task : (task : Task) → Asks options task → ⊥
-    no_task (Serial Replay) asks = two_jobs options (codes "plant") (codes "replay") job asks.0 (λ same. cc)
-    no_task (Serial (Demo number)) asks = two_jobs options (codes "plant") (codes "demo") job asks.0 (λ same. cc)
+    no_task (Serial Replay) asks = two_jobs options (codes "plant") (codes "replay") job asks.0 refl
+    no_task (Serial (Demo number)) asks = two_jobs options (codes "plant") (codes "demo") job asks.0 refl
+    no_task (Serial Audit) asks = two_jobs options (codes "plant") (codes "audit") job asks.0 refl
     no_task (Live task) asks = none task.watchers asks.2
 plant_asked options (Some task) job seed given = subst (Asks options) (sym given.1) (job, seed, given.2)
 
@@ -76,19 +80,32 @@ one_count count next (Some text) given again = given.number ∙ sym again.number
 pub one_task : (words : List Text) (task other : Task) → Means words task → Means words other → task ≡ other
 one_task words (Serial Replay) (Serial Replay) means also = refl
 one_task words (Serial Replay) (Serial (Demo seed)) means also =
-    two_jobs (options_of words) (codes "replay") (codes "demo") means.1.0 also.1.0 (λ same. cc)
+    two_jobs (options_of words) (codes "replay") (codes "demo") means.1.0 also.1.0 refl
+one_task words (Serial Replay) (Serial Audit) means also =
+    two_jobs (options_of words) (codes "replay") (codes "audit") means.1.0 also.1.0 refl
 one_task words (Serial Replay) (Live task) means also =
-    two_jobs (options_of words) (codes "replay") (codes "plant") means.1.0 also.1.0 (λ same. cc)
+    two_jobs (options_of words) (codes "replay") (codes "plant") means.1.0 also.1.0 refl
 one_task words (Serial (Demo seed)) (Serial Replay) means also =
-    two_jobs (options_of words) (codes "demo") (codes "replay") means.1.0 also.1.0 (λ same. cc)
+    two_jobs (options_of words) (codes "demo") (codes "replay") means.1.0 also.1.0 refl
 one_task words (Serial (Demo seed)) (Serial (Demo next)) means also =
     ap (λ number. Serial (Demo number)) (one_seed (options_of words) seed next means.1.1 also.1.1)
+one_task words (Serial (Demo seed)) (Serial Audit) means also =
+    two_jobs (options_of words) (codes "demo") (codes "audit") means.1.0 also.1.0 refl
 one_task words (Serial (Demo seed)) (Live task) means also =
-    two_jobs (options_of words) (codes "demo") (codes "plant") means.1.0 also.1.0 (λ same. cc)
+    two_jobs (options_of words) (codes "demo") (codes "plant") means.1.0 also.1.0 refl
+one_task words (Serial Audit) (Serial Replay) means also =
+    two_jobs (options_of words) (codes "audit") (codes "replay") means.1.0 also.1.0 refl
+one_task words (Serial Audit) (Serial (Demo seed)) means also =
+    two_jobs (options_of words) (codes "audit") (codes "demo") means.1.0 also.1.0 refl
+one_task words (Serial Audit) (Serial Audit) means also = refl
+one_task words (Serial Audit) (Live task) means also =
+    two_jobs (options_of words) (codes "audit") (codes "plant") means.1.0 also.1.0 refl
 one_task words (Live task) (Serial Replay) means also =
-    two_jobs (options_of words) (codes "plant") (codes "replay") means.1.0 also.1.0 (λ same. cc)
+    two_jobs (options_of words) (codes "plant") (codes "replay") means.1.0 also.1.0 refl
 one_task words (Live task) (Serial (Demo seed)) means also =
-    two_jobs (options_of words) (codes "plant") (codes "demo") means.1.0 also.1.0 (λ same. cc)
+    two_jobs (options_of words) (codes "plant") (codes "demo") means.1.0 also.1.0 refl
+one_task words (Live task) (Serial Audit) means also =
+    two_jobs (options_of words) (codes "plant") (codes "audit") means.1.0 also.1.0 refl
 one_task words (Live task) (Live next) means also =
     ap (λ count. Live (record { watchers = count }))
     (one_count task.watchers next.watchers (options_of words).watchers means.1.2 also.1.2)

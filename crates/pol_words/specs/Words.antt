@@ -5,7 +5,7 @@ use Rattle.std.specs.declared.alloc.Global.{Global}
 use Rattle.clap.specs.Words.{App, Rule, Text, first_of, matches_of, new_app, new_rule, with_rule, fault_of}
 use Rattle.clap.specs.Simple.{on_top}
 use Rattle.clap.specs.declared.builder.action.ArgAction.TheVariants.{Set}
-use Rattle.pol_words.specs.declared.SerialTask.TheVariants.{Replay, Demo}
+use Rattle.pol_words.specs.declared.SerialTask.TheVariants.{Replay, Demo, Audit}
 use Rattle.pol_words.specs.declared.TheConstants.{MOST_WATCHERS}
 use Rattle.pol_words.specs.declared.Task.{Task}
 use Rattle.pol_words.specs.declared.Task.TheVariants.{Serial, Live}
@@ -64,6 +64,8 @@ Asks options (Serial Replay) =
 Asks options (Serial (Demo seed)) =
     (options.job ≡ Some (codes "demo")) × ((text : Text) × (options.seed ≡ Some text) × IsSeed seed text)
     × (options.watchers ≡ None)
+Asks options (Serial Audit) =
+    (options.job ≡ Some (codes "audit")) × (options.seed ≡ None) × (options.watchers ≡ None)
 Asks options (Live task) =
     (options.job ≡ Some (codes "plant")) × (options.seed ≡ None) × IsCount task.watchers options.watchers
 

@@ -20,6 +20,8 @@ pub enum SerialTask {
     Replay,
     /// `--job demo --seed N`: answer the demo journal of this seed, and count the answers.
     Demo(u32),
+    /// `--job audit`: read what the plant prints, and say whether it is a true history.
+    Audit,
 }
 
 /// `--job plant`: run the site of the input with simulated modules.
@@ -151,6 +153,7 @@ fn task_of(job: Option<&str>, seed: Option<&str>, watchers: Option<&str>) -> Opt
             let seed = seed_of(text)?;
             Some(Task::Serial(SerialTask::Demo(seed)))
         }
+        (Some("audit"), None, None) => Some(Task::Serial(SerialTask::Audit)),
         (Some("plant"), None, watchers) => plant_of(watchers),
         _ => None,
     }
@@ -185,8 +188,9 @@ mod tests {
         let replay = Ok(Task::Serial(SerialTask::Replay));
         let demo = |seed: u32| Ok(Task::Serial(SerialTask::Demo(seed)));
         let plant = |watchers: u16| Ok(Task::Live(LiveTask { watchers }));
+        let audit = Ok(Task::Serial(SerialTask::Audit));
         let refused = Err(WordFault::Refused);
-        let cases: [(&str, Result<Task, WordFault>); 24] = [
+        let cases: [(&str, Result<Task, WordFault>); 28] = [
             ("pol --job replay", replay),
             ("pol --job=replay", replay),
             ("pol --job=demo --seed 0", demo(0)),
@@ -194,6 +198,8 @@ mod tests {
             ("pol --job plant", plant(0)),
             ("pol --job plant --watchers 0", plant(0)),
             ("pol --watchers=16 --job plant", plant(16)),
+            ("pol --job audit", audit),
+            ("pol --job=audit", audit),
             ("pol", refused),
             ("pol replay", refused),
             ("pol --job", refused),
@@ -210,6 +216,8 @@ mod tests {
             ("pol --job plant --watchers -1", refused),
             ("pol --job plant --seed 1", refused),
             ("pol --job replay --watchers 0", refused),
+            ("pol --job audit --seed 1", refused),
+            ("pol --job audit --watchers 0", refused),
             ("pol --help", refused),
         ];
         for (line, task) in cases {

@@ -1,0 +1,180 @@
+//! An audit: it reads the lines of an input one after another, and then has its verdict.
+ghost use Rattle.std.specs.Prelude.{◌≡◌, ◌≤◌, IfOk, IsTrue, OnOk, Some, None, length, take};
+ghost use Rattle.pol_events.specs.Events.{entry_view, event_view};
+ghost use Rattle.pol_events.specs.Orderly.{is_orderly};
+ghost use Rattle.pol_audit.specs.Reading.{are_orderly};
+ghost use Rattle.pol_audit.specs.declared.judging.TheConstants.{MOST_JUDGED};
+
+use crate::closing::closing_lines;
+use crate::judging::{Judged, MOST_JUDGED, judge};
+use crate::tails::first_other;
+use pol_entries::read_entry;
+use pol_events::{Entry, LineRefusal};
+use pol_record::Verdict;
+use std::alloc::{AllocError, Global};
+
+/// What was read of an input: the entries of a history, and the lines behind them. It keeps each line that may matter.
+#[derive(Drop)]
+pub struct Audit {
+    alloc: Global,
+    entries: Vec<Entry>,
+    // None in place of a line that is too long.
+    behind: Vec<Option<Vec<u8>>>,
+    ghost orderly: { IsTrue (are_orderly entries.items) },
+}
+
+impl Audit {
+    ghost use Rattle.std.specs.Prelude.{List, reverse};
+    ghost use Rattle.std.specs.Option.{option_map};
+    ghost use Rattle.pol_audit.specs.Audits.{read_view};
+    ghost use Rattle.pol_audit.specs.Reading.{after_line, is_decided, nothing_read, read_all, verdict_after, with_behind, with_front, with_line};
+    ghost use Rattle.pol_audit.specs.Verdict.{Line, by_tail, closing_lines, entry_on, first_other, verdict_of};
+
+    /// Nothing was read yet.
+    pub fn new(alloc: Global) -> Audit
+        ensures { read_view result ≡ nothing_read }
+    {
+        Audit {
+            alloc,
+            entries: Vec::new(alloc),
+            behind: Vec::new(alloc),
+        }
+    }
+
+    // Whether no further line changes the verdict: there are more entries than are judged, or more lines behind them than
+    // can be wanted.
+    fn is_decided(&self) -> bool
+        ensures { result ≡ is_decided (read_view self.now) }
+    {
+        self.entries.len() > MOST_JUDGED || self.behind.len() > self.entries.len() + 1
+    }
+
+    fn keep(&mut self, line: Option<Vec<u8>>) -> Result<(), AllocError>
+        ensures { OnOk result (read_view self.new
+            ≡ with_behind (read_view self.old) (option_map (λ line. line.items) line)) }
+    {
+        self.behind.push(line)?;
+        Ok(())
+    }
+
+    // Keeps one more line behind the entries.
+    fn keep_line(&mut self, line: &[u8]) -> Result<(), AllocError>
+        ensures { OnOk result (read_view self.new ≡ with_behind (read_view self.old) (Some line.now)) }
+    {
+        let kept = line.to_vec(self.alloc)?;
+        self.keep(Some(kept))
+    }
+
+    fn keep_entry(&mut self, entry: Entry) -> Result<(), AllocError>
+        requires { IsTrue (is_orderly (event_view entry.event)) }
+        ensures { OnOk result (read_view self.new
+            ≡ with_front (read_view self.old) (Some (entry_view entry)) None) }
+    {
+        self.entries.push(entry)?;
+        Ok(())
+    }
+
+    // Reads one more line, where each line before it was an entry.
+    #[tactic(auto, using(crate::proofs::Audited::entry_read, crate::proofs::Audited::fault_read))]
+    fn read_front(&mut self, line: &[u8]) -> Result<(), AllocError>
+        ensures { OnOk result (read_view self.new
+            ≡ with_front (read_view self.old) (entry_on (Some line.now)) (Some line.now)) }
+    {
+        match read_entry(self.alloc, line) {
+            Ok(entry) => self.keep_entry(entry),
+            Err(LineRefusal::Fault(_)) => self.keep_line(line),
+            Err(LineRefusal::Memory) => Err(AllocError),
+        }
+    }
+
+    // Reads one more line, which may be an entry where each line before it was one.
+    fn read_next(&mut self, line: &[u8]) -> Result<(), AllocError>
+        ensures { OnOk result (read_view self.new ≡ with_line (read_view self.old) (Some line.now)) }
+    {
+        if self.behind.is_empty() {
+            self.read_front(line)
+        } else {
+            self.keep_line(line)
+        }
+    }
+
+    /// Reads one more line that isn't blank, without its line feed.
+    ///
+    /// # Errors
+    ///
+    /// AllocError where memory is wanting.
+    pub fn read_line(&mut self, line: &[u8]) -> Result<(), AllocError>
+        ensures { OnOk result (read_view self.new ≡ after_line (read_view self.old) (Some line.now)) }
+    {
+        if self.is_decided() {
+            return Ok(());
+        }
+        self.read_next(line)
+    }
+
+    /// Reads one more line, which has more bytes than a line may have: it is no entry, whatever they are.
+    ///
+    /// # Errors
+    ///
+    /// AllocError where memory is wanting.
+    pub fn read_too_long(&mut self) -> Result<(), AllocError>
+        ensures { OnOk result (read_view self.new ≡ after_line (read_view self.old) None) }
+    {
+        if self.is_decided() {
+            return Ok(());
+        }
+        self.keep(None)
+    }
+
+    // The entries that are judged.
+    #[tactic(auto, using(crate::proofs::Audited::all_taken))]
+    fn front(&self) -> &[Entry]
+        ensures { result.now ≡ take MOST_JUDGED self.now.entries.items }
+    {
+        match self.entries.get(..MOST_JUDGED) {
+            Some(front) => front,
+            None => &self.entries,
+        }
+    }
+
+    // The verdict over the lines behind the entries, each of which is right.
+    fn tail_verdict(&self) -> Result<Verdict, AllocError>
+        requires { length self.now.entries.items ≤ MOST_JUDGED }
+        ensures { IfOk result (λ verdict. verdict ≡ by_tail (length (read_view self.now).entries)
+            (first_other (length (read_view self.now).entries) (closing_lines (reverse (read_view self.now).entries))
+            (read_view self.now).behind)) }
+    {
+        let wanted = closing_lines(self.alloc, &self.entries)?;
+        let count = self.entries.len() as u32;
+        match first_other(count, &wanted, &self.behind) {
+            Some(place) => Ok(Verdict::WrongTail { place }),
+            None => Ok(Verdict::Good { entries: count }),
+        }
+    }
+
+    fn found(&self) -> Result<Verdict, AllocError>
+        ensures { IfOk result (λ verdict. verdict ≡ verdict_after (read_view self.now)) }
+    {
+        match judge(self.alloc, self.front()) {
+            Ok(Judged::Wrong { place, says }) => Ok(Verdict::WrongAnswer { place, says }),
+            Ok(Judged::Good) if self.entries.len() > MOST_JUDGED => Ok(Verdict::TooMany {
+                place: MOST_JUDGED as u32,
+            }),
+            Ok(Judged::Good) => self.tail_verdict(),
+            Err(error) => Err(error),
+        }
+    }
+
+    /// The verdict over all lines that were read.
+    ///
+    /// # Errors
+    ///
+    /// AllocError where memory is wanting.
+    pub fn verdict(&self) -> Result<Verdict, AllocError>
+        ensures value { IfOk result (λ verdict. verdict ≡ verdict_after (read_view self.now)) }
+        ensures exact { (lines : List Line) → read_view self.now ≡ read_all lines
+            → IfOk result (λ verdict. verdict ≡ verdict_of lines) }
+    {
+        self.found()
+    }
+}
