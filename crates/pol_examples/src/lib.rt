@@ -8,6 +8,10 @@ mod chart_logs;
 #[cfg(test)]
 mod commands;
 #[cfg(test)]
+mod covering;
+#[cfg(test)]
+mod cursors;
+#[cfg(test)]
 mod demands;
 #[cfg(test)]
 mod edges;
@@ -31,6 +35,8 @@ mod rules;
 mod runs;
 #[cfg(test)]
 mod serving;
+#[cfg(test)]
+mod slots;
 #[cfg(test)]
 mod starts;
 #[cfg(test)]
