@@ -36,7 +36,11 @@ mod runs;
 #[cfg(test)]
 mod serving;
 #[cfg(test)]
+mod sites;
+#[cfg(test)]
 mod slots;
+#[cfg(test)]
+mod stamps;
 #[cfg(test)]
 mod starts;
 #[cfg(test)]
