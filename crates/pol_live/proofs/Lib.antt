@@ -5,3 +5,9 @@ pub mod Joined
 pub mod Crossing
 pub mod Sending
 pub mod Shared
+pub mod OwnParts
+pub mod Compared
+pub mod AllCompared
+pub mod Makers
+pub mod Showing
+pub mod Looking

@@ -22,6 +22,8 @@ use Rattle.pol_actors.specs.contracts.exchanger.Exchanger as exchanger
 use Rattle.pol_actors.specs.contracts.unit.Unit as unit
 use Rattle.pol_live.specs.declared.job.Job as jobs
 use Rattle.pol_live.specs.contracts.acting.Crew as crew
+use Rattle.pol_live.specs.contracts.cast.Cast as cast
+use Rattle.pol_live.specs.contracts.cast.Cast.TheInside as cast-inside
 use Rattle.pol_live.specs.contracts.live.LivePlant as live
 use Rattle.pol_live.specs.contracts.live.Under as under
 use Rattle.pol_live.specs.contracts.locked.LockedPlant as locked
@@ -29,6 +31,7 @@ use Rattle.pol_live.specs.contracts.locked.LockedPlant.TheInside as locked-insid
 use Rattle.pol_live.specs.contracts.seat.ActorSeat as seat
 use Rattle.pol_live.specs.contracts.seat.ActorSeat.TheInside as seat-inside
 use Rattle.pol_live.specs.contracts.turned.Placed as placed
+use Rattle.pol_shown.proofs.Crossing.{display-send}
 use Rattle.pol_live.proofs.Sending.{placed-send, plant-send, site-send, site-sync, unit-send}
 
 -- ---- where the actors of a plant stand
@@ -46,10 +49,10 @@ orders-send = search (sendable, heap.crosses) depth 20
 
 module _ (J C : RattleType) (job : jobs.Ghosts J.Denot) (ledger : ledgers.Ghosts J.Denot)
     (clock : clocks.Ghosts C.Denot) where
-  locked-send : IsSend J → IsSend C → IsSend (locked.the_row J C job ledger clock)
-  locked-send j c =
+  cast-send : IsSend J → IsSend C → IsSend (cast.the_row J C job ledger clock)
+  cast-send j c =
       view_send _ _ _ _ _
-      (declared_send (locked-inside.the_type J C job ledger clock) (
+      (declared_send (cast-inside.the_type J C job ledger clock) (
         heap.send,
         (
           heap.Arc-send site.the_row site-send site-sync,
@@ -81,17 +84,26 @@ module _ (J C : RattleType) (job : jobs.Ghosts J.Denot) (ledger : ledgers.Ghosts
         ),
       ))
 
+  locked-send : IsSend J → IsSend C → IsSend (locked.the_row J C job ledger clock)
+  locked-send j c =
+      view_send _ _ _ _ _
+      (declared_send (locked-inside.the_type J C job ledger clock)
+      (as_row_send (row_field _) (cast-send j c), (display-send, tt)))
+
   under-send : IsSend J → IsSend C → IsSend (under.the_row J C job clock ledger)
   under-send j c =
       declared_send (under.the_type J C job clock ledger) (
         as_row_send (row_field _) (locked-send j c),
         (
           search (sendable, heap.crosses, books.the_send) depth 20,
-          (as_row_send bool-field (plain_send _ _ _ _ _), tt),
+          (
+            search (sendable, heap.crosses, shares.the_send) depth 20,
+            (as_row_send bool-field (plain_send _ _ _ _ _), tt),
+          ),
         ),
       )
 
-  live-sync : IsSend J → IsSend C → IsSync (live.the_row J C job clock ledger)
+  pub live-sync : IsSend J → IsSend C → IsSync (live.the_row J C job clock ledger)
   live-sync j c =
       let inner : IsSend (under.the_row J C job clock ledger) = under-send j c in
       declared_sync (live.the_type J C job clock ledger)

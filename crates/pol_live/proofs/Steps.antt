@@ -63,7 +63,7 @@ pub rested : (site : SiteForm) (view before : Locked) (actor : ℕ) (who : Actor
     is_settled site (history_of view) who ≡ true → HasRested site before before actor
 rested site view before actor who same room who_is settled =
     record {
-      same = refl;
+      calm = record { entries_are = refl; by_is = refl; last_is = refl; calls_are = refl };
       room = room;
       who = who;
       who_is = who_is;
@@ -300,13 +300,6 @@ module-kept site held one other by by' ex units stages orders place own turned m
     subst (λ s. IsKept s other by' ex (slice_set units place turned) stages orders) here
     (parts held one other by by' ex ex (slice_set units place (simulated own made)) (slice_set units place turned) stages
     stages orders orders same by_is refl (ap (slice_set units place) (sym after)) refl refl kept)
-
--- the same entries and makers are the same plant
-pub looked-same : (entries entries' : List Entry) (by by' : List ℕ) (last calls : ℕ) (before : Locked) →
-    entries' ≡ entries → by' ≡ by → record { entries = entries; by = by; last = last; calls = calls } ≡ before →
-    record { entries = entries'; by = by'; last = last; calls = calls } ≡ before
-looked-same entries entries' by by' last calls before one other same =
-    (λ i. record { entries = one i; by = other i; last = last; calls = calls }) ∙ same
 
 -- whether a module is settled, of the same site and history
 pub settled-same : (site held : SiteForm) (one other : History) (tag : List ℕ) (value : Bool) → held ≡ site →

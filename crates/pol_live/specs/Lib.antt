@@ -1,3 +1,4 @@
 pub mod Turns
 pub mod Seats
 pub mod Promises
+pub mod Parts

@@ -1,15 +1,22 @@
 -- What a turn at the locked plant does.
-use Rattle.std.specs.Prelude.{ℕ, suc, ◌≡◌, ◌+◌, ◌<◌, ◌++◌, ◌∷◌, List, [], length, Bool, true, false, Some, slice_get}
+use Rattle.std.specs.Prelude.{ℕ, suc, ◌≡◌, ◌+◌, ◌<◌, ◌++◌, ◌∷◌, List, [], length, ◌⊎◌, Bool, true, false, Option, Some, None, slice_get, slice_set, slice_index}
 use Rattle.pol_events.specs.Events.{EventForm, history_view}
 use Rattle.pol_events.specs.declared.event.Entry.{Entry}
 use Rattle.pol_history.specs.Answers.{answer_of, is_full}
 use Rattle.pol_history.specs.Looking.{History}
 use Rattle.pol_history.specs.Modules.{Docking, absent, docked, away, docking_of}
 use Rattle.pol_io.specs.Causes.{Rose}
+use Rattle.pol_shown.specs.Displays.{said_by}
 use Rattle.pol_site.specs.Actors.{Actor, a_module, actors, owner_of}
 use Rattle.pol_site.specs.Settled.{is_settled, is_settled_module}
+use Rattle.pol_site.specs.Shown.{board_word}
 use Rattle.pol_site.specs.Sites.{SiteForm, SiteModuleForm}
 use Rattle.pol_actors.specs.Stamps.{stamped}
+use Rattle.pol_actors.specs.Turning.{made_looked, made_of, next_found, simulated}
+use Rattle.pol_actors.specs.declared.made.Made.{Made as Simulation}
+use Rattle.pol_actors.specs.declared.unit.Unit.{Unit as Module}
+use Rattle.pol_core.specs.declared.commands.Sent.{Sent}
+use Rattle.mtp_sim.specs.Ticks.{is_pending, tick_report, ticked}
 use Rattle.pol_live.specs.declared.role.Role.{Role}
 use Rattle.pol_live.specs.declared.role.Role.TheVariants as role
 use Rattle.pol_live.specs.declared.turned.Placed.{Placed}
@@ -17,12 +24,14 @@ use Rattle.pol_live.specs.declared.turned.Turned.{Turned}
 use Rattle.pol_live.specs.declared.turned.Turned.TheVariants.{Made, Looked, Rested, Full}
 
 -- what contracts see of a locked plant: its entries and who made each, the oldest first; the number that its clock
--- answered last, and how often that was asked
+-- answered last, and how often that was asked; and the modules, each with its simulation and the place from which that
+-- looks for commands
 pub record Locked : Type 0 where
   pub entries : List Entry
   pub by : List ℕ
   pub last : ℕ
   pub calls : ℕ
+  pub units : List Module
 
 -- the history of a locked plant, the newest entry first
 abbrev pub history_of : Locked → History
@@ -36,8 +45,9 @@ pub record Enters (calls_before calls last : ℕ) (before after : History) (even
   pub entered : after ≡ record { event = stamped last event; answer = placed.answer } ∷ before
   pub rose : Rose calls_before calls
 
--- one event of the actor entered the history, with the stamp that the clock gave in this turn
+-- the history had room, and one event of the actor entered it, with the stamp that the clock gave in this turn
 pub record HasMade (site : SiteForm) (before after : Locked) (actor : ℕ) (placed : Placed) : Type 0 where
+  pub room : is_full (history_of before) ≡ false
   pub event : EventForm
   pub owner : owner_of site event ≡ Some actor
   pub enters : Enters before.calls after.calls after.last (history_of before) (history_of after) event placed
@@ -49,19 +59,45 @@ is_docked absent = false
 is_docked (docked count) = true
 is_docked (away ticket) = false
 
--- the actor is a docked module that isn't settled, and nothing changed
+-- the history, who made it and the clock are as before
+pub record IsCalm (before after : Locked) : Type 0 where
+  pub entries_are : after.entries ≡ before.entries
+  pub by_is : after.by ≡ before.by
+  pub last_is : after.last ≡ before.last
+  pub calls_are : after.calls ≡ before.calls
+
+-- a simulation took the command that comes next, and looks from the place behind it on; or it had something pending, or
+-- no command comes, and it made a tick that gave nothing
+pub data IsLook (found : Option Sent × ℕ) (before after : Simulation) : Type 0 where
+  took_command :
+      (sent : Sent) → is_pending before.sim ≡ false → found.0 ≡ Some sent →
+      after ≡ made_looked (Some sent) found.1 before → IsLook found before after
+  ticked_in_vain :
+      (is_pending before.sim ≡ true) ⊎ (found.0 ≡ None) → tick_report before.sim ≡ None →
+      after.sim ≡ ticked before.sim → IsLook found before after
+
+-- the actor is a docked module that isn't settled, its simulation looked, and nothing else changed
 pub record HasLooked (site : SiteForm) (before after : Locked) (actor : ℕ) : Type 0 where
-  pub same : after ≡ before
+  pub calm : IsCalm before after
   pub room : is_full (history_of before) ≡ false
   pub unit : SiteModuleForm
   pub who : slice_get (actors site) actor ≡ Some (a_module unit)
   pub count : ℕ
   pub is_docked : docking_of (history_of before) unit.tag ≡ docked count
   pub unsettled : is_settled_module site (history_of before) unit.tag ≡ false
+  pub place : ℕ
+  pub own : Module
+  pub stands : slice_get before.units place ≡ Some own
+  pub turned : Simulation
+  pub units_are : after.units ≡ slice_set before.units place (simulated own turned)
+  pub looked :
+      IsLook (next_found unit.tag (made_of site unit (length before.entries) own) before.entries)
+      (made_of site unit (length before.entries) own) turned
+  pub actor_is : actor ≡ suc place
 
--- the actor is settled, and nothing changed
+-- the actor is settled, and the history stayed
 pub record HasRested (site : SiteForm) (before after : Locked) (actor : ℕ) : Type 0 where
-  pub same : after ≡ before
+  pub calm : IsCalm before after
   pub room : is_full (history_of before) ≡ false
   pub who : Actor
   pub who_is : slice_get (actors site) actor ≡ Some who
@@ -71,6 +107,10 @@ pub record HasRested (site : SiteForm) (before after : Locked) (actor : ℕ) : T
 pub record WasFull (before after : Locked) : Type 0 where
   pub same : after ≡ before
   pub full : is_full (history_of before) ≡ true
+
+-- the words of a reader are what the history shows
+abbrev pub Tells : SiteForm → History → List ℕ → Type 0
+Tells site history words = (word : ℕ) → slice_index words word ≡ said_by (board_word site history word)
 
 -- what a turn of the actor did
 abbrev pub Turns : SiteForm → Locked → Locked → ℕ → Turned → Type 0

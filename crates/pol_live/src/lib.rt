@@ -2,11 +2,13 @@
 //! at most one event, stamped by the clock in that turn.
 //!
 //! Contracts see a locked plant as its history, who made each entry, and its clock (`specs/Turns.antt`). By its type the
-//! history is legal, follows its site, and each change has its command, whatever turns were taken; and a turn that rests
-//! tells that its actor is settled.
+//! history is legal, follows its site, and each change has its command, whatever turns were taken, and the status board
+//! shows it; and a turn that rests tells that its actor is settled.
 #![tactic(auto)]
 
 mod acting;
+mod cast;
+mod closing;
 mod entering;
 mod gate;
 mod job;
@@ -21,6 +23,7 @@ mod tests;
 mod turned;
 mod turns;
 
+pub use closing::Strayed;
 pub use gate::{Gate, OpenGate};
 pub use job::Job;
 pub use live::LivePlant;

@@ -1,26 +1,33 @@
 //! A plant that threads share.
-ghost use Rattle.std.specs.Prelude.{◌≡◌, length, IfOk, OnErr};
+ghost use Rattle.std.specs.Prelude.{◌≡◌, length, IfErr, IfOk, OnErr};
 ghost use Rattle.pol_site.specs.Actors.{actors};
 ghost use Rattle.pol_site.specs.SiteView.{site_view};
+ghost use Rattle.pol_live.specs.Parts.{AreOwnParts, IsRun, IsStray, made_in_all};
 ghost use Rattle.pol_live.specs.Seats.{AreSeated, ListAfter};
 
+use crate::closing::{Strayed, compare_all, gather, leave};
 use crate::job::Job;
 use crate::locked::LockedPlant;
+use crate::run::Ran;
 use crate::seat::ActorSeat;
 use crate::turned::Turned;
 use pol_io::Clock;
+use pol_shown::Watcher;
 use pol_site::Site;
 use std::alloc::{AllocError, Global};
-use std::sync::ledger::{Blank, Book};
+use std::sync::ledger::{Blank, Book, Share};
 use std::sync::{Arc, Condvar, Mutex, Wait};
 
-// What lies under the lock: the plant, the book of what the seats made, and whether the run was ended.
+// What lies under the lock: the plant, the book of what the seats made, what the seats left of the ledger, and whether
+// the run was ended.
 #[derive(Drop)]
 struct Under<J: Job, C: Clock> {
     plant: LockedPlant<J, C>,
     book: Book<J>,
+    rest: Share<J>,
     ended: bool,
     ghost counted: { book.total ≡ length plant.entries },
+    ghost spent: { (rest.parts ≡ 0) × (rest.amount ≡ 0) },
 }
 
 impl<J: Job, C: Clock> Under<J, C> {
@@ -34,6 +41,11 @@ impl<J: Job, C: Clock> Under<J, C> {
         seat.turn(plant, book)
     }
 
+    // A watcher of the plant's board.
+    fn watcher(&mut self) -> Result<Watcher, AllocError> {
+        self.plant.watcher()
+    }
+
     // Whether no actor has a turn to make, as far as the notes tell.
     fn is_over(&self) -> bool {
         self.ended || self.plant.is_over()
@@ -41,12 +53,18 @@ impl<J: Job, C: Clock> Under<J, C> {
 }
 
 // Puts a new plant under its lock.
-fn put_under<J: Job, C: Clock>(plant: LockedPlant<J, C>, book: Book<J>) -> Under<J, C>
-    requires { book.total ≡ length plant.entries }
+fn put_under<J: Job, C: Clock>(
+    plant: LockedPlant<J, C>,
+    book: Book<J>,
+    rest: Share<J>,
+) -> Under<J, C>
+    requires counted { book.total ≡ length plant.entries }
+    requires spent { (rest.parts ≡ 0) × (rest.amount ≡ 0) }
 {
     Under {
         plant,
         book,
+        rest,
         ended: false,
     }
 }
@@ -83,7 +101,7 @@ impl<J: Job, C: Clock + Send> LivePlant<J, C> {
             seats.push(ActorSeat::new(alloc, actor, share))?;
         }
         let live = LivePlant {
-            under: Mutex::new(put_under(plant, book)),
+            under: Mutex::new(put_under(plant, book, rest)),
             grown: Condvar::new(),
         };
         Ok((live, seats))
@@ -104,6 +122,25 @@ impl<J: Job, C: Clock + Send> LivePlant<J, C> {
             self.grown.notify_all();
         }
         turned
+    }
+
+    /// So many watchers of the plant's board.
+    ///
+    /// # Errors
+    ///
+    /// Where there is no memory.
+    pub(crate) fn watchers<R: Wait>(
+        &self,
+        rt: &R,
+        alloc: Global,
+        count: u16,
+    ) -> Result<Vec<Watcher>, AllocError> {
+        let mut under = self.under.lock(rt);
+        let mut watchers = Vec::new(alloc);
+        for _ in 0..count {
+            watchers.push(under.watcher()?)?;
+        }
+        Ok(watchers)
     }
 
     /// Waits until the history grows after the actor rested, or the run is over. True where it is over.
@@ -131,5 +168,38 @@ impl<J: Job, C: Clock + Send> LivePlant<J, C> {
         let LivePlant { under, .. } = self;
         let Under { plant, .. } = under.into_inner();
         plant
+    }
+
+    /// Ends a run that threads of the caller's own drove: compares the lists of all seats, which stand in the order of
+    /// their actors, with the history that the turns left. It takes no memory.
+    ///
+    /// # Errors
+    ///
+    /// Where the list of a seat has a pair that the history doesn't have for its actor.
+    pub fn close(self, seats: Vec<ActorSeat<J>>) -> Result<Ran, Strayed>
+        requires parts { J.parts ≡ length (actors J.site) }
+        requires seats { AreSeated (length (actors J.site)) seats.items }
+        ensures run { IfOk result (λ ran. IsRun J.site ran.history.items ran.by.items) }
+        ensures own { IfOk result (λ ran. AreOwnParts ran.by.items ran.history.items seats.items) }
+        ensures counted { IfOk result (λ ran. made_in_all seats.items ≡ length ran.history.items) }
+        ensures strayed_run { IfErr result (λ strayed. IsRun J.site strayed.ran.history.items strayed.ran.by.items) }
+        ensures strayed { IfErr result (λ strayed. IsStray strayed.ran.by.items strayed.ran.history.items seats.items
+            strayed.actor strayed.place strayed.kept strayed.given) }
+    {
+        let LivePlant { under, .. } = self;
+        let Under {
+            plant,
+            mut book,
+            rest,
+            ..
+        } = under.into_inner();
+        let ran = leave(plant);
+        let compared = compare_all(&ran, &seats);
+        let mut whole = gather(rest, seats);
+        book.audit(&mut whole);
+        match compared {
+            Ok(()) => Ok(ran),
+            Err(stray) => Err(stray.in_run(ran)),
+        }
     }
 }

@@ -1,91 +1,58 @@
 //! The locked plant: all that a turn needs, in one value.
-ghost use Rattle.std.specs.Prelude.{◌≡◌, ◌<◌, [], IfOk, OnErr, OnOk, length, false};
+ghost use Rattle.std.specs.Prelude.{◌≡◌, ◌<◌, ◌≤◌, [], IfOk, OnErr, length};
+ghost use Rattle.mtp_codes.specs.declared.limits.TheConstants.{LONGEST_HISTORY};
 ghost use Rattle.pol_history.specs.Runs.{IsLegal, IsOrderly};
+ghost use Rattle.pol_shown.specs.Displays.{Shows};
+ghost use Rattle.pol_shown.specs.Followed.{before_newest};
 ghost use Rattle.pol_site.specs.Actors.{actors};
 ghost use Rattle.pol_site.specs.Commanded.{IsCommanded};
 ghost use Rattle.pol_site.specs.Following.{FollowsSite};
 ghost use Rattle.pol_site.specs.SiteView.{site_view};
-ghost use Rattle.pol_history.specs.Answers.{is_full};
-ghost use Rattle.pol_actors.specs.Kept.{AreFirstStages, AreFirstUnits, AreOwners};
-ghost use Rattle.pol_live.specs.Turns.{Turns, history_of};
+ghost use Rattle.pol_actors.specs.Kept.{AreOwners};
+ghost use Rattle.pol_live.specs.Turns.{Tells, Turns, history_of};
 
+use crate::cast::Cast;
 use crate::job::Job;
-use crate::role::{Role, actors_of, role_of};
 use crate::turned::Turned;
-use pol_actors::{Desk, Exchanger, Stage, Unit};
-use pol_core::Plant;
 use pol_events::Entry;
 use pol_io::Clock;
+use pol_shown::{Display, Watcher};
 use pol_site::Site;
 use std::alloc::{AllocError, Global};
-use std::marker::{Model, PhantomData};
+use std::marker::Model;
 use std::sync::Arc;
 
-/// How many entries a history may have.
-const LONGEST_HISTORY: usize = 200_000;
-
-/// A plant with its site and its clock, and where each actor of the site stands: what lies under the plant's one lock.
+/// A plant with its site, its clock and where each actor of the site stands, and the status board that shows its
+/// history: what lies under the plant's one lock.
 #[derive(Drop)]
 pub struct LockedPlant<J: Job, C: Clock> {
-    pub(crate) alloc: Global,
-    pub(crate) site: Arc<Site>,
-    pub(crate) plant: Plant,
-    pub(crate) clock: C,
-    pub(crate) exchanger: Exchanger,
-    pub(crate) units: Vec<Unit>,
-    pub(crate) stages: Vec<Stage>,
-    pub(crate) desk: Desk,
-    pub(crate) by: Vec<u32>,
-    // For each actor one more than the length of the history at which it rested last; 0 where it never did.
-    pub(crate) noted: Vec<usize>,
-    pub(crate) of: PhantomData<J>,
+    cast: Cast<J, C>,
+    display: Display,
 }
 
 impl<J: Job, C: Clock> Model for LockedPlant<J, C> {
-    ghost use Rattle.std.specs.Prelude.{◌≡◌};
     ghost use Rattle.std.specs.Coded.{codes};
-    ghost use Rattle.pol_core.specs.Plants.{plant_history};
+    ghost use Rattle.pol_actors.specs.contracts.unit.Unit as unit_type;
     ghost use Rattle.pol_events.specs.contracts.event.Entry as entry_type;
-    ghost use Rattle.pol_site.specs.SiteView.{site_view};
-    ghost use Rattle.pol_actors.specs.Kept.{IsKept};
-    ghost use Rattle.pol_live.specs.Turns.{Locked};
+    ghost use Rattle.pol_shown.specs.Displays.{Shows};
+    ghost use Rattle.pol_live.specs.Turns.{Locked, history_of};
 
     ghost Value = { Locked };
 
-    ghost coded = { Prim.hlevel (codes, entry_type.the_row.coded) };
+    ghost coded = { Prim.hlevel (codes, entry_type.the_row.coded, unit_type.the_row.coded) };
 
-    ghost view = { λ locked. record {
-      entries = locked.plant.entries;
-      by = locked.by.items;
-      last = C.last locked.clock;
-      calls = C.calls locked.clock;
-    } };
+    ghost view = { λ locked. locked.cast };
 
-    ghost invariant = { λ locked. (site_view locked.site.value ≡ J.site)
-        × IsKept J.site (plant_history locked.plant) locked.by.items locked.exchanger locked.units.items
-        locked.stages.items locked.desk };
+    ghost invariant = { λ locked. Shows J.site (history_of locked.cast) locked.display };
 }
 
-// The modules at first.
-fn first_units(alloc: Global, count: usize) -> Result<Vec<Unit>, AllocError>
-    ensures { IfOk result (λ units. AreFirstUnits count units.items) }
+// Shows the history with its newest entry.
+fn show<J: Job, C: Clock>(cast: &Cast<J, C>, display: &mut Display)
+    requires short { length cast.now.entries ≤ LONGEST_HISTORY }
+    requires shown { Shows J.site (before_newest (history_of cast.now)) display.old }
+    ensures { Shows J.site (history_of cast.now) display.new }
 {
-    let mut units = Vec::new(alloc);
-    for _ in 0..count {
-        units.push(Unit::first())?;
-    }
-    Ok(units)
-}
-
-// The batches at first.
-fn first_stages(alloc: Global, count: usize) -> Result<Vec<Stage>, AllocError>
-    ensures { IfOk result (λ stages. AreFirstStages count stages.items) }
-{
-    let mut stages = Vec::new(alloc);
-    for _ in 0..count {
-        stages.push(Stage::Unsent)?;
-    }
-    Ok(stages)
+    display.follow(cast.site(), cast.history());
 }
 
 impl<J: Job, C: Clock> LockedPlant<J, C> {
@@ -99,79 +66,30 @@ impl<J: Job, C: Clock> LockedPlant<J, C> {
         ensures history { IfOk result (λ plant. plant.entries ≡ []) }
         ensures by { IfOk result (λ plant. plant.by ≡ []) }
     {
-        let units = first_units(alloc, site.modules.len())?;
-        let stages = first_stages(alloc, site.batches.len())?;
-        let noted = vec![in alloc; 0usize; actors_of(&site) as usize]?;
-        Ok(LockedPlant {
-            alloc,
-            site,
-            plant: Plant::new(alloc),
-            clock,
-            exchanger: Exchanger::first(),
-            units,
-            stages,
-            desk: Desk { ordered: 0 },
-            by: Vec::new(alloc),
-            noted,
-            of: PhantomData,
-        })
+        let display = Display::new(alloc, &site)?;
+        let cast = Cast::new(alloc, site, clock)?;
+        Ok(LockedPlant { cast, display })
     }
 
     /// How many actors there are.
     pub fn actors(&self) -> u32
         ensures { result ≡ length (actors J.site) }
     {
-        actors_of(&self.site)
+        self.cast.actors()
     }
 
     /// Whether the actor rested at the history's length.
     pub(crate) fn rests(&self, actor: u32) -> bool {
-        let now = self.plant.history().len().saturating_add(1);
-        match self.noted.get(actor as usize) {
-            Some(noted) => *noted == now,
-            None => true,
-        }
+        self.cast.rests(actor)
     }
 
     /// Whether no actor has a turn to make, as far as the notes tell.
     pub(crate) fn is_over(&self) -> bool {
-        let now = self.plant.history().len().saturating_add(1);
-        now > LONGEST_HISTORY || self.noted.iter().all(|noted| *noted == now)
+        self.cast.is_over()
     }
 
-    // Whether the history is full.
-    fn is_full(&self) -> bool
-        ensures { result ≡ is_full (history_of self.now) }
-    {
-        self.plant.history().len() >= LONGEST_HISTORY
-    }
-
-    // Notes that the actor rested at the history's length.
-    fn note(&mut self, actor: u32)
-        ensures { self.new ≡ self.old }
-    {
-        let now = self.plant.history().len().saturating_add(1);
-        if let Some(noted) = self.noted.get_mut(actor as usize) {
-            *noted = now;
-        }
-    }
-
-    // One turn of an actor, where the history has room.
-    fn act(&mut self, actor: u32) -> Result<Turned, AllocError>
-        requires actor { actor < length (actors J.site) }
-        requires room { is_full (history_of self.old) ≡ false }
-        ensures ok { IfOk result (λ turned. Turns J.site self.old self.new actor turned) }
-        ensures err { OnErr result ((self.new.entries ≡ self.old.entries) × (self.new.by ≡ self.old.by)) }
-    {
-        match role_of(&self.site, actor) {
-            Role::Exchanger => self.exchanger_turn(),
-            Role::Module { place } => self.module_turn(place),
-            Role::Batch { place } => self.batch_turn(place),
-            Role::Desk => self.desk_turn(),
-        }
-    }
-
-    /// One turn of an actor. It applies at most one event of the actor, whose stamp the clock gives in this turn.
+    /// One turn of an actor. It applies at most one event of the actor, whose stamp the clock gives in this turn. What
+    /// the event shows stands on the status board before the turn ends.
     ///
     /// # Errors
     ///
@@ -181,14 +99,24 @@ impl<J: Job, C: Clock> LockedPlant<J, C> {
         ensures ok { IfOk result (λ turned. Turns J.site self.old self.new actor turned) }
         ensures err { OnErr result ((self.new.entries ≡ self.old.entries) × (self.new.by ≡ self.old.by)) }
     {
-        if self.is_full() {
-            return Ok(Turned::Full);
-        }
-        let turned = self.act(actor)?;
-        if matches!(turned, Turned::Rested) {
-            self.note(actor);
+        let turned = self.cast.turn(actor)?;
+        match turned {
+            Turned::Made(_) => show(&self.cast, &mut self.display),
+            Turned::Looked | Turned::Rested | Turned::Full => {},
         }
         Ok(turned)
+    }
+
+    /// One who watches the status board, and knows what the history shows.
+    ///
+    /// # Errors
+    ///
+    /// Where the board can't be shared once more.
+    pub fn watcher(&mut self) -> Result<Watcher, AllocError>
+        ensures same { self.new ≡ self.old }
+        ensures told { IfOk result (λ watcher. Tells J.site (history_of self.old) watcher.words) }
+    {
+        self.display.watcher()
     }
 
     /// The history and who made each entry, once the plant is done with: the history is legal, follows the site, and each
@@ -202,7 +130,7 @@ impl<J: Job, C: Clock> LockedPlant<J, C> {
         ensures commanded { IsCommanded (history_of self) }
         ensures owned { AreOwners J.site (history_of self) self.by }
     {
-        let LockedPlant { plant, by, .. } = self;
-        (plant.into_history(), by)
+        let LockedPlant { cast, .. } = self;
+        cast.into_parts()
     }
 }

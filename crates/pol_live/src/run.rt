@@ -20,6 +20,7 @@ use crate::rounds::settle;
 use crate::seat::ActorSeat;
 use pol_events::Entry;
 use pol_io::Clock;
+use pol_shown::Watcher;
 use pol_site::Site;
 use std::alloc::{AllocError, Global};
 use std::marker::Brand;
@@ -38,8 +39,9 @@ pub struct Ran {
     pub by: Vec<u32>,
 }
 
-/// Runs a site to its end: until no actor has anything to do, or the history is full. Each actor takes its turns in a thread
-/// of its own, where one can be made, and passes the gate before each; it may wait.
+/// Runs a site to its end: until no actor has anything to do, or the history is full. Each actor takes its turns in a
+/// thread of its own, where one can be made, and passes the gate before each; it may wait. So many watchers read the
+/// status board meanwhile, each in a thread of its own where one can be made.
 ///
 /// # Errors
 ///
@@ -48,6 +50,7 @@ pub fn run_site<R: Threads + Wait + Sync, C: Clock + Send, G: Gate>(
     rt: &R,
     alloc: Global,
     site: Site,
+    watchers: u16,
     clock: C,
     gate: &G,
 ) -> Result<Ran, AllocError>
@@ -59,7 +62,7 @@ pub fn run_site<R: Threads + Wait + Sync, C: Clock + Send, G: Gate>(
     ensures settled { IfOk result (λ ran. IsSettled (site_view site) (history_view ran.history.items)) }
 {
     let blank = Blank::new(u64::from(actors_of(&site)));
-    run_by_threads::<Brand, R, C, G>(rt, alloc, site, clock, gate, blank)
+    run_by_threads::<Brand, R, C, G>(rt, alloc, site, watchers, clock, gate, blank)
 }
 
 // The same, as any run of this site.
@@ -67,6 +70,7 @@ fn run_by_threads<J: Job + Send + Sync, R: Threads + Wait + Sync, C: Clock + Sen
     rt: &R,
     alloc: Global,
     site: Site,
+    watchers: u16,
     clock: C,
     gate: &G,
     blank: Blank,
@@ -82,12 +86,13 @@ fn run_by_threads<J: Job + Send + Sync, R: Threads + Wait + Sync, C: Clock + Sen
 {
     let site = Arc::new(alloc, site)?;
     let (live, seats) = LivePlant::<J, C>::new(alloc, site, clock, blank)?;
+    let watchers = live.watchers(rt, alloc, watchers)?;
     let crew = Crew {
         live: &live,
         gate,
         refused: AtomicU64::new(0),
     };
-    let driven = drive(rt, alloc, &crew, seats);
+    let driven = drive_watched(rt, alloc, &crew, seats, watchers);
     drop(crew);
     driven?;
     finish(rt, live)
@@ -167,7 +172,7 @@ fn finish<J: Job, R: Wait, C: Clock + Send>(
 
 // The seat that comes back is that of the actor with this number.
 #[derive(Clone, Copy)]
-struct SeatOf(u32);
+pub(crate) struct SeatOf(pub(crate) u32);
 
 impl<J: Job> Promise<ActorSeat<J>> for SeatOf {
     ghost kept_by = { λ promise seat. seat.actor ≡ promise.0 };
@@ -217,6 +222,44 @@ fn drive<J: Job + Send + Sync, R: Threads + Wait + Sync, C: Clock + Send, G: Gat
             let mut home = thread::join_promised(rt, children)?;
             home.append(&mut here)?;
             Ok(home)
+        },
+    )
+}
+
+// How often a watcher reads each word of the board.
+const READS: u32 = 1_000;
+
+// What a watcher does.
+fn watch(watcher: Watcher) {
+    let mut watcher = watcher;
+    watcher.watch(READS);
+}
+
+// The turns of all actors, while the watchers read the board, each in a thread of its own. Where such a thread can't be
+// made, this thread reads in its place.
+fn drive_watched<J: Job + Send + Sync, R: Threads + Wait + Sync, C: Clock + Send, G: Gate>(
+    rt: &R,
+    alloc: Global,
+    crew: &Crew<'_, J, C, G>,
+    seats: Vec<ActorSeat<J>>,
+    watchers: Vec<Watcher>,
+) -> Result<Vec<ActorSeat<J>>, AllocError>
+    requires seats { AreSeated (length (actors J.site)) seats.items }
+    ensures { IfOk result (λ seats. AreSeated (length (actors J.site)) seats.items) }
+{
+    thread::scope(
+        thread::scope_env(),
+        rt,
+        |scope| -> Result<Vec<ActorSeat<J>>, AllocError>
+            requires { AreSeated (length (actors J.site)) seats.items }
+            ensures { IfOk result (λ seats. AreSeated (length (actors J.site)) seats.items) }
+        {
+            for watcher in watchers {
+                if let Err(refused) = scope.spawn(move || watch(watcher)) {
+                    (refused.value)();
+                }
+            }
+            drive(rt, alloc, crew, seats)
         },
     )
 }

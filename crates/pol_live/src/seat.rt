@@ -86,4 +86,13 @@ impl<J: Job> ActorSeat<J> {
         }
         Ok(turned)
     }
+
+    /// Its share of the ledger, once the seat is done with.
+    pub(crate) fn into_share(self) -> Share<J>
+        ensures parts { result.parts ≡ 1 }
+        ensures amount { result.amount ≡ length self.list }
+    {
+        let ActorSeat { share, .. } = self;
+        share
+    }
 }

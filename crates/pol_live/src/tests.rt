@@ -50,7 +50,7 @@ fn batches_are_completed_and_a_module_is_exchanged(rt: HostRuntime) -> Result<()
 fn threads_complete_the_batches_and_the_exchange(rt: HostRuntime) -> Result<(), Fail> {
     let alloc = rt.alloc();
     let clock = MemoryClock::new(vec![in alloc; 7u64, 8]?);
-    let ran = run_site(&rt, alloc, site(alloc)?, clock, &OpenGate)?;
+    let ran = run_site(&rt, alloc, site(alloc)?, 2, clock, &OpenGate)?;
     assert_eq!(rt; counts(&ran), [2, 1, 1]);
     assert_eq!(rt; ran.by.len(), ran.history.len());
     Ok(())

@@ -7,9 +7,9 @@ ghost use Rattle.pol_history.specs.Modules.{docking_of};
 ghost use Rattle.pol_core.specs.Plants.{plant_history};
 ghost use Rattle.pol_live.specs.Turns.{Turns, history_of, is_docked};
 
+use crate::cast::Cast;
 use crate::entering::{enter, enter_spared};
 use crate::job::Job;
-use crate::locked::LockedPlant;
 use crate::turned::Turned;
 use mtp_codes::Name;
 use mtp_sim::SimReport;
@@ -46,7 +46,7 @@ fn report_event(tag: Name, report: SimReport) -> Event
     }
 }
 
-impl<J: Job, C: Clock> LockedPlant<J, C> {
+impl<J: Job, C: Clock> Cast<J, C> {
     /// A turn of the exchanger.
     pub(crate) fn exchanger_turn(&mut self) -> Result<Turned, AllocError>
         requires room { is_full (history_of self.old) ≡ false }

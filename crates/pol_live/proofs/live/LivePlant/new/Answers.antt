@@ -18,3 +18,12 @@ returns g c =
     let parts = c.loop-actor.invariant.0 in
     let same : c.loop-actor.actor ≡ length (actors g.J.Job.site) = omega (arith, most, parts) in
     subst (λ n. AreSeated n c.loop-actor.seats.items) same c.loop-actor.invariant.2
+
+pub put_under-requires : goal.put_under-requires
+put_under-requires g c =
+    let most : length (actors g.J.Job.site) ≤ c.loop-actor.actor = search rules in
+    let parts = c.loop-actor.invariant.0 in
+    record {
+      counted = search rules;
+      spent = (omega (arith, most, parts), c.loop-actor.invariant.1);
+    }

@@ -14,7 +14,7 @@ use Rattle.pol_actors.proofs.BatchTurns.{desk-rests}
 use Rattle.pol_actors.proofs.Owners.{actor-desk}
 use Rattle.pol_live.specs.Turns.{Locked, history_of}
 use Rattle.pol_live.proofs.Steps.{desk-owner, desk-turned, rested}
-use Rattle.pol_live.proofs.locked.LockedPlant.desk_turn.Goals as goal
+use Rattle.pol_live.proofs.cast.Cast.desk_turn.Goals as goal
 
 pub returns-in_default-clause-ok : goal.returns-in_default-clause-ok
 returns-in_default-clause-ok g c =
@@ -69,6 +69,7 @@ returns-clause-ok g c =
     let actor : (c.len.result + c.len-2.result) + 1 ≡ suc (length g.J.Job.site.modules + (length g.J.Job.site.batches + 0)) =
     omega (arith, one, other, modules, batches) in
     rw (← c.self.view_is) record {
+      room = ap (λ (locked : Locked). is_full (history_of locked)) c.self.view_is ∙ c.requires.room;
       event = event_view c.in-Some.event;
       owner = desk-owner g.J.Job.site (length c.history.result.now)
           (slice_get g.J.Job.site.desk c.self.inside.desk.ordered) (event_view c.in-Some.event) event;

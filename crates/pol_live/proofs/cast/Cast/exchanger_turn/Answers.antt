@@ -13,7 +13,7 @@ use Rattle.pol_actors.specs.Moved.{units_after}
 use Rattle.pol_actors.proofs.Exchanging.{errand-next, exchanger-rests}
 use Rattle.pol_live.specs.Turns.{Locked, history_of}
 use Rattle.pol_live.proofs.Steps.{exchanger-turned, few-modules, rested}
-use Rattle.pol_live.proofs.locked.LockedPlant.exchanger_turn.Goals as goal
+use Rattle.pol_live.proofs.cast.Cast.exchanger_turn.Goals as goal
 
 pub returns-in_default-clause-ok : goal.returns-in_default-clause-ok
 returns-in_default-clause-ok g c =
@@ -99,6 +99,7 @@ returns-clause-ok g c =
     (ap (option_map event_view) (sym c.in-Some-2.is) ∙ c.in_ok-event.ensures
     ∙ ap (λ site. event_of site c.in-Some.errand) (ap site_view c.deref-2.ensures ∙ c.self.invariant.0) ∙ turn.event_is) in
     rw (← c.self.view_is) record {
+      room = ap (λ (locked : Locked). is_full (history_of locked)) c.self.view_is ∙ c.requires.room;
       event = event_view c.in-Some-2.event;
       owner = ap (owner_of g.J.Job.site) event ∙ turn.owner;
       enters = c.in_ok-placed.ensures.ok;

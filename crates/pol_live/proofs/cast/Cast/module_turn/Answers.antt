@@ -1,5 +1,5 @@
 use Rattle.std.proofs.Common.{◌≡◌, ◌<◌, ◌+◌, ◌++◌, ◌∷◌, [], ◌∙◌, List, ap, length, refl, suc, sym, subst, true, false, arith}
-use Rattle.std.specs.Prelude.{slice_get}
+use Rattle.std.specs.Prelude.{slice_get, slice_set}
 use Rattle.pol_events.specs.Events.{event_view, history_view}
 use Rattle.pol_events.specs.declared.event.Entry.{Entry}
 use Rattle.pol_history.specs.Answers.{is_full}
@@ -16,8 +16,9 @@ use Rattle.pol_actors.proofs.ModuleTurns.{module-looked, module-reported}
 use Rattle.pol_actors.proofs.Owners.{actor-module}
 use Rattle.pol_actors.proofs.Turning.{IsTurned}
 use Rattle.pol_live.specs.Turns.{Enters, Locked, history_of, is_docked}
-use Rattle.pol_live.proofs.Steps.{docked-count, entered-is, looked-same, module-at, module-kept, module-there, module-turn, module-within, own-at, report-owner, rested, settled-same, undocked-settled}
-use Rattle.pol_live.proofs.locked.LockedPlant.module_turn.Goals as goal
+use Rattle.pol_live.proofs.Looking.{look-of}
+use Rattle.pol_live.proofs.Steps.{docked-count, entered-is, module-at, module-kept, module-there, module-turn, module-within, own-at, report-owner, rested, settled-same, undocked-settled}
+use Rattle.pol_live.proofs.cast.Cast.module_turn.Goals as goal
 
 pub returns-then-not-is_docked-clause-ok : goal.returns-then-not-is_docked-clause-ok
 returns-then-not-is_docked-clause-ok g c =
@@ -226,16 +227,18 @@ returns-in-Rests-clause-ok g c =
     (module-turn c.deref-2.result.now c.reserve.new.self.entries c.self.inside.by.items c.self.inside.exchanger
     c.self.inside.units.items c.self.inside.stages.items c.self.inside.desk c.args.place c.index-unit.result.now own
     (length c.history.result.now) kept room listed-2 stands docked_now counted) in
-    let same = ap history_view entries ∙ ap history_of c.self.view_is in
-    record {
-      same = looked-same c.self.inside.plant.entries c.reserve.new.self.entries c.self.inside.by.items
-          c.reserve-2.new.self.items (g.C.Clock.last c.self.inside.clock) (g.C.Clock.calls c.self.inside.clock) c.args.self.now
-          entries c.in_ok-reserve-2.ensures.items c.self.view_is;
-      room = c.requires.room;
+    rw (← c.self.view_is) record {
+      calm = record {
+        entries_are = entries;
+        by_is = c.in_ok-reserve-2.ensures.items;
+        last_is = refl;
+        calls_are = refl;
+      };
+      room = ap (λ (locked : Locked). is_full (history_of locked)) c.self.view_is ∙ c.requires.room;
       who = a_module unit;
       who_is = actor-module g.J.Job.site c.args.place unit listed;
       settled = settled-same g.J.Job.site (site_view c.deref-2.result.now) (history_view c.reserve.new.self.entries)
-          (history_of c.args.self.now) unit.tag true second same turned.settled;
+          (history_view c.self.inside.plant.entries) unit.tag true second (ap history_view entries) turned.settled;
     }
 
 pub returns-in-Looks-clause-ok : goal.returns-in-Looks-clause-ok
@@ -270,19 +273,31 @@ returns-in-Looks-clause-ok g c =
     (module-turn c.deref-2.result.now c.reserve.new.self.entries c.self.inside.by.items c.self.inside.exchanger
     c.self.inside.units.items c.self.inside.stages.items c.self.inside.desk c.args.place c.index-unit.result.now own
     (length c.history.result.now) kept room listed-2 stands docked_now counted) in
-    let same = ap history_view entries ∙ ap history_of c.self.view_is in
+    let same = ap history_view entries in
     let found = docked-count (docking_of (history_view c.reserve.new.self.entries) unit.tag) docked_now in
-    record {
-      same = looked-same c.self.inside.plant.entries c.reserve.new.self.entries c.self.inside.by.items
-          c.reserve-2.new.self.items (g.C.Clock.last c.self.inside.clock) (g.C.Clock.calls c.self.inside.clock) c.args.self.now
-          entries c.in_ok-reserve-2.ensures.items c.self.view_is;
-      room = c.requires.room;
+    rw (← c.self.view_is) record {
+      calm = record {
+        entries_are = entries;
+        by_is = c.in_ok-reserve-2.ensures.items;
+        last_is = refl;
+        calls_are = refl;
+      };
+      room = ap (λ (locked : Locked). is_full (history_of locked)) c.self.view_is ∙ c.requires.room;
       unit = unit;
       who = actor-module g.J.Job.site c.args.place unit listed;
       count = found.0;
       is_docked = ap (λ history. docking_of history unit.tag) (sym same) ∙ found.1;
       unsettled = settled-same g.J.Job.site (site_view c.deref-2.result.now) (history_view c.reserve.new.self.entries)
-          (history_of c.args.self.now) unit.tag false second same turned.unsettled;
+          (history_view c.self.inside.plant.entries) unit.tag false second same turned.unsettled;
+      place = c.args.place;
+      own = own;
+      stands = stands;
+      turned = made;
+      units_are = ap (slice_set c.self.inside.units.items c.args.place) c.in_ok-turn.ensures.after;
+      looked = look-of g.J.Job.site (site_view c.deref-2.result.now) unit c.self.inside.plant.entries
+          c.reserve.new.self.entries (length c.history.result.now) own made second entries counted refl
+          (sym c.in_ok-turn.ensures.decides ∙ c.in-Looks.is);
+      actor_is = refl;
     }
 
 pub returns-in-Reports-clause-ok : goal.returns-in-Reports-clause-ok
@@ -294,6 +309,7 @@ returns-in-Reports-clause-ok g c =
     ∙ module-at c.deref.result.now c.args.place c.index-unit.result.now here c.index-unit.ensures in
     let actor : c.args.place + 1 ≡ suc c.args.place = omega arith in
     rw (← c.self.view_is) record {
+      room = ap (λ (locked : Locked). is_full (history_of locked)) c.self.view_is ∙ c.requires.room;
       event = event_view c.report_event-event.result;
       owner = ap (owner_of g.J.Job.site) c.report_event-event.ensures
           ∙ report-owner g.J.Job.site c.args.place unit c.in-Reports.report c.self.invariant.1.sound listed;

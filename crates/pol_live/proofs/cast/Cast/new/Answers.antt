@@ -6,7 +6,7 @@ use Rattle.pol_site.specs.Sound.{IsSite}
 use Rattle.pol_site.specs.Views.{batch_view, module_view}
 use Rattle.pol_actors.specs.Kept.{AreFirstStages, AreFirstUnits, IsKept}
 use Rattle.pol_actors.proofs.First.{first-kept}
-use Rattle.pol_live.proofs.locked.LockedPlant.new.Goals as goal
+use Rattle.pol_live.proofs.cast.Cast.new.Goals as goal
 
 pub invariant_of-result : goal.invariant_of-result
 invariant_of-result g c =

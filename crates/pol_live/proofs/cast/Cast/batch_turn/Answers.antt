@@ -12,7 +12,7 @@ use Rattle.pol_actors.proofs.Owners.{actor-batch}
 use Rattle.pol_actors.proofs.Stages.{batch-rests, batch-turn}
 use Rattle.pol_live.specs.Turns.{Locked, history_of}
 use Rattle.pol_live.proofs.Steps.{batch-at, batch-owner, batch-turned, own-at, rested}
-use Rattle.pol_live.proofs.locked.LockedPlant.batch_turn.Goals as goal
+use Rattle.pol_live.proofs.cast.Cast.batch_turn.Goals as goal
 
 pub returns-in_default-clause-ok : goal.returns-in_default-clause-ok
 returns-in_default-clause-ok g c =
@@ -95,6 +95,7 @@ returns-clause-ok g c =
     kept.sound listed (kept.stages_are c.args.place batch c.index-stage.result.now listed stands)
     (sym c.in_ok-event.ensures ∙ ap (option_map event_view) c.in-Some.is) in
     rw (← c.self.view_is) record {
+      room = ap (λ (locked : Locked). is_full (history_of locked)) c.self.view_is ∙ c.requires.room;
       event = event_view c.in-Some.event;
       owner = batch-owner g.J.Job.site history c.args.place batch c.index-stage.result.now (event_view c.in-Some.event)
           kept.sound listed turn;

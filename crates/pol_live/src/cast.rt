@@ -1,0 +1,224 @@
+//! A plant with its actors: what each turn looks at and changes.
+ghost use Rattle.std.specs.Prelude.{◌≡◌, ◌<◌, [], IfOk, OnErr, OnOk, length, false};
+ghost use Rattle.pol_history.specs.Runs.{IsLegal, IsOrderly};
+ghost use Rattle.pol_site.specs.Actors.{actors};
+ghost use Rattle.pol_site.specs.Commanded.{IsCommanded};
+ghost use Rattle.pol_site.specs.Following.{FollowsSite};
+ghost use Rattle.pol_site.specs.SiteView.{site_view};
+ghost use Rattle.pol_history.specs.Answers.{is_full};
+ghost use Rattle.pol_actors.specs.Kept.{AreFirstStages, AreFirstUnits, AreOwners};
+ghost use Rattle.pol_live.specs.Turns.{Turns, history_of};
+
+use crate::job::Job;
+use crate::role::{Role, actors_of, role_of};
+use crate::turned::Turned;
+use pol_actors::{Desk, Exchanger, Stage, Unit};
+use pol_core::Plant;
+use pol_events::Entry;
+use pol_io::Clock;
+use pol_site::Site;
+use std::alloc::{AllocError, Global};
+use std::marker::{Model, PhantomData};
+use std::sync::Arc;
+
+/// How many entries a history may have.
+const LONGEST_HISTORY: usize = 200_000;
+
+/// A plant with its site and its clock, and where each actor of the site stands.
+#[derive(Drop)]
+pub(crate) struct Cast<J: Job, C: Clock> {
+    pub(crate) alloc: Global,
+    pub(crate) site: Arc<Site>,
+    pub(crate) plant: Plant,
+    pub(crate) clock: C,
+    pub(crate) exchanger: Exchanger,
+    pub(crate) units: Vec<Unit>,
+    pub(crate) stages: Vec<Stage>,
+    pub(crate) desk: Desk,
+    pub(crate) by: Vec<u32>,
+    // For each actor one more than the length of the history at which it rested last; 0 where it never did.
+    pub(crate) noted: Vec<usize>,
+    pub(crate) of: PhantomData<J>,
+}
+
+impl<J: Job, C: Clock> Model for Cast<J, C> {
+    ghost use Rattle.std.specs.Prelude.{◌≡◌};
+    ghost use Rattle.std.specs.Coded.{codes};
+    ghost use Rattle.pol_core.specs.Plants.{plant_history};
+    ghost use Rattle.pol_actors.specs.contracts.unit.Unit as unit_type;
+    ghost use Rattle.pol_events.specs.contracts.event.Entry as entry_type;
+    ghost use Rattle.pol_site.specs.SiteView.{site_view};
+    ghost use Rattle.pol_actors.specs.Kept.{IsKept};
+    ghost use Rattle.pol_live.specs.Turns.{Locked};
+
+    ghost Value = { Locked };
+
+    ghost coded = { Prim.hlevel (codes, entry_type.the_row.coded, unit_type.the_row.coded) };
+
+    ghost view = { λ cast. record {
+      entries = cast.plant.entries;
+      by = cast.by.items;
+      last = C.last cast.clock;
+      calls = C.calls cast.clock;
+      units = cast.units.items;
+    } };
+
+    ghost invariant = { λ cast. (site_view cast.site.value ≡ J.site)
+        × IsKept J.site (plant_history cast.plant) cast.by.items cast.exchanger cast.units.items
+        cast.stages.items cast.desk };
+}
+
+// The modules at first.
+fn first_units(alloc: Global, count: usize) -> Result<Vec<Unit>, AllocError>
+    ensures { IfOk result (λ units. AreFirstUnits count units.items) }
+{
+    let mut units = Vec::new(alloc);
+    for _ in 0..count {
+        units.push(Unit::first())?;
+    }
+    Ok(units)
+}
+
+// The batches at first.
+fn first_stages(alloc: Global, count: usize) -> Result<Vec<Stage>, AllocError>
+    ensures { IfOk result (λ stages. AreFirstStages count stages.items) }
+{
+    let mut stages = Vec::new(alloc);
+    for _ in 0..count {
+        stages.push(Stage::Unsent)?;
+    }
+    Ok(stages)
+}
+
+impl<J: Job, C: Clock> Cast<J, C> {
+    /// An empty plant of the site.
+    ///
+    /// # Errors
+    ///
+    /// Where there is no memory.
+    pub(crate) fn new(alloc: Global, site: Arc<Site>, clock: C) -> Result<Cast<J, C>, AllocError>
+        requires site { site_view site.value ≡ J.site }
+        ensures history { IfOk result (λ plant. plant.entries ≡ []) }
+        ensures by { IfOk result (λ plant. plant.by ≡ []) }
+    {
+        let units = first_units(alloc, site.modules.len())?;
+        let stages = first_stages(alloc, site.batches.len())?;
+        let noted = vec![in alloc; 0usize; actors_of(&site) as usize]?;
+        Ok(Cast {
+            alloc,
+            site,
+            plant: Plant::new(alloc),
+            clock,
+            exchanger: Exchanger::first(),
+            units,
+            stages,
+            desk: Desk { ordered: 0 },
+            by: Vec::new(alloc),
+            noted,
+            of: PhantomData,
+        })
+    }
+
+    /// The site.
+    pub(crate) fn site(&self) -> &Site
+        ensures { site_view result.now ≡ J.site }
+    {
+        &self.site
+    }
+
+    /// The entries of the history, the oldest first.
+    pub(crate) fn history(&self) -> &[Entry]
+        ensures { result.now ≡ self.now.entries }
+    {
+        self.plant.history()
+    }
+
+    /// How many actors there are.
+    pub(crate) fn actors(&self) -> u32
+        ensures { result ≡ length (actors J.site) }
+    {
+        actors_of(&self.site)
+    }
+
+    /// Whether the actor rested at the history's length.
+    pub(crate) fn rests(&self, actor: u32) -> bool {
+        let now = self.plant.history().len().saturating_add(1);
+        match self.noted.get(actor as usize) {
+            Some(noted) => *noted == now,
+            None => true,
+        }
+    }
+
+    /// Whether no actor has a turn to make, as far as the notes tell.
+    pub(crate) fn is_over(&self) -> bool {
+        let now = self.plant.history().len().saturating_add(1);
+        now > LONGEST_HISTORY || self.noted.iter().all(|noted| *noted == now)
+    }
+
+    // Whether the history is full.
+    fn is_full(&self) -> bool
+        ensures { result ≡ is_full (history_of self.now) }
+    {
+        self.plant.history().len() >= LONGEST_HISTORY
+    }
+
+    // Notes that the actor rested at the history's length.
+    fn note(&mut self, actor: u32)
+        ensures { self.new ≡ self.old }
+    {
+        let now = self.plant.history().len().saturating_add(1);
+        if let Some(noted) = self.noted.get_mut(actor as usize) {
+            *noted = now;
+        }
+    }
+
+    // One turn of an actor, where the history has room.
+    fn act(&mut self, actor: u32) -> Result<Turned, AllocError>
+        requires actor { actor < length (actors J.site) }
+        requires room { is_full (history_of self.old) ≡ false }
+        ensures ok { IfOk result (λ turned. Turns J.site self.old self.new actor turned) }
+        ensures err { OnErr result ((self.new.entries ≡ self.old.entries) × (self.new.by ≡ self.old.by)) }
+    {
+        match role_of(&self.site, actor) {
+            Role::Exchanger => self.exchanger_turn(),
+            Role::Module { place } => self.module_turn(place),
+            Role::Batch { place } => self.batch_turn(place),
+            Role::Desk => self.desk_turn(),
+        }
+    }
+
+    /// One turn of an actor. It applies at most one event of the actor, whose stamp the clock gives in this turn.
+    ///
+    /// # Errors
+    ///
+    /// Where there is no memory. Then the history is as before.
+    pub(crate) fn turn(&mut self, actor: u32) -> Result<Turned, AllocError>
+        requires actor { actor < length (actors J.site) }
+        ensures ok { IfOk result (λ turned. Turns J.site self.old self.new actor turned) }
+        ensures err { OnErr result ((self.new.entries ≡ self.old.entries) × (self.new.by ≡ self.old.by)) }
+    {
+        if self.is_full() {
+            return Ok(Turned::Full);
+        }
+        let turned = self.act(actor)?;
+        if matches!(turned, Turned::Rested) {
+            self.note(actor);
+        }
+        Ok(turned)
+    }
+
+    /// The history and who made each entry, once the plant is done with: the history is legal, follows the site, and each
+    /// change in it has its command.
+    pub(crate) fn into_parts(self) -> (Vec<Entry>, Vec<u32>)
+        ensures entries { result.0.items ≡ self.entries }
+        ensures by { result.1.items ≡ self.by }
+        ensures legal { IsLegal (history_of self) }
+        ensures orderly { IsOrderly (history_of self) }
+        ensures follows { FollowsSite J.site (history_of self) }
+        ensures commanded { IsCommanded (history_of self) }
+        ensures owned { AreOwners J.site (history_of self) self.by }
+    {
+        let Cast { plant, by, .. } = self;
+        (plant.into_history(), by)
+    }
+}
