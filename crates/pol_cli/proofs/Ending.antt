@@ -5,6 +5,7 @@ use Rattle.pol_io.specs.Causes.{HasCauseOf}
 use Rattle.pol_io.specs.Edge.{Edge}
 use Rattle.pol_io.specs.Known.{Between}
 use Rattle.pol_io.specs.declared.limits.TheConstants.{LONGEST_INPUT}
+use Rattle.pol_cli.specs.Audits.{audited}
 use Rattle.pol_cli.specs.Ends.{Completes, Ends, Fits, IsTooMuch, LeavesPart, Writes}
 use Rattle.pol_cli.specs.LineWork.{Output}
 use Rattle.pol_cli.specs.Moments.{Leaves}
@@ -12,7 +13,7 @@ use Rattle.pol_cli.specs.Statuses.{status_of}
 use Rattle.pol_cli.specs.Tasks.{TaskEnds, demonstrated, no_input}
 use Rattle.pol_cli.specs.Written.{WritesPart}
 use Rattle.pol_words.specs.declared.SerialTask.{SerialTask}
-use Rattle.pol_words.specs.declared.SerialTask.TheVariants.{Replay, Demo}
+use Rattle.pol_words.specs.declared.SerialTask.TheVariants.{Replay, Demo, Audit}
 use Rattle.pol_demo.specs.Summary.{demo_output}
 use Rattle.std.specs.Io.KnownBytes.{Appends}
 use Rattle.pol_cli.specs.declared.job_fault.JobFault.{JobFault}
@@ -189,3 +190,4 @@ demo_ends seed sink sink' (Err fault) writes part only wrote =
 pub unbegun_ends : (task : SerialTask) (source sink : Edge) → TaskEnds task source source sink sink status.OutOfMemory
 unbegun_ends Replay source sink = no_memory_ends replayed refl source sink
 unbegun_ends (Demo seed) source sink = no_memory_ends (demonstrated seed) refl no_input sink
+unbegun_ends Audit source sink = no_memory_ends audited refl source sink

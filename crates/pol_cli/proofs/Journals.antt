@@ -13,24 +13,24 @@ use Rattle.pol_cli.specs.Journal.{Was, JournalTheorem}
 use Rattle.pol_cli.proofs.BatchLines.{some_end}
 
 -- a history that was earlier is legal too
-legal-before : (later history : History) → IsLegal (later ++ history) → IsLegal history
-legal-before [] history legal = legal
-legal-before (entry ∷ later) history legal = legal-before later history legal.2
+pub legal_before : (later history : History) → IsLegal (later ++ history) → IsLegal history
+legal_before [] history legal = legal
+legal_before (entry ∷ later) history legal = legal_before later history legal.2
 
 -- and its events are orderly too
-orderly-before : (later history : History) → IsOrderly (later ++ history) → IsOrderly history
-orderly-before [] history orderly = orderly
-orderly-before (entry ∷ later) history orderly = orderly-before later history orderly.1
+pub orderly_before : (later history : History) → IsOrderly (later ++ history) → IsOrderly history
+orderly_before [] history orderly = orderly
+orderly_before (entry ∷ later) history orderly = orderly_before later history orderly.1
 
 -- so what the history was at some time is legal
 was-legal : (bytes : List ℕ) (history : History) → Was bytes history → IsLegal history
 was-legal bytes history was =
-    legal-before was.0 history (subst IsLegal (sym was.1) (legal-after [] (events_in (items_of bytes)) tt))
+    legal_before was.0 history (subst IsLegal (sym was.1) (legal-after [] (events_in (items_of bytes)) tt))
 
 -- and orderly
 was-orderly : (bytes : List ℕ) (history : History) → Was bytes history → IsOrderly history
 was-orderly bytes history was =
-    orderly-before was.0 history (subst IsOrderly (sym was.1)
+    orderly_before was.0 history (subst IsOrderly (sym was.1)
     (orderly-after [] (events_in (items_of bytes)) tt (events-orderly (pieces bytes))))
 
 -- the output goes on behind the answers: the end line at least

@@ -8,3 +8,4 @@ pub mod Journals
 pub mod SiteTexts
 pub mod EntryLines
 pub mod PlantEnding
+pub mod Auditing

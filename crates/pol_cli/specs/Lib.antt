@@ -10,3 +10,4 @@ pub mod BatchLines
 pub mod Moments
 pub mod SiteTexts
 pub mod SiteRuns
+pub mod Audits

@@ -1,10 +1,12 @@
 //! The jobs.
 ghost use Rattle.std.specs.Prelude.{◌≡◌, ◌≢◌, ℕ, List};
+ghost use Rattle.pol_cli.specs.Audits.{AuditTheorem};
 ghost use Rattle.pol_cli.specs.Ends.{edge};
 ghost use Rattle.pol_cli.specs.Journal.{JournalTheorem, Laws};
 ghost use Rattle.pol_cli.specs.SiteRuns.{TellsOfSite};
 ghost use Rattle.pol_cli.specs.Tasks.{TaskEnds};
 
+mod auditing;
 mod closing;
 mod demo;
 mod plant;
@@ -12,9 +14,10 @@ mod replay;
 mod saying;
 mod site_text;
 
-use crate::journal::journals_are_sound;
+use crate::journal::{audits_are_sound, journals_are_sound};
 use crate::lines::work;
 use crate::status::Status;
+use auditing::audit;
 use demo::demonstrate;
 pub use plant::live;
 use pol_io::{Sink, Source};
@@ -23,8 +26,8 @@ use replay::Replay;
 use std::alloc::Global;
 
 /// Does the task. A replay answers each line of the source, and then writes the line of each batch and the end line. A
-/// demo answers a journal of its own, and writes how many answers there were; the source isn't read. It waits for nobody
-/// and always returns.
+/// demo answers a journal of its own, and writes how many answers there were; the source isn't read. An audit reads what
+/// the plant prints, and writes whether it is a true history. It waits for nobody and always returns.
 pub fn serve<S: Source, K: Sink>(
     alloc: Global,
     task: &SerialTask,
@@ -37,12 +40,15 @@ pub fn serve<S: Source, K: Sink>(
     ensures unread { (seed : ℕ) → task.now ≡ SerialTask.Demo seed → source.new ≡ source.old }
     ensures theorem { (bytes : List ℕ) → JournalTheorem bytes }
     ensures laws { Laws }
+    ensures audits { (bytes : List ℕ) → AuditTheorem bytes }
     ensures words { result ≢ Status.BadWords }
     ensures no_site { ¬ TellsOfSite result }
 {
     journals_are_sound();
+    audits_are_sound();
     match task {
         SerialTask::Replay => work(alloc, &mut Replay::new(alloc), source, sink),
         SerialTask::Demo(seed) => demonstrate(alloc, *seed, sink),
+        SerialTask::Audit => audit(alloc, source, sink),
     }
 }

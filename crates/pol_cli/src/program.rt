@@ -4,13 +4,14 @@ ghost use Rattle.pol_words.specs.Words.{Means, texts_of};
 ghost use Rattle.pol_words.specs.declared.LiveTask.{LiveTask};
 ghost use Rattle.pol_words.specs.declared.SerialTask.{SerialTask};
 ghost use Rattle.pol_words.specs.declared.Task.{Task};
+ghost use Rattle.pol_cli.specs.Audits.{AuditTheorem};
 ghost use Rattle.pol_cli.specs.Ends.{edge};
 ghost use Rattle.pol_cli.specs.Journal.{JournalTheorem, Laws};
 ghost use Rattle.pol_cli.specs.SiteRuns.{IsUnbegun, PlantEnds, TellsOfSite};
 ghost use Rattle.pol_cli.specs.Tasks.{TaskEnds};
 
 use crate::jobs::{live, serve};
-use crate::journal::journals_are_sound;
+use crate::journal::{audits_are_sound, journals_are_sound};
 use crate::status::Status;
 use pol_io::{Clock, Sink, Source};
 use pol_live::Gate;
@@ -20,8 +21,8 @@ use std::sync::Wait;
 use std::thread::Threads;
 
 /// Does what the words ask for; the first word is the program's name. Words that ask for no task leave the source and
-/// the sink as they were. The runtime, the clock and the gate are for the plant alone, which may wait; a replay and a
-/// demo wait for nobody.
+/// the sink as they were. The runtime, the clock and the gate are for the plant alone, which may wait; a replay, a
+/// demo and an audit wait for nobody.
 pub fn top<R: Threads + Wait + Sync, S: Source, K: Sink, C: Clock + Send, G: Gate>(
     rt: &R,
     alloc: Global,
@@ -42,6 +43,7 @@ pub fn top<R: Threads + Wait + Sync, S: Source, K: Sink, C: Clock + Send, G: Gat
     ensures of_site { TellsOfSite result → (task : LiveTask) × Means (texts_of words.now) (Task.Live task) }
     ensures theorem { (bytes : List ℕ) → JournalTheorem bytes }
     ensures laws { Laws }
+    ensures audits { (bytes : List ℕ) → AuditTheorem bytes }
     ensures unread { (seed : ℕ) → Means (texts_of words.now) (Task.Serial (SerialTask.Demo seed))
         → source.new ≡ source.old }
     ensures meant { result ≢ Status.BadWords → result ≢ Status.OutOfMemory
@@ -52,6 +54,7 @@ pub fn top<R: Threads + Wait + Sync, S: Source, K: Sink, C: Clock + Send, G: Gat
         × (source.new ≡ source.old) × (sink.new ≡ sink.old) }
 {
     journals_are_sound();
+    audits_are_sound();
     match read_words(alloc, words) {
         Ok(Task::Serial(task)) => serve(alloc, &task, source, sink),
         Ok(Task::Live(task)) => live(rt, alloc, &task, source, sink, clock, gate),

@@ -93,17 +93,18 @@ fn put_run<K: Sink>(alloc: Global, history: &[Entry], sink: &mut K) -> Result<()
     close(alloc, history, sink)
 }
 
-// Runs a site to its end, each actor in a thread of its own.
+// Runs a site to its end, each actor in a thread of its own, while so many watchers read its status board.
 fn run<R: Threads + Wait + Sync, C: Clock + Send, G: Gate>(
     rt: &R,
     alloc: Global,
     site: Site,
+    watchers: u16,
     clock: C,
     gate: &G,
 ) -> Result<Vec<Entry>, AllocError>
     ensures { IfOk result (λ history. IsRunOf (site_view site) (history_view history.items)) }
 {
-    let Ran { history, .. } = run_site(rt, alloc, site, clock, gate)?;
+    let Ran { history, .. } = run_site(rt, alloc, site, watchers, clock, gate)?;
     Ok(history)
 }
 
@@ -112,6 +113,7 @@ fn run_and_put<R: Threads + Wait + Sync, K: Sink, C: Clock + Send, G: Gate>(
     rt: &R,
     alloc: Global,
     site: Site,
+    watchers: u16,
     sink: &mut K,
     clock: C,
     gate: &G,
@@ -120,18 +122,18 @@ fn run_and_put<R: Threads + Wait + Sync, K: Sink, C: Clock + Send, G: Gate>(
     ensures leaves { IfErr result (LeavesRun (site_view site) (K.held sink.old) (K.held sink.new)) }
     ensures cause { HasCauseOf JobFault.Write (K.faults sink.old) (K.faults sink.new) result }
 {
-    let history = run(rt, alloc, site, clock, gate)?;
+    let history = run(rt, alloc, site, watchers, clock, gate)?;
     put_run(alloc, &history, sink)
 }
 
 /// Runs the site that the source says with simulated modules, until no actor of it has anything to do or the history is
 /// full, and then writes the line of each entry of its history, the line of each batch and the end line. The source is
 /// read to its end before; where it says no site nothing is written. The actors pass the gate before each turn, and the
-/// clock gives each entry its stamp. It may wait.
+/// clock gives each entry its stamp; the watchers that the task asks for read the status board meanwhile. It may wait.
 pub fn live<R: Threads + Wait + Sync, S: Source, K: Sink, C: Clock + Send, G: Gate>(
     rt: &R,
     alloc: Global,
-    _task: &LiveTask,
+    task: &LiveTask,
     source: &mut S,
     sink: &mut K,
     clock: C,
@@ -144,7 +146,7 @@ pub fn live<R: Threads + Wait + Sync, S: Source, K: Sink, C: Clock + Send, G: Ga
     ensures words { result ≢ Status.BadWords }
 {
     match read_text(alloc, source) {
-        Ok(Ok(site)) => status_of(run_and_put(rt, alloc, site, sink, clock, gate)),
+        Ok(Ok(site)) => status_of(run_and_put(rt, alloc, site, task.watchers, sink, clock, gate)),
         Ok(Err(JsonFault { kind, path })) => Status::BadSite { path, fault: kind },
         Err(fault) => status_of(Err(fault)),
     }

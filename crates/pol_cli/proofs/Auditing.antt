@@ -1,0 +1,121 @@
+-- The work of an audit, line by line, gives its output; and what follows from a good verdict.
+use Rattle.std.proofs.Common.{◌≡◌, ◌<◌, ℕ, List, [], ◌∷◌, ◌++◌, Bool, true, false, length, map, reverse, refl, ap, sym, subst, ◌∙◌, arith, length-append, if◌then◌else◌}
+use Rattle.std.proofs.lemmas.Bool.{lt-ltb}
+use Rattle.std.proofs.lemmas.List.{length-reverse}
+use Rattle.std.specs.List.{AllByRecursion, fold, list_all}
+use Rattle.std.specs.Prelude.{filter, Option, None, Some, nat_lt}
+use Rattle.serde_json.specs.Written.{compact_text}
+use Rattle.pol_events.specs.Events.{EntryForm}
+use Rattle.pol_events.specs.Lines.{is_blank_byte}
+use Rattle.pol_events.specs.Orderly.{is_orderly}
+use Rattle.pol_history.specs.Looking.{History}
+use Rattle.pol_history.specs.Runs.{AreOrderly, IsLegal, IsOrderly}
+use Rattle.pol_io.specs.Pieces.{pieces, line_of}
+use Rattle.pol_io.specs.declared.limits.TheConstants.{LONGEST_LINE}
+use Rattle.pol_record.specs.Verdicts.{verdict_data, verdict_text}
+use Rattle.pol_record.specs.declared.verdicts.Verdict.{Verdict}
+use Rattle.pol_record.specs.declared.verdicts.Verdict.TheVariants as verdict
+use Rattle.pol_audit.specs.Reading.{Read, after_line, nothing_read, read_all, verdict_after}
+use Rattle.pol_audit.specs.Truth.{GoodIsTrue, spelled}
+use Rattle.pol_audit.specs.Verdict.{entries_of, verdict_of}
+use Rattle.pol_audit.proofs.Orderly.{all_turned}
+use Rattle.pol_audit.proofs.Reading.{read_to_verdict}
+use Rattle.pol_conduct.specs.Sound.{HistoriesAreSound, EntriesAreRight}
+use Rattle.pol_removal.specs.Removal.{RemovalOfEvents}
+use Rattle.pol_site.specs.Texts.{is_filled}
+use Rattle.pol_cli.specs.Audits.{AuditTheorem, after_audited, audit_of, audit_work, audited, events_of, line_read, lines_read}
+use Rattle.pol_cli.specs.LineWork.{IsShort, IsTooLong, after_all, output_by, replies}
+use Rattle.pol_cli.proofs.Journals.{legal_before, orderly_before}
+use Rattle.pol_cli.specs.Written.{WritesPart}
+use Rattle.pol_cli.proofs.Spoken.{in_limit}
+use Rattle.pol_cli.proofs.Written.{none_written}
+
+-- ---- one line
+
+-- of a short line of blanks nothing is kept
+pub blank_read : (read : Read) (line : List ℕ) → IsShort line → list_all is_blank_byte line ≡ true →
+    read ≡ after_audited read line
+unfolding after_audited
+blank_read read line short blank = rw (in_limit line short, blank) refl
+
+-- another one is read
+pub short_read : (read next : Read) (line : List ℕ) → IsShort line → list_all is_blank_byte line ≡ false →
+    next ≡ after_line read (Some line) → next ≡ after_audited read line
+unfolding after_audited
+short_read read next line short some is = rw (in_limit line short, some) is
+
+-- and so is one that is too long
+pub long_read : (read next : Read) (line : List ℕ) → IsTooLong line → next ≡ after_line read None →
+    next ≡ after_audited read line
+unfolding after_audited
+long_read read next line long is = rw (lt-ltb LONGEST_LINE (length line) long) is
+
+-- the line of a verdict isn't empty
+some_verdict : (found : Verdict) → 0 < length (verdict_text found)
+some_verdict found =
+    let feed : List ℕ = 10 ∷ [] in rw (length-append (compact_text (verdict_data found)) feed) (omega arith)
+
+-- before anything is written of it, a proper front part is: none
+pub no_verdict_written : (held : Option (List ℕ)) (found : Verdict) → WritesPart held held (verdict_text found)
+no_verdict_written held found = none_written held (verdict_text found) (some_verdict found)
+
+-- ---- all lines
+
+no-replies : (read : Read) (parts : List (List ℕ)) → replies audit_work read parts ≡ []
+no-replies read [] = refl
+no-replies read (piece ∷ parts) = no-replies (after_audited read (line_of piece)) parts
+
+-- what is kept of all lines is what is kept of those that aren't blank
+kept-of-filled : (read : Read) (parts : List (List ℕ)) →
+    after_all audit_work read parts ≡ fold after_line read (map line_read (filter is_filled (map line_of parts)))
+unfolding after_audited
+kept-of-filled read [] = refl
+kept-of-filled read (piece ∷ parts) = by_line (is_filled (line_of piece)) (λ later. kept-of-filled later parts)
+  where
+    by_line : (filled : Bool) → ((later : Read) → after_all audit_work later parts
+        ≡ fold after_line later (map line_read (filter is_filled (map line_of parts)))) →
+        after_all audit_work (if filled then after_line read (line_read (line_of piece)) else read) parts
+        ≡ fold after_line read (map line_read (if filled then line_of piece ∷ filter is_filled (map line_of parts)
+        else filter is_filled (map line_of parts)))
+    by_line true rest = rest (after_line read (line_read (line_of piece)))
+    by_line false rest = rest read
+
+closed-with : (bytes : List ℕ) → verdict_after (after_all audit_work nothing_read (pieces bytes)) ≡ audit_of bytes
+closed-with bytes = ap verdict_after (kept-of-filled nothing_read (pieces bytes)) ∙ read_to_verdict (lines_read bytes)
+
+-- the output of an audit that has read nothing is the line of the verdict
+pub audit_output : output_by audit_work nothing_read ≡ audited
+audit_output =
+    λ i. record {
+      of_lines = λ bytes. no-replies nothing_read (pieces bytes) i;
+      of_input = λ bytes. no-replies nothing_read (pieces bytes) i ++ verdict_text (closed-with bytes i);
+    }
+
+-- ---- what follows from a good verdict
+
+-- the events of orderly entries are orderly, in whichever order they stand
+each-orderly : (entries : List EntryForm) → IsOrderly entries → AreOrderly (map (λ entry. entry.event) entries)
+each-orderly [] orderly = tt
+each-orderly (entry ∷ entries) orderly = (orderly.0, each-orderly entries orderly.1)
+
+events-orderly : (history : History) → IsOrderly history → AreOrderly (events_of history)
+events-orderly history orderly =
+    each-orderly (reverse history) (all_turned (λ entry. is_orderly entry.event ≡ true) history orderly)
+
+-- where the verdict is good, what holds of all legal histories of orderly events holds of the history
+pub audit_theorem : HistoriesAreSound → EntriesAreRight → RemovalOfEvents → GoodIsTrue → (bytes : List ℕ) →
+    AuditTheorem bytes
+audit_theorem sound right removal good bytes count is =
+    let true_history = good (lines_read bytes) count is in (
+      record {
+        sound = λ later earlier cut. sound earlier
+            (legal_before later earlier (subst IsLegal (sym cut) true_history.legal))
+            (orderly_before later earlier (subst IsOrderly (sym cut) true_history.orderly));
+        right = λ later earlier entry cut. right earlier entry
+            (legal_before later (entry ∷ earlier) (subst IsLegal (sym cut) true_history.legal))
+            (orderly_before later (entry ∷ earlier) (subst IsOrderly (sym cut) true_history.orderly)).1;
+        removal = λ tags. removal tags (events_of (spelled (lines_read bytes)))
+            (events-orderly (spelled (lines_read bytes)) true_history.orderly);
+      },
+      length-reverse (entries_of (lines_read bytes)) ∙ true_history.counted,
+    )

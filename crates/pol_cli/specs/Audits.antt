@@ -1,0 +1,70 @@
+-- The audit of a history: the lines of an input, what is kept of them, the output, and what a good verdict says.
+use Rattle.std.specs.Prelude.{ℕ, ◌≡◌, List, [], ◌∷◌, ◌++◌, length, map, reverse, Some, None, if◌then◌else◌}
+use Rattle.pol_events.specs.Events.{EntryForm, EventForm}
+use Rattle.pol_history.specs.Looking.{History}
+use Rattle.pol_history.specs.Runs.{run_of}
+use Rattle.pol_record.specs.Verdicts.{verdict_text}
+use Rattle.pol_record.specs.declared.verdicts.Verdict.{Verdict}
+use Rattle.pol_record.specs.declared.verdicts.Verdict.TheVariants as verdict
+use Rattle.pol_audit.specs.Reading.{Read, after_line, nothing_read, verdict_after}
+use Rattle.pol_audit.specs.Truth.{spelled}
+use Rattle.pol_audit.specs.Verdict.{Line, verdict_of}
+use Rattle.pol_conduct.specs.Sound.{IsRight, IsSound}
+use Rattle.pol_removal.specs.Removal.{entries_without}
+use Rattle.pol_site.specs.Texts.{filled_lines, is_filled, is_long}
+use Rattle.pol_cli.specs.LineWork.{LineWork, Output}
+
+-- ---- its output
+
+-- a line that isn't blank, as it is read: one that is too long is told as such
+abbrev pub line_read : List ℕ → Line
+line_read line = if is_long line then None else Some line
+
+-- the lines of an input that aren't blank
+abbrev pub lines_read : List ℕ → List Line
+lines_read bytes = map line_read (filled_lines bytes)
+
+-- the verdict over an input
+abbrev pub audit_of : List ℕ → Verdict
+audit_of bytes = verdict_of (lines_read bytes)
+
+-- the output of an audit: nothing for lines, and the line of the verdict for an input
+abbrev pub audited : Output
+audited = record { of_lines = λ lines. []; of_input = λ input. verdict_text (audit_of input) }
+
+-- ---- its work
+
+-- what is kept after one more line
+unfoldable pub after_audited : Read → List ℕ → Read
+after_audited read line = if is_filled line then after_line read (line_read line) else read
+
+-- what an audit does with each line, and at the end
+abbrev pub audit_work : LineWork Read
+audit_work =
+    record {
+      reply = λ read line. [];
+      after = after_audited;
+      closing = λ read. verdict_text (verdict_after read);
+    }
+
+-- ---- what a good verdict says
+
+-- the events of a history, the oldest first
+abbrev pub events_of : History → List EventForm
+events_of history = map (λ entry. entry.event) (reverse history)
+
+-- At each time the history was sound, each entry of it is right, and taking out the events that concern some modules
+-- takes out just their entries.
+pub record IsTrueRecord (history : History) : Type 0 where
+  pub sound : (later earlier : History) → later ++ earlier ≡ history → IsSound earlier
+  pub right : (later earlier : History) (entry : EntryForm) → later ++ entry ∷ earlier ≡ history →
+      IsRight earlier entry
+  pub removal : (tags : List (List ℕ)) →
+      run_of (map (λ entry. entry.event) (entries_without tags (events_of history)))
+      ≡ entries_without tags (events_of history)
+
+-- where the verdict over an input is good, the entry lines spell such a history, of so many entries
+abbrev pub AuditTheorem : List ℕ → Type 0
+AuditTheorem bytes =
+    (count : ℕ) → audit_of bytes ≡ verdict.Good count →
+    IsTrueRecord (spelled (lines_read bytes)) × (length (spelled (lines_read bytes)) ≡ count)
