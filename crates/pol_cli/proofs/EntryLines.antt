@@ -1,5 +1,5 @@
 -- The lines of the entries of a history, one after another, and then what closes the output.
-use Rattle.std.proofs.Common.{ℕ, zero, suc, ◌≡◌, ◌<◌, List, [], ◌∷◌, ◌++◌, length, true, arith, get_or, refl, sym, ap, subst, ◌∙◌, append_assoc, length-append, map, take}
+use Rattle.std.proofs.Common.{ℕ, zero, suc, ◌+◌, ◌≡◌, ◌<◌, List, [], ◌∷◌, ◌++◌, length, true, arith, get_or, refl, sym, ap, subst, ◌∙◌, append_assoc, length-append, map, take}
 use Rattle.std.proofs.lemmas.List.{reverse-append, reverse-reverse}
 use Rattle.std.proofs.lemmas.List.Folds.{flat_map-map}
 use Rattle.std.specs.Prelude.{Option, reverse}
@@ -52,14 +52,23 @@ entry_orderly entries i entry orderly inside same =
 -- ---- entries that are read back
 
 -- of the entries up to this one, the next of them among them
-pub read_back_next : (entries : List Entry) (place : ℕ) (entry : Entry) → place < length entries →
+next-read-back : (entries : List Entry) (place : ℕ) (entry : Entry) → place < length entries →
     entry ≡ get_or entries place entry → AreReadBack (map entry_view (take place entries)) →
     IsReadBack (entry_view entry) → AreReadBack (map entry_view (take (suc place) entries))
-read_back_next [] place entry inside same before this = absurd (omega arith)
-read_back_next (first ∷ entries) zero entry inside same before this =
+next-read-back [] place entry inside same before this = absurd (omega arith)
+next-read-back (first ∷ entries) zero entry inside same before this =
     (subst (λ each. IsReadBack (entry_view each)) same this, tt)
-read_back_next (first ∷ entries) (suc place) entry inside same before this =
-    (before.0, read_back_next entries place entry (omega arith) same before.1 this)
+next-read-back (first ∷ entries) (suc place) entry inside same before this =
+    (before.0, next-read-back entries place entry (omega arith) same before.1 this)
+
+-- the same, as a loop counts them
+pub read_back_next : (entries : List Entry) (place : ℕ) (entry : Entry) → place < length entries →
+    entry ≡ get_or entries place entry → AreReadBack (map entry_view (take place entries)) →
+    IsReadBack (entry_view entry) → AreReadBack (map entry_view (take (place + 1) entries))
+read_back_next entries place entry inside same before this =
+    let more : suc place ≡ place + 1 = omega arith in
+    subst (λ count. AreReadBack (map entry_view (take count entries))) more
+    (next-read-back entries place entry inside same before this)
 
 -- what holds of all of two lists holds of all of the two one behind the other
 all-joined : {A : Type 0} (P : A → Type 0) (xs ys : List A) → AllByRecursion P xs → AllByRecursion P ys →
