@@ -118,7 +118,11 @@ fn a_changed_outcome_is_told_by_the_number_of_its_line(rt: HostRuntime) -> Resul
     let alloc = rt.alloc();
     let printed = run_site(&rt, alloc, "pol --job plant", SITE)?;
     let output = printed.output.as_str();
-    let changed = output.replace(alloc, "\"outcome\":\"Completed\"", "\"outcome\":\"Stopped\"")?;
+    let changed = output.replace(
+        alloc,
+        "\"outcome\":\"Completed\"",
+        "\"outcome\":\"Stopped\"",
+    )?;
     let mut verdict = String::from_str(alloc, "{\"audit\":\"bad\",\"place\":")?;
     verdict.push_str(entry_count(output).to_string(alloc)?.as_str())?;
     verdict.push_str(",\"why\":\"Tail\"}\n")?;
