@@ -1,22 +1,25 @@
-// Refuses the FAIL_AT-th growth of a program's memory by at least LEAST bytes, and writes to the file COUNT_TO how many of
-// these it asked for.
+// Refuses the FAIL_AT-th growth of a program's memory by at least LEAST bytes, and counts in the file COUNT_TO, which it maps,
+// how many of these it asks for. So the count stands however the program ends.
 #include <errno.h>
+#include <fcntl.h>
 #include <stddef.h>
-#include <stdio.h>
 #include <stdlib.h>
+#include <sys/mman.h>
+#include <unistd.h>
 
 extern void *__libc_malloc(size_t);
 extern void *__libc_calloc(size_t, size_t);
 extern void *__libc_realloc(void *, size_t);
 extern void *__libc_memalign(size_t, size_t);
 
-static long asked;
+static long unmapped;
+static long *asked = &unmapped;
 static long refused = -1;
 static size_t least;
 
 static int refuses(size_t size) {
     if (size < least) return 0;
-    if (__atomic_add_fetch(&asked, 1, __ATOMIC_SEQ_CST) != refused) return 0;
+    if (__atomic_add_fetch(asked, 1, __ATOMIC_SEQ_CST) != refused) return 0;
     errno = ENOMEM;
     return 1;
 }
@@ -26,17 +29,12 @@ __attribute__((constructor)) static void begin(void) {
     const char *bytes = getenv("LEAST");
     if (number) refused = atol(number);
     if (bytes) least = (size_t)atol(bytes);
-    asked = 0;
-}
-
-__attribute__((destructor)) static void end(void) {
     const char *path = getenv("COUNT_TO");
-    long total = asked;
-    refused = -1;
-    FILE *file = path ? fopen(path, "w") : NULL;
-    if (!file) return;
-    fprintf(file, "%ld\n", total);
-    fclose(file);
+    int file = path ? open(path, O_RDWR | O_CREAT | O_TRUNC, 0600) : -1;
+    if (file < 0 || ftruncate(file, sizeof *asked)) return;
+    void *count = mmap(NULL, sizeof *asked, PROT_READ | PROT_WRITE, MAP_SHARED, file, 0);
+    if (count != MAP_FAILED) asked = count;
+    close(file);
 }
 
 void *malloc(size_t size) { return refuses(size) ? NULL : __libc_malloc(size); }

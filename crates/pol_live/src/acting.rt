@@ -62,7 +62,8 @@ pub(crate) fn act<J: Job, R: Wait, C: Clock + Send, G: Gate>(
     seat
 }
 
-// One turn of each actor that has no thread. True where the run is over.
+// One turn of each actor that has no thread. True where the run is over. Where each rested, the history may have grown since
+// the first one did; so it is the first for which this thread rests.
 fn pass<J: Job, R: Wait, C: Clock + Send, G: Gate>(
     rt: &R,
     crew: &Crew<'_, J, C, G>,
@@ -71,12 +72,14 @@ fn pass<J: Job, R: Wait, C: Clock + Send, G: Gate>(
 ) -> bool
     ensures { actors_of seats.new.items ≡ actors_of seats.old.items }
 {
-    let mut last = 0;
+    let first = match seats.first() {
+        Some(seat) => seat.actor(),
+        None => return true,
+    };
     let mut rested = true;
     for i in 0..seats.len() {
         let seat = &mut seats[i];
-        last = seat.actor();
-        crew.gate.pass(last, turn);
+        crew.gate.pass(seat.actor(), turn);
         match crew.live.turn(rt, seat) {
             Ok(Turned::Made(_) | Turned::Looked) => rested = false,
             Ok(Turned::Rested) => {},
@@ -86,7 +89,7 @@ fn pass<J: Job, R: Wait, C: Clock + Send, G: Gate>(
             },
         }
     }
-    rested && crew.live.rest(rt, last)
+    rested && crew.live.rest(rt, first)
 }
 
 /// The turns of the actors that have no thread, in rotation, until the run is over.
