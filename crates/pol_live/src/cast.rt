@@ -12,6 +12,7 @@ ghost use Rattle.pol_live.specs.Turns.{Turns, history_of};
 use crate::job::Job;
 use crate::role::{Role, actors_of, role_of};
 use crate::turned::Turned;
+use mtp_codes::LONGEST_HISTORY;
 use pol_actors::{Desk, Exchanger, Stage, Unit};
 use pol_core::Plant;
 use pol_events::Entry;
@@ -20,9 +21,6 @@ use pol_site::Site;
 use std::alloc::{AllocError, Global};
 use std::marker::{Model, PhantomData};
 use std::sync::Arc;
-
-/// How many entries a history may have.
-const LONGEST_HISTORY: usize = 200_000;
 
 /// A plant with its site and its clock, and where each actor of the site stands.
 #[derive(Drop)]
