@@ -41,8 +41,8 @@ impl Audit {
         }
     }
 
-    // Whether no further line changes the verdict: there are more entries than are judged, or more lines behind them than
-    // can be wanted.
+    // Whether no further line changes the verdict: there are more entries than are judged, or more lines behind them
+    // than can be wanted.
     fn is_decided(&self) -> bool
         ensures { result ≡ is_decided (read_view self.now) }
     {

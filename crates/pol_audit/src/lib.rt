@@ -5,13 +5,13 @@
 //! (`pol_examples`).
 //!
 //! Its main contracts are those of `says`, which answers as `pol_history` defines; of `judge`, which tells the first
-//! answer of a history that is another one; and of `Audit`, which is fed the lines of a history and gives the verdict that
-//! `specs/Verdict.antt` defines. Each value is searched in the history that it is lent; it knows nothing of plants and
-//! their tables, of sources and sinks, threads or clocks.
+//! answer of a history that is another one; and of `Audit`, which is fed the lines of a history and gives the verdict
+//! that `specs/Verdict.antt` defines. Each value is searched in the history that it is lent; it knows nothing of plants
+//! and their tables, of sources and sinks, threads or clocks.
 //!
-//! Each rule that can refuse an event is the function of its name: in `module_rules` where a module's past decides it, in
-//! `batch_rules` where recipes, batches or holders do, in `start_rules` where it asks about the binds of a start. The
-//! order of the rules of each kind of event stands in `answers`.
+//! Each rule that can refuse an event is the function of its name: in `module_rules` where a module's past decides it,
+//! in `batch_rules` where recipes, batches or holders do, in `start_rules` where it asks about the binds of a start.
+//! The order of the rules of each kind of event stands in `answers`.
 #![tactic(auto)]
 
 ghost use Rattle.pol_audit.specs.Truth.{GoodIsTrue};
@@ -35,8 +35,8 @@ pub use audit::Audit;
 pub use batches::{Start, log_of, outcome_of, start_of};
 pub use judging::{Judged, MOST_JUDGED, judge};
 
-/// Where the verdict over some lines is good, the history that their entries spell is legal and its events are as a line
-/// says them.
+/// Where the verdict over some lines is good, the history that their entries spell is legal and its events are as a
+/// line says them.
 pub fn good_verdicts_are_true()
     ensures { GoodIsTrue }
 {}

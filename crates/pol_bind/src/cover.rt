@@ -88,11 +88,11 @@ fn missing_by(role: Name, fault: CoverFault) -> Name
 
 /// Whether a module with this description can play the role of the chart.
 ///
-/// `WrongType` exactly where its type isn't the role's (or the chart hasn't the role); else `WrongVersion` exactly where
-/// `semver` says that the role's requirement doesn't match; else `NotCovered` with the first step of the role in chart
-/// order that `check_step` refuses, or else with the first variable, in order of first appearance, that the chart reads
-/// of the role and that is missing, is a text, or is a number tested against a truth value or the other way round. Takes
-/// no memory. Where all fits, its time grows with the chart's tests; else at most with their square.
+/// `WrongType` exactly where its type isn't the role's (or the chart hasn't the role); else `WrongVersion` exactly
+/// where `semver` says that the role's requirement doesn't match; else `NotCovered` with the first step of the role in
+/// chart order that `check_step` refuses, or else with the first variable, in order of first appearance, that the chart
+/// reads of the role and that is missing, is a text, or is a number tested against a truth value or the other way
+/// round. Takes no memory. Where all fits, its time grows with the chart's tests; else at most with their square.
 pub fn covers(chart: &Chart, role: Name, description: &Description) -> Result<(), Rule>
     ensures { result ≡ done_unless
         (option_map (cover_rule role) (cover_fault (plan chart.now) role (description_view description.now))) }

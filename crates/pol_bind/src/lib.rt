@@ -1,8 +1,8 @@
 //! Whether the binds of a start fit the roles of a chart, and whether a module can play a role, by its description.
 //!
 //! It knows nothing of a plant's state: whether the module is docked, idle or held is asked elsewhere. `covers` answers
-//! exactly the first fault that the definition `cover_fault` of mtp_procs names, as a rule; `held_back_by` tells what is
-//! missing by that fault. `role_unbound`, `role_unknown` and `one_module_twice` are the rules that binds break by
+//! exactly the first fault that the definition `cover_fault` of mtp_procs names, as a rule; `held_back_by` tells what
+//! is missing by that fault. `role_unbound`, `role_unknown` and `one_module_twice` are the rules that binds break by
 //! themselves. None takes memory.
 #![tactic(auto)]
 

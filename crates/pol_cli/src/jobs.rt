@@ -26,8 +26,8 @@ use replay::Replay;
 use std::alloc::Global;
 
 /// Does the task. A replay answers each line of the source, and then writes the line of each batch and the end line. A
-/// demo answers a journal of its own, and writes how many answers there were; the source isn't read. An audit reads what
-/// the plant prints, and writes whether it is a true history. It waits for nobody and always returns.
+/// demo answers a journal of its own, and writes how many answers there were; the source isn't read. An audit reads
+/// what the plant prints, and writes whether it is a true history. It waits for nobody and always returns.
 pub fn serve<S: Source, K: Sink>(
     alloc: Global,
     task: &SerialTask,

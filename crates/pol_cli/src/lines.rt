@@ -40,8 +40,8 @@ fn next_reply<S: Source, J: LineJob>(
     }
 }
 
-/// Writes a reply, unless there was no memory for it, and gives it back. Where the next line doesn't stand there yet, all
-/// that was written is handed on: the source is only asked when everybody has their answers.
+/// Writes a reply, unless there was no memory for it, and gives it back. Where the next line doesn't stand there yet,
+/// all that was written is handed on: the source is only asked when everybody has their answers.
 #[tactic(auto, using(crate::proofs::Written::nothing_written))]
 fn put_reply<K: Sink>(
     lines: &Lines,

@@ -4,8 +4,8 @@ use std::alloc::{AllocError, Global};
 use std::test::Fail;
 
 /// A site of modules that are alike, each with a doser's services and a level that drifts. Batch i runs on module i, or
-/// on module i and the one behind it; exchange i is of module i, and command i of the desk goes to it. They count around
-/// where there are fewer modules.
+/// on module i and the one behind it; exchange i is of module i, and command i of the desk goes to it. They count
+/// around where there are fewer modules.
 #[derive(Clone, Copy)]
 struct Numbers {
     modules: u32,

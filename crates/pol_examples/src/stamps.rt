@@ -74,8 +74,8 @@ fn stamp(event: &str) -> Option<u64> {
     number.parse().ok()
 }
 
-// Whether the event is the actor's that is known by this text: the exchanger's events have neither a service, a value nor
-// a batch.
+// Whether the event is the actor's that is known by this text: the exchanger's events have neither a service, a value
+// nor a batch.
 fn is_of(event: &str, actor: &str) -> bool {
     let others = event.contains("\"ev\":\"report\"")
         || event.contains("\"ev\":\"variable\"")

@@ -11,8 +11,8 @@ use pol_io::Clock;
 use std::sync::Wait;
 use std::sync::atomic::{AtomicU64, Ordering};
 
-/// What all threads of a run share. `refused` is one more than the number of the actor for which no thread could be made,
-/// and else 0.
+/// What all threads of a run share. `refused` is one more than the number of the actor for which no thread could be
+/// made, and else 0.
 #[derive(Drop)]
 pub(crate) struct Crew<'a, J: Job, C: Clock + Send, G: Gate> {
     pub(crate) live: &'a LivePlant<J, C>,
@@ -62,8 +62,8 @@ pub(crate) fn act<J: Job, R: Wait, C: Clock + Send, G: Gate>(
     seat
 }
 
-// One turn of each actor that has no thread. True where the run is over. Where each rested, the history may have grown since
-// the first one did; so it is the first for which this thread rests.
+// One turn of each actor that has no thread. True where the run is over. Where each rested, the history may have grown
+// since the first one did; so it is the first for which this thread rests.
 fn pass<J: Job, R: Wait, C: Clock + Send, G: Gate>(
     rt: &R,
     crew: &Crew<'_, J, C, G>,

@@ -205,8 +205,8 @@ impl<J: Job, C: Clock> Cast<J, C> {
         Ok(turned)
     }
 
-    /// The history and who made each entry, once the plant is done with: the history is legal, follows the site, and each
-    /// change in it has its command.
+    /// The history and who made each entry, once the plant is done with: the history is legal, follows the site, and
+    /// each change in it has its command.
     pub(crate) fn into_parts(self) -> (Vec<Entry>, Vec<u32>)
         ensures entries { result.0.items ≡ self.entries }
         ensures by { result.1.items ≡ self.by }

@@ -1,9 +1,9 @@
-//! The running plant: everything that a turn of an actor needs stands in one value, the locked plant, and one turn applies
-//! at most one event, stamped by the clock in that turn.
+//! The running plant: everything that a turn of an actor needs stands in one value, the locked plant, and one turn
+//! applies at most one event, stamped by the clock in that turn.
 //!
-//! Contracts see a locked plant as its history, who made each entry, and its clock (`specs/Turns.antt`). By its type the
-//! history is legal, follows its site, and each change has its command, whatever turns were taken, and the status board
-//! shows it; and a turn that rests tells that its actor is settled.
+//! Contracts see a locked plant as its history, who made each entry, and its clock (`specs/Turns.antt`). By its type
+//! the history is legal, follows its site, and each change has its command, whatever turns were taken, and the status
+//! board shows it; and a turn that rests tells that its actor is settled.
 #![tactic(auto)]
 
 mod acting;

@@ -119,8 +119,8 @@ impl<J: Job, C: Clock> LockedPlant<J, C> {
         self.display.watcher()
     }
 
-    /// The history and who made each entry, once the plant is done with: the history is legal, follows the site, and each
-    /// change in it has its command.
+    /// The history and who made each entry, once the plant is done with: the history is legal, follows the site, and
+    /// each change in it has its command.
     pub fn into_parts(self) -> (Vec<Entry>, Vec<u32>)
         ensures entries { result.0.items ≡ self.entries }
         ensures by { result.1.items ≡ self.by }

@@ -98,8 +98,8 @@ fn run_by_threads<J: Job + Send + Sync, R: Threads + Wait + Sync, C: Clock + Sen
     finish(rt, live)
 }
 
-/// Runs a site to its end: until no actor has anything to do, or the history is full. The actors take turns in rotation, each
-/// in this thread, and pass the gate before each turn; it may wait.
+/// Runs a site to its end: until no actor has anything to do, or the history is full. The actors take turns in
+/// rotation, each in this thread, and pass the gate before each turn; it may wait.
 ///
 /// # Errors
 ///
@@ -178,9 +178,9 @@ impl<J: Job> Promise<ActorSeat<J>> for SeatOf {
     ghost kept_by = { λ promise seat. seat.actor ≡ promise.0 };
 }
 
-// The turns of all actors, each in a thread of its own; the seats come back in their order. Where a thread can't be made,
-// this thread takes the turns of that actor and of those after it, in rotation. Room for all seats is taken before the
-// first thread starts, so that no thread is left waiting for an actor that never comes.
+// The turns of all actors, each in a thread of its own; the seats come back in their order. Where a thread can't be
+// made, this thread takes the turns of that actor and of those after it, in rotation. Room for all seats is taken
+// before the first thread starts, so that no thread is left waiting for an actor that never comes.
 fn drive<J: Job + Send + Sync, R: Threads + Wait + Sync, C: Clock + Send, G: Gate>(
     rt: &R,
     alloc: Global,

@@ -11,8 +11,8 @@ use std::alloc::{AllocError, Global};
 use std::marker::Model;
 use std::sync::ledger::{Book, Share};
 
-/// One actor's seat, with its own list of what its turns made. Contracts see its actor's number and that list; its share
-/// of the run's ledger is the length of the list.
+/// One actor's seat, with its own list of what its turns made. Contracts see its actor's number and that list; its
+/// share of the run's ledger is the length of the list.
 #[derive(Drop)]
 pub struct ActorSeat<J: Job> {
     actor: u32,

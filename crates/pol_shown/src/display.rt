@@ -137,8 +137,8 @@ impl Display {
 
     /// Follows the history by its newest entry, the last: the display showed the history before that, and shows all of
     /// it then. Where the entry is an accepted report, the word of its service says its state; where it is an accepted
-    /// begin of an exchange, the words of all services of the module say none; both with the history's length as number.
-    /// Nothing else is published. It takes no memory and never waits.
+    /// begin of an exchange, the words of all services of the module say none; both with the history's length as
+    /// number. Nothing else is published. It takes no memory and never waits.
     pub fn follow(&mut self, site: &Site, history: &[Entry])
         requires short { length history.now ≤ LONGEST_HISTORY }
         requires shown { Shows (site_view site.now) (before_newest (history_view history.now)) self.old }
