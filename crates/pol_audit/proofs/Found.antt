@@ -17,6 +17,7 @@ use Rattle.pol_entries.proofs.Sameness.{same_decides}
 use Rattle.pol_audit.specs.Judging.{IsFirstWrong, Judges, judged, wrong_after}
 use Rattle.pol_audit.specs.declared.judging.Judged.{Judged}
 use Rattle.pol_audit.specs.declared.judging.Judged.TheVariants.{Good, Wrong}
+use Rattle.pol_audit.specs.declared.judging.TheConstants.{MOST_JUDGED}
 
 -- ---- what is found
 
@@ -71,8 +72,10 @@ judges-after history (entry ∷ later) legal few =
           wrong = λ is. true≢false (sym ((same_decides entry.answer right).1 is) ∙ same);
         }
 
-pub judges_all : (entries : List EntryForm) → length entries ≤ 20000 → (found : Judged) → found ≡ judged entries → Judges entries found
-judges_all entries few found is = go found (subst (JudgesAfter [] entries) (sym is) (judges-after [] entries tt (omega (arith, few))))
+pub judges_all : (entries : List EntryForm) → length entries ≤ MOST_JUDGED → (found : Judged) →
+    found ≡ judged entries → Judges entries found
+judges_all entries few found is =
+    go found (subst (JudgesAfter [] entries) (sym is) (judges-after [] entries tt (omega (arith, few))))
   where
     go : (found : Judged) → JudgesAfter [] entries found → Judges entries found
     go Good legal = subst IsLegal (append-nil (reverse entries)) legal
