@@ -3,7 +3,7 @@ use Rattle.std.specs.Prelude.{ℕ, ◌≡◌, ◌≢◌, Bool, true, false, ◌&
 use Rattle.std.proofs.Common.{◌∙◌, ap, subst, inl, inr}
 use Rattle.std.specs.Prelude.{cond, eqb}
 use Rattle.std.proofs.Common.{eq-eqb}
-use Rattle.std.proofs.lemmas.Bool.{eqb-true}
+use Rattle.std.proofs.lemmas.Bool.{eqb-true, and_from, and_parts, false_from_ne_true, lt-ltb, ltb-true}
 use Rattle.chart_core.specs.Entries.{Stage, begin, finish, reset, end}
 use Rattle.chart_core.specs.Courses.{Course, nothing, step, chain, beside, select, repeat}
 use Rattle.chart_core.specs.declared.progress.Progress.{Progress}
@@ -13,53 +13,37 @@ use Rattle.chart_core.proofs.Relations.{Puts, Clears, Next, to_begun, to_finishe
 use Rattle.chart_core.specs.Changes.{is_ended, is_left, has_chosen, is_done, next_progress, put_at, choose_at, either_change, change_in_arm, while_untouched, change_by, changed}
 use Rattle.chart_core.specs.declared.progress.Change.{Change}
 use Rattle.chart_core.specs.declared.progress.Change.TheVariants.{Put, Clear}
-use Rattle.chart_core.proofs.Joined.{and_left, and_right, and_both, not_true, lt_holds, lt_told}
 use Rattle.chart_core.proofs.Link.{move_await, await_of, done_no_await}
 
 -- what the test for ended says
 pub ended_of : (progress : Progress) → is_ended progress ≡ true → progress ≡ Ended
-ended_of Untouched is = cc
-ended_of Begun is = cc
-ended_of Finished is = cc
-ended_of WasReset is = cc
 ended_of Ended is = refl
-ended_of (Chosen arm) is = cc
-ended_of Left is = cc
+ended_of progress is = cc
 
 -- what the test for left says
 pub left_of : (progress : Progress) → is_left progress ≡ true → progress ≡ Left
-left_of Untouched is = cc
-left_of Begun is = cc
-left_of Finished is = cc
-left_of WasReset is = cc
-left_of Ended is = cc
-left_of (Chosen arm) is = cc
 left_of Left is = refl
+left_of progress is = cc
 
 -- what the test for a chosen arm says
 pub chosen_of : (test : ℕ → Bool) (progress : Progress) → has_chosen test progress ≡ true → (arm : ℕ)
     × (progress ≡ Chosen arm) × (test arm ≡ true)
-chosen_of test Untouched is = cc
-chosen_of test Begun is = cc
-chosen_of test Finished is = cc
-chosen_of test WasReset is = cc
-chosen_of test Ended is = cc
 chosen_of test (Chosen arm) is = (arm, refl, is)
-chosen_of test Left is = cc
+chosen_of test progress is = cc
 
 -- what the test for done says
 pub done_of : {E : Type 0} (course : Course E) (marks : Marks) → is_done course marks ≡ true → Done course marks
 done_of nothing marks done = tt
 done_of (step number finishes stage) marks done = ended_of (marks number) done
 done_of (chain one other) marks done = (
-  done_of one marks (and_left (is_done one marks) (is_done other marks) done),
+  done_of one marks (and_parts (is_done one marks) (is_done other marks) done).0,
   done_of other marks
-      (and_right (is_done one marks) (is_done other marks) done),
+      (and_parts (is_done one marks) (is_done other marks) done).1,
 )
 done_of (beside one other) marks done = (
-  done_of one marks (and_left (is_done one marks) (is_done other marks) done),
+  done_of one marks (and_parts (is_done one marks) (is_done other marks) done).0,
   done_of other marks
-      (and_right (is_done one marks) (is_done other marks) done),
+      (and_parts (is_done one marks) (is_done other marks) done).1,
 )
 done_of (select number count own chooses bodies) marks done =
     let chosen = chosen_of (λ arm. is_done (bodies arm) marks) (marks number) done in
@@ -70,9 +54,9 @@ done_of (repeat number after body own turns leaves) marks done = left_of (marks 
 pub of_done : {E : Type 0} (course : Course E) (marks : Marks) → Done course marks → is_done course marks ≡ true
 of_done nothing marks done = refl
 of_done (step number finishes stage) marks done = ap is_ended done
-of_done (chain one other) marks (here, there) = and_both (is_done one marks) (is_done other marks)
+of_done (chain one other) marks (here, there) = and_from (is_done one marks) (is_done other marks)
     (of_done one marks here) (of_done other marks there)
-of_done (beside one other) marks (here, there) = and_both (is_done one marks) (is_done other marks)
+of_done (beside one other) marks (here, there) = and_from (is_done one marks) (is_done other marks)
     (of_done one marks here) (of_done other marks there)
 of_done (select number count own chooses bodies) marks (arm, chosen, inside) =
     ap (has_chosen (λ arm. is_done (bodies arm) marks)) chosen ∙ of_done (bodies arm) marks inside
@@ -120,7 +104,7 @@ eqb_same number = eq-eqb number number refl
 
 -- and to no other
 pub eqb_other : (one other : ℕ) → one ≢ other → eqb one other ≡ false
-eqb_other one other apart = not_true (eqb one other) (λ same. apart (eqb-true one other same))
+eqb_other one other apart = false_from_ne_true (eqb one other) (λ same. apart (eqb-true one other same))
 
 -- a mark that is put
 pub put_puts : (number : ℕ) (progress : Progress) (marks : Marks)
@@ -131,13 +115,13 @@ put_puts number progress marks = (rw eqb_same refl, λ place apart. rw (eqb_othe
 pub clear_clears : (number below : ℕ) (marks : Marks) → Clears number below marks (changed (Clear number below) marks)
 clear_clears number below marks = (
   λ place bound limit. rw
-      (and_both (nat_lt number place) (nat_lt place below) (lt_holds number place bound) (lt_holds place below limit))
+      (and_from (nat_lt number place) (nat_lt place below) (lt-ltb number place bound) (lt-ltb place below limit))
       refl,
   λ place bound.
       let no : nat_lt number place && nat_lt place below ≡ false
-      = not_true (nat_lt number place && nat_lt place below)
-      (λ inside. bound (lt_told number place (and_left (nat_lt number place) (nat_lt place below) inside))
-      (lt_told place below (and_right (nat_lt number place) (nat_lt place below) inside))) in
+      = false_from_ne_true (nat_lt number place && nat_lt place below)
+      (λ inside. bound (ltb-true number place (and_parts (nat_lt number place) (nat_lt place below) inside).0)
+      (ltb-true place below (and_parts (nat_lt number place) (nat_lt place below) inside).1)) in
       rw no refl,
 )
 
@@ -269,7 +253,7 @@ await_change (step number finishes stage) marks entry sound (progress, next) =
     (Put number progress, ap (put_at number) (of_next finishes (marks number) (stage entry) progress next))
 await_change (chain one other) marks entry sound (inl awaits) =
     let found = await_change one marks entry sound.0 awaits in
-    let no : is_done one marks ≡ false = not_true (is_done one marks)
+    let no : is_done one marks ≡ false = false_from_ne_true (is_done one marks)
     (λ ended. done_no_await one marks entry (done_of one marks ended) awaits) in
     (found.0, rw no found.1)
 await_change (chain one other) marks entry sound (inr (done, awaits)) =
@@ -289,11 +273,11 @@ await_change (select number count own chooses bodies) marks entry sound (inr (ar
     let found = await_change (bodies arm) marks entry (sound.0 arm) awaits in (found.0, rw mark found.1)
 await_change (repeat number after body own turns leaves) marks entry sound (mark, inl awaits) =
     let found = await_change body marks entry sound.0 awaits in
-    let no : is_done body marks ≡ false = not_true (is_done body marks)
+    let no : is_done body marks ≡ false = false_from_ne_true (is_done body marks)
     (λ ended. done_no_await body marks entry (done_of body marks ended) awaits) in
     (found.0, rw (mark, no) found.1)
 await_change (repeat number after body own turns leaves) marks entry sound (mark, inr (inl (done, right))) =
     (Clear number after, rw (mark, of_done body marks done, right) refl)
 await_change (repeat number after body own turns leaves) marks entry sound (mark, inr (inr (done, right))) =
-    let no : turns entry ≡ false = not_true (turns entry) (λ turned. sound.5 entry turned right) in
+    let no : turns entry ≡ false = false_from_ne_true (turns entry) (λ turned. sound.5 entry turned right) in
     (Put number Left, rw (mark, of_done body marks done, no, right) refl)

@@ -6,26 +6,26 @@ use Rattle.chart_core.specs.Courses.{All}
 
 module _ {E : Type 0} where
   -- what both parts have, the whole has
-  pub All-append : (test : E → Bool) (front back : List E) → All test front → All test back → All test (front ++ back)
-  All-append test [] back these those = those
-  All-append test (first ∷ front) back (holds, these) those = (holds, All-append test front back these those)
+  pub All_append : (test : E → Bool) (front back : List E) → All test front → All test back → All test (front ++ back)
+  All_append test [] back these those = those
+  All_append test (first ∷ front) back (holds, these) those = (holds, All_append test front back these those)
 
   -- what a word has, its front has
-  pub All-front : (test : E → Bool) (front back : List E) → All test (front ++ back) → All test front
-  All-front test [] back holds = tt
-  All-front test (first ∷ front) back (holds, others) = (holds, All-front test front back others)
+  pub All_front : (test : E → Bool) (front back : List E) → All test (front ++ back) → All test front
+  All_front test [] back holds = tt
+  All_front test (first ∷ front) back (holds, others) = (holds, All_front test front back others)
 
   -- and its back has
-  pub All-back : (test : E → Bool) (front back : List E) → All test (front ++ back) → All test back
-  All-back test [] back holds = holds
-  All-back test (first ∷ front) back (holds, others) = All-back test front back others
+  pub All_back : (test : E → Bool) (front back : List E) → All test (front ++ back) → All test back
+  All_back test [] back holds = holds
+  All_back test (first ∷ front) back (holds, others) = All_back test front back others
 
   -- a weaker test passes too
-  pub All-mono : (test weaker : E → Bool) (word : List E) → ((entry : E) → test entry ≡ true → weaker entry ≡ true)
+  pub All_mono : (test weaker : E → Bool) (word : List E) → ((entry : E) → test entry ≡ true → weaker entry ≡ true)
       → All test word → All weaker word
-  All-mono test weaker [] weakens holds = tt
-  All-mono test weaker (first ∷ word) weakens (holds, others) =
-      (weakens first holds, All-mono test weaker word weakens others)
+  All_mono test weaker [] weakens holds = tt
+  All_mono test weaker (first ∷ word) weakens (holds, others) =
+      (weakens first holds, All_mono test weaker word weakens others)
 
   -- a word is empty or has a last entry
   pub snoc_view : (word : List E) → (word ≡ []) ⊎ ((front : List E) × (entry : E) × (word ≡ front ++ (entry ∷ [])))

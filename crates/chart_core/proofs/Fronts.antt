@@ -5,7 +5,7 @@ use Rattle.std.specs.List.{filter}
 use Rattle.std.proofs.lemmas.List.{append-nil, map-append}
 use Rattle.std.proofs.lemmas.List.Elements.{filter-append}
 use Rattle.chart_core.specs.Courses.{Course, nothing, step, chain, beside, select, repeat, is_of, StepRun, Rounds, last, round, Closing, Complete, Partial}
-use Rattle.chart_core.proofs.Cuts.{All-front}
+use Rattle.chart_core.proofs.Cuts.{All_front}
 use Rattle.chart_core.proofs.Link.{complete_partial}
 
 module _ {E : Type 0} where
@@ -88,7 +88,7 @@ partial_front (chain a b) u v (inr (x, y, q, h, k)) =
       | inr (z, m, l) ↦ inr (x, z, m, h, partial_front b z v (subst (Partial b) l k))
     ]
 partial_front (beside a b) u v (l, x, y) = (
-  All-front (is_of (beside a b)) u v l,
+  All_front (is_of (beside a b)) u v l,
   partial_front a (filter (is_of a) u) (filter (is_of a) v) (subst (Partial a) (filter-append (is_of a) u v) x),
   partial_front b (filter (is_of b) u) (filter (is_of b) v) (subst (Partial b) (filter-append (is_of b) u v) y),
 )

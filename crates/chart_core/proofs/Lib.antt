@@ -1,4 +1,3 @@
-pub mod Joined
 pub mod Counts
 pub mod Items
 pub mod Growing

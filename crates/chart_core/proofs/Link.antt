@@ -4,14 +4,14 @@ use Rattle.std.proofs.Common.{sym, ◌∙◌, ap, subst, inl, inr, arith, append
 use Rattle.std.specs.List.{filter}
 use Rattle.std.proofs.lemmas.List.{append-nil}
 use Rattle.std.proofs.lemmas.List.Elements.{filter-append}
+use Rattle.std.proofs.lemmas.Bool.{or_left, or_right}
 use Rattle.chart_core.specs.Entries.{Stage, begin, finish, reset, end}
 use Rattle.chart_core.specs.Courses.{Course, nothing, step, chain, beside, select, repeat, is_of, any_below, All, StepRun, Rounds, last, round, Closing, Complete, Partial}
 use Rattle.chart_core.specs.declared.progress.Progress.{Progress}
 use Rattle.chart_core.specs.declared.progress.Progress.TheVariants.{Untouched, Begun, Finished, WasReset, Ended}
 use Rattle.chart_core.specs.Progress.{Marks, Has, Fresh, Done, Had, had_nothing, had_begin, had_finish, had_reset, had_both, had_end, had_all, Stands}
 use Rattle.chart_core.proofs.Relations.{Next, to_begun, to_finished, reset_begun, reset_finished, to_ended, Moves, Awaits, Sound}
-use Rattle.chart_core.proofs.Joined.{or_left, or_right}
-use Rattle.chart_core.proofs.Cuts.{All-append, All-mono}
+use Rattle.chart_core.proofs.Cuts.{All_append, All_mono}
 
 -- Laps
 
@@ -361,7 +361,7 @@ pub rounds_of :
 rounds_of one test Body turns Last body turned closed word (last ending) = closed word ending
 rounds_of one test Body turns Last body turned closed word (round front entry back cut run rightly others) =
     subst (All test) (sym cut)
-    (All-append test front (entry ∷ back) (body front run)
+    (All_append test front (entry ∷ back) (body front run)
     (turned entry rightly, rounds_of one test Body turns Last body turned closed back others))
 
 -- every entry of a partial run is of the course, whether it decides rightly or not
@@ -372,15 +372,15 @@ partial_of (step number finishes stage) word sound (others, inl cut) =
     all_staged stage word others _ (refl, (refl, (refl, tt))) cut
 partial_of (step number finishes stage) word sound (others, inr (can, cut)) =
     all_staged stage word others _ (refl, (refl, (refl, (refl, tt)))) cut
-partial_of (chain one other) word sound (inl part) = All-mono (is_of one) (is_of (chain one other)) word
+partial_of (chain one other) word sound (inl part) = All_mono (is_of one) (is_of (chain one other)) word
     (λ entry. or_left (is_of one entry) (is_of other entry))
     (partial_of one word sound.0 part)
 partial_of (chain one other) word sound (inr (front, back, cut, here, there)) =
     subst (All (is_of (chain one other))) (sym cut)
-    (All-append (is_of (chain one other)) front back
-    (All-mono (is_of one) (is_of (chain one other)) front (λ entry. or_left (is_of one entry) (is_of other entry))
+    (All_append (is_of (chain one other)) front back
+    (All_mono (is_of one) (is_of (chain one other)) front (λ entry. or_left (is_of one entry) (is_of other entry))
     (partial_of one front sound.0 (complete_partial one front here)))
-    (All-mono (is_of other) (is_of (chain one other)) back (λ entry. or_right (is_of one entry) (is_of other entry))
+    (All_mono (is_of other) (is_of (chain one other)) back (λ entry. or_right (is_of one entry) (is_of other entry))
     (partial_of other back sound.1 there)))
 partial_of (beside one other) word sound (all, here, there) = all
 partial_of (select number count own chooses bodies) word sound (inl none) =
@@ -388,7 +388,7 @@ partial_of (select number count own chooses bodies) word sound (inl none) =
 partial_of (select number count own chooses bodies) word sound (inr (arm, first, back, cut, below, right, run)) =
     subst (All (is_of (select number count own chooses bodies))) (sym cut) (
       or_left (own first) (any_below count (λ each. is_of (bodies each) first)) (sound.4 arm first right),
-      All-mono (is_of (bodies arm)) (is_of (select number count own chooses bodies)) back
+      All_mono (is_of (bodies arm)) (is_of (select number count own chooses bodies)) back
           (λ entry own_entry. or_right (own entry) (any_below count (λ each. is_of (bodies each) entry))
           (any_at count (λ each. is_of (bodies each) entry) arm below own_entry))
           (partial_of (bodies arm) back (sound.0 arm) run),
@@ -398,17 +398,17 @@ partial_of (repeat number after body own turns leaves) word sound part =
     ≡ true =
     λ entry is. or_right (own entry) (is_of body entry) is in
     let whole : (front : List _) → Complete body front → All (is_of (repeat number after body own turns leaves)) front
-    = λ front run. All-mono (is_of body) (is_of (repeat number after body own turns leaves)) front inside
+    = λ front run. All_mono (is_of body) (is_of (repeat number after body own turns leaves)) front inside
     (partial_of body front sound.0 (complete_partial body front run)) in
     rounds_of (is_of body) (is_of (repeat number after body own turns leaves)) (Complete body) turns
     (λ rest. Partial body rest ⊎ Closing (Complete body) leaves rest) whole
     (λ entry is. or_left (own entry) (is_of body entry) (sound.6 entry is))
     (λ rest is. elim is [
-      | inl run ↦ All-mono (is_of body) (is_of (repeat number after body own turns leaves)) rest inside
+      | inl run ↦ All_mono (is_of body) (is_of (repeat number after body own turns leaves)) rest inside
           (partial_of body rest sound.0 run)
       | inr (front, final, cut, run, rightly) ↦
           subst (All (is_of (repeat number after body own turns leaves))) (sym cut)
-          (All-append (is_of (repeat number after body own turns leaves)) front (final ∷ []) (whole front run)
+          (All_append (is_of (repeat number after body own turns leaves)) front (final ∷ []) (whole front run)
           (or_left (own final) (is_of body final) (sound.7 final rightly), tt))
     ]) word part
 

@@ -3,11 +3,11 @@ use Rattle.std.specs.Prelude.{ℕ, ◌≡◌, Bool, true, false, List, [], ◌�
 use Rattle.std.proofs.Common.{sym, ◌∙◌, ap, subst, inl, inr, arith, append_assoc}
 use Rattle.std.specs.List.{filter}
 use Rattle.std.proofs.lemmas.List.{append-nil, map-append}
+use Rattle.std.proofs.lemmas.Bool.{false_from_ne_true, or_cases, or_left, or_right}
 use Rattle.chart_core.specs.Courses.{Course, nothing, step, chain, beside, select, repeat, is_of, All, StepRun, Rounds, last, round, Closing, Complete, Partial}
 use Rattle.chart_core.specs.Progress.{Marks, Has, Done, Had, Stands}
 use Rattle.chart_core.proofs.Relations.{Moves, Awaits, Sound}
-use Rattle.chart_core.proofs.Joined.{or_left, or_right, or_split, not_true}
-use Rattle.chart_core.proofs.Cuts.{All-append, All-front, All-back, snoc_not_nil, snoc_same, none_both, cut_unique, turn_unique, snoc_cut}
+use Rattle.chart_core.proofs.Cuts.{All_append, All_front, All_back, snoc_not_nil, snoc_same, none_both, cut_unique, turn_unique, snoc_cut}
 use Rattle.chart_core.proofs.Link.{had_ended, had_next, had_awaits, agree_done, agree_fresh, agree_stands, move_frame, fresh_stands, complete_partial, done_complete, stands_partial, partial_of, stands_of, move_await, await_of, done_no_await, filter_in, filter_out, rounds_snoc, rounds_turn}
 
 -- An awaited entry: what is kept then stands for the longer word.
@@ -55,10 +55,11 @@ take_stands (chain one other) marks word entry later sound (inr (front, back, cu
     )
 take_stands (beside one other) marks word entry later sound (all, here, there) (inl move) =
     let of_it : is_of one entry ≡ true = await_of one marks entry sound.0 (move_await one marks entry later move) in
-    let isnt : is_of other entry ≡ false = not_true (is_of other entry) (λ also. sound.2.0 entry of_it also) in
+    let isnt : is_of other entry ≡ false =
+    false_from_ne_true (is_of other entry) (λ also. sound.2.0 entry of_it also) in
     let same : (place : ℕ) → Has other place → later place ≡ marks place =
     λ place has. move_frame one marks entry later sound.0 move place (λ also. sound.2.1 place also has) in (
-      All-append (is_of (beside one other)) word (entry ∷ []) all
+      All_append (is_of (beside one other)) word (entry ∷ []) all
           (or_left (is_of one entry) (is_of other entry) of_it, tt),
       subst (Stands one later) (sym (filter_in (is_of one) word entry of_it))
           (take_stands one marks (filter (is_of one) word) entry later sound.0 here move),
@@ -68,10 +69,10 @@ take_stands (beside one other) marks word entry later sound (all, here, there) (
 take_stands (beside one other) marks word entry later sound (all, here, there) (inr move) =
     let of_it : is_of other entry ≡ true = await_of other marks entry sound.1
     (move_await other marks entry later move) in
-    let isnt : is_of one entry ≡ false = not_true (is_of one entry) (λ also. sound.2.0 entry also of_it) in
+    let isnt : is_of one entry ≡ false = false_from_ne_true (is_of one entry) (λ also. sound.2.0 entry also of_it) in
     let same : (place : ℕ) → Has one place → later place ≡ marks place =
     λ place has. move_frame other marks entry later sound.1 move place (λ also. sound.2.1 place has also) in (
-      All-append (is_of (beside one other)) word (entry ∷ []) all
+      All_append (is_of (beside one other)) word (entry ∷ []) all
           (or_right (is_of one entry) (is_of other entry) of_it, tt),
       subst (Stands one later) (sym (filter_out (is_of one) word entry isnt))
           (agree_stands one marks later (filter (is_of one) word) same sound.0 here),
@@ -170,7 +171,7 @@ rounds_align test Body turns Before After Goal added of_body apart both early la
 -- in a word that is all of p, nothing else stands
 pub inside : {E : Type 0} (test : E → Bool) (front : List E) (entry : E) (back : List E)
     → All test (front ++ (entry ∷ back)) → test entry ≡ true
-inside test front entry back all = (All-back test front (entry ∷ back) all).0
+inside test front entry back all = (All_back test front (entry ∷ back) all).0
 
 -- a closing does not go on past its leave
 pub closing_late :
@@ -200,7 +201,7 @@ complete_done nothing marks word sound stands whole = tt
 complete_done (step number finishes stage) marks word sound stands whole =
     had_ended finishes (marks number) (map stage word) stands whole
 complete_done (chain one other) marks word sound (inl (stands, fresh)) (front, back, cut, here, there) =
-    let in_one : All (is_of one) back = All-back (is_of one) front back
+    let in_one : All (is_of one) back = All_back (is_of one) front back
     (subst (All (is_of one)) cut (stands_of one marks word sound.0 stands)) in
     let in_other : All (is_of other) back = partial_of other back sound.1 (complete_partial other back there) in
     let none : back ≡ [] = none_both (is_of one) (is_of other) back sound.2.0 in_one in_other in
@@ -250,6 +251,18 @@ complete_done (repeat number after body own turns leaves) marks word sound (inl 
     word rounds (subst (Rounds (Complete body) turns (Closing (Complete body) leaves)) (sym (append-nil word)) whole))
 complete_done (repeat number after body own turns leaves) marks word sound (inr (mark, rounds)) whole = mark
 
+-- Where the first of two courses may still go on, the second has had nothing.
+front_alone :
+    {E : Type 0} (one other : Course E) (marks : Marks) (word front back : List E) (entry : E) → Sound (chain one other)
+    → word ≡ front ++ back → Stands other marks back → Partial one (word ++ (entry ∷ [])) → word ≡ front
+front_alone one other marks word front back entry sound cut there part =
+    let in_other : All (is_of other) back = stands_of other marks back sound.1 there in
+    let in_one : All (is_of one) (front ++ back) = subst (All (is_of one)) cut
+    (All_front (is_of one) word (entry ∷ []) (partial_of one (word ++ (entry ∷ [])) sound.0 part)) in
+    let none : back ≡ [] = none_both (is_of one) (is_of other) back sound.2.0
+    (All_back (is_of one) front back in_one) in_other in
+    cut ∙ ap (λ text. front ++ text) none ∙ append-nil front
+
 -- An entry after which the word is still a part is awaited.
 pub partial_awaits :
     {E : Type 0} (course : Course E) (marks : Marks) (word : List E) (entry : E) → Sound course
@@ -267,9 +280,9 @@ partial_awaits (chain one other) marks word entry sound (inl (stands, fresh)) (i
           inl (partial_awaits one marks word entry sound.0 stands
           (subst (Partial one) (sym ends.1) (complete_partial one front here)))
       | inr (middle, ends, starts) ↦
-          let in_one : All (is_of one) middle = All-back (is_of one) front middle
+          let in_one : All (is_of one) middle = All_back (is_of one) front middle
           (subst (All (is_of one)) starts (stands_of one marks word sound.0 stands)) in
-          let in_other : All (is_of other) middle = All-front (is_of other) middle (entry ∷ [])
+          let in_other : All (is_of other) middle = All_front (is_of other) middle (entry ∷ [])
           (subst (All (is_of other)) ends (partial_of other back sound.1 there)) in
           let none : middle ≡ [] = none_both (is_of one) (is_of other) middle sound.2.0 in_one in_other in
           let same : word ≡ front = starts ∙ ap (λ text. front ++ text) none ∙ append-nil front in
@@ -281,12 +294,7 @@ partial_awaits (chain one other) marks word entry sound (inl (stands, fresh)) (i
           )
     ]
 partial_awaits (chain one other) marks word entry sound (inr (front, back, cut, done, here, there)) (inl part) =
-    let in_other : All (is_of other) back = stands_of other marks back sound.1 there in
-    let in_one : All (is_of one) (front ++ back) = subst (All (is_of one)) cut
-    (All-front (is_of one) word (entry ∷ []) (partial_of one (word ++ (entry ∷ [])) sound.0 part)) in
-    let none : back ≡ [] = none_both (is_of one) (is_of other) back sound.2.0
-    (All-back (is_of one) front back in_one) in_other in
-    let same : word ≡ front = cut ∙ ap (λ text. front ++ text) none ∙ append-nil front in
+    let same = front_alone one other marks word front back entry sound cut there part in
     inl (partial_awaits one marks front entry sound.0 here
     (subst (λ middle. Partial one (middle ++ (entry ∷ []))) same part))
 partial_awaits (chain one other) marks word entry sound (inr (front, back, cut, done, here, there))
@@ -295,16 +303,11 @@ partial_awaits (chain one other) marks word entry sound (inr (front, back, cut, 
       | inl ends ↦
           let part : Partial one (word ++ (entry ∷ [])) =
           subst (Partial one) (sym ends.1) (complete_partial one start here1) in
-          let in_other : All (is_of other) back = stands_of other marks back sound.1 there in
-          let in_one : All (is_of one) (front ++ back) = subst (All (is_of one)) cut
-          (All-front (is_of one) word (entry ∷ []) (partial_of one (word ++ (entry ∷ [])) sound.0 part)) in
-          let none : back ≡ [] = none_both (is_of one) (is_of other) back sound.2.0
-          (All-back (is_of one) front back in_one) in_other in
-          let same : word ≡ front = cut ∙ ap (λ text. front ++ text) none ∙ append-nil front in
+          let same = front_alone one other marks word front back entry sound cut there part in
           inl (partial_awaits one marks front entry sound.0 here
           (subst (λ middle. Partial one (middle ++ (entry ∷ []))) same part))
       | inr (middle, ends, starts) ↦
-          let of_other : All (is_of other) middle = All-front (is_of other) middle (entry ∷ [])
+          let of_other : All (is_of other) middle = All_front (is_of other) middle (entry ∷ [])
           (subst (All (is_of other)) ends (partial_of other rest sound.1 there1)) in
           let same : (front ≡ start) × (back ≡ middle)
           = cut_unique (is_of one) (is_of other) front back start middle sound.2.0
@@ -318,7 +321,7 @@ partial_awaits (chain one other) marks word entry sound (inr (front, back, cut, 
     ]
 partial_awaits (beside one other) marks word entry sound (all, here, there) (all1, here1, there1) =
     elim
-    (or_split (is_of one entry) (is_of other entry) (All-back (is_of (beside one other)) word (entry ∷ []) all1).0) [
+    (or_cases (is_of one entry) (is_of other entry) (All_back (is_of (beside one other)) word (entry ∷ []) all1).0) [
       | inl of_it ↦ inl (partial_awaits one marks (filter (is_of one) word) entry sound.0 here
           (subst (Partial one) (filter_in (is_of one) word entry of_it) here1))
       | inr of_it ↦ inr (partial_awaits other marks (filter (is_of other) word) entry sound.1 there
@@ -403,7 +406,7 @@ partial_awaits (repeat none after body own turns leaves) marks word entry sound 
     (λ back (front, final, cut, part1, rightly) ending. elim ending [
       | inl run ↦
           sound.4 final (inside (is_of body) front final [] (subst (All (is_of body)) cut
-          (All-front (is_of body) back (entry ∷ []) (partial_of body (back ++ (entry ∷ [])) sound.0 run)))) rightly
+          (All_front (is_of body) back (entry ∷ []) (partial_of body (back ++ (entry ∷ [])) sound.0 run)))) rightly
       | inr (start, final1, cut1, body1, rightly1) ↦
           let alike : (back ≡ start) × (entry ≡ final1) = snoc_same back start entry final1 cut1 in
           let in_body : All (is_of body) back = subst (All (is_of body)) (sym alike.0)

@@ -3,12 +3,12 @@ use Rattle.std.proofs.Common.{◌≡◌, ℕ, ◌+◌, Bool, Option, Some, None,
 use Rattle.std.specs.Prelude.{map}
 use Rattle.std.specs.Option.{option_map}
 use Rattle.std.proofs.lemmas.List.{map-append}
-use Rattle.chart_core.specs.Trees.{StepPlan, Placed, Tree, Trees, Arms, leaf, seq, par, choice, loop, no_trees, more_trees, no_arms, more_arms, size, steps, all_steps, arm_steps}
+use Rattle.chart_core.specs.Trees.{PlainStep, Placed, Tree, Trees, Arms, leaf, seq, par, choice, loop, no_trees, more_trees, no_arms, more_arms, size, steps, all_steps, arm_steps}
 use Rattle.chart_core.specs.Active.{Phase, or_earlier, or_idle, is_running}
 use Rattle.chart_core.specs.Order.{step_plans, all_step_plans, arm_step_plans, or_before}
 
 -- a step of a chart
-abbrev step_in : Placed → StepPlan
+abbrev step_in : Placed → PlainStep
 step_in placed = placed.step
 
 mutual

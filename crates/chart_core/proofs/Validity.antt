@@ -1,22 +1,21 @@
 -- What a valid chart has: distinct step names, and few nodes.
-use Rattle.std.specs.Prelude.{ℕ, ◌≡◌, ◌<◌, ◌≤◌, ◌+◌, ◌-◌, ◌*◌, Bool, true, false, not, ◌||◌, nat_lt, nat_le, List, [], ◌∷◌, ◌++◌, map, Option, Some, None, refl, IsTrue}
+use Rattle.std.specs.Prelude.{ℕ, ◌≡◌, ◌<◌, ◌≤◌, ◌+◌, ◌-◌, ◌*◌, Bool, true, false, not, ◌&&◌, ◌||◌, nat_lt, nat_le, List, [], ◌∷◌, ◌++◌, map, Option, Some, None, refl, IsTrue}
 use Rattle.std.proofs.Common.{sym, ◌∙◌, ap, subst, inl, inr, arith}
 use Rattle.std.proofs.lemmas.List.{map-append}
-use Rattle.std.proofs.lemmas.Bool.Decides.{nat_tests}
 use Rattle.std.proofs.lemmas.Cmp.{nat_list_eq_equiv}
+use Rattle.std.proofs.lemmas.Bool.{and_from, and_parts, leb-false, leb-true, lt-ltb, ltb-false, or_left, or_right}
 use Rattle.std.specs.Option.{option_or}
 use Rattle.mtp_codes.specs.Names.{is_among, same_name}
 use Rattle.mtp_codes.specs.Numbers.{is_between}
 use Rattle.mtp_codes.specs.Faults.{first_of, when}
 use Rattle.chart_core.specs.declared.limits.TheConstants.{MOST_ARMS, DEEPEST_NODE, MOST_STEPS, MOST_NODES}
 use Rattle.chart_core.specs.Form.{is_tree_formed, are_trees_formed, are_arms_formed, is_formula_formed, tree_count}
-use Rattle.chart_core.specs.Roles.{ChartPlan, role_names, are_roles_formed, is_chart_form}
-use Rattle.chart_core.specs.Trees.{StepPlan, Placed, Tree, Trees, Arms, leaf, seq, par, choice, loop, no_trees, more_trees, no_arms, more_arms, size, sizes, arm_sizes, arm_count, steps, all_steps, arm_steps}
+use Rattle.chart_core.specs.Roles.{PlainChart, role_names, are_roles_formed, is_chart_form}
+use Rattle.chart_core.specs.Trees.{PlainStep, Placed, Tree, Trees, Arms, leaf, seq, par, choice, loop, no_trees, more_trees, no_arms, more_arms, size, sizes, arm_sizes, arm_count, steps, all_steps, arm_steps}
 use Rattle.chart_core.specs.Names.{names, all_names, arm_names, In, Distinct}
 use Rattle.chart_core.specs.Valid.{Visit, visit, visits, all_visits, arm_visits, step_count, step_counts, arm_step_counts, has_name, some_has_name, arm_has_name, node_faults, node_fault, first_fault, IsValid}
 use Rattle.chart_core.specs.declared.fault.ChartFault.{ChartFault}
 use Rattle.chart_core.specs.declared.fault.ChartFault.TheVariants.{TooDeep, TooManySteps, StepTwice, UnknownRole}
-use Rattle.chart_core.proofs.Joined.{or_left, or_right, and_left, and_right, and_both, lt_holds}
 
 -- each member has the property
 abbrev pub Each : {A : Type 0} → (A → Type 0) → List A → Type 0
@@ -24,12 +23,12 @@ Each Property [] = Unit {0}
 Each Property (first ∷ others) = Property first × Each Property others
 
 -- what holds of each member holds of each of the front
-each_front : {A : Type 0} (Fact : A → Type 0) (front back : List A) → Each Fact (front ++ back) → Each Fact front
+pub each_front : {A : Type 0} (Fact : A → Type 0) (front back : List A) → Each Fact (front ++ back) → Each Fact front
 each_front Fact [] back here = tt
 each_front Fact (first ∷ front) back (here, others) = (here, each_front Fact front back others)
 
 -- and of each of the back
-each_back : {A : Type 0} (Fact : A → Type 0) (front back : List A) → Each Fact (front ++ back) → Each Fact back
+pub each_back : {A : Type 0} (Fact : A → Type 0) (front back : List A) → Each Fact (front ++ back) → Each Fact back
 each_back Fact [] back here = here
 each_back Fact (first ∷ front) back (here, others) = each_back Fact front back others
 
@@ -47,39 +46,31 @@ each_map Fact Weaker weakens (item ∷ items) (here, others) =
     (weakens item here, each_map Fact Weaker weakens items others)
 
 -- the node has no fault
-abbrev IsClear : ChartPlan → Visit → Type 0
+abbrev IsClear : PlainChart → Visit → Type 0
 IsClear chart node = node_fault chart node ≡ None
 
 -- where a fault is none, its test failed
-no_fault : (here : Bool) (fault : ChartFault) → when here fault ≡ None → here ≡ false
+pub no_fault : (here : Bool) (fault : ChartFault) → when here fault ≡ None → here ≡ false
 no_fault true fault none = cc
 no_fault false fault none = refl
 
 -- where the first fault is none, both are
-first_clear : (one other : Option ChartFault) → option_or one other ≡ None → (one ≡ None) × (other ≡ None)
+pub first_clear : (one other : Option ChartFault) → option_or one other ≡ None → (one ≡ None) × (other ≡ None)
 first_clear None other none = (refl, none)
 first_clear (Some fault) other none = cc
 
 -- in a chart without a fault no node has one
-all_clear : (chart : ChartPlan) (nodes : List Visit) → first_fault chart nodes ≡ None → Each (IsClear chart) nodes
+all_clear : (chart : PlainChart) (nodes : List Visit) → first_fault chart nodes ≡ None → Each (IsClear chart) nodes
 all_clear chart [] none = tt
 all_clear chart (node ∷ nodes) none =
     let both = first_clear (node_fault chart node) (first_fault chart nodes) none in
     (both.0, all_clear chart nodes both.1)
 
 -- where the first of some faults is none, all are
-none_first : (faults : List (Option ChartFault)) → first_of faults ≡ None → Each (λ fault. fault ≡ None) faults
+pub none_first : (faults : List (Option ChartFault)) → first_of faults ≡ None → Each (λ fault. fault ≡ None) faults
 none_first [] none = tt
 none_first (fault ∷ faults) none = let both = first_clear fault (first_of faults) none in
     (both.0, none_first faults both.1)
-
--- what the test of depth says
-shallow_told : (depth : ℕ) → nat_lt DEEPEST_NODE depth ≡ false → depth ≤ DEEPEST_NODE
-shallow_told depth tested = grind (arith, nat_tests)
-
--- what the test of the number of steps says
-few_told : (earlier : ℕ) → nat_le MOST_STEPS earlier ≡ false → earlier < MOST_STEPS
-few_told earlier tested = grind (arith, nat_tests)
 
 -- what the test of roles says
 among_told : (known reads : Bool) → not known || reads ≡ false → known ≡ true
@@ -87,20 +78,20 @@ among_told true reads tested = refl
 among_told false reads tested = cc
 
 -- what no fault of a step says
-record StepClear (chart : ChartPlan) (step : StepPlan) (number depth earlier : ℕ) : Type 0 where
+record StepClear (chart : PlainChart) (step : PlainStep) (number depth earlier : ℕ) : Type 0 where
   pub shallow : depth ≤ DEEPEST_NODE
   pub few : earlier < MOST_STEPS
   pub new_name : has_name chart.root number step.name ≡ false
   pub known_role : is_among (role_names chart) step.role ≡ true
 
 -- a step without a fault
-step_clear : (chart : ChartPlan) (step : StepPlan) (number depth earlier : ℕ)
+step_clear : (chart : PlainChart) (step : PlainStep) (number depth earlier : ℕ)
     → IsClear chart (visit (leaf step) number depth earlier) → StepClear chart step number depth earlier
 step_clear chart step number depth earlier clear =
     let none = none_first (node_faults chart (visit (leaf step) number depth earlier)) clear in
     record {
-      shallow = shallow_told depth (no_fault (nat_lt DEEPEST_NODE depth) (TooDeep number) none.0);
-      few = few_told earlier (no_fault (nat_le MOST_STEPS earlier) (TooManySteps number) none.1.0);
+      shallow = ltb-false DEEPEST_NODE depth (no_fault (nat_lt DEEPEST_NODE depth) (TooDeep number) none.0);
+      few = leb-false MOST_STEPS earlier (no_fault (nat_le MOST_STEPS earlier) (TooManySteps number) none.1.0);
       new_name = no_fault (has_name chart.root number step.name) (StepTwice number) none.1.1.0;
       known_role = among_told _ _ (no_fault _ (UnknownRole number) none.1.1.1.0);
     }
@@ -108,14 +99,14 @@ step_clear chart step number depth earlier clear =
 -- Names
 
 -- no earlier node has the step's name
-abbrev HasNewName : ChartPlan → Placed → Type 0
+abbrev HasNewName : PlainChart → Placed → Type 0
 HasNewName chart placed = has_name chart.root placed.number placed.step.name ≡ false
 
 mutual
   -- what no fault of a step says holds of each step of a tree without faults
   on_steps :
-      (chart : ChartPlan) (Fact : Placed → Type 0)
-      → ((step : StepPlan) (number depth earlier : ℕ) → StepClear chart step number depth earlier
+      (chart : PlainChart) (Fact : Placed → Type 0)
+      → ((step : PlainStep) (number depth earlier : ℕ) → StepClear chart step number depth earlier
       → Fact (record { number = number; step = step }))
       → (node : Tree) (number depth earlier : ℕ) → Each (IsClear chart) (visits node number depth earlier)
       → Each Fact (steps node number)
@@ -131,8 +122,8 @@ mutual
       on_steps chart Fact says body (number + 1) (depth + 1) earlier clear.1
 
   on_all_steps :
-      (chart : ChartPlan) (Fact : Placed → Type 0)
-      → ((step : StepPlan) (number depth earlier : ℕ) → StepClear chart step number depth earlier
+      (chart : PlainChart) (Fact : Placed → Type 0)
+      → ((step : PlainStep) (number depth earlier : ℕ) → StepClear chart step number depth earlier
       → Fact (record { number = number; step = step }))
       → (nodes : Trees) (number depth earlier : ℕ) → Each (IsClear chart) (all_visits nodes number depth earlier)
       → Each Fact (all_steps nodes number)
@@ -146,8 +137,8 @@ mutual
       (all_visits nodes (number + size node) depth (earlier + step_count node)) clear))
 
   on_arm_steps :
-      (chart : ChartPlan) (Fact : Placed → Type 0)
-      → ((step : StepPlan) (number depth earlier : ℕ) → StepClear chart step number depth earlier
+      (chart : PlainChart) (Fact : Placed → Type 0)
+      → ((step : PlainStep) (number depth earlier : ℕ) → StepClear chart step number depth earlier
       → Fact (record { number = number; step = step }))
       → (nodes : Arms) (number depth earlier : ℕ) → Each (IsClear chart) (arm_visits nodes number depth earlier)
       → Each Fact (arm_steps nodes number)
@@ -168,7 +159,7 @@ IsFound has number placed = (count : ℕ) (name : List ℕ) → placed.number < 
 
 -- a step is found at its own number
 here_found : (number count : ℕ) → number < number + count → nat_lt 0 count ≡ true
-here_found number count inside = let some : 0 < count = omega arith in lt_holds 0 count some
+here_found number count inside = let some : 0 < count = omega arith in lt-ltb 0 count some
 
 -- what is found below a node is found from the node on
 below_found : (has : ℕ → List ℕ → Bool) (number : ℕ) (placed : Placed) → IsFound has (number + 1) placed
@@ -193,7 +184,7 @@ front_found one other number size_before placed finds count name inside same =
 mutual
   found : (node : Tree) (number : ℕ) → Each (IsFound (has_name node) number) (steps node number)
   found (leaf step) number = (
-    λ count name inside same. and_both (nat_lt 0 count) (same_name step.name name)
+    λ count name inside same. and_from (nat_lt 0 count) (same_name step.name name)
         (here_found number count inside) same,
     tt,
   )
@@ -326,7 +317,7 @@ same_itself name = nat_list_eq_equiv.refl name
 
 -- no step behind has the name of this one
 fresh_name :
-    (chart : ChartPlan) (one : Placed) (low high : ℕ) (placed : List Placed) → one.number < low → Rise low high placed
+    (chart : PlainChart) (one : Placed) (low high : ℕ) (placed : List Placed) → one.number < low → Rise low high placed
     → IsFound (has_name chart.root) 0 one
     → Each (HasNewName chart) placed → In (name_of one) (map name_of placed) → ⊥
 fresh_name chart one low high [] below rise finds new again = again
@@ -340,7 +331,7 @@ fresh_name chart one low high (other ∷ placed) below (from, under, rise) finds
 
 -- steps of which each has a new name have distinct names
 distinct_names :
-    (chart : ChartPlan) (low high : ℕ) (placed : List Placed) → Rise low high placed
+    (chart : PlainChart) (low high : ℕ) (placed : List Placed) → Rise low high placed
     → Each (IsFound (has_name chart.root) 0) placed → Each (HasNewName chart) placed
     → Distinct (map name_of placed)
 distinct_names chart low high [] rise finds new = tt
@@ -351,7 +342,7 @@ distinct_names chart low high (one ∷ placed) (from, under, rise) (finds, other
 )
 
 -- In a valid chart the step names are distinct.
-pub valid_distinct : (chart : ChartPlan) → IsValid chart → Distinct (names chart.root)
+pub valid_distinct : (chart : PlainChart) → IsValid chart → Distinct (names chart.root)
 valid_distinct chart valid =
     subst Distinct (sym (names_are chart.root 0))
     (distinct_names chart 0 (0 + size chart.root) (steps chart.root 0) (steps_rise chart.root 0) (found chart.root 0)
@@ -359,7 +350,7 @@ valid_distinct chart valid =
     (all_clear chart (visits chart.root 0 1 0) valid)))
 
 -- In a valid chart the role of each step is one of the chart's.
-pub valid_roles : (chart : ChartPlan) → IsValid chart → Each
+pub valid_roles : (chart : PlainChart) → IsValid chart → Each
     (λ placed. is_among (role_names chart) placed.step.role ≡ true) (steps chart.root 0)
 valid_roles chart valid =
     on_steps chart (λ placed. is_among (role_names chart) placed.step.role ≡ true)
@@ -373,16 +364,26 @@ record Bound (number nodes earlier count : ℕ) : Type 0 where
   pub near : number + nodes ≤ DEEPEST_NODE * (earlier + count)
   pub few : earlier + count ≤ MOST_STEPS
 
--- what the test for some says
-some_told : (count : ℕ) → nat_le 1 count ≡ true → 0 < count
-some_told count tested = grind (arith, nat_tests)
+-- where there are at least so many, there are some
+some_told : (least count : ℕ) → 0 < least → nat_le least count ≡ true → 0 < count
+some_told least count some tested = let enough = leb-true least count tested in omega arith
 
--- what the test for two says
-two_told : (count : ℕ) → nat_le 2 count ≡ true → 0 < count
-two_told count tested = grind (arith, nat_tests)
+-- in the form of some children there are some, and each has its form
+children_formed : (least : ℕ) (nodes : Trees) → 0 < least
+    → nat_le least (tree_count nodes) && are_trees_formed nodes ≡ true
+    → (0 < tree_count nodes) × (are_trees_formed nodes ≡ true)
+children_formed least nodes some formed =
+    let both = and_parts (nat_le least (tree_count nodes)) (are_trees_formed nodes) formed in
+    (some_told least (tree_count nodes) some both.0, both.1)
+
+-- a node with its children has as many nodes as those allow
+node_bound : (number nodes earlier count : ℕ) → Bound (number + 1) nodes earlier count
+    → Bound number (1 + nodes) earlier count
+node_bound number nodes earlier count bound =
+    record { near = omega (arith, bound.near); few = bound.few }
 
 mutual
-  bounded : (chart : ChartPlan) (node : Tree) (number depth earlier : ℕ)
+  bounded : (chart : PlainChart) (node : Tree) (number depth earlier : ℕ)
       → Each (IsClear chart) (visits node number depth earlier)
       → is_tree_formed node ≡ true → number < DEEPEST_NODE * earlier + depth → earlier ≤ MOST_STEPS
       → Bound number (size node) earlier (step_count node)
@@ -390,30 +391,27 @@ mutual
       let step_is_clear = step_clear chart step number depth earlier clear.0 in
       record { near = omega arith; few = omega arith }
   bounded chart (seq each) number depth earlier clear formed near few =
-      let bound = all_bounded chart each (number + 1) (depth + 1) earlier clear.1
-      (and_right (nat_le 1 (tree_count each)) _ formed)
-      (some_told (tree_count each) (and_left (nat_le 1 (tree_count each)) _ formed))
-      (omega arith) (omega arith) few in
-      record { near = omega arith; few = bound.few }
+      let children = children_formed 1 each (omega arith) formed in
+      node_bound number (sizes each) earlier (step_counts each)
+      (all_bounded chart each (number + 1) (depth + 1) earlier clear.1 children.1 children.0 (omega arith)
+      (omega arith) few)
   bounded chart (par each) number depth earlier clear formed near few =
-      let bound = all_bounded chart each (number + 1) (depth + 1) earlier clear.1
-      (and_right (nat_le 2 (tree_count each)) _ formed)
-      (two_told (tree_count each) (and_left (nat_le 2 (tree_count each)) _ formed))
-      (omega arith) (omega arith) few in
-      record { near = omega arith; few = bound.few }
+      let children = children_formed 2 each (omega arith) formed in
+      node_bound number (sizes each) earlier (step_counts each)
+      (all_bounded chart each (number + 1) (depth + 1) earlier clear.1 children.1 children.0 (omega arith)
+      (omega arith) few)
   bounded chart (choice each) number depth earlier clear formed near few =
-      let bound = arms_bounded chart each (number + 1) (depth + 1) earlier clear.1
-      (and_right (is_between 1 MOST_ARMS (arm_count each)) _ formed)
-      (some_told (arm_count each) (and_left (nat_le 1 (arm_count each)) _
-      (and_left (is_between 1 MOST_ARMS (arm_count each)) _ formed)))
-      (omega arith) (omega arith) few in
-      record { near = omega arith; few = bound.few }
+      let children = and_parts (is_between 1 MOST_ARMS (arm_count each)) (are_arms_formed each) formed in
+      let some = and_parts (nat_le 1 (arm_count each)) (nat_le (arm_count each) MOST_ARMS) children.0 in
+      node_bound number (arm_sizes each) earlier (arm_step_counts each)
+      (arms_bounded chart each (number + 1) (depth + 1) earlier clear.1 children.1
+      (some_told 1 (arm_count each) (omega arith) some.0) (omega arith) (omega arith) few)
   bounded chart (loop body until) number depth earlier clear formed near few =
-      let bound = bounded chart body (number + 1) (depth + 1) earlier clear.1 (and_left (is_tree_formed body) _ formed)
-      (omega arith) few in
-      record { near = omega arith; few = bound.few }
+      node_bound number (size body) earlier (step_count body)
+      (bounded chart body (number + 1) (depth + 1) earlier clear.1
+      (and_parts (is_tree_formed body) (is_formula_formed until) formed).0 (omega arith) few)
 
-  all_bounded : (chart : ChartPlan) (nodes : Trees) (number depth earlier : ℕ)
+  all_bounded : (chart : PlainChart) (nodes : Trees) (number depth earlier : ℕ)
       → Each (IsClear chart) (all_visits nodes number depth earlier)
       → are_trees_formed nodes ≡ true → 0 < tree_count nodes
       → 0 < depth → number < DEEPEST_NODE * earlier + depth → earlier ≤ MOST_STEPS
@@ -422,20 +420,20 @@ mutual
   all_bounded chart (more_trees node no_trees) number depth earlier clear formed some deep near few =
       let bound = bounded chart node number depth earlier
       (each_front (IsClear chart) (visits node number depth earlier) [] clear)
-      (and_left (is_tree_formed node) _ formed) near few in
+      (and_parts (is_tree_formed node) _ formed).0 near few in
       record { near = omega (arith, bound.near); few = omega (arith, bound.few) }
   all_bounded chart (more_trees node (more_trees other nodes)) number depth earlier clear formed some deep near few =
       let bound = bounded chart node number depth earlier
       (each_front (IsClear chart) (visits node number depth earlier)
       (all_visits (more_trees other nodes) (number + size node) depth (earlier + step_count node)) clear)
-      (and_left (is_tree_formed node) _ formed) near few in
+      (and_parts (is_tree_formed node) _ formed).0 near few in
       let rest = all_bounded chart (more_trees other nodes) (number + size node) depth (earlier + step_count node)
       (each_back (IsClear chart) (visits node number depth earlier)
       (all_visits (more_trees other nodes) (number + size node) depth (earlier + step_count node)) clear)
-      (and_right (is_tree_formed node) _ formed) (omega arith) deep (omega (arith, bound.near)) bound.few in
+      (and_parts (is_tree_formed node) _ formed).1 (omega arith) deep (omega (arith, bound.near)) bound.few in
       record { near = omega (arith, rest.near); few = omega (arith, rest.few) }
 
-  arms_bounded : (chart : ChartPlan) (nodes : Arms) (number depth earlier : ℕ)
+  arms_bounded : (chart : PlainChart) (nodes : Arms) (number depth earlier : ℕ)
       → Each (IsClear chart) (arm_visits nodes number depth earlier)
       → are_arms_formed nodes ≡ true → 0 < arm_count nodes
       → 0 < depth → number < DEEPEST_NODE * earlier + depth → earlier ≤ MOST_STEPS
@@ -444,28 +442,28 @@ mutual
   arms_bounded chart (more_arms when node no_arms) number depth earlier clear formed some deep near few =
       let bound = bounded chart node number depth earlier
       (each_front (IsClear chart) (visits node number depth earlier) [] clear)
-      (and_left (is_tree_formed node) _ formed) near few in
+      (and_parts (is_tree_formed node) _ formed).0 near few in
       record { near = omega (arith, bound.near); few = omega (arith, bound.few) }
   arms_bounded chart (more_arms when node (more_arms guard other nodes)) number depth earlier clear formed some deep
       near few =
       let bound = bounded chart node number depth earlier
       (each_front (IsClear chart) (visits node number depth earlier)
       (arm_visits (more_arms guard other nodes) (number + size node) depth (earlier + step_count node)) clear)
-      (and_left (is_tree_formed node) _ formed) near few in
+      (and_parts (is_tree_formed node) _ formed).0 near few in
       let rest = arms_bounded chart (more_arms guard other nodes) (number + size node) depth (earlier + step_count node)
       (each_back (IsClear chart) (visits node number depth earlier)
       (arm_visits (more_arms guard other nodes) (number + size node) depth
       (earlier + step_count node)) clear)
-      (and_right (is_formula_formed when) _ (and_right (is_tree_formed node) _ formed)) (omega arith) deep
+      (and_parts (is_formula_formed when) _ (and_parts (is_tree_formed node) _ formed).1).1 (omega arith) deep
       (omega (arith, bound.near)) bound.few in
       record { near = omega (arith, rest.near); few = omega (arith, rest.few) }
 
 -- in the form of a chart its root is formed
-pub form_tree : (chart : ChartPlan) → IsTrue (is_chart_form chart) → is_tree_formed chart.root ≡ true
-form_tree chart form = and_right (are_roles_formed chart) (is_tree_formed chart.root) form
+pub form_tree : (chart : PlainChart) → IsTrue (is_chart_form chart) → is_tree_formed chart.root ≡ true
+form_tree chart form = (and_parts (are_roles_formed chart) (is_tree_formed chart.root) form).1
 
 -- A valid chart has at most 4,096 nodes.
-pub valid_small : (chart : ChartPlan) → IsTrue (is_chart_form chart) → IsValid chart → size chart.root ≤ MOST_NODES
+pub valid_small : (chart : PlainChart) → IsTrue (is_chart_form chart) → IsValid chart → size chart.root ≤ MOST_NODES
 valid_small chart form valid =
     let bound = bounded chart chart.root 0 1 0 (all_clear chart (visits chart.root 0 1 0) valid) (form_tree chart form)
     (omega arith) (omega arith) in

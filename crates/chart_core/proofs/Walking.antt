@@ -4,7 +4,7 @@ use Rattle.std.proofs.Common.{ap, sym, ◌∙◌, arith}
 use Rattle.std.specs.Option.{option_or}
 use Rattle.mtp_codes.specs.Faults.{unless}
 use Rattle.chart_core.specs.Trees.{Tree, Trees, Arms, leaf, seq, par, choice, loop, no_trees, more_trees, no_arms, more_arms, size, sizes, arm_sizes}
-use Rattle.chart_core.specs.Roles.{ChartPlan}
+use Rattle.chart_core.specs.Roles.{PlainChart}
 use Rattle.chart_core.specs.Valid.{Visit, visit, visits, all_visits, arm_visits, step_count, step_counts, arm_step_counts, node_fault, first_fault, chart_fault}
 use Rattle.chart_core.specs.Walks.{Walk, stop_at, and_on, one_on, walked, walked_all, walked_arms}
 use Rattle.chart_core.specs.declared.fault.ChartFault.{ChartFault}
@@ -17,12 +17,12 @@ or_else_assoc None other third = refl
 or_else_assoc (Some fault) other third = refl
 
 -- the first fault of two lists of nodes
-pub first_fault-append :
-    (chart : ChartPlan) (front back : List Visit)
+pub first_fault_append :
+    (chart : PlainChart) (front back : List Visit)
     → first_fault chart (front ++ back) ≡ option_or (first_fault chart front) (first_fault chart back)
-first_fault-append chart [] back = refl
-first_fault-append chart (node ∷ front) back =
-    ap (option_or (node_fault chart node)) (first_fault-append chart front back)
+first_fault_append chart [] back = refl
+first_fault_append chart (node ∷ front) back =
+    ap (option_or (node_fault chart node)) (first_fault_append chart front back)
     ∙ sym (or_else_assoc (node_fault chart node) (first_fault chart front) (first_fault chart back))
 
 -- a walk that stops at a fault or goes on
@@ -60,7 +60,7 @@ behind_both here nodes steps nodes1 steps1 =
 
 -- from a node down to its children
 down :
-    (chart : ChartPlan) (node : Visit) (below : List Visit) (onward : Walk) (here : Reached) (nodes steps : ℕ)
+    (chart : PlainChart) (node : Visit) (below : List Visit) (onward : Walk) (here : Reached) (nodes steps : ℕ)
     → onward ≡ unless (first_fault chart below) (behind (one_on here) nodes steps)
     → stop_at (node_fault chart node) onward ≡ unless (first_fault chart (node ∷ below)) (behind here (1 + nodes) steps)
 down chart node below onward here nodes steps here_ends =
@@ -70,7 +70,7 @@ down chart node below onward here nodes steps here_ends =
 
 -- from one tree to those behind it
 across :
-    (chart : ChartPlan) (front back : List Visit) (one : Walk) (onward : Reached → Walk) (here : Reached)
+    (chart : PlainChart) (front back : List Visit) (one : Walk) (onward : Reached → Walk) (here : Reached)
     (nodes steps nodes1 steps1 : ℕ)
     → one ≡ unless (first_fault chart front) (behind here nodes steps)
     → onward (behind here nodes steps) ≡ unless (first_fault chart back)
@@ -82,7 +82,7 @@ across chart front back one onward here nodes steps nodes1 steps1 here_ends ther
     (behind here (nodes + nodes1) (steps + steps1)) onward
     (there_ends ∙ ap (unless (first_fault chart back)) (behind_both here nodes steps nodes1 steps1))
     ∙ ap (λ fault. unless fault (behind here (nodes + nodes1) (steps + steps1)))
-    (sym (first_fault-append chart front back))
+    (sym (first_fault_append chart front back))
 
 -- behind no tree
 none_behind : (here : Reached) → here ≡ behind here 0 0
@@ -94,7 +94,7 @@ none_behind here =
 
 mutual
   pub walk_ends :
-      (chart : ChartPlan) (each : Tree) (depth : ℕ) (here : Reached)
+      (chart : PlainChart) (each : Tree) (depth : ℕ) (here : Reached)
       → walked chart each depth here ≡ unless (first_fault chart (visits each here.number depth here.steps))
       (behind here (size each) (step_count each))
   walk_ends chart (leaf step) depth here =
@@ -121,7 +121,7 @@ mutual
       (walk_ends chart body (depth + 1) (one_on here))
 
   pub walk_all_ends :
-      (chart : ChartPlan) (each : Trees) (depth : ℕ) (here : Reached)
+      (chart : PlainChart) (each : Trees) (depth : ℕ) (here : Reached)
       → walked_all chart each depth here
       ≡ unless (first_fault chart (all_visits each here.number depth here.steps))
       (behind here (sizes each) (step_counts each))
@@ -134,7 +134,7 @@ mutual
       (walk_ends chart each depth here) (walk_all_ends chart others depth (behind here (size each) (step_count each)))
 
   pub walk_arms_ends :
-      (chart : ChartPlan) (each : Arms) (depth : ℕ) (here : Reached)
+      (chart : PlainChart) (each : Arms) (depth : ℕ) (here : Reached)
       → walked_arms chart each depth here
       ≡ unless (first_fault chart (arm_visits each here.number depth here.steps))
       (behind here (arm_sizes each) (arm_step_counts each))
@@ -159,7 +159,7 @@ stopped (Some found) there fault ended = cc
 
 -- where the walk through the whole chart comes to its end, the chart has no fault
 pub walk_clear :
-    (chart : ChartPlan) (here last : Reached) → here.number ≡ 0 → here.steps ≡ 0
+    (chart : PlainChart) (here last : Reached) → here.number ≡ 0 → here.steps ≡ 0
     → walked chart chart.root 1 here ≡ Ok last → chart_fault chart ≡ None
 walk_clear chart here last at_number at_step ended =
     let same : chart_fault chart ≡ first_fault chart (visits chart.root here.number 1 here.steps)
@@ -170,7 +170,7 @@ walk_clear chart here last at_number at_step ended =
 
 -- where it stops at a fault, this is the chart's first
 pub walk_stopped :
-    (chart : ChartPlan) (here : Reached) (fault : ChartFault) → here.number ≡ 0 → here.steps ≡ 0
+    (chart : PlainChart) (here : Reached) (fault : ChartFault) → here.number ≡ 0 → here.steps ≡ 0
     → walked chart chart.root 1 here ≡ Err fault
     → chart_fault chart ≡ Some fault
 walk_stopped chart here fault at_number at_step ended =

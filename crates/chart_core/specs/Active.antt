@@ -3,7 +3,7 @@ use Rattle.std.specs.Prelude.{ℕ, List, [], ◌∷◌, Bool, true, false, filte
 use Rattle.mtp_codes.specs.Faults.{when}
 use Rattle.mtp_codes.specs.Names.{same_name}
 use Rattle.chart_core.specs.Trees.{Placed, steps}
-use Rattle.chart_core.specs.Roles.{ChartPlan}
+use Rattle.chart_core.specs.Roles.{PlainChart}
 use Rattle.chart_core.specs.Entries.{Stage, begin, finish, reset, end, ChartEntry, of_step, of_node}
 use Rattle.chart_core.specs.declared.entry.LogEntry.{LogEntry}
 use Rattle.chart_core.specs.declared.entry.LogEntry.TheVariants.{Start, Finish, Reset, End, Chose, Turn, Leave, Stop, Broke, Left, StopAsked, Asked}
@@ -61,7 +61,7 @@ abbrev pub is_active : List LogEntry → Placed → Bool
 is_active log placed = is_running (phase_after log placed.step.name)
 
 -- the active steps after the log, with their numbers, in chart order
-abbrev pub active_steps : ChartPlan → List LogEntry → List Placed
+abbrev pub active_steps : PlainChart → List LogEntry → List Placed
 active_steps chart log = filter (is_active log) (steps chart.root 0)
 
 -- where an entry of this stage leaves its step

@@ -2,7 +2,7 @@
 use Rattle.std.specs.Prelude.{ℕ, List, length, Bool, true, ◌&&◌, ◌==◌, Option, Some, None, if◌then◌else◌}
 use Rattle.mtp_codes.specs.declared.value.Reading.{Reading}
 use Rattle.mtp_codes.specs.Names.{same_name}
-use Rattle.chart_core.specs.Trees.{StepPlan}
+use Rattle.chart_core.specs.Trees.{PlainStep}
 use Rattle.chart_core.specs.declared.entry.LogEntry.{LogEntry}
 use Rattle.chart_core.specs.declared.entry.LogEntry.TheVariants.{Start, Finish, Reset, End, Chose, Turn, Leave, Stop, Broke, Left, StopAsked, Asked}
 
@@ -52,7 +52,7 @@ agrees_procedure (Some carried) procedure = carried == procedure
 
 -- What the entry does to the step: the entry is of the step where it names it and, where it carries a service or a
 -- procedure, these are the step's.
-abbrev pub stage_of : StepPlan → Option ChartEntry → Option Stage
+abbrev pub stage_of : PlainStep → Option ChartEntry → Option Stage
 stage_of step None = None
 stage_of step (Some (of_step stage name service procedure)) =
     if same_name name step.name && (agrees_service service step.service && agrees_procedure procedure step.procedure)

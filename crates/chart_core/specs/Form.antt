@@ -6,7 +6,7 @@ use Rattle.mtp_codes.specs.declared.value.Reading.TheVariants.{Whole, Bit}
 use Rattle.mtp_codes.specs.Names.{is_among}
 use Rattle.chart_core.specs.declared.limits.TheConstants.{MOST_SETTINGS, MOST_ARMS, MOST_JOINED, MOST_TESTS, DEEPEST_CONDITION}
 use Rattle.chart_core.specs.Formulas.{Formula, Formulas, constant, all_of, any_of, not_of, test, no_formulas, more_formulas}
-use Rattle.chart_core.specs.Trees.{StepPlan, Tree, Trees, Arms, leaf, seq, par, choice, loop, no_trees, more_trees, no_arms, more_arms, arm_count}
+use Rattle.chart_core.specs.Trees.{PlainStep, Tree, Trees, Arms, leaf, seq, par, choice, loop, no_trees, more_trees, no_arms, more_arms, arm_count}
 use Rattle.chart_core.specs.declared.condition.Op.{Op}
 use Rattle.chart_core.specs.declared.condition.Op.TheVariants.{Lt, Le, Eq, Ne, Ge, Gt}
 
@@ -80,7 +80,7 @@ is_finish_formed None = true
 is_finish_formed (Some condition) = is_formula_formed condition
 
 -- a step's procedure is from 1, and it sets at most 32 parameters, none twice
-abbrev pub is_step_formed : StepPlan → Bool
+abbrev pub is_step_formed : PlainStep → Bool
 is_step_formed step =
     nat_le 1 step.procedure
     && (nat_le (length step.settings) MOST_SETTINGS

@@ -37,12 +37,12 @@ formula_step (Condition-F.Not inner) = not_of inner.value
 formula_step (Condition-F.Test role variable op value) = test role variable op value
 
 -- a condition as plain data
-abbrev pub formula : Condition → Formula
-formula = fold-Condition Formula formula_step
+abbrev pub plain_condition : Condition → Formula
+plain_condition = fold-Condition Formula formula_step
 
 -- a list of conditions as plain data
 abbrev pub formulas : List Condition → Formulas
-formulas conditions = formulas_of (map formula conditions)
+formulas conditions = formulas_of (map plain_condition conditions)
 
 -- two whole numbers compare as the operator says
 abbrev pub compares_whole : Op → ℤ → ℤ → Bool

@@ -4,28 +4,28 @@ use Rattle.mtp_codes.specs.declared.value.Reading.{Reading}
 use Rattle.chart_core.specs.Formulas.{Formula, Formulas, no_formulas, more_formulas, Known, holds}
 use Rattle.chart_core.specs.Reads.{reads_of, stored}
 use Rattle.chart_core.specs.Trees.{Tree, Trees, Arms, leaf, seq, par, choice, loop, no_trees, more_trees, no_arms, more_arms, size, arm_count, arm_conditions}
-use Rattle.chart_core.specs.Roles.{ChartPlan}
+use Rattle.chart_core.specs.Roles.{PlainChart}
 use Rattle.chart_core.specs.Entries.{Decision, chose, turn, leave, ChartEntry, chart_entry, stage_of, Decided, decided_at}
 use Rattle.chart_core.specs.Courses.{Course, nothing, step, chain, beside, select, repeat, Complete, Partial}
 use Rattle.chart_core.specs.declared.reads.Read.{Read}
 use Rattle.chart_core.specs.declared.entry.LogEntry.{LogEntry}
 
 -- an entry of a word, and whether the condition on its readings is set aside
-pub record Judged : Type 0 where
+pub record WordEntry : Type 0 where
   pub entry : Option ChartEntry
-  pub aside : Bool
+  pub unconditioned : Bool
 
--- an entry of a log is judged with its condition; where it is none of a run, no run has it
-abbrev pub judged : LogEntry → Judged
-judged entry = record { entry = chart_entry entry; aside = false }
+-- an entry of a log is with_condition with its condition; where it is none of a run, no run has it
+abbrev pub with_condition : LogEntry → WordEntry
+with_condition entry = record { entry = chart_entry entry; unconditioned = false }
 
 -- an entry of a run, with the condition on its readings set aside
-abbrev pub loose : ChartEntry → Judged
-loose entry = record { entry = Some entry; aside = true }
+abbrev pub without_condition : ChartEntry → WordEntry
+without_condition entry = record { entry = Some entry; unconditioned = true }
 
 -- a log as a word
-abbrev pub word : List LogEntry → List Judged
-word log = map judged log
+abbrev pub word : List LogEntry → List WordEntry
+word log = map with_condition log
 
 -- the condition at this place is true, and none before it
 abbrev pub is_first_true : Formulas → ℕ → Known → Bool
@@ -43,86 +43,86 @@ loop_reads until = reads_of (more_formulas until no_formulas)
 
 -- of a decision with its readings: the arm that it chooses rightly
 abbrev pub right_choice : Arms → Bool → Decision → List Reading → Option ℕ
-right_choice each aside (chose arm) values =
-    if nat_lt arm (arm_count each) && (aside || is_first_true (arm_conditions each) arm
+right_choice each unconditioned (chose arm) values =
+    if nat_lt arm (arm_count each) && (unconditioned || is_first_true (arm_conditions each) arm
     (stored (arm_reads each) values))
     then Some arm else None
-right_choice each aside turn values = None
-right_choice each aside leave values = None
+right_choice each unconditioned turn values = None
+right_choice each unconditioned leave values = None
 
 -- the arm that is chosen rightly: its condition is true on the stored readings, and those of earlier arms are false
 abbrev pub right_arm : Arms → Bool → Option Decided → Option ℕ
-right_arm each aside None = None
-right_arm each aside (Some decided) = right_choice each aside decided.decision decided.values
+right_arm each unconditioned None = None
+right_arm each unconditioned (Some decided) = right_choice each unconditioned decided.decision decided.values
 
 -- of a decision with its readings: it turns the loop rightly
 abbrev pub right_turn : Formula → Bool → Decision → List Reading → Bool
-right_turn until aside (chose arm) values = false
-right_turn until aside turn values = aside || not (holds until (stored (loop_reads until) values))
-right_turn until aside leave values = false
+right_turn until unconditioned (chose arm) values = false
+right_turn until unconditioned turn values = unconditioned || not (holds until (stored (loop_reads until) values))
+right_turn until unconditioned leave values = false
 
 -- the loop is turned rightly: its condition is false on the stored readings
 abbrev pub turns_rightly : Formula → Bool → Option Decided → Bool
-turns_rightly until aside None = false
-turns_rightly until aside (Some decided) = right_turn until aside decided.decision decided.values
+turns_rightly until unconditioned None = false
+turns_rightly until unconditioned (Some decided) = right_turn until unconditioned decided.decision decided.values
 
 -- of a decision with its readings: it leaves the loop rightly
 abbrev pub right_leave : Formula → Bool → Decision → List Reading → Bool
-right_leave until aside (chose arm) values = false
-right_leave until aside turn values = false
-right_leave until aside leave values = aside || holds until (stored (loop_reads until) values)
+right_leave until unconditioned (chose arm) values = false
+right_leave until unconditioned turn values = false
+right_leave until unconditioned leave values = unconditioned || holds until (stored (loop_reads until) values)
 
 -- the loop is left rightly: its condition is true on the stored readings
 abbrev pub leaves_rightly : Formula → Bool → Option Decided → Bool
-leaves_rightly until aside None = false
-leaves_rightly until aside (Some decided) = right_leave until aside decided.decision decided.values
+leaves_rightly until unconditioned None = false
+leaves_rightly until unconditioned (Some decided) = right_leave until unconditioned decided.decision decided.values
 
 -- what an entry decides at the selection or the loop with this number and these reads
-abbrev pub decision_at : ℕ → List Read → Judged → Option Decided
+abbrev pub decision_at : ℕ → List Read → WordEntry → Option Decided
 decision_at number reads entry = decided_at number (length reads) entry.entry
 
 -- the course of a tree whose first node has the number n
 abbrev mutual
-  pub course : Tree → ℕ → Course Judged
+  pub course : Tree → ℕ → Course WordEntry
   course (leaf plan) number = step number (is_some plan.finish) (λ entry. stage_of plan entry.entry)
   course (seq each) number = in_turn each (number + 1)
   course (par each) number = at_once each (number + 1)
   course (choice each) number =
       select number (arm_count each) (λ entry. is_some (decision_at number (arm_reads each) entry))
-      (λ entry. right_arm each entry.aside (decision_at number (arm_reads each) entry))
+      (λ entry. right_arm each entry.unconditioned (decision_at number (arm_reads each) entry))
       (λ arm. arm_at each (number + 1) arm)
   course (loop body until) number =
       repeat number (number + 1 + size body) (course body (number + 1))
       (λ entry. is_some (decision_at number (loop_reads until) entry))
-      (λ entry. turns_rightly until entry.aside (decision_at number (loop_reads until) entry))
-      (λ entry. leaves_rightly until entry.aside (decision_at number (loop_reads until) entry))
+      (λ entry. turns_rightly until entry.unconditioned (decision_at number (loop_reads until) entry))
+      (λ entry. leaves_rightly until entry.unconditioned (decision_at number (loop_reads until) entry))
 
   -- each child in order
-  pub in_turn : Trees → ℕ → Course Judged
+  pub in_turn : Trees → ℕ → Course WordEntry
   in_turn no_trees number = nothing
   in_turn (more_trees each others) number = chain (course each number) (in_turn others (number + size each))
 
   -- all children side by side
-  pub at_once : Trees → ℕ → Course Judged
+  pub at_once : Trees → ℕ → Course WordEntry
   at_once no_trees number = nothing
   at_once (more_trees each others) number = beside (course each number) (at_once others (number + size each))
 
   -- the arm at this place
-  pub arm_at : Arms → ℕ → ℕ → Course Judged
+  pub arm_at : Arms → ℕ → ℕ → Course WordEntry
   arm_at no_arms number place = nothing
   arm_at (more_arms when each others) number zero = course each number
   arm_at (more_arms when each others) number (suc place) = arm_at others (number + size each) place
 
 -- the course of a chart
-abbrev pub course_of : ChartPlan → Course Judged
+abbrev pub course_of : PlainChart → Course WordEntry
 course_of chart = course chart.root 0
 
 -- the log is a complete run of the chart
-abbrev pub IsComplete : ChartPlan → List LogEntry → Type 0
+abbrev pub IsComplete : PlainChart → List LogEntry → Type 0
 IsComplete chart log = Complete (course_of chart) (word log)
 
 -- the log is a partial run of the chart
-abbrev pub IsPartial : ChartPlan → List LogEntry → Type 0
+abbrev pub IsPartial : PlainChart → List LogEntry → Type 0
 IsPartial chart log = Partial (course_of chart) (word log)
 
 -- the entry is of the node with the wanted number, in a tree whose first node has this number
@@ -150,6 +150,6 @@ abbrev mutual
 
 -- The node with this number is awaited after the log: some entry of it makes the log a longer partial run, once the
 -- condition on this last entry's readings is set aside.
-abbrev pub IsAwaited : ChartPlan → List LogEntry → ℕ → Type 0
+abbrev pub IsAwaited : PlainChart → List LogEntry → ℕ → Type 0
 IsAwaited chart log wanted = (entry : ChartEntry) × EntryOf chart.root 0 wanted entry
-    × Partial (course_of chart) (word log ++ (loose entry ∷ []))
+    × Partial (course_of chart) (word log ++ (without_condition entry ∷ []))

@@ -1,6 +1,6 @@
 -- Which logs the marks of a chart stand for, and the marks after a log.
 use Rattle.std.specs.Prelude.{List}
-use Rattle.chart_core.specs.Roles.{ChartPlan}
+use Rattle.chart_core.specs.Roles.{PlainChart}
 use Rattle.chart_core.specs.Runs.{course_of, word}
 use Rattle.chart_core.specs.Progress.{Marks, Stands, marks_of}
 use Rattle.chart_core.specs.Changes.{marks_along}
@@ -9,9 +9,9 @@ use Rattle.chart_core.specs.declared.progress.Progress.TheVariants.{Untouched}
 use Rattle.chart_core.specs.declared.entry.LogEntry.{LogEntry}
 
 -- the marks, one for each node, stand for the log: how far each node has come after it
-abbrev pub StandsFor : ChartPlan → List Progress → List LogEntry → Type 0
+abbrev pub StandsFor : PlainChart → List Progress → List LogEntry → Type 0
 StandsFor chart marks log = Stands (course_of chart) (marks_of marks) (word log)
 
 -- how far each node has come after the log, worked out entry by entry
-abbrev pub marks_after : ChartPlan → List LogEntry → Marks
+abbrev pub marks_after : PlainChart → List LogEntry → Marks
 marks_after chart log = marks_along (course_of chart) (λ i. Untouched) (word log)

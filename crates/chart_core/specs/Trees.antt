@@ -1,7 +1,7 @@
 -- Charts as plain data, and the numbers of their nodes.
 use Rattle.std.specs.Prelude.{ℕ, ◌+◌, suc, List, [], ◌∷◌, ◌++◌, map, Option, Some, None}
 use Rattle.mtp_codes.specs.declared.value.Setting.{Setting}
-use Rattle.chart_core.specs.Formulas.{Formula, Formulas, no_formulas, more_formulas, formula}
+use Rattle.chart_core.specs.Formulas.{Formula, Formulas, no_formulas, more_formulas, plain_condition}
 use Rattle.chart_core.specs.declared.node.Step.{Step}
 use Rattle.chart_core.specs.declared.node.Node.{Node}
 use Rattle.chart_core.specs.declared.node.Node.TheOpen.{Node-F, Arm-F}
@@ -10,7 +10,7 @@ use Rattle.chart_core.specs.declared.node.Arm.{Arm}
 use Rattle.chart_core.specs.declared.condition.Condition.{Condition}
 
 -- a step as plain data
-pub record StepPlan : Type 0 where
+pub record PlainStep : Type 0 where
   pub name : List ℕ
   pub role : List ℕ
   pub service : List ℕ
@@ -21,7 +21,7 @@ pub record StepPlan : Type 0 where
 -- a chart's nodes as plain data
 mutual
   pub data Tree : Type 0 where
-    leaf : StepPlan → Tree
+    leaf : PlainStep → Tree
     seq : Trees → Tree
     par : Trees → Tree
     choice : Arms → Tree
@@ -36,7 +36,7 @@ mutual
     more_arms : Formula → Tree → Arms → Arms
 
 -- an arm by itself
-pub record ArmPlan : Type 0 where
+pub record PlainArm : Type 0 where
   pub when : Formula
   pub body : Tree
 
@@ -46,56 +46,56 @@ trees_of [] = no_trees
 trees_of (each ∷ others) = more_trees each (trees_of others)
 
 -- plain arms in a list, as a selection holds them
-abbrev pub arms_of : List ArmPlan → Arms
+abbrev pub arms_of : List PlainArm → Arms
 arms_of [] = no_arms
 arms_of (each ∷ others) = more_arms each.when each.body (arms_of others)
 
 -- the condition of a finish as plain data, where there is one
-abbrev pub finish_plan : Option Condition → Option Formula
-finish_plan None = None
-finish_plan (Some condition) = Some (formula condition)
+abbrev pub plain_finish : Option Condition → Option Formula
+plain_finish None = None
+plain_finish (Some condition) = Some (plain_condition condition)
 
 -- a step as plain data
-abbrev pub step_plan : Step → StepPlan
-step_plan step =
+abbrev pub plain_step : Step → PlainStep
+plain_step step =
     record {
       name = step.name;
       role = step.role;
       service = step.service;
       procedure = step.procedure;
       settings = step.settings.items;
-      finish = finish_plan step.finish;
+      finish = plain_finish step.finish;
     }
 
 -- a node as plain data, where the nodes and arms within it are so already
-abbrev pub node_step : Node-F Tree ArmPlan → Tree
-node_step (Node-F.Step step) = leaf (step_plan step)
+abbrev pub node_step : Node-F Tree PlainArm → Tree
+node_step (Node-F.Step step) = leaf (plain_step step)
 node_step (Node-F.Seq each) = seq (trees_of each.items)
 node_step (Node-F.Par each) = par (trees_of each.items)
 node_step (Node-F.Sel each) = choice (arms_of each.items)
-node_step (Node-F.Loop body until) = loop body.value (formula until)
+node_step (Node-F.Loop body until) = loop body.value (plain_condition until)
 
 -- an arm as plain data, where its body is so already
-abbrev pub arm_step : Arm-F Tree ArmPlan → ArmPlan
-arm_step arm = record { when = formula arm.when; body = arm.body }
+abbrev pub arm_step : Arm-F Tree PlainArm → PlainArm
+arm_step arm = record { when = plain_condition arm.when; body = arm.body }
 
 -- a node and all below it as plain data
-abbrev pub tree : Node → Tree
-tree = fold-Node Tree ArmPlan node_step arm_step
+abbrev pub plain_node : Node → Tree
+plain_node = fold-Node Tree PlainArm node_step arm_step
 
 -- an arm as plain data
-abbrev pub arm_plan : Arm → ArmPlan
-arm_plan = fold-Arm Tree ArmPlan node_step arm_step
+abbrev pub plain_arm : Arm → PlainArm
+plain_arm = fold-Arm Tree PlainArm node_step arm_step
 
 -- a list of nodes as plain data
 abbrev pub trees : List Node → Trees
-trees nodes = trees_of (map tree nodes)
+trees nodes = trees_of (map plain_node nodes)
 
 -- a list of arms as plain data
 abbrev pub arms : List Arm → Arms
-arms each = arms_of (map arm_plan each)
+arms each = arms_of (map plain_arm each)
 
--- How many nodes there are. The node behind a tree whose first node is number n is number n + size.
+-- How many nodes there are. The node behind a plain_node whose first node is number n is number n + size.
 abbrev mutual
   pub size : Tree → ℕ
   size (leaf step) = 1
@@ -125,9 +125,9 @@ arm_conditions (more_arms when each others) = more_formulas when (arm_conditions
 -- a step with its number
 pub record Placed : Type 0 where
   pub number : ℕ
-  pub step : StepPlan
+  pub step : PlainStep
 
--- the steps of a tree whose first node has the number n, in chart order
+-- the steps of a plain_node whose first node has the number n, in chart order
 abbrev mutual
   pub steps : Tree → ℕ → List Placed
   steps (leaf step) n = record { number = n; step = step } ∷ []

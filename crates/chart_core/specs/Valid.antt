@@ -6,8 +6,8 @@ use Rattle.mtp_codes.specs.Names.{is_among, same_name}
 use Rattle.chart_core.specs.declared.limits.TheConstants.{MOST_READS, DEEPEST_NODE, MOST_STEPS}
 use Rattle.chart_core.specs.Formulas.{Formula, Formulas, constant, all_of, any_of, not_of, test, no_formulas, more_formulas}
 use Rattle.chart_core.specs.Reads.{reads_of}
-use Rattle.chart_core.specs.Trees.{StepPlan, Tree, Trees, Arms, leaf, seq, par, choice, loop, no_trees, more_trees, no_arms, more_arms, size, arm_conditions}
-use Rattle.chart_core.specs.Roles.{ChartPlan, role_names}
+use Rattle.chart_core.specs.Trees.{PlainStep, Tree, Trees, Arms, leaf, seq, par, choice, loop, no_trees, more_trees, no_arms, more_arms, size, arm_conditions}
+use Rattle.chart_core.specs.Roles.{PlainChart, role_names}
 use Rattle.chart_core.specs.declared.fault.ChartFault.{ChartFault}
 use Rattle.chart_core.specs.declared.fault.ChartFault.TheVariants.{TooDeep, TooManySteps, StepTwice, UnknownRole, SameService, TooManyReads}
 
@@ -34,7 +34,7 @@ pub record Visit : Type 0 where
   pub number : ℕ
   pub depth : ℕ
   pub earlier : ℕ
-  pub step : Option StepPlan
+  pub step : Option PlainStep
   pub conditions : Formulas
 
 -- the conditions of a step's finish
@@ -174,14 +174,14 @@ abbrev mutual
   some_reads_unknown (more_formulas each others) roles = reads_unknown each roles || some_reads_unknown others roles
 
 -- the node is a step with this property
-abbrev pub on_step : Option StepPlan → (StepPlan → Bool) → Bool
+abbrev pub on_step : Option PlainStep → (PlainStep → Bool) → Bool
 on_step None property = false
 on_step (Some step) property = property step
 
 -- The faults that one node may have, in the order in which they are asked: it lies deeper than 16; it is the 257th
 -- step; an earlier step has its name; it has or reads a role that the chart hasn't; an earlier step in another branch
 -- of a common parallel has its role and service; it reads more than four variables.
-abbrev pub node_faults : ChartPlan → Visit → List (Option ChartFault)
+abbrev pub node_faults : PlainChart → Visit → List (Option ChartFault)
 node_faults chart node =
     when (nat_lt DEEPEST_NODE node.depth) (TooDeep node.number)
     ∷ when (on_step node.step (λ step. nat_le MOST_STEPS node.earlier)) (TooManySteps node.number)
@@ -195,18 +195,18 @@ node_faults chart node =
     ∷ []
 
 -- the first fault of one node
-abbrev pub node_fault : ChartPlan → Visit → Option ChartFault
+abbrev pub node_fault : PlainChart → Visit → Option ChartFault
 node_fault chart node = first_of (node_faults chart node)
 
 -- the first fault of the first of these nodes that has one
-abbrev pub first_fault : ChartPlan → List Visit → Option ChartFault
+abbrev pub first_fault : PlainChart → List Visit → Option ChartFault
 first_fault chart [] = None
 first_fault chart (node ∷ others) = option_or (node_fault chart node) (first_fault chart others)
 
 -- the first fault of the chart: of the first node in chart order that has one
-abbrev pub chart_fault : ChartPlan → Option ChartFault
+abbrev pub chart_fault : PlainChart → Option ChartFault
 chart_fault chart = first_fault chart (visits chart.root 0 1 0)
 
 -- no node of the chart has a fault
-abbrev pub IsValid : ChartPlan → Type 0
+abbrev pub IsValid : PlainChart → Type 0
 IsValid chart = chart_fault chart ≡ None

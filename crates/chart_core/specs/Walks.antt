@@ -1,7 +1,7 @@
 -- A walk through a chart that stops at the first fault.
 use Rattle.std.specs.Prelude.{ℕ, ◌+◌, Result, Ok, Err, Option, Some, None}
 use Rattle.chart_core.specs.Trees.{Tree, Trees, Arms, leaf, seq, par, choice, loop, no_trees, more_trees, no_arms, more_arms}
-use Rattle.chart_core.specs.Roles.{ChartPlan}
+use Rattle.chart_core.specs.Roles.{PlainChart}
 use Rattle.chart_core.specs.Valid.{visit, node_fault}
 use Rattle.chart_core.specs.declared.fault.ChartFault.{ChartFault}
 use Rattle.chart_core.specs.declared.valid.Reached.{Reached}
@@ -30,7 +30,7 @@ step_on here = record { number = here.number + 1; steps = here.steps + 1 }
 
 -- the walk through a tree at this depth, from here
 abbrev mutual
-  pub walked : ChartPlan → Tree → ℕ → Reached → Walk
+  pub walked : PlainChart → Tree → ℕ → Reached → Walk
   walked chart (leaf step) depth here =
       stop_at (node_fault chart (visit (leaf step) here.number depth here.steps)) (Ok (step_on here))
   walked chart (seq each) depth here =
@@ -46,12 +46,12 @@ abbrev mutual
       stop_at (node_fault chart (visit (loop body until) here.number depth here.steps))
       (walked chart body (depth + 1) (one_on here))
 
-  pub walked_all : ChartPlan → Trees → ℕ → Reached → Walk
+  pub walked_all : PlainChart → Trees → ℕ → Reached → Walk
   walked_all chart no_trees depth here = Ok here
   walked_all chart (more_trees each others) depth here = and_on (walked chart each depth here)
       (walked_all chart others depth)
 
-  pub walked_arms : ChartPlan → Arms → ℕ → Reached → Walk
+  pub walked_arms : PlainChart → Arms → ℕ → Reached → Walk
   walked_arms chart no_arms depth here = Ok here
   walked_arms chart (more_arms when each others) depth here =
       and_on (walked chart each depth here) (walked_arms chart others depth)

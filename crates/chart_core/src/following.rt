@@ -1,10 +1,10 @@
 //! What one more entry changes, and whether a part of a chart is done.
 ghost use Rattle.std.specs.Prelude.{◌≡◌, ◌+◌, ◌<◌, ◌≤◌, ◌^◌, false, length, is_some, IfSome};
-ghost use Rattle.chart_core.specs.Formulas.{formula};
+ghost use Rattle.chart_core.specs.Formulas.{plain_condition};
 ghost use Rattle.chart_core.specs.Reads.{stored};
-ghost use Rattle.chart_core.specs.Trees.{tree, trees, arms, arm_conditions, step_plan, leaf, size, sizes, arm_sizes};
+ghost use Rattle.chart_core.specs.Trees.{plain_node, trees, arms, arm_conditions, plain_step, leaf, size, sizes, arm_sizes};
 ghost use Rattle.chart_core.specs.Entries.{chart_entry, stage_of};
-ghost use Rattle.chart_core.specs.Runs.{is_first_true, judged, right_arm, decision_at, arm_reads, course, in_turn, at_once, arm_at};
+ghost use Rattle.chart_core.specs.Runs.{is_first_true, with_condition, right_arm, decision_at, arm_reads, course, in_turn, at_once, arm_at};
 ghost use Rattle.chart_core.specs.Progress.{marks_of};
 ghost use Rattle.chart_core.specs.Deciding.{judged_until, round_change};
 ghost use Rattle.chart_core.specs.Changes.{is_done, next_progress, put_at, choose_at, change_by, FitsIn};
@@ -57,8 +57,8 @@ fn is_first(each: &[Arm], place: u32, reads: &[Read], values: &[Reading]) -> boo
 
 // How far the step has come after the entry, where it may come next.
 fn step_next(step: &Step, progress: Progress, entry: &LogEntry) -> Option<Progress>
-    ensures { result ≡ next_progress (is_some (step_plan step.now).finish) progress
-        (stage_of (step_plan step.now) (chart_entry entry.now)) }
+    ensures { result ≡ next_progress (is_some (plain_step step.now).finish) progress
+        (stage_of (plain_step step.now) (chart_entry entry.now)) }
 {
     match (entry, progress) {
         (
@@ -101,7 +101,7 @@ fn step_next(step: &Step, progress: Progress, entry: &LogEntry) -> Option<Progre
 #[tactic(auto, using(crate::proofs::Counts::count_arms))]
 fn choice(each: &[Arm], number: u32, entry: &LogEntry) -> Option<u32>
     ensures { result ≡ right_arm (arms each.now) false
-        (decision_at number (arm_reads (arms each.now)) (judged entry.now)) }
+        (decision_at number (arm_reads (arms each.now)) (with_condition entry.now)) }
 {
     match entry {
         LogEntry::Chose { node, arm, values } => {
@@ -128,7 +128,7 @@ fn choice(each: &[Arm], number: u32, entry: &LogEntry) -> Option<u32>
 // Whether the condition is true on these readings; None where they aren't as many as it reads.
 fn until_holds(until: &Condition, values: &[Reading]) -> Option<bool>
     requires { length values.now ≤ MOST_READS }
-    ensures { result ≡ judged_until (formula until.now) values.now }
+    ensures { result ≡ judged_until (plain_condition until.now) values.now }
 {
     match reads_of_condition(until) {
         Some(reads) => {
@@ -145,7 +145,7 @@ fn until_holds(until: &Condition, values: &[Reading]) -> Option<bool>
 // What the entry changes at a loop whose body is done.
 fn round(number: u32, below: u32, until: &Condition, entry: &LogEntry) -> Option<Change>
     requires { number < below }
-    ensures value { result ≡ round_change number below (formula until.now) (judged entry.now) }
+    ensures value { result ≡ round_change number below (plain_condition until.now) (with_condition entry.now) }
     ensures inside { IfSome result (FitsIn below) }
 {
     match entry {
@@ -206,12 +206,13 @@ fn choose(place: u32, arm: Option<u32>) -> Option<Change>
 /// far each node has come. Walks the tree's nodes once.
 #[cycle(follow)]
 pub fn follow(node: &Node, number: u32, marks: &[Progress], entry: &LogEntry) -> Followed
-    requires fits { number + size (tree node.now) ≤ length marks.now }
+    requires fits { number + size (plain_node node.now) ≤ length marks.now }
     requires short { length marks.now < 2 ^ 32 }
-    ensures change { result.change ≡ change_by (course (tree node.now) number) (marks_of marks.now) (judged entry.now) }
-    ensures inside { IfSome result.change (FitsIn (number + size (tree node.now))) }
-    ensures done { result.done ≡ is_done (course (tree node.now) number) (marks_of marks.now) }
-    ensures next { result.next ≡ number + size (tree node.now) }
+    ensures change { result.change ≡ change_by (course (plain_node node.now) number) (marks_of marks.now)
+        (with_condition entry.now) }
+    ensures inside { IfSome result.change (FitsIn (number + size (plain_node node.now))) }
+    ensures done { result.done ≡ is_done (course (plain_node node.now) number) (marks_of marks.now) }
+    ensures next { result.next ≡ number + size (plain_node node.now) }
 {
     let progress = marks[number as usize];
     match node {
@@ -257,7 +258,7 @@ fn follow_in_turn(kids: &[Node], first: u32, marks: &[Progress], entry: &LogEntr
     requires fits { first + sizes (trees kids.now) ≤ length marks.now }
     requires short { length marks.now < 2 ^ 32 }
     ensures change { result.change ≡ change_by (in_turn (trees kids.now) first) (marks_of marks.now)
-        (judged entry.now) }
+        (with_condition entry.now) }
     ensures inside { IfSome result.change (FitsIn (first + sizes (trees kids.now))) }
     ensures done { result.done ≡ is_done (in_turn (trees kids.now) first) (marks_of marks.now) }
     ensures next { result.next ≡ first + sizes (trees kids.now) }
@@ -285,7 +286,7 @@ fn follow_at_once(kids: &[Node], first: u32, marks: &[Progress], entry: &LogEntr
     requires fits { first + sizes (trees kids.now) ≤ length marks.now }
     requires short { length marks.now < 2 ^ 32 }
     ensures change { result.change ≡ change_by (at_once (trees kids.now) first) (marks_of marks.now)
-        (judged entry.now) }
+        (with_condition entry.now) }
     ensures inside { IfSome result.change (FitsIn (first + sizes (trees kids.now))) }
     ensures done { result.done ≡ is_done (at_once (trees kids.now) first) (marks_of marks.now) }
     ensures next { result.next ≡ first + sizes (trees kids.now) }
@@ -313,7 +314,7 @@ fn follow_arm(each: &[Arm], arm: u32, first: u32, marks: &[Progress], entry: &Lo
     requires fits { first + arm_sizes (arms each.now) ≤ length marks.now }
     requires short { length marks.now < 2 ^ 32 }
     ensures change { result.change ≡ change_by (arm_at (arms each.now) first arm) (marks_of marks.now)
-        (judged entry.now) }
+        (with_condition entry.now) }
     ensures inside { IfSome result.change (FitsIn (first + arm_sizes (arms each.now))) }
     ensures done { result.done ≡ is_done (arm_at (arms each.now) first arm) (marks_of marks.now) }
     ensures next { result.next ≡ first + arm_sizes (arms each.now) }

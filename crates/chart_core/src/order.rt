@@ -1,6 +1,6 @@
 //! The steps of a chart in chart order, and whether a step is active after a log.
 ghost use Rattle.std.specs.Prelude.{◌≡◌, ◌++◌, map, option_map, IfOk, OnOk};
-ghost use Rattle.chart_core.specs.Trees.{tree, trees, arms, step_plan, steps};
+ghost use Rattle.chart_core.specs.Trees.{plain_node, trees, arms, plain_step, steps};
 ghost use Rattle.chart_core.specs.Active.{phase_by, phase_after, is_running};
 ghost use Rattle.chart_core.specs.Order.{step_plans, all_step_plans, arm_step_plans, plans_seen};
 
@@ -12,7 +12,8 @@ use std::alloc::{AllocError, Global};
 
 #[cycle(order)]
 fn put_steps<'a>(node: &'a Node, found: &mut Vec<&'a Step>) -> Result<(), AllocError>
-    ensures { OnOk result (plans_seen found.new.items ≡ plans_seen found.old.items ++ step_plans (tree node.now)) }
+    ensures { OnOk result
+        (plans_seen found.new.items ≡ plans_seen found.old.items ++ step_plans (plain_node node.now)) }
 {
     match node {
         Node::Step(step) => {
@@ -53,8 +54,8 @@ fn put_arms<'a>(each: &'a [Arm], found: &mut Vec<&'a Step>) -> Result<(), AllocE
 /// AllocError where memory is wanting for one reference for each step.
 #[tactic(auto, using(crate::proofs::Ordered::plans_are))]
 pub fn steps_in_order(alloc: Global, chart: &Chart) -> Result<Vec<&Step>, AllocError>
-    ensures { IfOk result (λ found. map (λ step. step_plan step.now) found.items
-        ≡ map (λ placed. placed.step) (steps (tree chart.now.root) 0)) }
+    ensures { IfOk result (λ found. map (λ step. plain_step step.now) found.items
+        ≡ map (λ placed. placed.step) (steps (plain_node chart.now.root) 0)) }
 {
     let mut found = Vec::new(alloc);
     put_steps(&chart.root, &mut found)?;

@@ -1,8 +1,8 @@
 //! How far the nodes of a chart have come.
 
 /// How far one node has come. A step is untouched, or has had its Start, its Finish, its Reset, its End; a selection
-/// is untouched or has chosen the arm at this place; a loop is untouched, also while it turns, or was left. Sequences and
-/// parallels stay untouched.
+/// is untouched or has chosen the arm at this place; a loop is untouched, also while it turns, or was left. Sequences
+/// and parallels stay untouched.
 #[derive(Clone, Copy, Debug, PartialEq, Eq)]
 pub enum Progress {
     Untouched,

@@ -1,6 +1,6 @@
 //! What the conditions of a deciding node read.
 ghost use Rattle.std.specs.Prelude.{◌≡◌, ◌≤◌, ◌<◌, length, IsTrue, IsFalse, IfSome, IfNone, slice_get};
-ghost use Rattle.chart_core.specs.Formulas.{formula, formulas};
+ghost use Rattle.chart_core.specs.Formulas.{plain_condition, formulas};
 ghost use Rattle.chart_core.specs.Reads.{has_read, with_read, with_reads, with_all_reads, place_of, reads_of};
 ghost use Rattle.chart_core.specs.Trees.{arms, arm_conditions};
 ghost use Rattle.chart_core.specs.Runs.{arm_reads, loop_reads};
@@ -68,8 +68,8 @@ fn add(role: Name, var: Name, reads: &mut Reads) -> bool
 fn gather(condition: &Condition, reads: &mut Reads) -> bool
     requires { length reads.old.items ≤ MOST_READS }
     ensures few { IsTrue result → length reads.new.items ≤ MOST_READS }
-    ensures yes { IsTrue result → reads.new.items ≡ with_reads (formula condition.now) reads.old.items }
-    ensures no { IsFalse result → MOST_READS < length (with_reads (formula condition.now) reads.old.items) }
+    ensures yes { IsTrue result → reads.new.items ≡ with_reads (plain_condition condition.now) reads.old.items }
+    ensures no { IsFalse result → MOST_READS < length (with_reads (plain_condition condition.now) reads.old.items) }
 {
     match condition {
         Condition::Const(_) => true,
@@ -114,9 +114,9 @@ pub fn reads_of_arms(each: &[Arm]) -> Option<Reads>
 
 /// What a loop or a step's finish reads; None exactly where that is more than four variables.
 pub fn reads_of_condition(condition: &Condition) -> Option<Reads>
-    ensures some { IfSome result (λ reads. reads.items ≡ loop_reads (formula condition.now)) }
+    ensures some { IfSome result (λ reads. reads.items ≡ loop_reads (plain_condition condition.now)) }
     ensures few { IfSome result (λ reads. length reads.items ≤ MOST_READS) }
-    ensures none { IfNone result (MOST_READS < length (loop_reads (formula condition.now))) }
+    ensures none { IfNone result (MOST_READS < length (loop_reads (plain_condition condition.now))) }
 {
     let mut reads = ArrayVec::new();
     if gather(condition, &mut reads) {

@@ -1,14 +1,14 @@
 //! How many nodes there are.
 ghost use Rattle.std.specs.Prelude.{◌≡◌, ◌<◌, ◌^◌};
-ghost use Rattle.chart_core.specs.Trees.{tree, trees, arms, size, sizes, arm_sizes};
+ghost use Rattle.chart_core.specs.Trees.{plain_node, trees, arms, size, sizes, arm_sizes};
 
 use super::node::{Arm, Node};
 
 /// How many nodes the tree has, itself among them. Walks them once.
 #[cycle(count)]
 pub fn node_count(node: &Node) -> u32
-    requires { size (tree node.now) < 2 ^ 32 }
-    ensures { result ≡ size (tree node.now) }
+    requires { size (plain_node node.now) < 2 ^ 32 }
+    ensures { result ≡ size (plain_node node.now) }
 {
     match node {
         Node::Step(_) => 1,

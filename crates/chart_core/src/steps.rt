@@ -2,7 +2,7 @@
 //!
 //! Nodes are counted down from a number that is asked for, so that a chart of any size can be asked.
 ghost use Rattle.std.specs.Prelude.{◌≡◌, ◌+◌, ◌-◌, ◌<◌, ◌^◌};
-ghost use Rattle.chart_core.specs.Trees.{tree, trees, arms, size, sizes, arm_sizes};
+ghost use Rattle.chart_core.specs.Trees.{plain_node, trees, arms, size, sizes, arm_sizes};
 ghost use Rattle.chart_core.specs.Valid.{has_name, some_has_name, arm_has_name, uses, some_uses, arm_uses, clashes, clashes_in_turn, clashes_at_once, clashes_in_arms};
 
 use super::node::{Arm, Node};
@@ -11,7 +11,7 @@ use mtp_codes::Name;
 // How many of `count` nodes are left behind this tree: none where the tree has more.
 #[cycle(left)]
 fn left_behind(node: &Node, count: u32) -> u32
-    ensures { result ≡ count - size (tree node.now) }
+    ensures { result ≡ count - size (plain_node node.now) }
 {
     if count == 0 {
         return 0;
@@ -47,10 +47,11 @@ fn left_behind_arms(each: &[Arm], count: u32) -> u32
     left
 }
 
-/// Whether one of the first `count` nodes of the tree is a step with this name. Visits a node once for each level above it.
+/// Whether one of the first `count` nodes of the tree is a step with this name. Visits a node once for each level above
+/// it.
 #[cycle(named)]
 pub fn is_named(node: &Node, count: u32, name: Name) -> bool
-    ensures { result ≡ has_name (tree node.now) count name }
+    ensures { result ≡ has_name (plain_node node.now) count name }
 {
     let below = count.saturating_sub(1);
     match node {
@@ -93,7 +94,7 @@ fn is_arm_named(each: &[Arm], count: u32, name: Name) -> bool
 // Whether some step of the tree has this role and this service.
 #[cycle(used)]
 fn is_used(node: &Node, role: Name, service: Name) -> bool
-    ensures { result ≡ uses (tree node.now) role service }
+    ensures { result ≡ uses (plain_node node.now) role service }
 {
     match node {
         Node::Step(step) => step.role == role && step.service == service,
@@ -133,7 +134,7 @@ fn is_arm_used(each: &[Arm], role: Name, service: Name) -> bool
 #[cycle(clash)]
 pub fn has_clash(node: &Node, place: u32, role: Name, service: Name) -> bool
     requires { place + 1 < 2 ^ 32 }
-    ensures { result ≡ clashes (tree node.now) place role service }
+    ensures { result ≡ clashes (plain_node node.now) place role service }
 {
     let below = place.saturating_sub(1);
     match node {

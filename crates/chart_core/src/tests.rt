@@ -2,9 +2,9 @@
 
 ghost use Rattle.std.specs.Prelude.{◌≤◌, map, length, IfOk, IsTrue};
 ghost use Rattle.chart_core.specs.Form.{is_formula_formed, is_finish_formed, is_tree_formed};
-ghost use Rattle.chart_core.specs.Formulas.{formula};
-ghost use Rattle.chart_core.specs.Trees.{Tree, tree, finish_plan};
-ghost use Rattle.chart_core.specs.Roles.{role_plan, are_roles_formed};
+ghost use Rattle.chart_core.specs.Formulas.{plain_condition};
+ghost use Rattle.chart_core.specs.Trees.{Tree, plain_node, plain_finish};
+ghost use Rattle.chart_core.specs.Roles.{plain_role, are_roles_formed};
 
 use crate::{Chart, ChartFault, Condition, Node, Op, Role, Step};
 use mtp_codes::{Name, Reading, Short};
@@ -40,7 +40,7 @@ fn role(alloc: Global, name: &str, type_name: &str, wants: &str) -> Result<Role,
 fn roles(alloc: Global) -> Result<Vec<Role>, Fail>
     ensures { IfOk result
         (λ roles. (root : Tree)
-        → IsTrue (are_roles_formed (record { roles = map role_plan roles.items; root = root }))) }
+        → IsTrue (are_roles_formed (record { roles = map plain_role roles.items; root = root }))) }
 {
     let doser = role(alloc, "A", "Doser", "^1")?;
     let mixer = role(alloc, "B", "Mixer", "^2")?;
@@ -51,7 +51,7 @@ fn roles(alloc: Global) -> Result<Vec<Role>, Fail>
 }
 
 fn at_least(variable: &str, role: &str, value: i64) -> Result<Condition, Fail>
-    ensures { IfOk result (λ condition. IsTrue (is_formula_formed (formula condition))) }
+    ensures { IfOk result (λ condition. IsTrue (is_formula_formed (plain_condition condition))) }
 {
     Ok(Condition::Test {
         role: named(role)?,
@@ -68,8 +68,8 @@ fn step(
     service: &str,
     finish: Option<Condition>,
 ) -> Result<Node, Fail>
-    requires { IsTrue (is_finish_formed (finish_plan finish)) }
-    ensures { IfOk result (λ node. IsTrue (is_tree_formed (tree node))) }
+    requires { IsTrue (is_finish_formed (plain_finish finish)) }
+    ensures { IfOk result (λ node. IsTrue (is_tree_formed (plain_node node))) }
 {
     Ok(Node::Step(Step {
         name: named(name)?,
@@ -82,25 +82,25 @@ fn step(
 }
 
 fn in_turn(alloc: Global, one: Node, other: Node) -> Result<Node, Fail>
-    requires one { IsTrue (is_tree_formed (tree one)) }
-    requires other { IsTrue (is_tree_formed (tree other)) }
-    ensures { IfOk result (λ node. IsTrue (is_tree_formed (tree node))) }
+    requires one { IsTrue (is_tree_formed (plain_node one)) }
+    requires other { IsTrue (is_tree_formed (plain_node other)) }
+    ensures { IfOk result (λ node. IsTrue (is_tree_formed (plain_node node))) }
 {
     Ok(Node::Seq(vec![in alloc; one, other]?))
 }
 
 fn at_once(alloc: Global, one: Node, other: Node) -> Result<Node, Fail>
-    requires one { IsTrue (is_tree_formed (tree one)) }
-    requires other { IsTrue (is_tree_formed (tree other)) }
-    ensures { IfOk result (λ node. IsTrue (is_tree_formed (tree node))) }
+    requires one { IsTrue (is_tree_formed (plain_node one)) }
+    requires other { IsTrue (is_tree_formed (plain_node other)) }
+    ensures { IfOk result (λ node. IsTrue (is_tree_formed (plain_node node))) }
 {
     Ok(Node::Par(vec![in alloc; one, other]?))
 }
 
 // The node below this many sequences of one child.
 fn below(alloc: Global, node: Node, above: u32) -> Result<Node, Fail>
-    requires { IsTrue (is_tree_formed (tree node)) }
-    ensures { IfOk result (λ node. IsTrue (is_tree_formed (tree node))) }
+    requires { IsTrue (is_tree_formed (plain_node node)) }
+    ensures { IfOk result (λ node. IsTrue (is_tree_formed (plain_node node))) }
 {
     if above == 0 {
         return Ok(node);
@@ -109,7 +109,7 @@ fn below(alloc: Global, node: Node, above: u32) -> Result<Node, Fail>
 }
 
 fn chart(alloc: Global, root: Node) -> Result<Chart, Fail>
-    requires { IsTrue (is_tree_formed (tree root)) }
+    requires { IsTrue (is_tree_formed (plain_node root)) }
 {
     let roles = roles(alloc)?;
     Ok(Chart { roles, root })
@@ -117,7 +117,7 @@ fn chart(alloc: Global, root: Node) -> Result<Chart, Fail>
 
 // Doses until the level is 1500, and then stirs and heats.
 fn mix(alloc: Global) -> Result<Node, Fail>
-    ensures { IfOk result (λ node. IsTrue (is_tree_formed (tree node))) }
+    ensures { IfOk result (λ node. IsTrue (is_tree_formed (plain_node node))) }
 {
     let fill = step(alloc, "fill", "A", "dose", None)?;
     let filled = Node::Loop(Box::new(alloc, fill)?, at_least("level", "A", 1500)?);
@@ -128,7 +128,7 @@ fn mix(alloc: Global) -> Result<Node, Fail>
 
 // Two steps of one name after another.
 fn one_name_twice(alloc: Global) -> Result<Node, Fail>
-    ensures { IfOk result (λ node. IsTrue (is_tree_formed (tree node))) }
+    ensures { IfOk result (λ node. IsTrue (is_tree_formed (plain_node node))) }
 {
     let one = step(alloc, "s1", "A", "dose", None)?;
     let other = step(alloc, "s1", "B", "dose", None)?;
@@ -137,7 +137,7 @@ fn one_name_twice(alloc: Global) -> Result<Node, Fail>
 
 // Two steps at once with one service.
 fn one_service_twice(alloc: Global) -> Result<Node, Fail>
-    ensures { IfOk result (λ node. IsTrue (is_tree_formed (tree node))) }
+    ensures { IfOk result (λ node. IsTrue (is_tree_formed (plain_node node))) }
 {
     let one = step(alloc, "s1", "A", "dose", None)?;
     let other = step(alloc, "s2", "A", "dose", None)?;
@@ -146,14 +146,14 @@ fn one_service_twice(alloc: Global) -> Result<Node, Fail>
 
 // A step below this many sequences.
 fn deep(alloc: Global, above: u32) -> Result<Node, Fail>
-    ensures { IfOk result (λ node. IsTrue (is_tree_formed (tree node))) }
+    ensures { IfOk result (λ node. IsTrue (is_tree_formed (plain_node node))) }
 {
     below(alloc, step(alloc, "s1", "A", "dose", None)?, above)
 }
 
 // What is said of the chart with these nodes.
 fn said(alloc: Global, root: Node) -> Result<Result<(), ChartFault>, Fail>
-    requires { IsTrue (is_tree_formed (tree root)) }
+    requires { IsTrue (is_tree_formed (plain_node root)) }
 {
     Ok(chart(alloc, root)?.valid())
 }

@@ -1,6 +1,6 @@
 //! Where a condition is true on stored readings.
 ghost use Rattle.std.specs.Prelude.{◌≡◌, slice_get};
-ghost use Rattle.chart_core.specs.Formulas.{formula, formulas, compares, compares_whole, compares_bits, holds, all_hold, some_holds};
+ghost use Rattle.chart_core.specs.Formulas.{plain_condition, formulas, compares, compares_whole, compares_bits, holds, all_hold, some_holds};
 ghost use Rattle.chart_core.specs.Reads.{stored};
 
 use super::condition::{Condition, Op};
@@ -51,7 +51,7 @@ fn stored_reading(role: Name, var: Name, reads: &[Read], values: &[Reading]) -> 
 /// condition, and for each test a walk of the reads.
 #[cycle(truth)]
 pub fn is_true(condition: &Condition, reads: &[Read], values: &[Reading]) -> bool
-    ensures { result ≡ holds (formula condition.now) (stored reads.now values.now) }
+    ensures { result ≡ holds (plain_condition condition.now) (stored reads.now values.now) }
 {
     match condition {
         Condition::Const(value) => *value,

@@ -2,11 +2,11 @@
 ghost use Rattle.std.specs.Prelude.{◌≡◌, ◌+◌, ◌*◌, ◌<◌, ◌≤◌, ◌^◌, ◌↔◌, ◌∷◌, [], map, length, nat_lt, Some, IsTrue, IsOk, IfOk, IfErr, IfNone};
 ghost use Rattle.mtp_codes.specs.Names.{is_among};
 ghost use Rattle.mtp_codes.specs.Faults.{first_of, when};
-ghost use Rattle.chart_core.specs.Formulas.{formula, formulas};
-ghost use Rattle.chart_core.specs.Trees.{tree, trees, arms, arm_conditions, step_plan, finish_plan, leaf};
+ghost use Rattle.chart_core.specs.Formulas.{plain_condition, formulas};
+ghost use Rattle.chart_core.specs.Trees.{plain_node, trees, arms, arm_conditions, plain_step, plain_finish, leaf};
 ghost use Rattle.chart_core.specs.Form.{is_tree_formed, are_trees_formed, are_arms_formed};
-ghost use Rattle.chart_core.specs.Roles.{role_plan};
-ghost use Rattle.chart_core.specs.Charts.{plan};
+ghost use Rattle.chart_core.specs.Roles.{plain_role};
+ghost use Rattle.chart_core.specs.Charts.{plain_chart};
 ghost use Rattle.chart_core.specs.Valid.{reads_unknown, some_reads_unknown, finish_conditions, visit, node_fault, chart_fault, IsValid};
 ghost use Rattle.chart_core.specs.Reads.{reads_of};
 ghost use Rattle.chart_core.specs.Runs.{arm_reads, loop_reads};
@@ -31,7 +31,7 @@ pub struct Reached {
 }
 
 fn is_role(roles: &[Role], name: Name) -> bool
-    ensures { result ≡ is_among (map (λ role. role.role) (map role_plan roles.now)) name }
+    ensures { result ≡ is_among (map (λ role. role.role) (map plain_role roles.now)) name }
 {
     for each in roles {
         if each.role == name {
@@ -44,7 +44,8 @@ fn is_role(roles: &[Role], name: Name) -> bool
 // Whether the condition reads a role that isn't one of these.
 #[cycle(unknown)]
 fn has_unknown(condition: &Condition, roles: &[Role]) -> bool
-    ensures { result ≡ reads_unknown (formula condition.now) (map (λ role. role.role) (map role_plan roles.now)) }
+    ensures { result ≡ reads_unknown (plain_condition condition.now)
+        (map (λ role. role.role) (map plain_role roles.now)) }
 {
     match condition {
         Condition::Const(_) => false,
@@ -58,7 +59,7 @@ fn has_unknown(condition: &Condition, roles: &[Role]) -> bool
 #[cycle(unknown)]
 fn some_has_unknown(conditions: &[Condition], roles: &[Role]) -> bool
     ensures { result ≡ some_reads_unknown (formulas conditions.now)
-        (map (λ role. role.role) (map role_plan roles.now)) }
+        (map (λ role. role.role) (map plain_role roles.now)) }
 {
     for each in conditions {
         if has_unknown(each, roles) {
@@ -70,7 +71,7 @@ fn some_has_unknown(conditions: &[Condition], roles: &[Role]) -> bool
 
 fn an_arm_has_unknown(each: &[Arm], roles: &[Role]) -> bool
     ensures { result ≡ some_reads_unknown (arm_conditions (arms each.now))
-        (map (λ role. role.role) (map role_plan roles.now)) }
+        (map (λ role. role.role) (map plain_role roles.now)) }
 {
     for arm in each {
         if has_unknown(&arm.when, roles) {
@@ -92,7 +93,7 @@ fn arms_read_too_much(each: &[Arm]) -> bool
 
 // Whether a loop or a step's finish reads more than four variables.
 fn reads_too_much(condition: &Condition) -> bool
-    ensures { result ≡ nat_lt MOST_READS (length (loop_reads (formula condition.now))) }
+    ensures { result ≡ nat_lt MOST_READS (length (loop_reads (plain_condition condition.now))) }
 {
     match reads_of_condition(condition) {
         Some(_) => false,
@@ -101,8 +102,8 @@ fn reads_too_much(condition: &Condition) -> bool
 }
 
 fn finish_has_unknown(finish: &Option<Condition>, roles: &[Role]) -> bool
-    ensures { result ≡ some_reads_unknown (finish_conditions (finish_plan finish.now))
-        (map (λ role. role.role) (map role_plan roles.now)) }
+    ensures { result ≡ some_reads_unknown (finish_conditions (plain_finish finish.now))
+        (map (λ role. role.role) (map plain_role roles.now)) }
 {
     match finish {
         Some(condition) => has_unknown(condition, roles),
@@ -111,7 +112,7 @@ fn finish_has_unknown(finish: &Option<Condition>, roles: &[Role]) -> bool
 }
 
 fn finish_reads_too_much(finish: &Option<Condition>) -> bool
-    ensures { result ≡ nat_lt MOST_READS (length (reads_of (finish_conditions (finish_plan finish.now)))) }
+    ensures { result ≡ nat_lt MOST_READS (length (reads_of (finish_conditions (plain_finish finish.now)))) }
 {
     match finish {
         Some(condition) => reads_too_much(condition),
@@ -121,8 +122,8 @@ fn finish_reads_too_much(finish: &Option<Condition>) -> bool
 
 fn step_fault(step: &Step, depth: u32, here: Reached, chart: &Chart) -> Option<ChartFault>
     requires { here.number + 1 < 2 ^ 32 }
-    ensures fault { result ≡ node_fault (plan chart.now)
-        (visit (leaf (step_plan step.now)) here.number depth here.steps) }
+    ensures fault { result ≡ node_fault (plain_chart chart.now)
+        (visit (leaf (plain_step step.now)) here.number depth here.steps) }
     ensures shallow { IfNone result (depth ≤ DEEPEST_NODE) }
     ensures few { IfNone result (here.steps < MOST_STEPS) }
 {
@@ -171,11 +172,11 @@ fn other_fault(node: u32, depth: u32, unknown: bool, too_much: bool) -> Option<C
 
 #[cycle(walk)]
 fn walk(node: &Node, depth: u32, here: Reached, chart: &Chart) -> Result<Reached, ChartFault>
-    requires formed { IsTrue (is_tree_formed (tree node.now)) }
+    requires formed { IsTrue (is_tree_formed (plain_node node.now)) }
     requires deep { depth ≤ DEEPEST_NODE + 1 }
     requires near { here.number < DEEPEST_NODE * here.steps + depth }
     requires few { here.steps ≤ MOST_STEPS }
-    ensures value { result ≡ walked (plan chart.now) (tree node.now) depth here }
+    ensures value { result ≡ walked (plain_chart chart.now) (plain_node node.now) depth here }
     ensures near { IfOk result (λ there. there.number ≤ DEEPEST_NODE * there.steps) }
     ensures few { IfOk result (λ there. there.steps ≤ MOST_STEPS) }
 {
@@ -228,7 +229,7 @@ fn walk_all(kids: &[Node], depth: u32, first: Reached, chart: &Chart) -> Result<
     requires deep { depth ≤ DEEPEST_NODE + 1 }
     requires near { first.number < DEEPEST_NODE * first.steps + depth }
     requires few { first.steps ≤ MOST_STEPS }
-    ensures value { result ≡ walked_all (plan chart.now) (trees kids.now) depth first }
+    ensures value { result ≡ walked_all (plain_chart chart.now) (trees kids.now) depth first }
     ensures near { IfOk result (λ there. there.number ≤ DEEPEST_NODE * there.steps) }
     ensures few { IfOk result (λ there. there.steps ≤ MOST_STEPS) }
 {
@@ -247,7 +248,7 @@ fn walk_arms(each: &[Arm], depth: u32, first: Reached, chart: &Chart) -> Result<
     requires deep { depth ≤ DEEPEST_NODE + 1 }
     requires near { first.number < DEEPEST_NODE * first.steps + depth }
     requires few { first.steps ≤ MOST_STEPS }
-    ensures value { result ≡ walked_arms (plan chart.now) (arms each.now) depth first }
+    ensures value { result ≡ walked_arms (plain_chart chart.now) (arms each.now) depth first }
     ensures near { IfOk result (λ there. there.number ≤ DEEPEST_NODE * there.steps) }
     ensures few { IfOk result (λ there. there.steps ≤ MOST_STEPS) }
 {
@@ -261,8 +262,8 @@ fn walk_arms(each: &[Arm], depth: u32, first: Reached, chart: &Chart) -> Result<
 impl Chart {
     /// Whether the chart is valid; else the first fault of the first node in chart order that has one. Takes no memory.
     pub fn valid(&self) -> Result<(), ChartFault>
-        ensures ok { IsOk result ↔ IsValid (plan self.now) }
-        ensures fault { IfErr result (λ fault. chart_fault (plan self.now) ≡ Some fault) }
+        ensures ok { IsOk result ↔ IsValid (plain_chart self.now) }
+        ensures fault { IfErr result (λ fault. chart_fault (plain_chart self.now) ≡ Some fault) }
     {
         let start = Reached {
             number: 0,

@@ -5,8 +5,8 @@ use Rattle.std.proofs.Common.{ap, sym, ◌∙◌, arith}
 use Rattle.std.proofs.lemmas.Bool.{and_parts}
 use Rattle.chart_core.specs.declared.node.Arm.{Arm}
 use Rattle.chart_core.specs.declared.progress.Progress.{Progress}
-use Rattle.chart_core.specs.declared.progress.Progress.TheVariants.{Untouched, Begun, Finished, WasReset, Ended, Chosen, Left}
-use Rattle.chart_core.specs.Trees.{Tree, Trees, Arms, leaf, seq, par, choice, loop, no_trees, more_trees, no_arms, more_arms, tree, arms, size, arm_sizes}
+use Rattle.chart_core.specs.declared.progress.Progress.TheVariants.{Ended, Chosen, Left}
+use Rattle.chart_core.specs.Trees.{Tree, Trees, Arms, leaf, seq, par, choice, loop, no_trees, more_trees, no_arms, more_arms, plain_node, arms, size, arm_sizes}
 use Rattle.chart_core.specs.Runs.{course, in_turn, at_once, arm_at}
 use Rattle.chart_core.specs.Progress.{Marks}
 use Rattle.chart_core.specs.Changes.{is_done, is_ended, is_left, has_chosen}
@@ -14,7 +14,7 @@ use Rattle.chart_core.proofs.Items.{arm_laid}
 use Rattle.chart_cursor.specs.declared.next.CursorNext.{CursorNext}
 use Rattle.chart_cursor.specs.declared.next.CursorNext.TheVariants.{Entry, Wait, Whole}
 use Rattle.chart_cursor.specs.Sights.{Sights}
-use Rattle.chart_cursor.specs.Spots.{Spot, phase_of, spots, turn_spots, once_spots, arm_spots, step_spots, choice_spots, loop_spots, spot_ready, first_next, first_among}
+use Rattle.chart_cursor.specs.OpenNodes.{OpenNode, phase_of, open_nodes, open_in_seq, open_in_par, open_in_arm, open_in_step, open_in_choice, open_in_loop, open_node_ready, first_next, first_among}
 use Rattle.std.specs.Option.{option_or}
 use Rattle.chart_cursor.specs.declared.running.FirstRunning.{FirstRunning}
 use Rattle.chart_cursor.specs.declared.scanning.FirstReady.{FirstReady}
@@ -27,55 +27,41 @@ use Rattle.chart_cursor.specs.declared.breaking.FirstBroken.{FirstBroken}
 
 -- an ended step is not open
 ended_step : (number : ℕ) (node : Tree) (progress : Progress) → is_ended progress ≡ true
-    → step_spots number node progress ≡ []
-ended_step number node Untouched ended = absurd cc
-ended_step number node Begun ended = absurd cc
-ended_step number node Finished ended = absurd cc
-ended_step number node WasReset ended = absurd cc
+    → open_in_step number node progress ≡ []
 ended_step number node Ended ended = refl
-ended_step number node (Chosen arm) ended = refl
-ended_step number node Left ended = refl
+ended_step number node progress ended = absurd cc
 
 -- a selection whose chosen arm is done has nothing open
 done_choice :
-    (number : ℕ) (node : Tree) (arm : ℕ → List Spot) (test : ℕ → Bool) (progress : Progress)
+    (number : ℕ) (node : Tree) (arm : ℕ → List OpenNode) (test : ℕ → Bool) (progress : Progress)
     → ((place : ℕ) → test place ≡ true → arm place ≡ [])
-    → has_chosen test progress ≡ true → choice_spots number node arm progress ≡ []
-done_choice number node arm test Untouched closed chosen = absurd cc
-done_choice number node arm test Begun closed chosen = refl
-done_choice number node arm test Finished closed chosen = refl
-done_choice number node arm test WasReset closed chosen = refl
-done_choice number node arm test Ended closed chosen = refl
+    → has_chosen test progress ≡ true → open_in_choice number node arm progress ≡ []
 done_choice number node arm test (Chosen place) closed chosen = closed place chosen
-done_choice number node arm test Left closed chosen = refl
+done_choice number node arm test progress closed chosen = absurd cc
 
 -- a loop that was left has nothing open
-left_loop : (number : ℕ) (node : Tree) (done : Bool) (body : List Spot) (progress : Progress) → is_left progress ≡ true
-    → loop_spots number node done body progress ≡ []
-left_loop number node done body Untouched left = absurd cc
-left_loop number node done body Begun left = refl
-left_loop number node done body Finished left = refl
-left_loop number node done body WasReset left = refl
-left_loop number node done body Ended left = refl
-left_loop number node done body (Chosen arm) left = refl
+left_loop : (number : ℕ) (node : Tree) (done : Bool) (body : List OpenNode) (progress : Progress)
+    → is_left progress ≡ true
+    → open_in_loop number node done body progress ≡ []
 left_loop number node done body Left left = refl
+left_loop number node done body progress left = absurd cc
 
 mutual
   pub done_closed : (each : Tree) (number : ℕ) (marks : Marks) → is_done (course each number) marks ≡ true
-      → spots each number marks ≡ []
+      → open_nodes each number marks ≡ []
   done_closed (leaf step) number marks done = ended_step number (leaf step) (marks number) done
   done_closed (seq each) number marks done = turn_closed each (number + 1) marks done
   done_closed (par each) number marks done = once_closed each (number + 1) marks done
   done_closed (choice each) number marks done =
-      done_choice number (choice each) (λ arm. arm_spots each (number + 1) arm marks)
+      done_choice number (choice each) (λ arm. open_in_arm each (number + 1) arm marks)
       (λ arm. is_done (arm_at each (number + 1) arm) marks) (marks number)
       (λ place. arm_closed each (number + 1) place marks) done
   done_closed (loop body until) number marks done =
-      left_loop number (loop body until) (is_done (course body (number + 1)) marks) (spots body (number + 1) marks)
+      left_loop number (loop body until) (is_done (course body (number + 1)) marks) (open_nodes body (number + 1) marks)
       (marks number) done
 
   turn_closed : (each : Trees) (number : ℕ) (marks : Marks) → is_done (in_turn each number) marks ≡ true
-      → turn_spots each number marks ≡ []
+      → open_in_seq each number marks ≡ []
   turn_closed no_trees number marks done = refl
   turn_closed (more_trees each others) number marks done =
       let both = and_parts (is_done (course each number) marks)
@@ -83,7 +69,7 @@ mutual
       rw both.0 (turn_closed others (number + size each) marks both.1)
 
   once_closed : (each : Trees) (number : ℕ) (marks : Marks) → is_done (at_once each number) marks ≡ true
-      → once_spots each number marks ≡ []
+      → open_in_par each number marks ≡ []
   once_closed no_trees number marks done = refl
   once_closed (more_trees each others) number marks done =
       let both = and_parts (is_done (course each number) marks)
@@ -91,7 +77,7 @@ mutual
       rw (done_closed each number marks both.0) (once_closed others (number + size each) marks both.1)
 
   arm_closed : (each : Arms) (number place : ℕ) (marks : Marks) → is_done (arm_at each number place) marks ≡ true
-      → arm_spots each number place marks ≡ []
+      → open_in_arm each number place marks ≡ []
   arm_closed no_arms number place marks done = refl
   arm_closed (more_arms when each others) number zero marks done = done_closed each number marks done
   arm_closed (more_arms when each others) number (suc place) marks done =
@@ -101,24 +87,24 @@ mutual
 
 -- a walk over a part that is done looks at nothing
 pub done_same :
-    {A : Type 0} (after : A → Spot → A) (old new : A) (each : Tree) (number : ℕ) (marks : Marks)
-    → new ≡ fold after old (spots each number marks) → is_done (course each number) marks ≡ true → new ≡ old
+    {A : Type 0} (after : A → OpenNode → A) (old new : A) (each : Tree) (number : ℕ) (marks : Marks)
+    → new ≡ fold after old (open_nodes each number marks) → is_done (course each number) marks ≡ true → new ≡ old
 done_same after old new each number marks looked done = looked
     ∙ ap (fold after old) (done_closed each number marks done)
 
 -- parts in order: where the first of them is done, the walk goes on with the others
 pub turn_more :
-    {A : Type 0} (after : A → Spot → A) (old new : A) (each : Tree) (others : Trees) (number : ℕ) (marks : Marks)
-    → new ≡ fold after old (spots each number marks)
+    {A : Type 0} (after : A → OpenNode → A) (old new : A) (each : Tree) (others : Trees) (number : ℕ) (marks : Marks)
+    → new ≡ fold after old (open_nodes each number marks)
     → (if is_done (course each number) marks then fold after new
-    (turn_spots others (number + size each) marks) else new)
-    ≡ fold after old (turn_spots (more_trees each others) number marks)
+    (open_in_seq others (number + size each) marks) else new)
+    ≡ fold after old (open_in_seq (more_trees each others) number marks)
 turn_more after old new each others number marks looked =
     (elim (is_done (course each number) marks) as
     (λ done. is_done (course each number) marks ≡ done →
-    (if done then fold after new (turn_spots others (number + size each) marks) else new)
-    ≡ fold after old (if done then turn_spots others (number + size each) marks else spots each number marks)) [
-      | true ↦ λ done. ap (λ look. fold after look (turn_spots others (number + size each) marks))
+    (if done then fold after new (open_in_seq others (number + size each) marks) else new)
+    ≡ fold after old (if done then open_in_seq others (number + size each) marks else open_nodes each number marks)) [
+      | true ↦ λ done. ap (λ look. fold after look (open_in_seq others (number + size each) marks))
           (done_same after old new each number marks looked done)
       | false ↦ λ done. looked
     ]) refl
@@ -144,12 +130,13 @@ first_next_whole Whole = refl
 
 -- what came first before a walk, and then what comes first of the nodes that it looks at
 pub ready_found :
-    {S : Type 0} (sights : S → Sights) (ready : FirstReady S) (each : List Spot)
+    {S : Type 0} (sights : S → Sights) (ready : FirstReady S) (each : List OpenNode)
     → (fold (look_ready sights) ready each).next ≡ first_next ready.next (first_among (sights ready.seen.now) each)
 ready_found sights ready [] = sym (first_next_whole ready.next)
 ready_found sights ready (spot ∷ others) =
     ready_found sights (look_ready sights ready spot) others
-    ∙ first_next_assoc ready.next (spot_ready (sights ready.seen.now) spot) (first_among (sights ready.seen.now) others)
+    ∙ first_next_assoc ready.next (open_node_ready (sights ready.seen.now) spot)
+    (first_among (sights ready.seen.now) others)
 
 -- the first of three that is there
 or_assoc : {A : Type 0} (one other third : Option A) → option_or (option_or one other) third
@@ -164,7 +151,7 @@ or_none (Some first) = refl
 
 -- what ran before a walk, and then the first running one of the steps that it looks at
 pub running_found :
-    (running : FirstRunning) (each : List Spot)
+    (running : FirstRunning) (each : List OpenNode)
     → (fold look_running running each).found ≡ option_or running.found
     (first_running (is_wanted running.from running.role) each)
 running_found running [] = sym (or_none running.found)
@@ -176,7 +163,7 @@ running_found running (spot ∷ others) =
 
 -- what broke before a walk, and then the first one that broke of the steps that it looks at
 pub broken_found :
-    {S : Type 0} (sights : S → Sights) (broken : FirstBroken S) (each : List Spot)
+    {S : Type 0} (sights : S → Sights) (broken : FirstBroken S) (each : List OpenNode)
     → (fold (look_broken sights) broken each).found ≡ option_or broken.found
     (first_broken_node (sights broken.seen.now) each)
 broken_found sights broken [] = sym (or_none broken.found)
@@ -187,7 +174,7 @@ broken_found sights broken (spot ∷ others) =
 
 -- ---- a selection has no more arms than nodes
 
--- a tree has a node
+-- a plain_node has a node
 size_some : (each : Tree) → 1 ≤ size each
 size_some (leaf step) = omega arith
 size_some (seq each) = omega arith
@@ -199,6 +186,6 @@ size_some (loop body until) = omega arith
 pub few_arms : (each : List Arm) → length each ≤ arm_sizes (arms each)
 few_arms [] = omega arith
 few_arms (arm ∷ each) =
-    let one = size_some (tree arm.body) in
+    let one = size_some (plain_node arm.body) in
     let more = few_arms each in
     rw (arm_laid arm) (omega arith)

@@ -6,7 +6,7 @@ use Rattle.chart_core.specs.Active.{Phase, is_running}
 use Rattle.chart_core.specs.declared.entry.LogEntry.{LogEntry}
 use Rattle.chart_cursor.specs.NextEntry.{broken_step}
 use Rattle.chart_cursor.specs.Sights.{Sights}
-use Rattle.chart_cursor.specs.Spots.{Spot, phase_of}
+use Rattle.chart_cursor.specs.OpenNodes.{OpenNode, phase_of}
 
 -- the entry Broke, where the node is a running step whose service is stopped or aborted
 abbrev pub broken_node : Sights → Tree → Phase → Option LogEntry
@@ -18,7 +18,7 @@ broken_node seen (choice each) phase = None
 broken_node seen (loop body until) phase = None
 
 -- the entry Broke of the first of these open nodes that has one
-abbrev pub first_broken_node : Sights → List Spot → Option LogEntry
+abbrev pub first_broken_node : Sights → List OpenNode → Option LogEntry
 first_broken_node seen [] = None
 first_broken_node seen (spot ∷ others) =
     option_or (broken_node seen spot.node (phase_of spot.progress)) (first_broken_node seen others)

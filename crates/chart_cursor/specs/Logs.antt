@@ -3,8 +3,8 @@ use Rattle.std.specs.Prelude.{Bool, true, false, List, map, filter, is_some}
 use Rattle.std.specs.List.{list_any}
 use Rattle.chart_core.specs.Active.{active_steps}
 use Rattle.chart_core.specs.Entries.{chart_entry}
-use Rattle.chart_core.specs.Roles.{ChartPlan}
-use Rattle.chart_core.specs.Trees.{StepPlan}
+use Rattle.chart_core.specs.Roles.{PlainChart}
+use Rattle.chart_core.specs.Trees.{PlainStep}
 use Rattle.chart_core.specs.declared.entry.LogEntry.{LogEntry}
 use Rattle.chart_core.specs.declared.entry.LogEntry.TheVariants.{Broke, StopAsked}
 
@@ -13,7 +13,7 @@ abbrev pub chart_entries : List LogEntry → List LogEntry
 chart_entries log = filter (λ entry. is_some (chart_entry entry)) log
 
 -- the active steps of a batch with this chart after its log, in chart order
-abbrev pub active : ChartPlan → List LogEntry → List StepPlan
+abbrev pub active : PlainChart → List LogEntry → List PlainStep
 active chart log = map (λ placed. placed.step) (active_steps chart log)
 
 -- the entry says that the batch broke

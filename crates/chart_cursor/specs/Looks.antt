@@ -1,7 +1,7 @@
 -- What is looked for among open nodes, after one node more.
 use Rattle.std.specs.Option.{option_or}
 use Rattle.chart_cursor.specs.Sights.{Sights}
-use Rattle.chart_cursor.specs.Spots.{Spot, phase_of, spot_ready, first_next}
+use Rattle.chart_cursor.specs.OpenNodes.{OpenNode, phase_of, open_node_ready, first_next}
 use Rattle.chart_cursor.specs.declared.running.FirstRunning.{FirstRunning}
 use Rattle.chart_cursor.specs.declared.scanning.FirstReady.{FirstReady}
 use Rattle.chart_cursor.specs.Broken.{broken_node}
@@ -9,12 +9,12 @@ use Rattle.chart_cursor.specs.Running.{is_wanted, running_node}
 use Rattle.chart_cursor.specs.declared.breaking.FirstBroken.{FirstBroken}
 
 -- what comes next: the first entry; else the first obstacle
-abbrev pub look_ready : {S : Type 0} → (S → Sights) → FirstReady S → Spot → FirstReady S
+abbrev pub look_ready : {S : Type 0} → (S → Sights) → FirstReady S → OpenNode → FirstReady S
 look_ready sights ready spot =
-    record { seen = ready.seen; next = first_next ready.next (spot_ready (sights ready.seen.now) spot) }
+    record { seen = ready.seen; next = first_next ready.next (open_node_ready (sights ready.seen.now) spot) }
 
 -- the first wanted step that runs
-abbrev pub look_running : FirstRunning → Spot → FirstRunning
+abbrev pub look_running : FirstRunning → OpenNode → FirstRunning
 look_running running spot =
     record {
       from = running.from;
@@ -24,7 +24,7 @@ look_running running spot =
     }
 
 -- the entry Broke of the first running step whose service is stopped or aborted
-abbrev pub look_broken : {S : Type 0} → (S → Sights) → FirstBroken S → Spot → FirstBroken S
+abbrev pub look_broken : {S : Type 0} → (S → Sights) → FirstBroken S → OpenNode → FirstBroken S
 look_broken sights broken spot =
     record {
       seen = broken.seen;

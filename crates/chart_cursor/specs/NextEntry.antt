@@ -6,8 +6,8 @@ use Rattle.mtp_codes.specs.declared.mode.Speaker.TheVariants as speaker
 use Rattle.mtp_codes.specs.declared.state.State.{State}
 use Rattle.mtp_codes.specs.declared.state.State.TheVariants as state
 use Rattle.mtp_modes.specs.Permission.{forbidden_by}
-use Rattle.chart_core.specs.Roles.{ChartPlan}
-use Rattle.chart_core.specs.Trees.{StepPlan}
+use Rattle.chart_core.specs.Roles.{PlainChart}
+use Rattle.chart_core.specs.Trees.{PlainStep}
 use Rattle.chart_core.specs.declared.entry.LogEntry.{LogEntry}
 use Rattle.chart_core.specs.declared.entry.LogEntry.TheVariants.{Stop, Broke, Left}
 use Rattle.chart_core.specs.declared.next.Next.{Next}
@@ -34,7 +34,7 @@ stop_step step service tag (sight.Is view) =
     else Did (Left step view.control.state)
 
 -- a batch that is stopped: its first active step, and when there is none it is closed
-abbrev pub stop_next : Sights → Bool → List StepPlan → Next
+abbrev pub stop_next : Sights → Bool → List PlainStep → Next
 stop_next seen broken [] = Closed (if broken then Broken else Stopped)
 stop_next seen broken (step ∷ others) =
     stop_step step.name step.service (tag_of seen step.role) (seen.view step.role step.service)
@@ -46,14 +46,14 @@ is_broken_state state.Aborted = true
 is_broken_state other = false
 
 -- the entry Broke of a step whose service is stopped or aborted
-abbrev pub broken_step : StepPlan → Sight → Option LogEntry
+abbrev pub broken_step : PlainStep → Sight → Option LogEntry
 broken_step step sight.Away = None
 broken_step step sight.Unreported = None
 broken_step step (sight.Is view) = if is_broken_state view.control.state then Some
     (Broke step.name view.control.state) else None
 
 -- the entry Broke of the first of these steps whose service is stopped or aborted
-abbrev pub first_broken : Sights → List StepPlan → Option LogEntry
+abbrev pub first_broken : Sights → List PlainStep → Option LogEntry
 first_broken seen [] = None
 first_broken seen (step ∷ others) = option_or (broken_step step (seen.view step.role step.service))
     (first_broken seen others)
@@ -71,7 +71,7 @@ broke_or (Some entry) next = Did entry
 
 -- The next entry of an open batch: it waits where it is frozen; once it broke or was to be stopped its active steps are
 -- stopped one by one; it breaks with a service of an active step; else the run of its chart goes on.
-abbrev pub next_by : ChartPlan → Bool → List LogEntry → Sights → Next
+abbrev pub next_by : PlainChart → Bool → List LogEntry → Sights → Next
 next_by chart frozen log seen =
     if frozen then Waiting why.Frozen
     else if has_broken log || was_stopped log then stop_next seen (has_broken log) (active chart log)

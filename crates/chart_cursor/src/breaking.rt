@@ -1,13 +1,13 @@
 //! The first running step of a chart whose service is stopped or aborted, by its marks.
 ghost use Rattle.std.specs.Prelude.{◌≡◌, ◌+◌, ◌<◌, ◌≤◌, ◌^◌, length};
-ghost use Rattle.chart_core.specs.Trees.{tree, step_plan, leaf, size};
+ghost use Rattle.chart_core.specs.Trees.{plain_node, plain_step, leaf, size};
 ghost use Rattle.chart_core.specs.Progress.{marks_of};
-ghost use Rattle.chart_cursor.specs.Spots.{phase_of, spots};
+ghost use Rattle.chart_cursor.specs.OpenNodes.{phase_of, open_nodes};
 ghost use Rattle.chart_cursor.specs.NextEntry.{broken_step, is_broken_state};
 ghost use Rattle.chart_cursor.specs.Broken.{broken_node, first_broken_node};
 
-use super::look::Look;
 use super::sight::{Seen, Sight};
+use super::visitor::Visitor;
 use super::walking::walk;
 use chart_core::{Arm, Condition, LogEntry, Node, Progress, Step};
 use mtp_codes::State;
@@ -19,7 +19,7 @@ fn is_broken_state(state: State) -> bool
 }
 
 fn broken_step(step: &Step, sight: Sight) -> Option<LogEntry>
-    ensures { result ≡ broken_step (step_plan step.now) sight }
+    ensures { result ≡ broken_step (plain_step step.now) sight }
 {
     match sight {
         Sight::Is(view) if is_broken_state(view.control.state) => Some(LogEntry::Broke {
@@ -31,7 +31,7 @@ fn broken_step(step: &Step, sight: Sight) -> Option<LogEntry>
 }
 
 fn broken_node<S: Seen>(step: &Step, progress: Progress, seen: &S) -> Option<LogEntry>
-    ensures { result ≡ broken_node (S.sights seen.now) (leaf (step_plan step.now)) (phase_of progress) }
+    ensures { result ≡ broken_node (S.sights seen.now) (leaf (plain_step step.now)) (phase_of progress) }
 {
     match progress {
         Progress::Begun | Progress::Finished | Progress::WasReset => {
@@ -48,7 +48,7 @@ struct FirstBroken<'a, S: Seen> {
     found: Option<LogEntry>,
 }
 
-impl<'a, S: Seen> Look for FirstBroken<'a, S> {
+impl<'a, S: Seen> Visitor for FirstBroken<'a, S> {
     ghost use Rattle.chart_cursor.specs.Looks.{look_broken};
 
     ghost after = { look_broken S.sights };
@@ -72,9 +72,10 @@ pub fn first_broken<S: Seen>(
     marks: &[Progress],
     seen: &S,
 ) -> Option<LogEntry>
-    requires fits { number + size (tree node.now) ≤ length marks.now }
+    requires fits { number + size (plain_node node.now) ≤ length marks.now }
     requires short { length marks.now < 2 ^ 32 }
-    ensures { result ≡ first_broken_node (S.sights seen.now) (spots (tree node.now) number (marks_of marks.now)) }
+    ensures { result ≡ first_broken_node (S.sights seen.now)
+        (open_nodes (plain_node node.now) number (marks_of marks.now)) }
 {
     let mut broken = FirstBroken { seen, found: None };
     walk(node, number, marks, &mut broken);

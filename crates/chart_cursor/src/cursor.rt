@@ -1,15 +1,15 @@
 //! A cursor over a chart.
 ghost use Rattle.std.specs.Prelude.{◌≡◌, ◌++◌, ◌∷◌, [], List, IfOk, Some, None};
 ghost use Rattle.chart_core.specs.Active.{active_steps};
-ghost use Rattle.chart_core.specs.Charts.{plan};
+ghost use Rattle.chart_core.specs.Charts.{plain_chart};
 ghost use Rattle.chart_core.specs.Valid.{IsValid};
 ghost use Rattle.chart_core.specs.Runs.{IsPartial, IsComplete};
 ghost use Rattle.chart_core.specs.Progress.{marks_of};
 ghost use Rattle.chart_core.specs.Standing.{StandsFor};
 ghost use Rattle.chart_core.specs.declared.entry.LogEntry.{LogEntry};
 ghost use Rattle.chart_cursor.specs.declared.next.CursorNext.TheVariants.{Whole};
-ghost use Rattle.chart_core.specs.Trees.{tree};
-ghost use Rattle.chart_cursor.specs.Spots.{spots};
+ghost use Rattle.chart_core.specs.Trees.{plain_node};
+ghost use Rattle.chart_cursor.specs.OpenNodes.{open_nodes};
 ghost use Rattle.chart_cursor.specs.Next.{IsNext, ready_after, next_after};
 ghost use Rattle.chart_cursor.specs.Logs.{active};
 ghost use Rattle.chart_cursor.specs.NextEntry.{first_broken};
@@ -56,9 +56,9 @@ impl Cursor {
     ///
     /// AllocError where memory is wanting for one mark for each node.
     pub fn new(alloc: Global, chart: Arc<Chart>) -> Result<Cursor, AllocError>
-        requires { IsValid (plan chart.value) }
+        requires { IsValid (plain_chart chart.value) }
         ensures chart { IfOk result (λ cursor. cursor.chart ≡ chart.value) }
-        ensures empty { IfOk result (λ cursor. StandsFor (plan cursor.chart) cursor.marks []) }
+        ensures empty { IfOk result (λ cursor. StandsFor (plain_chart cursor.chart) cursor.marks []) }
     {
         let marks = untouched(alloc, &chart)?;
         Ok(Cursor { chart, marks })
@@ -74,11 +74,11 @@ impl Cursor {
     /// Takes the entry, which goes on a word that the cursor stands for: afterwards the cursor stands for each such
     /// word with the entry at its end. Walks the chart's nodes once, and takes no memory.
     pub fn take(&mut self, entry: LogEntry)
-        requires { (word : List LogEntry) × StandsFor (plan self.old.chart) self.old.marks word
-            × IsPartial (plan self.old.chart) (word ++ (entry ∷ [])) }
+        requires { (word : List LogEntry) × StandsFor (plain_chart self.old.chart) self.old.marks word
+            × IsPartial (plain_chart self.old.chart) (word ++ (entry ∷ [])) }
         ensures chart { self.new.chart ≡ self.old.chart }
-        ensures word { (word : List LogEntry) → StandsFor (plan self.old.chart) self.old.marks word
-            → StandsFor (plan self.new.chart) self.new.marks (word ++ (entry ∷ [])) }
+        ensures word { (word : List LogEntry) → StandsFor (plain_chart self.old.chart) self.old.marks word
+            → StandsFor (plain_chart self.new.chart) self.new.marks (word ++ (entry ∷ [])) }
     {
         let _ = take_entry(&self.chart, &mut self.marks, &entry);
     }
@@ -87,12 +87,13 @@ impl Cursor {
     /// ready; where none is, the first obstacle of the first awaited node; Whole exactly where the word is a complete
     /// run. Walks the chart's nodes once, and takes no memory.
     pub fn first_ready<S: Seen>(&self, seen: &S) -> CursorNext
-        ensures next { (word : List LogEntry) → StandsFor (plan self.now.chart) self.now.marks word
-            → IsNext (plan self.now.chart) word (ready_after (plan self.now.chart) word (S.sights seen.now)) result }
-        ensures same { (word : List LogEntry) → StandsFor (plan self.now.chart) self.now.marks word
-            → result ≡ next_after (plan self.now.chart) word (S.sights seen.now) }
-        ensures whole { (word : List LogEntry) → StandsFor (plan self.now.chart) self.now.marks word
-            → IsComplete (plan self.now.chart) word → result ≡ Whole }
+        ensures next { (word : List LogEntry) → StandsFor (plain_chart self.now.chart) self.now.marks word
+            → IsNext (plain_chart self.now.chart) word
+            (ready_after (plain_chart self.now.chart) word (S.sights seen.now)) result }
+        ensures same { (word : List LogEntry) → StandsFor (plain_chart self.now.chart) self.now.marks word
+            → result ≡ next_after (plain_chart self.now.chart) word (S.sights seen.now) }
+        ensures whole { (word : List LogEntry) → StandsFor (plain_chart self.now.chart) self.now.marks word
+            → IsComplete (plain_chart self.now.chart) word → result ≡ Whole }
     {
         scan(&self.chart.root, 0, &self.marks, seen)
     }
@@ -100,8 +101,8 @@ impl Cursor {
     /// The first active step whose node is at least `from`, and of the role where one is given; None where there is no
     /// such active step. Walks the chart's nodes once, and takes no memory.
     pub fn next_step(&self, from: u32, role: Option<Name>) -> Option<RunningStep>
-        ensures { (word : List LogEntry) → StandsFor (plan self.now.chart) self.now.marks word
-            → result ≡ first_placed (is_wanted from role) (active_steps (plan self.now.chart) word) }
+        ensures { (word : List LogEntry) → StandsFor (plain_chart self.now.chart) self.now.marks word
+            → result ≡ first_placed (is_wanted from role) (active_steps (plain_chart self.now.chart) word) }
     {
         first_running(&self.chart.root, 0, &self.marks, from, role)
     }
@@ -109,8 +110,8 @@ impl Cursor {
     /// The entry Broke of the first active step whose service is seen stopped or aborted; None where there is none.
     /// Walks the chart's nodes once, and takes no memory.
     pub fn first_broken<S: Seen>(&self, seen: &S) -> Option<LogEntry>
-        ensures { (word : List LogEntry) → StandsFor (plan self.now.chart) self.now.marks word
-            → result ≡ first_broken (S.sights seen.now) (active (plan self.now.chart) word) }
+        ensures { (word : List LogEntry) → StandsFor (plain_chart self.now.chart) self.now.marks word
+            → result ≡ first_broken (S.sights seen.now) (active (plain_chart self.now.chart) word) }
     {
         first_broken(&self.chart.root, 0, &self.marks, seen)
     }
@@ -118,16 +119,17 @@ impl Cursor {
     /// The first active step whose node is at least `from`, with the node's number; None where there is no such active
     /// step. Walks the chart's nodes once, and takes no memory.
     pub fn next_active(&self, from: u32) -> Option<(u32, Name)>
-        ensures { (word : List LogEntry) → StandsFor (plan self.now.chart) self.now.marks word
-            → result ≡ placed_of (first_placed (is_wanted from None) (active_steps (plan self.now.chart) word)) }
+        ensures { (word : List LogEntry) → StandsFor (plain_chart self.now.chart) self.now.marks word
+            → result ≡ placed_of (first_placed (is_wanted from None) (active_steps (plain_chart self.now.chart) word)) }
     {
         placed_alone(self.next_step(from, None))
     }
 
     /// The first active step of the role; None where there is none. Walks the chart's nodes once, and takes no memory.
     pub fn active_on(&self, role: Name) -> Option<Name>
-        ensures { (word : List LogEntry) → StandsFor (plan self.now.chart) self.now.marks word
-            → result ≡ name_of (first_placed (is_wanted 0 (Some role)) (active_steps (plan self.now.chart) word)) }
+        ensures { (word : List LogEntry) → StandsFor (plain_chart self.now.chart) self.now.marks word
+            → result ≡ name_of (first_placed (is_wanted 0 (Some role))
+            (active_steps (plain_chart self.now.chart) word)) }
     {
         name_alone(self.next_step(0, Some(role)))
     }

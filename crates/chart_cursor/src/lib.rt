@@ -5,7 +5,8 @@
 //! cursor stands for words by a relation; where a clause speaks of the word, it holds of every word that the cursor
 //! stands for. What comes next is worked out by `next_after` (`specs/Next.antt`); the laws in `laws` say that it is the
 //! defined next entry, that it keeps a run a run, and that it commands only what a recipe may give. One walk over the
-//! open nodes serves all that is looked for among them (`Look`): what comes next, which step runs, and which one broke.
+//! open nodes serves all that is looked for among them (`Visitor`): what comes next, which step runs, and which one
+//! broke.
 //!
 //! What an open batch does next is defined here too (`next_by` in `specs/NextEntry.antt`), since it is said of a
 //! chart, a log and what is seen alone: the crates that look back and those that keep runs cite one text.
@@ -15,12 +16,12 @@ mod breaking;
 mod cursor;
 mod following;
 mod laws;
-mod look;
 mod next;
 mod ready;
 mod running;
 mod scanning;
 mod sight;
+mod visitor;
 mod walking;
 
 pub use cursor::Cursor;

@@ -1,11 +1,11 @@
 //! The first step of a chart that runs, by its marks.
 ghost use Rattle.std.specs.Prelude.{◌≡◌, ◌+◌, ◌<◌, ◌≤◌, ◌^◌, length};
-ghost use Rattle.chart_core.specs.Trees.{tree, step_plan, leaf, size};
+ghost use Rattle.chart_core.specs.Trees.{plain_node, plain_step, leaf, size};
 ghost use Rattle.chart_core.specs.Progress.{marks_of};
-ghost use Rattle.chart_cursor.specs.Spots.{phase_of, spots};
+ghost use Rattle.chart_cursor.specs.OpenNodes.{phase_of, open_nodes};
 ghost use Rattle.chart_cursor.specs.Running.{first_running, has_role, is_wanted, name_of, placed_of, running_node};
 
-use super::look::Look;
+use super::visitor::Visitor;
 use super::walking::walk;
 use chart_core::{Arm, Condition, Node, Progress, Step};
 use mtp_codes::Name;
@@ -38,7 +38,7 @@ pub fn placed_alone(found: Option<RunningStep>) -> Option<(u32, Name)>
 }
 
 fn is_of_role(step: &Step, role: Option<Name>) -> bool
-    ensures { result ≡ has_role role (step_plan step.now) }
+    ensures { result ≡ has_role role (plain_step step.now) }
 {
     match role {
         Some(role) => step.role == role,
@@ -61,7 +61,7 @@ fn running_step(
     from: u32,
     role: Option<Name>,
 ) -> Option<RunningStep>
-    ensures { result ≡ running_node (is_wanted from role) number (leaf (step_plan step.now)) (phase_of progress) }
+    ensures { result ≡ running_node (is_wanted from role) number (leaf (plain_step step.now)) (phase_of progress) }
 {
     let runs = matches!(
         progress,
@@ -79,7 +79,7 @@ fn running_step(
     }
 }
 
-impl Look for FirstRunning {
+impl Visitor for FirstRunning {
     ghost use Rattle.chart_cursor.specs.Looks.{look_running};
 
     ghost after = { look_running };
@@ -104,9 +104,10 @@ pub fn first_running(
     from: u32,
     role: Option<Name>,
 ) -> Option<RunningStep>
-    requires fits { number + size (tree node.now) ≤ length marks.now }
+    requires fits { number + size (plain_node node.now) ≤ length marks.now }
     requires short { length marks.now < 2 ^ 32 }
-    ensures { result ≡ first_running (is_wanted from role) (spots (tree node.now) number (marks_of marks.now)) }
+    ensures { result ≡ first_running (is_wanted from role)
+        (open_nodes (plain_node node.now) number (marks_of marks.now)) }
 {
     let mut running = FirstRunning {
         from,

@@ -18,8 +18,8 @@ use Rattle.mtp_json.proofs.Again.{whole_again, each_again, len_again, scalar_aga
 use Rattle.chart_core.specs.declared.limits.TheConstants.{MOST_ROLES, LONGEST_WANTED, MOST_SETTINGS, MOST_ARMS, MOST_JOINED, MOST_TESTS, DEEPEST_CONDITION}
 use Rattle.chart_core.specs.Form.{are_distinct, formula_count, has_parts_formed, have_parts_formed, may_compare, test_count, nesting, nestings, is_formula_formed, is_finish_formed, is_step_formed, tree_count, is_tree_formed, are_trees_formed, are_arms_formed}
 use Rattle.chart_core.specs.Formulas.{Formula, Formulas, constant, all_of, any_of, not_of, test, no_formulas, more_formulas, formulas_of}
-use Rattle.chart_core.specs.Roles.{ChartPlan, RolePlan, are_roles_formed, is_chart_form, role_names}
-use Rattle.chart_core.specs.Trees.{StepPlan, Tree, Trees, Arms, ArmPlan, leaf, seq, par, choice, loop, no_trees, more_trees, no_arms, more_arms, trees_of, arms_of, arm_count}
+use Rattle.chart_core.specs.Roles.{PlainChart, PlainRole, are_roles_formed, is_chart_form, role_names}
+use Rattle.chart_core.specs.Trees.{PlainStep, Tree, Trees, Arms, PlainArm, leaf, seq, par, choice, loop, no_trees, more_trees, no_arms, more_arms, trees_of, arms_of, arm_count}
 use Rattle.chart_core.specs.declared.condition.Op.{Op}
 use Rattle.chart_core.specs.declared.condition.Op.TheVariants.{Lt, Le, Eq, Ne, Ge, Gt}
 use Rattle.chart_json.specs.Form.{role_of, roles_of, are_roles_sized, same_role, compared, const_form, all_form, any_form, not_form, test_form, condition_by_key, condition_within, formula_of, condition_of, same_setting, setting_of, step_of, step_form, seq_form, par_form, arm_of, sel_form, loop_form, has, node_by_key, tree_within, tree_of, chart_from, chart_of}
@@ -148,7 +148,7 @@ setting_again setting sound =
     rw (parts.0, scalar_again setting.value parts.1) refl
 
 -- what is known of a step's fields but its finish
-record AreFields (step : StepPlan) : Type 0 where
+record AreFields (step : PlainStep) : Type 0 where
   pub named : is_name step.name ≡ true
   pub role : is_name step.role ≡ true
   pub service : is_name step.service ≡ true
@@ -157,7 +157,7 @@ record AreFields (step : StepPlan) : Type 0 where
   pub settings : list_all is_setting_sound step.settings ≡ true
   pub unlike : repeats_by same_setting step.settings ≡ false
 
-fields_again : (step : StepPlan) (finish : Option Formula) → AreFields step → is_finish_formed finish ≡ true
+fields_again : (step : PlainStep) (finish : Option Formula) → AreFields step → is_finish_formed finish ≡ true
     → is_finish_sound finish ≡ true
     → step_of (object (finish_first finish
     (step_keys step.name step.procedure step.role step.service (written_settings step.settings))))
@@ -194,7 +194,7 @@ some_settings : (n : ℕ) → nat_le n MOST_SETTINGS ≡ true → is_between 0 M
 some_settings n few = rw few (grind (arith, nat_tests))
 
 -- a step that is written is read back
-step_again : (step : StepPlan) → is_step_formed step ≡ true → is_step_sound step ≡ true
+step_again : (step : PlainStep) → is_step_formed step ≡ true → is_step_sound step ≡ true
     → step_of (written_step step) ≡ Ok step
 unfolding written_step
 step_again step formed sound =
@@ -233,22 +233,22 @@ step_again step formed sound =
 -- ---- nodes
 
 -- a written step is an object that has a key `step`
-step_is_object : (step : StepPlan) → object_here (written_step step) ≡ Ok tt
+step_is_object : (step : PlainStep) → object_here (written_step step) ≡ Ok tt
 unfolding written_step
 step_is_object step = refl
 
-has_step_by : (step : StepPlan) (finish : Option Formula)
+has_step_by : (step : PlainStep) (finish : Option Formula)
     → has (codes "step") (object
     (finish_first finish (step_keys step.name step.procedure step.role step.service (written_settings step.settings))))
     ≡ true
 has_step_by step None = refl
 has_step_by step (Some finish) = refl
 
-has_step : (step : StepPlan) → has (codes "step") (written_step step) ≡ true
+has_step : (step : PlainStep) → has (codes "step") (written_step step) ≡ true
 unfolding written_step
 has_step step = has_step_by step step.finish
 
-leaf_again : (depth : ℕ) (step : StepPlan) → is_step_formed step ≡ true → is_step_sound step ≡ true
+leaf_again : (depth : ℕ) (step : PlainStep) → is_step_formed step ≡ true → is_step_sound step ≡ true
     → tree_within (suc depth) (written_tree (leaf step)) ≡ Ok (leaf step)
 unfolding tree_within node_by_key step_form written_tree
 leaf_again depth step formed sound = rw (step_is_object step, has_step step, step_again step formed sound) refl
@@ -274,7 +274,7 @@ nodes_again no_trees = refl
 nodes_again (more_trees one each) = ap (more_trees one) (nodes_again each)
 
 -- arms one by one
-plans : Arms → List ArmPlan
+plans : Arms → List PlainArm
 plans no_arms = []
 plans (more_arms when one each) = record { when = when; body = one } ∷ plans each
 
@@ -369,10 +369,10 @@ what_is_ok (Ok x) ok = (x, refl)
 what_is_ok (Err error) ok = absurd (true≢false (sym ok))
 
 -- the role is sound, and its text has at most 64 bytes
-abbrev is_role_written : RolePlan → Bool
+abbrev is_role_written : PlainRole → Bool
 is_role_written role = is_role_sound role && nat_le (length role.wants) LONGEST_WANTED
 
-role_again : (role : RolePlan) → is_role_written role ≡ true → role_of (written_role role) ≡ Ok role
+role_again : (role : PlainRole) → is_role_written role ≡ true → role_of (written_role role) ≡ Ok role
 unfolding role_of written_role
 role_again role written =
     let parts = and_parts (is_role_sound role) (nat_le (length role.wants) LONGEST_WANTED) written in
@@ -381,7 +381,7 @@ role_again role written =
     let required = what_is_ok (requirement_of role.wants) typed.1 in
     rw (named.0, typed.0, parts.1, required.1) refl
 
-all_of_both : (roles : List RolePlan) → list_all is_role_sound roles ≡ true
+all_of_both : (roles : List PlainRole) → list_all is_role_sound roles ≡ true
     → list_all (λ role. nat_le (length role.wants) LONGEST_WANTED) roles ≡ true → list_all is_role_written roles ≡ true
 all_of_both [] sound short = refl
 all_of_both (role ∷ roles) sound short =
@@ -391,7 +391,7 @@ all_of_both (role ∷ roles) sound short =
     rw (sounds.0, shorts.0, all_of_both roles sounds.1 shorts.1) refl
 
 -- roles that are written are read back
-pub roles_again : (roles : List RolePlan) → are_roles_sized roles ≡ true → list_all is_role_sound roles ≡ true
+pub roles_again : (roles : List PlainRole) → are_roles_sized roles ≡ true → list_all is_role_sound roles ≡ true
     → roles_of (written_roles roles) ≡ Ok roles
 unfolding roles_of written_roles
 roles_again roles sized sound =
@@ -406,7 +406,7 @@ roles_again roles sized sound =
 
 -- ---- charts
 
-sized_told : (chart : ChartPlan) → is_chart_form chart ≡ true → are_roles_sized chart.roles ≡ true
+sized_told : (chart : PlainChart) → is_chart_form chart ≡ true → are_roles_sized chart.roles ≡ true
 sized_told chart formed =
     let parts = and_parts (are_roles_formed chart) (is_tree_formed chart.root) formed in
     let sizes = and_parts (is_between 1 MOST_ROLES (length chart.roles))
@@ -416,7 +416,7 @@ sized_told chart formed =
     (λ role. nat_le (length role.wants) LONGEST_WANTED) chart.roles) sizes.1 in
     rw (sizes.0, texts.1) refl
 
-unlike_told : (chart : ChartPlan) → is_chart_form chart ≡ true → repeats_by same_role chart.roles ≡ false
+unlike_told : (chart : PlainChart) → is_chart_form chart ≡ true → repeats_by same_role chart.roles ≡ false
 unlike_told chart formed =
     let parts = and_parts (are_roles_formed chart) (is_tree_formed chart.root) formed in
     let sizes = and_parts (is_between 1 MOST_ROLES (length chart.roles))
@@ -427,26 +427,26 @@ unlike_told chart formed =
     not-true (repeats_by same_role chart.roles) (sym (distinct_told (λ role. role.role) chart.roles) ∙ texts.0)
 
 -- a chart's own roles and root make the chart
-pub chart_from_again : (chart : ChartPlan) → is_chart_form chart ≡ true → chart_from chart.roles chart.root ≡ Ok chart
+pub chart_from_again : (chart : PlainChart) → is_chart_form chart ≡ true → chart_from chart.roles chart.root ≡ Ok chart
 unfolding chart_from
 chart_from_again chart formed = rw (unlike_told chart formed) refl
 
 -- the written roles of a chart are read back
-pub roles_of_chart_again : (chart : ChartPlan) → is_chart_form chart ≡ true → is_sound chart ≡ true
+pub roles_of_chart_again : (chart : PlainChart) → is_chart_form chart ≡ true → is_sound chart ≡ true
     → roles_of (written_roles chart.roles) ≡ Ok chart.roles
 roles_of_chart_again chart formed sound =
     roles_again chart.roles (sized_told chart formed) (and_parts (list_all is_role_sound chart.roles)
     (is_tree_sound chart.root) sound).0
 
 -- the written root of a chart is read back
-pub root_again : (chart : ChartPlan) → is_chart_form chart ≡ true → is_sound chart ≡ true
+pub root_again : (chart : PlainChart) → is_chart_form chart ≡ true → is_sound chart ≡ true
     → tree_of (written_tree chart.root) ≡ Ok chart.root
 root_again chart formed sound =
     tree_again chart.root (and_parts (are_roles_formed chart) (is_tree_formed chart.root) formed).1
     (and_parts (list_all is_role_sound chart.roles) (is_tree_sound chart.root) sound).1
 
 -- a chart that is written is read back
-pub chart_again : (chart : ChartPlan) → is_chart_form chart ≡ true → is_sound chart ≡ true
+pub chart_again : (chart : PlainChart) → is_chart_form chart ≡ true → is_sound chart ≡ true
     → chart_of (written_roles chart.roles) (written_tree chart.root) ≡ Ok chart
 unfolding chart_of
 chart_again chart formed sound =

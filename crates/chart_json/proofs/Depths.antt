@@ -15,17 +15,17 @@ use Rattle.mtp_json.proofs.Again.{items_depth_below}
 use Rattle.chart_core.specs.declared.limits.TheConstants.{MOST_SETTINGS, MOST_ARMS, MOST_TESTS, DEEPEST_CONDITION, DEEPEST_NODE}
 use Rattle.chart_core.specs.Form.{are_distinct, has_parts_formed, test_count, nesting, nestings, is_formula_formed, is_finish_formed, is_step_formed, tree_count, is_tree_formed, are_trees_formed, are_arms_formed}
 use Rattle.chart_core.specs.Formulas.{Formula, Formulas, constant, all_of, any_of, not_of, test, no_formulas, more_formulas}
-use Rattle.chart_core.specs.Trees.{StepPlan, Tree, Trees, Arms, leaf, seq, par, choice, loop, no_trees, more_trees, no_arms, more_arms, arm_count}
-use Rattle.chart_core.specs.Roles.{ChartPlan, RolePlan, are_roles_formed, is_chart_form}
+use Rattle.chart_core.specs.Trees.{PlainStep, Tree, Trees, Arms, leaf, seq, par, choice, loop, no_trees, more_trees, no_arms, more_arms, arm_count}
+use Rattle.chart_core.specs.Roles.{PlainChart, PlainRole, are_roles_formed, is_chart_form}
 use Rattle.chart_json.specs.Levels.{levels, all_levels, arm_levels}
 use Rattle.chart_json.specs.Written.{written_role, written_roles, written_compared, written_formula, written_formulas, written_setting, finish_first, step_keys, written_settings, written_step, written_tree, written_trees, written_arms}
 
-role_depth : (role : RolePlan) → depth (written_role role) ≤ 1
+role_depth : (role : PlainRole) → depth (written_role role) ≤ 1
 unfolding written_role
 role_depth role = omega arith
 
 -- written roles nest at most two deep
-pub roles_depth : (roles : List RolePlan) → depth (written_roles roles) ≤ 2
+pub roles_depth : (roles : List PlainRole) → depth (written_roles roles) ≤ 2
 unfolding written_roles
 roles_depth roles = omega (arith, items_depth_below written_role 1 role_depth roles)
 
@@ -70,14 +70,14 @@ setting_depth : (setting : Setting) → depth (written_setting setting) ≤ 1
 unfolding written_setting
 setting_depth setting = omega (arith, scalar_depth setting.value)
 
-finish_depth : (step : StepPlan) (finish : Option Formula) → is_finish_formed finish ≡ true
+finish_depth : (step : PlainStep) (finish : Option Formula) → is_finish_formed finish ≡ true
     → depth (object (finish_first finish
     (step_keys step.name step.procedure step.role step.service (written_settings step.settings)))) ≤ 17
 finish_depth step None formed = omega (arith, items_depth_below written_setting 1 setting_depth step.settings)
 finish_depth step (Some finish) formed =
     omega (arith, condition_depth finish formed, items_depth_below written_setting 1 setting_depth step.settings)
 
-step_parts : (step : StepPlan) → is_step_formed step ≡ true → is_finish_formed step.finish ≡ true
+step_parts : (step : PlainStep) → is_step_formed step ≡ true → is_finish_formed step.finish ≡ true
 step_parts step formed =
     let a = and_parts (nat_le 1 step.procedure)
     (nat_le (length step.settings) MOST_SETTINGS
@@ -86,7 +86,7 @@ step_parts step formed =
     (map (λ setting. setting.name) step.settings) && is_finish_formed step.finish) a.1 in
     (and_parts (are_distinct (map (λ setting. setting.name) step.settings)) (is_finish_formed step.finish) b.1).1
 
-step_depth : (step : StepPlan) → is_step_formed step ≡ true → depth (written_step step) ≤ 17
+step_depth : (step : PlainStep) → is_step_formed step ≡ true → depth (written_step step) ≤ 17
 unfolding written_step
 step_depth step formed = finish_depth step step.finish (step_parts step formed)
 
@@ -130,7 +130,7 @@ mutual
       omega (arith, tree_depth one parts.0, condition_depth when others.0, arms_depth each others.1)
 
 -- the written root of a chart that lies at most 16 deep nests at most 65 deep
-pub root_depth : (chart : ChartPlan) → is_chart_form chart ≡ true → levels chart.root ≤ DEEPEST_NODE
+pub root_depth : (chart : PlainChart) → is_chart_form chart ≡ true → levels chart.root ≤ DEEPEST_NODE
     → depth (written_tree chart.root) ≤ 65
 root_depth chart formed shallow = omega (
   arith,

@@ -9,23 +9,23 @@ use Rattle.mtp_codes.specs.declared.value.Setting.{Setting}
 use Rattle.mtp_codes.specs.declared.value.Value.{Value}
 use Rattle.mtp_codes.specs.declared.value.Value.TheVariants.{Whole, Bit, Text}
 use Rattle.mtp_json.specs.Written.{scalar_data}
-use Rattle.mtp_json.proofs.Again.{of_integer-whole, items_whole}
+use Rattle.mtp_json.proofs.Again.{of_integer_whole, items_whole}
 use Rattle.chart_core.specs.Formulas.{Formula, Formulas, constant, all_of, any_of, not_of, test, no_formulas, more_formulas}
-use Rattle.chart_core.specs.Trees.{StepPlan, Tree, Trees, Arms, leaf, seq, par, choice, loop, no_trees, more_trees, no_arms, more_arms}
-use Rattle.chart_core.specs.Roles.{RolePlan}
+use Rattle.chart_core.specs.Trees.{PlainStep, Tree, Trees, Arms, leaf, seq, par, choice, loop, no_trees, more_trees, no_arms, more_arms}
+use Rattle.chart_core.specs.Roles.{PlainRole}
 use Rattle.chart_json.specs.Written.{written_role, written_roles, written_compared, written_formula, written_formulas, written_setting, finish_first, step_keys, written_settings, written_step, written_tree, written_trees, written_arms}
 
-role_whole : (role : RolePlan) → has_float (written_role role) ≡ false
+role_whole : (role : PlainRole) → has_float (written_role role) ≡ false
 unfolding written_role
 role_whole role = refl
 
 -- written roles have no float, so their compact text is exact
-pub roles_whole : (roles : List RolePlan) → has_float (written_roles roles) ≡ false
+pub roles_whole : (roles : List PlainRole) → has_float (written_roles roles) ≡ false
 unfolding written_roles
 roles_whole roles = items_whole written_role role_whole roles
 
 compared_whole : (value : Reading) → has_float (written_compared value) ≡ false
-compared_whole (reading.Whole z) = of_integer-whole z
+compared_whole (reading.Whole z) = of_integer_whole z
 compared_whole (reading.Bit bit) = refl
 
 mutual
@@ -44,7 +44,7 @@ mutual
 
 -- a single value is no float
 pub scalar_whole : (value : Value) → has_float (scalar_data value) ≡ false
-scalar_whole (Whole z) = of_integer-whole z
+scalar_whole (Whole z) = of_integer_whole z
 scalar_whole (Bit bit) = refl
 scalar_whole (Text bytes) = refl
 
@@ -52,14 +52,14 @@ setting_whole : (setting : Setting) → has_float (written_setting setting) ≡ 
 unfolding written_setting
 setting_whole setting = rw (scalar_whole setting.value) refl
 
-finish_whole : (step : StepPlan) (finish : Option Formula)
+finish_whole : (step : PlainStep) (finish : Option Formula)
     → has_float (object (finish_first finish
     (step_keys step.name step.procedure step.role step.service (written_settings step.settings)))) ≡ false
 finish_whole step None = rw (items_whole written_setting setting_whole step.settings) refl
 finish_whole step (Some finish) =
     rw (formula_whole finish, items_whole written_setting setting_whole step.settings) refl
 
-step_whole : (step : StepPlan) → has_float (written_step step) ≡ false
+step_whole : (step : PlainStep) → has_float (written_step step) ≡ false
 unfolding written_step
 step_whole step = finish_whole step step.finish
 

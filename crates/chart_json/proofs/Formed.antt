@@ -15,15 +15,15 @@ use Rattle.mtp_codes.specs.Numbers.{is_between}
 use Rattle.mtp_codes.specs.Names.{is_among}
 use Rattle.mtp_json.specs.declared.fault.FaultKind.TheVariants.{OutOfRange, Repeated, Unsound}
 use Rattle.mtp_json.specs.declared.path.PathPart.TheVariants.{Key}
-use Rattle.mtp_json.specs.Form.{each, inside, inside_if_there, list, list_or_none, need, nothing_but, object_here, refused_if, repeats_by}
+use Rattle.mtp_json.specs.Form.{each, nested, nested_if_there, list, list_or_none, required, nothing_but, object_here, refused_if, repeats_by}
 use Rattle.mtp_json.specs.Leaf.{count, text_to, items_in}
-use Rattle.mtp_json.specs.Reading.{Reading, ◌>>=◌, here, under}
+use Rattle.mtp_json.specs.ReadResult.{ReadResult, ◌>>=◌, here, under}
 use Rattle.chart_core.specs.declared.limits.TheConstants.{MOST_ROLES, LONGEST_WANTED, MOST_SETTINGS, MOST_ARMS, MOST_JOINED}
 use Rattle.chart_core.specs.Form.{are_distinct, formula_count, has_parts_formed, have_parts_formed, may_compare, is_formula_formed, is_finish_formed, is_step_formed, tree_count, is_tree_formed, are_trees_formed, are_arms_formed}
 use Rattle.chart_core.specs.declared.condition.Op.{Op}
 use Rattle.chart_core.specs.Formulas.{Formula, all_of, any_of, not_of, formulas_of, test}
-use Rattle.chart_core.specs.Roles.{RolePlan, is_chart_form}
-use Rattle.chart_core.specs.Trees.{StepPlan, Tree, ArmPlan, leaf, seq, par, choice, loop, trees_of, arms_of, arm_count}
+use Rattle.chart_core.specs.Roles.{PlainRole, is_chart_form}
+use Rattle.chart_core.specs.Trees.{PlainStep, Tree, PlainArm, leaf, seq, par, choice, loop, trees_of, arms_of, arm_count}
 use Rattle.chart_json.specs.Form.{role_of, roles_of, are_roles_sized, same_role, const_form, all_form, any_form, not_form, test_form, condition_by_key, condition_within, formula_of, is_small, condition_of, same_setting, setting_of, step_of, items_from, list_from, step_form, seq_form, par_form, arm_of, sel_form, loop_form, node_by_key, tree_within, tree_of}
 use Rattle.chart_json.specs.Requirement.{requirement_of}
 use Rattle.chart_json.proofs.Told.{HasSize, any_before, any_value, told_before, told_at, told_here, either, kept, told_need, told_inside, told_inside_if_there, told_count, told_text, told_items, told_items_from, IsListOf, told_all, told_list, told_list_or_none}
@@ -50,7 +50,7 @@ const_parts : (value : Data) → IfOk (const_form value) HasParts
 unfolding const_form
 const_parts value = search any_before
 
-all_parts : (inner : Data → Reading Formula) → ((value : Data) → IfOk (inner value) HasParts) → (value : Data)
+all_parts : (inner : Data → ReadResult Formula) → ((value : Data) → IfOk (inner value) HasParts) → (value : Data)
     → IfOk (all_form inner value) HasParts
 unfolding all_form
 all_parts inner told value =
@@ -62,7 +62,7 @@ all_parts inner told value =
     (λ each are. any_before HasParts (nothing_but (codes "all") value) (λ _. Ok (all_of (formulas_of each)))
     (λ _. rw (count_formulas each, are.0, parts_of_all each, are.1) refl))
 
-any_parts : (inner : Data → Reading Formula) → ((value : Data) → IfOk (inner value) HasParts) → (value : Data)
+any_parts : (inner : Data → ReadResult Formula) → ((value : Data) → IfOk (inner value) HasParts) → (value : Data)
     → IfOk (any_form inner value) HasParts
 unfolding any_form
 any_parts inner told value =
@@ -74,11 +74,11 @@ any_parts inner told value =
     (λ each are. any_before HasParts (nothing_but (codes "any") value) (λ _. Ok (any_of (formulas_of each)))
     (λ _. rw (count_formulas each, are.0, parts_of_all each, are.1) refl))
 
-not_parts : (inner : Data → Reading Formula) → ((value : Data) → IfOk (inner value) HasParts) → (value : Data)
+not_parts : (inner : Data → ReadResult Formula) → ((value : Data) → IfOk (inner value) HasParts) → (value : Data)
     → IfOk (not_form inner value) HasParts
 unfolding not_form
 not_parts inner told value =
-    told_before HasParts HasParts (inside (codes "not") inner value)
+    told_before HasParts HasParts (nested (codes "not") inner value)
     (λ condition. nothing_but (codes "not") value >>= λ _. Ok (not_of condition))
     (told_inside HasParts (codes "not") inner told value)
     (λ condition formed. any_before HasParts (nothing_but (codes "not") value)
@@ -96,7 +96,7 @@ test_parts : (value : Data) → IfOk (test_form value) HasParts
 unfolding test_form
 test_parts value = search (any_before, tested) depth 12
 
-by_key_parts : (inner : Data → Reading Formula) → ((value : Data) → IfOk (inner value) HasParts) → (value : Data)
+by_key_parts : (inner : Data → ReadResult Formula) → ((value : Data) → IfOk (inner value) HasParts) → (value : Data)
     → IfOk (condition_by_key inner value) HasParts
 unfolding condition_by_key
 by_key_parts inner told value =
@@ -173,11 +173,11 @@ from_one : (n : ℕ) → is_between 1 65535 n ≡ true → nat_le 1 n ≡ true
 from_one n is_within = (and_parts (nat_le 1 n) (nat_le n 65535) is_within).0
 
 -- the step is formed
-abbrev IsStep : StepPlan → Type 0
+abbrev IsStep : PlainStep → Type 0
 IsStep step = is_step_formed step ≡ true
 
 -- what is asked when a step's fields have been read
-abbrev ruled_step : List ℕ → List ℕ → List ℕ → ℕ → List Setting → Option Formula → Data → Reading StepPlan
+abbrev ruled_step : List ℕ → List ℕ → List ℕ → ℕ → List Setting → Option Formula → Data → ReadResult PlainStep
 ruled_step named role service procedure settings finish value =
     nothing_but (codes "step role service procedure settings finish") value >>= λ _.
     under (codes "settings") (refused_if (repeats_by same_setting settings) Repeated) >>= λ _.
@@ -223,28 +223,28 @@ ruled named role service procedure settings finish value numbered few formed =
 
 -- the fields from the procedure on
 rest_of_step : (named role service : List ℕ) (value : Data)
-    → IfOk (need (codes "procedure") (count 1 65535) value >>= λ procedure.
+    → IfOk (required (codes "procedure") (count 1 65535) value >>= λ procedure.
     list_or_none (codes "settings") 0 MOST_SETTINGS setting_of value >>= λ settings.
-    inside_if_there (codes "finish") condition_of value >>= λ finish.
+    nested_if_there (codes "finish") condition_of value >>= λ finish.
     ruled_step named role service procedure settings finish value) IsStep
 rest_of_step named role service value =
     told_before (λ procedure. is_between 1 65535 procedure ≡ true) IsStep
-    (need (codes "procedure") (count 1 65535) value)
+    (required (codes "procedure") (count 1 65535) value)
     (λ procedure. list_or_none (codes "settings") 0 MOST_SETTINGS setting_of value
-    >>= λ settings. inside_if_there (codes "finish") condition_of value
+    >>= λ settings. nested_if_there (codes "finish") condition_of value
     >>= λ finish. ruled_step named role service procedure settings finish value)
     (told_need (λ procedure. is_between 1 65535 procedure ≡ true) (codes "procedure") (count 1 65535)
     (told_count 1 65535) value)
     (λ procedure numbered.
     told_before (IsListOf (is_between 0 MOST_SETTINGS) (λ _. true)) IsStep
     (list_or_none (codes "settings") 0 MOST_SETTINGS setting_of value)
-    (λ settings. inside_if_there (codes "finish") condition_of value >>= λ finish. ruled_step named role service
+    (λ settings. nested_if_there (codes "finish") condition_of value >>= λ finish. ruled_step named role service
     procedure settings finish value)
     (told_list_or_none (is_between 0 MOST_SETTINGS) (λ _. true) (codes "settings") (items_in 0 MOST_SETTINGS)
     setting_of refl
     (told_items 0 MOST_SETTINGS) (λ value. any_value (setting_of value)) value)
     (λ settings few.
-    told_before (λ finish. is_finish_formed finish ≡ true) IsStep (inside_if_there (codes "finish") condition_of value)
+    told_before (λ finish. is_finish_formed finish ≡ true) IsStep (nested_if_there (codes "finish") condition_of value)
     (λ finish. ruled_step named role service procedure settings finish value)
     (told_inside_if_there (λ finish. is_finish_formed finish ≡ true)
     (codes "finish") condition_of refl condition_formed value)
@@ -269,15 +269,15 @@ trees_all : (nodes : List Tree) → are_trees_formed (trees_of nodes) ≡ list_a
 trees_all [] = refl
 trees_all (node ∷ nodes) = ap (λ rest. is_tree_formed node && rest) (trees_all nodes)
 
-count_arms : (arms : List ArmPlan) → arm_count (arms_of arms) ≡ length arms
+count_arms : (arms : List PlainArm) → arm_count (arms_of arms) ≡ length arms
 count_arms [] = refl
 count_arms (arm ∷ arms) = ap suc (count_arms arms)
 
 -- the arm's node and its condition are formed
-abbrev is_arm_formed : ArmPlan → Bool
+abbrev is_arm_formed : PlainArm → Bool
 is_arm_formed arm = is_tree_formed arm.body && is_formula_formed arm.when
 
-arms_all : (arms : List ArmPlan) → are_arms_formed (arms_of arms) ≡ list_all is_arm_formed arms
+arms_all : (arms : List PlainArm) → are_arms_formed (arms_of arms) ≡ list_all is_arm_formed arms
 arms_all [] = refl
 arms_all (arm ∷ arms) =
     rw (arms_all arms) (sym (and_assoc (is_tree_formed arm.body) (is_formula_formed arm.when)
@@ -288,7 +288,7 @@ unfolding step_form
 leaf_formed value = told_before IsStep IsNode (step_of value) (λ step. Ok (leaf step)) (step_formed value)
     (λ step formed. formed)
 
-seq_formed : (inner : Data → Reading Tree) → ((value : Data) → IfOk (inner value) IsNode) → (value : Data)
+seq_formed : (inner : Data → ReadResult Tree) → ((value : Data) → IfOk (inner value) IsNode) → (value : Data)
     → IfOk (seq_form inner value) IsNode
 unfolding seq_form
 seq_formed inner told value =
@@ -298,7 +298,7 @@ seq_formed inner told value =
     (λ nodes are. any_before IsNode (nothing_but (codes "seq") value) (λ _. Ok (seq (trees_of nodes)))
     (λ _. rw (count_trees nodes, are.0, trees_all nodes, are.1) refl))
 
-par_formed : (inner : Data → Reading Tree) → ((value : Data) → IfOk (inner value) IsNode) → (value : Data)
+par_formed : (inner : Data → ReadResult Tree) → ((value : Data) → IfOk (inner value) IsNode) → (value : Data)
     → IfOk (par_form inner value) IsNode
 unfolding par_form
 par_formed inner told value =
@@ -309,29 +309,29 @@ par_formed inner told value =
     (λ _. rw (count_trees nodes, are.0, trees_all nodes, are.1) refl))
 
 -- the arm is formed
-abbrev IsArm : ArmPlan → Type 0
+abbrev IsArm : PlainArm → Type 0
 IsArm arm = is_arm_formed arm ≡ true
 
-arm_formed : (inner : Data → Reading Tree) → ((value : Data) → IfOk (inner value) IsNode) → (value : Data)
+arm_formed : (inner : Data → ReadResult Tree) → ((value : Data) → IfOk (inner value) IsNode) → (value : Data)
     → IfOk (arm_of inner value) IsArm
 unfolding arm_of
 arm_formed inner told value =
     any_before IsArm (object_here value)
-    (λ _. inside (codes "when") condition_of value >>= λ when. inside (codes "then") inner value
+    (λ _. nested (codes "when") condition_of value >>= λ when. nested (codes "then") inner value
     >>= λ body. nothing_but (codes "when then") value >>= λ _. Ok (record { when = when; body = body }))
     (λ _.
-    told_before IsFormed IsArm (inside (codes "when") condition_of value)
-    (λ when. inside (codes "then") inner value >>= λ body. nothing_but (codes "when then") value
+    told_before IsFormed IsArm (nested (codes "when") condition_of value)
+    (λ when. nested (codes "then") inner value >>= λ body. nothing_but (codes "when then") value
     >>= λ _. Ok (record { when = when; body = body }))
     (told_inside IsFormed (codes "when") condition_of condition_formed value)
     (λ when when_formed.
-    told_before IsNode IsArm (inside (codes "then") inner value)
+    told_before IsNode IsArm (nested (codes "then") inner value)
     (λ body. nothing_but (codes "when then") value >>= λ _. Ok (record { when = when; body = body }))
     (told_inside IsNode (codes "then") inner told value)
     (λ body body_formed. any_before IsArm (nothing_but (codes "when then") value)
     (λ _. Ok (record { when = when; body = body })) (λ _. rw (body_formed, when_formed) refl))))
 
-sel_formed : (inner : Data → Reading Tree) → ((value : Data) → IfOk (inner value) IsNode) → (value : Data)
+sel_formed : (inner : Data → ReadResult Tree) → ((value : Data) → IfOk (inner value) IsNode) → (value : Data)
     → IfOk (sel_form inner value) IsNode
 unfolding sel_form
 sel_formed inner told value =
@@ -344,22 +344,22 @@ sel_formed inner told value =
     (λ arms are. any_before IsNode (nothing_but (codes "sel") value) (λ _. Ok (choice (arms_of arms)))
     (λ _. rw (count_arms arms, are.0, arms_all arms, are.1) refl))
 
-loop_formed : (inner : Data → Reading Tree) → ((value : Data) → IfOk (inner value) IsNode) → (value : Data)
+loop_formed : (inner : Data → ReadResult Tree) → ((value : Data) → IfOk (inner value) IsNode) → (value : Data)
     → IfOk (loop_form inner value) IsNode
 unfolding loop_form
 loop_formed inner told value =
-    told_before IsNode IsNode (inside (codes "loop") inner value)
-    (λ body. inside (codes "until") condition_of value >>= λ until. nothing_but (codes "loop until") value
+    told_before IsNode IsNode (nested (codes "loop") inner value)
+    (λ body. nested (codes "until") condition_of value >>= λ until. nothing_but (codes "loop until") value
     >>= λ _. Ok (loop body until))
     (told_inside IsNode (codes "loop") inner told value)
     (λ body body_formed.
-    told_before IsFormed IsNode (inside (codes "until") condition_of value)
+    told_before IsFormed IsNode (nested (codes "until") condition_of value)
     (λ until. nothing_but (codes "loop until") value >>= λ _. Ok (loop body until))
     (told_inside IsFormed (codes "until") condition_of condition_formed value)
     (λ until until_formed. any_before IsNode (nothing_but (codes "loop until") value) (λ _. Ok (loop body until))
     (λ _. rw (body_formed, until_formed) refl)))
 
-node_by_key_formed : (inner : Data → Reading Tree) → ((value : Data) → IfOk (inner value) IsNode) → (value : Data)
+node_by_key_formed : (inner : Data → ReadResult Tree) → ((value : Data) → IfOk (inner value) IsNode) → (value : Data)
     → IfOk (node_by_key inner value) IsNode
 unfolding node_by_key
 node_by_key_formed inner told value =
@@ -390,21 +390,21 @@ tree_formed value = within_formed (suc (depth value)) value
 -- ---- roles
 
 -- the role's text has at most 64 bytes
-abbrev is_role_short : RolePlan → Bool
+abbrev is_role_short : PlainRole → Bool
 is_role_short role = nat_le (length role.wants) LONGEST_WANTED
 
 -- the same as a fact
-abbrev IsShort : RolePlan → Type 0
+abbrev IsShort : PlainRole → Type 0
 IsShort role = is_role_short role ≡ true
 
 wants_short : (role type_name : List ℕ) (value : Data)
-    → IfOk (need (codes "version") (text_to LONGEST_WANTED) value >>= λ wants.
+    → IfOk (required (codes "version") (text_to LONGEST_WANTED) value >>= λ wants.
     under (codes "version") (here (requirement_of wants)) >>= λ _.
     nothing_but (codes "role type version") value >>= λ _.
     Ok (record { role = role; type_name = type_name; wants = wants })) IsShort
 wants_short role type_name value =
     told_before (λ wants. nat_le (length wants) LONGEST_WANTED ≡ true) IsShort
-    (need (codes "version") (text_to LONGEST_WANTED) value)
+    (required (codes "version") (text_to LONGEST_WANTED) value)
     (λ wants. under (codes "version") (here (requirement_of wants))
     >>= λ _. nothing_but (codes "role type version") value
     >>= λ _. Ok (record { role = role; type_name = type_name; wants = wants }))
@@ -430,7 +430,7 @@ roles_sized value =
     (told_all (is_between 1 MOST_ROLES) is_role_short role_of role_short values sized))
 
 -- sized roles of which none is named twice, and a formed node, are a chart's form
-pub chart_formed : (roles : List RolePlan) (root : Tree) → are_roles_sized roles ≡ true → is_tree_formed root ≡ true
+pub chart_formed : (roles : List PlainRole) (root : Tree) → are_roles_sized roles ≡ true → is_tree_formed root ≡ true
     → repeats_by same_role roles ≡ false → is_chart_form (record { roles = roles; root = root }) ≡ true
 chart_formed roles root sized formed unlike =
     let parts = and_parts (is_between 1 MOST_ROLES (length roles)) (list_all is_role_short roles) sized in

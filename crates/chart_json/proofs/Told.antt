@@ -12,26 +12,27 @@ use Rattle.mtp_json.specs.declared.fault.FaultKind.TheVariants.{OutOfRange}
 use Rattle.mtp_json.specs.declared.fault.JsonRefusal.{JsonRefusal}
 use Rattle.mtp_json.specs.declared.path.PathPart.{PathPart}
 use Rattle.mtp_json.specs.declared.path.PathPart.TheVariants.{Key, Place}
-use Rattle.mtp_json.specs.Form.{present, if_present, some, by_form, need, optional, inside, inside_if_there, each, each_or_none, refused_if}
-use Rattle.mtp_json.specs.Gives.{Below, Gives}
+use Rattle.mtp_json.specs.Form.{present, if_present, some_found, nested_if_present, required, optional, nested, nested_if_there, each, each_or_none, refused_if}
+use Rattle.mtp_json.specs.ReadsAs.{ReadsUnder, ReadsAs}
 use Rattle.mtp_json.specs.Leaf.{anything, count, count_in, items_in, sized, text_in, text_to, whole_number}
-use Rattle.mtp_json.specs.Reading.{Finding, Reading, ◌>>=◌, at, here, in_place, under}
+use Rattle.mtp_json.specs.ReadResult.{Finding, ReadResult, ◌>>=◌, at, here, in_place, under}
 use Rattle.chart_json.specs.Form.{items_from, sized_from}
 
 -- whatever is read before, what is read next has the property
-pub any_before : {A B : Type 0} (P : B → Type 0) (read : Reading A) (next : A → Reading B)
+pub any_before : {A B : Type 0} (P : B → Type 0) (read : ReadResult A) (next : A → ReadResult B)
     → ((x : A) → IfOk (next x) P) → IfOk (read >>= next) P
 any_before P (Ok x) next has = has x
 any_before P (Err fault) next has = tt
 
 -- what is known of what is read before serves for what is read next
-pub told_before : {A B : Type 0} (Q : A → Type 0) (P : B → Type 0) (read : Reading A) (next : A → Reading B)
+pub told_before : {A B : Type 0} (Q : A → Type 0) (P : B → Type 0) (read : ReadResult A) (next : A → ReadResult B)
     → IfOk read Q → ((x : A) → Q x → IfOk (next x) P) → IfOk (read >>= next) P
 told_before Q P (Ok x) next told has = has x told
 told_before Q P (Err fault) next told has = tt
 
 -- a fault's path is no matter
-pub told_at : {A : Type 0} (P : A → Type 0) (part : PathPart) (read : Reading A) → IfOk read P → IfOk (at part read) P
+pub told_at : {A : Type 0} (P : A → Type 0) (part : PathPart) (read : ReadResult A) → IfOk read P
+    → IfOk (at part read) P
 told_at P part (Ok x) told = told
 told_at P part (Err fault) told = tt
 
@@ -46,13 +47,13 @@ told_if P true x kind has = has refl
 told_if P false x kind has = tt
 
 -- one reading or another
-pub either : {A : Type 0} (P : A → Type 0) (test : Bool) (one other : Reading A) → IfOk one P → IfOk other P
+pub either : {A : Type 0} (P : A → Type 0) (test : Bool) (one other : ReadResult A) → IfOk one P → IfOk other P
     → IfOk (if test then one else other) P
 either P true one other told_one told_other = told_one
 either P false one other told_one told_other = told_other
 
 -- of a value nothing is asked
-pub any_value : {A : Type 0} (read : Reading A) → IfOk read (λ _. true ≡ true)
+pub any_value : {A : Type 0} (read : ReadResult A) → IfOk read (λ _. true ≡ true)
 any_value (Ok x) = refl
 any_value (Err fault) = tt
 
@@ -68,28 +69,29 @@ told_present P form told (Some value) = told value
 
 -- the value at a key that must be there
 pub told_need : {A : Type 0} (P : A → Type 0) (key : List ℕ) (form : Data → Finding A)
-    → ((value : Data) → IfOk (form value) P) → (value : Data) → IfOk (need key form value) P
+    → ((value : Data) → IfOk (form value) P) → (value : Data) → IfOk (required key form value) P
 told_need P key form told value =
     told_at P (Key key) (here (present form (get key value)))
     (told_here P (present form (get key value)) (told_present P form told (get key value)))
 
 -- the value at a key that must be there, by a form of its own
-pub told_inside : {A : Type 0} (P : A → Type 0) (key : List ℕ) (form : Data → Reading A)
-    → ((value : Data) → IfOk (form value) P) → (value : Data) → IfOk (inside key form value) P
+pub told_inside : {A : Type 0} (P : A → Type 0) (key : List ℕ) (form : Data → ReadResult A)
+    → ((value : Data) → IfOk (form value) P) → (value : Data) → IfOk (nested key form value) P
 told_inside P key form told value =
-    any_before P (need key anything value) (λ inner. under key (form inner))
+    any_before P (required key anything value) (λ inner. under key (form inner))
     (λ inner. told_at P (Key key) (form inner) (told inner))
 
-told_by_form : {A : Type 0} (P : Option A → Type 0) (form : Data → Reading A) → P None
-    → ((value : Data) → IfOk (form value) (λ x. P (Some x))) → (found : Option Data) → IfOk (by_form form found) P
+told_by_form : {A : Type 0} (P : Option A → Type 0) (form : Data → ReadResult A) → P None
+    → ((value : Data) → IfOk (form value) (λ x. P (Some x))) → (found : Option Data)
+    → IfOk (nested_if_present form found) P
 told_by_form P form absent told None = absent
 told_by_form P form absent told (Some value) = told_before (λ x. P (Some x)) P (form value) (λ x. Ok (Some x))
     (told value) (λ x has. has)
 
 -- the same where the key may be absent
-pub told_inside_if_there : {A : Type 0} (P : Option A → Type 0) (key : List ℕ) (form : Data → Reading A) → P None
-    → ((value : Data) → IfOk (form value) (λ x. P (Some x))) → (value : Data) → IfOk (inside_if_there key form value) P
-told_inside_if_there P key form absent told value = told_at P (Key key) (by_form form (get key value))
+pub told_inside_if_there : {A : Type 0} (P : Option A → Type 0) (key : List ℕ) (form : Data → ReadResult A) → P None
+    → ((value : Data) → IfOk (form value) (λ x. P (Some x))) → (value : Data) → IfOk (nested_if_there key form value) P
+told_inside_if_there P key form absent told value = told_at P (Key key) (nested_if_present form (get key value))
     (told_by_form P form absent told (get key value))
 
 -- a number from low to high
@@ -138,7 +140,7 @@ told_items_from low value = told_sized_from low (as_array value)
 abbrev AreRead : {A : Type 0} → (A → Bool) → Items → List A → Type 0
 AreRead test values found = (length found ≡ items_len values) × (list_all test found ≡ true)
 
-told_each : {A : Type 0} (test : A → Bool) (form : Data → Reading A)
+told_each : {A : Type 0} (test : A → Bool) (form : Data → ReadResult A)
     → ((value : Data) → IfOk (form value) (λ x. test x ≡ true)) → (place : ℕ) (values : Items)
     → IfOk (each form place values) (AreRead test values)
 unfolding each
@@ -157,7 +159,7 @@ abbrev pub IsListOf : {A : Type 0} → (ℕ → Bool) → (A → Bool) → List 
 IsListOf size test found = (size (length found) ≡ true) × (list_all test found ≡ true)
 
 -- items that were read one by one from a list of such a size
-pub told_all : {A : Type 0} (size : ℕ → Bool) (test : A → Bool) (form : Data → Reading A)
+pub told_all : {A : Type 0} (size : ℕ → Bool) (test : A → Bool) (form : Data → ReadResult A)
     → ((value : Data) → IfOk (form value) (λ x. test x ≡ true)) → (values : Items) → HasSize size values
     → IfOk (each form 0 values) (IsListOf size test)
 told_all size test form told values sized =
@@ -166,16 +168,16 @@ told_all size test form told values sized =
 
 -- the same at a key
 pub told_list : {A : Type 0} (size : ℕ → Bool) (test : A → Bool) (key : List ℕ) (leaf : Data
-    → Finding Items) (form : Data → Reading A) → ((value : Data) → IfOk (leaf value) (HasSize size))
+    → Finding Items) (form : Data → ReadResult A) → ((value : Data) → IfOk (leaf value) (HasSize size))
     → ((value : Data) → IfOk (form value) (λ x. test x ≡ true)) → (value : Data)
-    → IfOk (need key leaf value >>= λ values. under key (each form 0 values)) (IsListOf size test)
+    → IfOk (required key leaf value >>= λ values. under key (each form 0 values)) (IsListOf size test)
 told_list size test key leaf form told_leaf told value =
-    told_before (HasSize size) (IsListOf size test) (need key leaf value) (λ values. under key (each form 0 values))
+    told_before (HasSize size) (IsListOf size test) (required key leaf value) (λ values. under key (each form 0 values))
     (told_need (HasSize size) key leaf told_leaf value)
     (λ values sized. told_at (IsListOf size test) (Key key) (each form 0 values)
     (told_all size test form told values sized))
 
-told_some : {A : Type 0} (P : A → Type 0) (found : Finding A) → IfOk found P → IfOk (some found) (λ x. IfSome x P)
+told_some : {A : Type 0} (P : A → Type 0) (found : Finding A) → IfOk found P → IfOk (some_found found) (λ x. IfSome x P)
 told_some P (Ok x) told = told
 told_some P (Err kind) told = tt
 
@@ -184,7 +186,7 @@ told_if_present : {A : Type 0} (P : A → Type 0) (leaf : Data → Finding A) �
 told_if_present P leaf told None = tt
 told_if_present P leaf told (Some value) = told_some P (leaf value) (told value)
 
-told_each_or_none : {A : Type 0} (size : ℕ → Bool) (test : A → Bool) (key : List ℕ) (form : Data → Reading A)
+told_each_or_none : {A : Type 0} (size : ℕ → Bool) (test : A → Bool) (key : List ℕ) (form : Data → ReadResult A)
     → size 0 ≡ true → ((value : Data) → IfOk (form value) (λ x. test x ≡ true))
     → (values : Option Items) → IfSome values (HasSize size) → IfOk (each_or_none key form values) (IsListOf size test)
 told_each_or_none size test key form absent told None sized = (absent, refl)
@@ -193,7 +195,7 @@ told_each_or_none size test key form absent told (Some values) sized =
 
 -- the same where the key may be absent, if the empty list will do
 pub told_list_or_none : {A : Type 0} (size : ℕ → Bool) (test : A → Bool) (key : List ℕ) (leaf : Data
-    → Finding Items) (form : Data → Reading A) → size 0 ≡ true → ((value : Data) → IfOk (leaf value) (HasSize size))
+    → Finding Items) (form : Data → ReadResult A) → size 0 ≡ true → ((value : Data) → IfOk (leaf value) (HasSize size))
     → ((value : Data) → IfOk (form value) (λ x. test x ≡ true)) → (value : Data)
     → IfOk (optional key leaf value >>= λ values. each_or_none key form values) (IsListOf size test)
 told_list_or_none size test key leaf form absent told_leaf told value =
@@ -205,14 +207,14 @@ told_list_or_none size test key leaf form absent told_leaf told value =
     (λ values sized. told_each_or_none size test key form absent told values sized)
 
 -- what the code gives has what its form tells
-pub told_of : {X Y : Type 0} (see : X → Y) (P : Y → Type 0) (result : Result X JsonRefusal) (read : Reading Y)
-    → Gives see result read → IfOk read P → IfOk result (λ x. P (see x))
+pub told_of : {X Y : Type 0} (see : X → Y) (P : Y → Type 0) (result : Result X JsonRefusal) (read : ReadResult Y)
+    → ReadsAs see result read → IfOk read P → IfOk result (λ x. P (see x))
 told_of see P (Ok x) read gives told = rw gives at told
 told_of see P (Err refusal) read gives told = tt
 
 -- one step further out it has the same
 pub told_below : {X : Type 0} (P : X → Type 0) (part : PathPart) (read result : Result X JsonRefusal)
-    → Below part read result → IfOk read P → IfOk result P
+    → ReadsUnder part read result → IfOk read P → IfOk result P
 told_below P part (Ok x) (Ok y) below told = let same : x ≡ y = cc in rw (← same) told
 told_below P part (Err e) (Ok y) below told = absurd cc
 told_below P part read (Err e) below told = tt

@@ -1,7 +1,7 @@
 -- What text is a requirement of versions.
 use Rattle.std.specs.Prelude.{ℕ, List}
 use Rattle.semver.specs.Parse.{Held, req_of}
-use Rattle.mtp_json.specs.Reading.{Finding}
+use Rattle.mtp_json.specs.ReadResult.{Finding}
 use Rattle.mtp_json.specs.Leaf.{parsed}
 
 -- the requirement that semver reads of a text

@@ -9,12 +9,12 @@ use Rattle.mtp_codes.specs.declared.value.Setting.{Setting}
 use Rattle.mtp_codes.specs.Numbers.{greatest_i64, is_within, least_i64}
 use Rattle.mtp_json.specs.Written.{is_scalar}
 use Rattle.chart_core.specs.Formulas.{Formula, Formulas, constant, all_of, any_of, not_of, test, no_formulas, more_formulas}
-use Rattle.chart_core.specs.Trees.{StepPlan, Tree, Trees, Arms, leaf, seq, par, choice, loop, no_trees, more_trees, no_arms, more_arms}
-use Rattle.chart_core.specs.Roles.{RolePlan, ChartPlan}
+use Rattle.chart_core.specs.Trees.{PlainStep, Tree, Trees, Arms, leaf, seq, par, choice, loop, no_trees, more_trees, no_arms, more_arms}
+use Rattle.chart_core.specs.Roles.{PlainRole, PlainChart}
 use Rattle.chart_json.specs.Requirement.{requirement_of}
 
 -- a role with two names and a text that is a requirement
-abbrev pub is_role_sound : RolePlan → Bool
+abbrev pub is_role_sound : PlainRole → Bool
 is_role_sound role = is_name role.role && (is_name role.type_name && is_ok (requirement_of role.wants))
 
 -- what a test compares with has 64 bits where it is a number
@@ -45,7 +45,7 @@ is_finish_sound None = true
 is_finish_sound (Some finish) = is_formula_sound finish
 
 -- a step with three names, a procedure of 16 bits, and sound settings and finish
-abbrev pub is_step_sound : StepPlan → Bool
+abbrev pub is_step_sound : PlainStep → Bool
 is_step_sound step =
     is_name step.name
     && (is_name step.role
@@ -71,5 +71,5 @@ abbrev mutual
   are_arms_sound (more_arms when each others) = is_formula_sound when && (is_tree_sound each && are_arms_sound others)
 
 -- the roles and the nodes of a chart are sound
-abbrev pub is_sound : ChartPlan → Bool
+abbrev pub is_sound : PlainChart → Bool
 is_sound chart = list_all is_role_sound chart.roles && is_tree_sound chart.root

@@ -8,20 +8,20 @@ use Rattle.mtp_codes.specs.declared.value.Reading.TheVariants.{Whole, Bit}
 use Rattle.mtp_codes.specs.declared.value.Setting.{Setting}
 use Rattle.mtp_json.specs.Written.{scalar_data}
 use Rattle.chart_core.specs.Formulas.{Formula, Formulas, constant, all_of, any_of, not_of, test, no_formulas, more_formulas}
-use Rattle.chart_core.specs.Trees.{StepPlan, Tree, Trees, Arms, leaf, seq, par, choice, loop, no_trees, more_trees, no_arms, more_arms}
-use Rattle.chart_core.specs.Roles.{RolePlan, ChartPlan}
+use Rattle.chart_core.specs.Trees.{PlainStep, Tree, Trees, Arms, leaf, seq, par, choice, loop, no_trees, more_trees, no_arms, more_arms}
+use Rattle.chart_core.specs.Roles.{PlainRole, PlainChart}
 use Rattle.chart_json.specs.Sound.{is_sound}
 use Rattle.chart_json.specs.Words.{op_word}
 
 -- a role, with every key
-unfoldable pub written_role : RolePlan → Data
+unfoldable pub written_role : PlainRole → Data
 written_role role = object
     (member (codes "role") (string role.role)
     (member (codes "type") (string role.type_name)
     (member (codes "version") (string role.wants) no_members)))
 
 -- the roles of a chart
-unfoldable pub written_roles : List RolePlan → Data
+unfoldable pub written_roles : List PlainRole → Data
 written_roles roles = array (items_of (map written_role roles))
 
 -- what a test compares with
@@ -75,7 +75,7 @@ finish_first None others = others
 finish_first (Some finish) others = member (codes "finish") (written_formula finish) others
 
 -- a step, with every key but `finish` where there is none
-unfoldable pub written_step : StepPlan → Data
+unfoldable pub written_step : PlainStep → Data
 written_step step =
     object (finish_first step.finish (step_keys step.name step.procedure step.role step.service
     (written_settings step.settings)))
@@ -105,7 +105,7 @@ unfoldable mutual
       item (written_arm (written_formula when) (written_tree body)) (written_arms others)
 
 -- the values are the written roles and the written root of the chart, which is sound in its parts
-pub record IsWritten (chart : ChartPlan) (roles root : Data) : Type 0 where
+pub record IsWritten (chart : PlainChart) (roles root : Data) : Type 0 where
   pub roles_are : roles ≡ written_roles chart.roles
   pub root_is : root ≡ written_tree chart.root
   pub sound : is_sound chart ≡ true

@@ -2,13 +2,13 @@
 
 ghost use Rattle.std.specs.Prelude.{IfOk, IsTrue, codes, map};
 ghost use Rattle.serde_json.specs.View.{view};
-ghost use Rattle.mtp_json.specs.Form.{inside};
-ghost use Rattle.mtp_json.specs.Gives.{Gives};
-ghost use Rattle.mtp_json.specs.Reading.{under};
-ghost use Rattle.chart_core.specs.Charts.{plan};
+ghost use Rattle.mtp_json.specs.Form.{nested};
+ghost use Rattle.mtp_json.specs.ReadsAs.{ReadsAs};
+ghost use Rattle.mtp_json.specs.ReadResult.{under};
+ghost use Rattle.chart_core.specs.Charts.{plain_chart};
 ghost use Rattle.chart_core.specs.Form.{is_tree_formed};
-ghost use Rattle.chart_core.specs.Roles.{role_plan};
-ghost use Rattle.chart_core.specs.Trees.{tree};
+ghost use Rattle.chart_core.specs.Roles.{plain_role};
+ghost use Rattle.chart_core.specs.Trees.{plain_node};
 ghost use Rattle.chart_json.specs.Form.{are_roles_sized, chart_from, chart_of, roles_of, tree_of};
 
 use crate::nodes::read_node;
@@ -20,26 +20,26 @@ use std::alloc::Global;
 
 #[tactic(auto, using(mtp_json::proofs::Each::gives_below, crate::proofs::Told::told_below))]
 fn roles_under(alloc: Global, value: &Value) -> Result<Vec<Role>, JsonRefusal>
-    ensures gives { Gives (λ roles. map role_plan roles.items) result
+    ensures gives { ReadsAs (λ roles. map plain_role roles.items) result
         (under (codes "roles") (roles_of (view value.now))) }
-    ensures sized { IfOk result (λ roles. IsTrue (are_roles_sized (map role_plan roles.items))) }
+    ensures sized { IfOk result (λ roles. IsTrue (are_roles_sized (map plain_role roles.items))) }
 {
     under("roles", read_roles(alloc, value))
 }
 
 #[tactic(auto, using(mtp_json::proofs::Each::gives_below, crate::proofs::Told::told_below))]
 fn node_under(alloc: Global, value: &Value) -> Result<Node, JsonRefusal>
-    ensures gives { Gives tree result (under (codes "chart") (tree_of (view value.now))) }
-    ensures formed { IfOk result (λ node. IsTrue (is_tree_formed (tree node))) }
+    ensures gives { ReadsAs plain_node result (under (codes "chart") (tree_of (view value.now))) }
+    ensures formed { IfOk result (λ node. IsTrue (is_tree_formed (plain_node node))) }
 {
     under("chart", read_node(alloc, value))
 }
 
 /// The roles at the key `roles` of an object, as `read_roles`.
 pub fn roles_at(alloc: Global, object: &Value) -> Result<Vec<Role>, JsonRefusal>
-    ensures gives { Gives (λ roles. map role_plan roles.items) result
-        (inside (codes "roles") roles_of (view object.now)) }
-    ensures sized { IfOk result (λ roles. IsTrue (are_roles_sized (map role_plan roles.items))) }
+    ensures gives { ReadsAs (λ roles. map plain_role roles.items) result
+        (nested (codes "roles") roles_of (view object.now)) }
+    ensures sized { IfOk result (λ roles. IsTrue (are_roles_sized (map plain_role roles.items))) }
 {
     let value = value_at(alloc, object, "roles")?;
     roles_under(alloc, value)
@@ -47,8 +47,8 @@ pub fn roles_at(alloc: Global, object: &Value) -> Result<Vec<Role>, JsonRefusal>
 
 /// The node at the key `chart` of an object, as `read_node`.
 pub fn node_at(alloc: Global, object: &Value) -> Result<Node, JsonRefusal>
-    ensures gives { Gives tree result (inside (codes "chart") tree_of (view object.now)) }
-    ensures formed { IfOk result (λ node. IsTrue (is_tree_formed (tree node))) }
+    ensures gives { ReadsAs plain_node result (nested (codes "chart") tree_of (view object.now)) }
+    ensures formed { IfOk result (λ node. IsTrue (is_tree_formed (plain_node node))) }
 {
     let value = value_at(alloc, object, "chart")?;
     node_under(alloc, value)
@@ -58,9 +58,9 @@ pub fn node_at(alloc: Global, object: &Value) -> Result<Node, JsonRefusal>
 /// chart is valid is not asked.
 #[tactic(auto, unfolding(crate::specs::Form::chart_from), using(crate::proofs::Formed::chart_formed))]
 pub fn make_chart(alloc: Global, roles: Vec<Role>, root: Node) -> Result<Chart, JsonRefusal>
-    requires sized { IsTrue (are_roles_sized (map role_plan roles.items)) }
-    requires formed { IsTrue (is_tree_formed (tree root)) }
-    ensures { Gives plan result (chart_from (map role_plan roles.items) (tree root)) }
+    requires sized { IsTrue (are_roles_sized (map plain_role roles.items)) }
+    requires formed { IsTrue (is_tree_formed (plain_node root)) }
+    ensures { ReadsAs plain_chart result (chart_from (map plain_role roles.items) (plain_node root)) }
 {
     unlike_under::<RoleJson>(alloc, "roles", &roles)?;
     Ok(Chart { roles, root })
@@ -70,7 +70,7 @@ pub fn make_chart(alloc: Global, roles: Vec<Role>, root: Node) -> Result<Chart, 
 /// path: of the roles, of the chart, or Repeated at `roles`. Whether the chart is valid is not asked.
 #[tactic(auto, unfolding(crate::specs::Form::chart_of))]
 pub fn read_chart(alloc: Global, roles: &Value, chart: &Value) -> Result<Chart, JsonRefusal>
-    ensures { Gives plan result (chart_of (view roles.now) (view chart.now)) }
+    ensures { ReadsAs plain_chart result (chart_of (view roles.now) (view chart.now)) }
 {
     let found = roles_under(alloc, roles)?;
     let root = node_under(alloc, chart)?;

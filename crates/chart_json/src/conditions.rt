@@ -3,10 +3,10 @@
 ghost use Rattle.std.specs.Prelude.{◌≡◌, Err, IsTrue, codes, map};
 ghost use Rattle.serde_json.specs.View.{items_view, view};
 ghost use Rattle.mtp_codes.specs.Names.{is_name};
-ghost use Rattle.mtp_json.specs.Form.{each, need};
-ghost use Rattle.mtp_json.specs.Gives.{Gives};
-ghost use Rattle.mtp_json.specs.Reading.{here as found_here, under};
-ghost use Rattle.chart_core.specs.Formulas.{Formula, formula};
+ghost use Rattle.mtp_json.specs.Form.{each, required};
+ghost use Rattle.mtp_json.specs.ReadsAs.{ReadsAs};
+ghost use Rattle.mtp_json.specs.ReadResult.{here as found_here, under};
+ghost use Rattle.chart_core.specs.Formulas.{Formula, plain_condition};
 ghost use Rattle.chart_core.specs.Form.{may_compare};
 ghost use Rattle.chart_json.specs.Form.{all_form, any_form, compared, condition_by_key, condition_of, const_form, formula_of, not_form, test_form};
 
@@ -35,7 +35,7 @@ fn compared_of(value: &Value) -> Result<Reading, FaultKind>
 }
 
 fn compared_at(alloc: Global, object: &Value) -> Result<Reading, JsonRefusal>
-    ensures { Gives (λ against. against) result (need (codes "value") compared (view object.now)) }
+    ensures { ReadsAs (λ against. against) result (required (codes "value") compared (view object.now)) }
 {
     let found = match object.get("value") {
         Some(value) => compared_of(value),
@@ -56,7 +56,7 @@ fn may_compare(op: Op, against: Reading) -> bool
 
 #[tactic(auto, unfolding(crate::specs::Form::const_form))]
 fn read_const(alloc: Global, value: &Value) -> Result<Condition, JsonRefusal>
-    ensures { Gives formula result (const_form (view value.now)) }
+    ensures { ReadsAs plain_condition result (const_form (view value.now)) }
 {
     let holds = truth_at(alloc, value, "const")?;
     nothing_but(alloc, value, "const")?;
@@ -65,7 +65,7 @@ fn read_const(alloc: Global, value: &Value) -> Result<Condition, JsonRefusal>
 
 #[tactic(auto, unfolding(crate::specs::Form::test_form))]
 fn read_test(alloc: Global, value: &Value) -> Result<Condition, JsonRefusal>
-    ensures { Gives formula result (test_form (view value.now)) }
+    ensures { ReadsAs plain_condition result (test_form (view value.now)) }
 {
     let var = name_at(alloc, value, "test")?;
     let role = name_at(alloc, value, "role")?;
@@ -83,7 +83,7 @@ fn read_test(alloc: Global, value: &Value) -> Result<Condition, JsonRefusal>
 
 // Of an object that is no condition of any kind.
 fn refused_kind(alloc: Global) -> Result<Condition, JsonRefusal>
-    ensures { Gives formula result (under (codes "const") (found_here (Err FaultKind.Missing))) }
+    ensures { ReadsAs plain_condition result (under (codes "const") (found_here (Err FaultKind.Missing))) }
 {
     keyed(alloc, "const", Err(FaultKind::Missing))
 }
@@ -92,7 +92,7 @@ fn refused_kind(alloc: Global) -> Result<Condition, JsonRefusal>
 #[cycle(condition)]
 #[tactic(auto, unfolding(crate::specs::Form::condition_by_key))]
 fn read_by_key(alloc: Global, value: &Value) -> Result<Condition, JsonRefusal>
-    ensures { Gives formula result (condition_by_key formula_of (view value.now)) }
+    ensures { ReadsAs plain_condition result (condition_by_key formula_of (view value.now)) }
 {
     if value.get("const").is_some() {
         read_const(alloc, value)
@@ -111,7 +111,7 @@ fn read_by_key(alloc: Global, value: &Value) -> Result<Condition, JsonRefusal>
 
 #[cycle(condition)]
 fn read_inner(alloc: Global, value: &Value) -> Result<Condition, JsonRefusal>
-    ensures { Gives formula result (formula_of (view value.now)) }
+    ensures { ReadsAs plain_condition result (formula_of (view value.now)) }
 {
     object_here(alloc, value)?;
     read_by_key(alloc, value)
@@ -120,7 +120,7 @@ fn read_inner(alloc: Global, value: &Value) -> Result<Condition, JsonRefusal>
 #[cycle(condition)]
 #[tactic(auto, unfolding(crate::specs::Form::all_form))]
 fn read_all(alloc: Global, value: &Value) -> Result<Condition, JsonRefusal>
-    ensures { Gives formula result (all_form formula_of (view value.now)) }
+    ensures { ReadsAs plain_condition result (all_form formula_of (view value.now)) }
 {
     let values = list_at(alloc, value, "all", 1, MOST_JOINED)?;
     let all = read_each_under(alloc, "all", values)?;
@@ -131,7 +131,7 @@ fn read_all(alloc: Global, value: &Value) -> Result<Condition, JsonRefusal>
 #[cycle(condition)]
 #[tactic(auto, unfolding(crate::specs::Form::any_form))]
 fn read_any(alloc: Global, value: &Value) -> Result<Condition, JsonRefusal>
-    ensures { Gives formula result (any_form formula_of (view value.now)) }
+    ensures { ReadsAs plain_condition result (any_form formula_of (view value.now)) }
 {
     let values = list_at(alloc, value, "any", 1, MOST_JOINED)?;
     let any = read_each_under(alloc, "any", values)?;
@@ -142,7 +142,7 @@ fn read_any(alloc: Global, value: &Value) -> Result<Condition, JsonRefusal>
 #[cycle(condition)]
 #[tactic(auto, unfolding(crate::specs::Form::not_form))]
 fn read_not(alloc: Global, value: &Value) -> Result<Condition, JsonRefusal>
-    ensures { Gives formula result (not_form formula_of (view value.now)) }
+    ensures { ReadsAs plain_condition result (not_form formula_of (view value.now)) }
 {
     let inner = value_at(alloc, value, "not")?;
     let condition = read_under(alloc, "not", inner)?;
@@ -154,7 +154,7 @@ fn read_not(alloc: Global, value: &Value) -> Result<Condition, JsonRefusal>
 #[tactic(auto, using(mtp_json::proofs::Each::gives_below))]
 fn read_under(alloc: Global, key: &str, value: &Value) -> Result<Condition, JsonRefusal>
     requires { IsTrue (is_name key.now) }
-    ensures { Gives formula result (under key.now (formula_of (view value.now))) }
+    ensures { ReadsAs plain_condition result (under key.now (formula_of (view value.now))) }
 {
     under(key, read_inner(alloc, value))
 }
@@ -167,7 +167,7 @@ fn read_each_under(
     values: &[Value],
 ) -> Result<Vec<Condition>, JsonRefusal>
     requires { IsTrue (is_name key.now) }
-    ensures { Gives (λ found. map formula found.items) result
+    ensures { ReadsAs (λ found. map plain_condition found.items) result
         (under key.now (each formula_of 0 (items_view values.now))) }
 {
     under(key, read_each(alloc, values))
@@ -176,7 +176,7 @@ fn read_each_under(
 // The list is gone over here, since a form that contains itself is no instance of `FromJson`.
 #[cycle(condition)]
 fn read_each(alloc: Global, values: &[Value]) -> Result<Vec<Condition>, JsonRefusal>
-    ensures { Gives (λ found. map formula found.items) result (each formula_of 0 (items_view values.now)) }
+    ensures { ReadsAs (λ found. map plain_condition found.items) result (each formula_of 0 (items_view values.now)) }
 {
     let mut found = Vec::new(alloc);
     for (i, value) in values.iter().enumerate() {
@@ -189,7 +189,7 @@ fn read_each(alloc: Global, values: &[Value]) -> Result<Vec<Condition>, JsonRefu
 /// The condition that this value is in the form of; else the first fault in reading order. Its size is asked last.
 #[tactic(auto, unfolding(crate::specs::Form::condition_of))]
 pub fn read_condition(alloc: Global, value: &Value) -> Result<Condition, JsonRefusal>
-    ensures { Gives formula result (condition_of (view value.now)) }
+    ensures { ReadsAs plain_condition result (condition_of (view value.now)) }
 {
     let condition = read_inner(alloc, value)?;
     refused_if(alloc, !is_small(&condition), FaultKind::OutOfRange)?;
@@ -204,7 +204,7 @@ impl FromJson for ConditionJson {
 
     ghost Form = { Formula };
 
-    ghost plain = { formula };
+    ghost plain = { plain_condition };
 
     ghost form = { condition_of };
 

@@ -3,8 +3,8 @@
 ghost use Rattle.std.specs.Prelude.{◌≡◌, IsTrue};
 ghost use Rattle.serde_json.specs.View.{items_view, view};
 ghost use Rattle.mtp_codes.specs.Names.{is_name};
-ghost use Rattle.mtp_json.specs.Form.{need};
-ghost use Rattle.mtp_json.specs.Gives.{Gives, seen};
+ghost use Rattle.mtp_json.specs.Form.{required};
+ghost use Rattle.mtp_json.specs.ReadsAs.{ReadsAs, seen};
 ghost use Rattle.chart_json.specs.Form.{items_from};
 
 use mtp_json::{FaultKind, JsonRefusal, keyed};
@@ -31,7 +31,7 @@ pub fn list_from_at<'a>(
     low: usize,
 ) -> Result<&'a [Value], JsonRefusal>
     requires { IsTrue (is_name key.now) }
-    ensures { Gives (λ list. items_view list.now) result (need key.now (items_from low) (view object.now)) }
+    ensures { ReadsAs (λ list. items_view list.now) result (required key.now (items_from low) (view object.now)) }
 {
     let found = match object.get(key) {
         Some(value) => list_from(value, low),

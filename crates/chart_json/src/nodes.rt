@@ -4,10 +4,10 @@ ghost use Rattle.std.specs.Prelude.{◌≡◌, Err, IfOk, IsTrue, codes, map};
 ghost use Rattle.serde_json.specs.View.{items_view, view};
 ghost use Rattle.mtp_codes.specs.Names.{is_name};
 ghost use Rattle.mtp_json.specs.Form.{each};
-ghost use Rattle.mtp_json.specs.Gives.{Gives};
-ghost use Rattle.mtp_json.specs.Reading.{here as found_here, under};
+ghost use Rattle.mtp_json.specs.ReadsAs.{ReadsAs};
+ghost use Rattle.mtp_json.specs.ReadResult.{here as found_here, under};
 ghost use Rattle.chart_core.specs.Form.{is_tree_formed};
-ghost use Rattle.chart_core.specs.Trees.{arm_plan, tree};
+ghost use Rattle.chart_core.specs.Trees.{plain_arm, plain_node};
 ghost use Rattle.chart_json.specs.Form.{arm_of, loop_form, node_by_key, par_form, sel_form, seq_form, step_form, tree_of};
 
 use crate::conditions::ConditionJson;
@@ -23,7 +23,7 @@ use std::alloc::Global;
 
 #[tactic(auto, unfolding(crate::specs::Form::step_form))]
 fn read_step_node(alloc: Global, value: &Value) -> Result<Node, JsonRefusal>
-    ensures { Gives tree result (step_form (view value.now)) }
+    ensures { ReadsAs plain_node result (step_form (view value.now)) }
 {
     let step = read_step(alloc, value)?;
     Ok(Node::Step(step))
@@ -31,7 +31,7 @@ fn read_step_node(alloc: Global, value: &Value) -> Result<Node, JsonRefusal>
 
 // Of an object that is no node of any kind.
 fn refused_kind(alloc: Global) -> Result<Node, JsonRefusal>
-    ensures { Gives tree result (under (codes "step") (found_here (Err FaultKind.Missing))) }
+    ensures { ReadsAs plain_node result (under (codes "step") (found_here (Err FaultKind.Missing))) }
 {
     keyed(alloc, "step", Err(FaultKind::Missing))
 }
@@ -40,7 +40,7 @@ fn refused_kind(alloc: Global) -> Result<Node, JsonRefusal>
 #[cycle(node)]
 #[tactic(auto, unfolding(crate::specs::Form::node_by_key))]
 fn read_by_key(alloc: Global, value: &Value) -> Result<Node, JsonRefusal>
-    ensures { Gives tree result (node_by_key tree_of (view value.now)) }
+    ensures { ReadsAs plain_node result (node_by_key tree_of (view value.now)) }
 {
     if value.get("step").is_some() {
         read_step_node(alloc, value)
@@ -59,7 +59,7 @@ fn read_by_key(alloc: Global, value: &Value) -> Result<Node, JsonRefusal>
 
 #[cycle(node)]
 fn read_inner(alloc: Global, value: &Value) -> Result<Node, JsonRefusal>
-    ensures { Gives tree result (tree_of (view value.now)) }
+    ensures { ReadsAs plain_node result (tree_of (view value.now)) }
 {
     object_here(alloc, value)?;
     read_by_key(alloc, value)
@@ -68,7 +68,7 @@ fn read_inner(alloc: Global, value: &Value) -> Result<Node, JsonRefusal>
 #[cycle(node)]
 #[tactic(auto, unfolding(crate::specs::Form::seq_form))]
 fn read_seq(alloc: Global, value: &Value) -> Result<Node, JsonRefusal>
-    ensures { Gives tree result (seq_form tree_of (view value.now)) }
+    ensures { ReadsAs plain_node result (seq_form tree_of (view value.now)) }
 {
     let values = list_from_at(alloc, value, "seq", 1)?;
     let nodes = read_each_under(alloc, "seq", values)?;
@@ -79,7 +79,7 @@ fn read_seq(alloc: Global, value: &Value) -> Result<Node, JsonRefusal>
 #[cycle(node)]
 #[tactic(auto, unfolding(crate::specs::Form::par_form))]
 fn read_par(alloc: Global, value: &Value) -> Result<Node, JsonRefusal>
-    ensures { Gives tree result (par_form tree_of (view value.now)) }
+    ensures { ReadsAs plain_node result (par_form tree_of (view value.now)) }
 {
     let values = list_from_at(alloc, value, "par", 2)?;
     let nodes = read_each_under(alloc, "par", values)?;
@@ -90,7 +90,7 @@ fn read_par(alloc: Global, value: &Value) -> Result<Node, JsonRefusal>
 #[cycle(node)]
 #[tactic(auto, unfolding(crate::specs::Form::sel_form))]
 fn read_sel(alloc: Global, value: &Value) -> Result<Node, JsonRefusal>
-    ensures { Gives tree result (sel_form tree_of (view value.now)) }
+    ensures { ReadsAs plain_node result (sel_form tree_of (view value.now)) }
 {
     let values = list_at(alloc, value, "sel", 1, MOST_ARMS)?;
     let arms = read_arms_under(alloc, "sel", values)?;
@@ -101,7 +101,7 @@ fn read_sel(alloc: Global, value: &Value) -> Result<Node, JsonRefusal>
 #[cycle(node)]
 #[tactic(auto, unfolding(crate::specs::Form::loop_form))]
 fn read_loop(alloc: Global, value: &Value) -> Result<Node, JsonRefusal>
-    ensures { Gives tree result (loop_form tree_of (view value.now)) }
+    ensures { ReadsAs plain_node result (loop_form tree_of (view value.now)) }
 {
     let inner = value_at(alloc, value, "loop")?;
     let body = read_under(alloc, "loop", inner)?;
@@ -113,7 +113,7 @@ fn read_loop(alloc: Global, value: &Value) -> Result<Node, JsonRefusal>
 #[cycle(node)]
 #[tactic(auto, unfolding(crate::specs::Form::arm_of))]
 fn read_arm(alloc: Global, value: &Value) -> Result<Arm, JsonRefusal>
-    ensures { Gives arm_plan result (arm_of tree_of (view value.now)) }
+    ensures { ReadsAs plain_arm result (arm_of tree_of (view value.now)) }
 {
     object_here(alloc, value)?;
     let when = form_at::<ConditionJson>(alloc, value, "when")?;
@@ -127,7 +127,7 @@ fn read_arm(alloc: Global, value: &Value) -> Result<Arm, JsonRefusal>
 #[tactic(auto, using(mtp_json::proofs::Each::gives_below))]
 fn read_under(alloc: Global, key: &str, value: &Value) -> Result<Node, JsonRefusal>
     requires { IsTrue (is_name key.now) }
-    ensures { Gives tree result (under key.now (tree_of (view value.now))) }
+    ensures { ReadsAs plain_node result (under key.now (tree_of (view value.now))) }
 {
     under(key, read_inner(alloc, value))
 }
@@ -136,7 +136,8 @@ fn read_under(alloc: Global, key: &str, value: &Value) -> Result<Node, JsonRefus
 #[tactic(auto, using(mtp_json::proofs::Each::gives_below))]
 fn read_each_under(alloc: Global, key: &str, values: &[Value]) -> Result<Vec<Node>, JsonRefusal>
     requires { IsTrue (is_name key.now) }
-    ensures { Gives (λ found. map tree found.items) result (under key.now (each tree_of 0 (items_view values.now))) }
+    ensures { ReadsAs (λ found. map plain_node found.items) result
+        (under key.now (each tree_of 0 (items_view values.now))) }
 {
     under(key, read_each(alloc, values))
 }
@@ -145,7 +146,7 @@ fn read_each_under(alloc: Global, key: &str, values: &[Value]) -> Result<Vec<Nod
 #[tactic(auto, using(mtp_json::proofs::Each::gives_below))]
 fn read_arms_under(alloc: Global, key: &str, values: &[Value]) -> Result<Vec<Arm>, JsonRefusal>
     requires { IsTrue (is_name key.now) }
-    ensures { Gives (λ found. map arm_plan found.items) result
+    ensures { ReadsAs (λ found. map plain_arm found.items) result
         (under key.now (each (arm_of tree_of) 0 (items_view values.now))) }
 {
     under(key, read_each_arm(alloc, values))
@@ -154,7 +155,7 @@ fn read_arms_under(alloc: Global, key: &str, values: &[Value]) -> Result<Vec<Arm
 // The two lists are gone over here, since a form that contains itself is no instance of `FromJson`.
 #[cycle(node)]
 fn read_each(alloc: Global, values: &[Value]) -> Result<Vec<Node>, JsonRefusal>
-    ensures { Gives (λ found. map tree found.items) result (each tree_of 0 (items_view values.now)) }
+    ensures { ReadsAs (λ found. map plain_node found.items) result (each tree_of 0 (items_view values.now)) }
 {
     let mut found = Vec::new(alloc);
     for (i, value) in values.iter().enumerate() {
@@ -166,7 +167,7 @@ fn read_each(alloc: Global, values: &[Value]) -> Result<Vec<Node>, JsonRefusal>
 
 #[cycle(node)]
 fn read_each_arm(alloc: Global, values: &[Value]) -> Result<Vec<Arm>, JsonRefusal>
-    ensures { Gives (λ found. map arm_plan found.items) result (each (arm_of tree_of) 0 (items_view values.now)) }
+    ensures { ReadsAs (λ found. map plain_arm found.items) result (each (arm_of tree_of) 0 (items_view values.now)) }
 {
     let mut found = Vec::new(alloc);
     for (i, value) in values.iter().enumerate() {
@@ -179,8 +180,8 @@ fn read_each_arm(alloc: Global, values: &[Value]) -> Result<Vec<Arm>, JsonRefusa
 /// The node that this value is in the form of, with all that is in it; else the first fault in reading order, with its
 /// path.
 pub fn read_node(alloc: Global, value: &Value) -> Result<Node, JsonRefusal>
-    ensures gives { Gives tree result (tree_of (view value.now)) }
-    ensures formed { IfOk result (λ node. IsTrue (is_tree_formed (tree node))) }
+    ensures gives { ReadsAs plain_node result (tree_of (view value.now)) }
+    ensures formed { IfOk result (λ node. IsTrue (is_tree_formed (plain_node node))) }
 {
     read_inner(alloc, value)
 }

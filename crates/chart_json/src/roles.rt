@@ -3,11 +3,11 @@
 ghost use Rattle.std.specs.Prelude.{◌≡◌, IfOk, IsTrue, codes, map};
 ghost use Rattle.semver.specs.Identifiers.{comparator_view};
 ghost use Rattle.serde_json.specs.View.{items_view, view};
-ghost use Rattle.mtp_json.specs.Gives.{Gives};
+ghost use Rattle.mtp_json.specs.ReadsAs.{ReadsAs};
 ghost use Rattle.mtp_json.specs.Leaf.{items_in};
-ghost use Rattle.mtp_json.specs.Reading.{here as found_here, under};
+ghost use Rattle.mtp_json.specs.ReadResult.{here as found_here, under};
 ghost use Rattle.chart_core.specs.Requirements.{IsReadTo};
-ghost use Rattle.chart_core.specs.Roles.{RolePlan, role_plan};
+ghost use Rattle.chart_core.specs.Roles.{PlainRole, plain_role};
 ghost use Rattle.chart_json.specs.Form.{are_roles_sized, role_of, roles_of, same_role};
 ghost use Rattle.chart_json.specs.Requirement.{requirement_of};
 ghost use Rattle.chart_core.specs.declared.limits.TheConstants.{MOST_ROLES};
@@ -25,7 +25,7 @@ use std::alloc::{AllocError, Global};
 pub struct RoleJson;
 
 fn requirement_under(alloc: Global, text: &str) -> Result<VersionReq, JsonRefusal>
-    ensures gives { Gives (λ req. map comparator_view req.comparators.items) result
+    ensures gives { ReadsAs (λ req. map comparator_view req.comparators.items) result
         (under (codes "version") (found_here (requirement_of text.now))) }
     ensures reads { IfOk result (λ req. IsReadTo text.now req) }
 {
@@ -43,7 +43,7 @@ fn requirement_under(alloc: Global, text: &str) -> Result<VersionReq, JsonRefusa
 
 #[tactic(auto, unfolding(crate::specs::Form::role_of))]
 fn read_role(alloc: Global, value: &Value) -> Result<Role, JsonRefusal>
-    ensures { Gives role_plan result (role_of (view value.now)) }
+    ensures { ReadsAs plain_role result (role_of (view value.now)) }
 {
     object_here(alloc, value)?;
     let role = name_at(alloc, value, "role")?;
@@ -62,9 +62,9 @@ fn read_role(alloc: Global, value: &Value) -> Result<Role, JsonRefusal>
 impl FromJson for RoleJson {
     type Item = Role;
 
-    ghost Form = { RolePlan };
+    ghost Form = { PlainRole };
 
-    ghost plain = { role_plan };
+    ghost plain = { plain_role };
 
     ghost form = { role_of };
 
@@ -76,9 +76,9 @@ impl FromJson for RoleJson {
 impl Alike for RoleJson {
     type Item = Role;
 
-    ghost Form = { RolePlan };
+    ghost Form = { PlainRole };
 
-    ghost plain = { role_plan };
+    ghost plain = { plain_role };
 
     ghost same = { same_role };
 
@@ -88,7 +88,7 @@ impl Alike for RoleJson {
 }
 
 fn roles_here(alloc: Global, value: &Value) -> Result<&[Value], JsonRefusal>
-    ensures { Gives (λ list. items_view list.now) result (found_here (items_in 1 MOST_ROLES (view value.now))) }
+    ensures { ReadsAs (λ list. items_view list.now) result (found_here (items_in 1 MOST_ROLES (view value.now))) }
 {
     here(alloc, list_in(value, 1, MOST_ROLES))
 }
@@ -97,8 +97,8 @@ fn roles_here(alloc: Global, value: &Value) -> Result<&[Value], JsonRefusal>
 /// path. Whether a role is named twice is asked with the chart.
 #[tactic(auto, unfolding(crate::specs::Form::roles_of))]
 pub fn read_roles(alloc: Global, value: &Value) -> Result<Vec<Role>, JsonRefusal>
-    ensures gives { Gives (λ roles. map role_plan roles.items) result (roles_of (view value.now)) }
-    ensures sized { IfOk result (λ roles. IsTrue (are_roles_sized (map role_plan roles.items))) }
+    ensures gives { ReadsAs (λ roles. map plain_role roles.items) result (roles_of (view value.now)) }
+    ensures sized { IfOk result (λ roles. IsTrue (are_roles_sized (map plain_role roles.items))) }
 {
     let values = roles_here(alloc, value)?;
     read_every::<RoleJson>(alloc, values)

@@ -2,7 +2,7 @@
 
 ghost use Rattle.serde_json.specs.View.{view};
 ghost use Rattle.mtp_codes.specs.declared.value.Setting.{Setting as SettingForm};
-ghost use Rattle.mtp_json.specs.Gives.{Gives};
+ghost use Rattle.mtp_json.specs.ReadsAs.{ReadsAs};
 ghost use Rattle.chart_json.specs.Form.{same_setting, setting_of};
 
 use mtp_codes::Setting;
@@ -15,7 +15,7 @@ pub struct SettingJson;
 
 #[tactic(auto, unfolding(crate::specs::Form::setting_of))]
 fn read_setting(alloc: Global, value: &Value) -> Result<Setting, JsonRefusal>
-    ensures { Gives (λ setting. setting) result (setting_of (view value.now)) }
+    ensures { ReadsAs (λ setting. setting) result (setting_of (view value.now)) }
 {
     object_here(alloc, value)?;
     let name = name_at(alloc, value, "name")?;

@@ -2,9 +2,9 @@
 
 ghost use Rattle.std.specs.Prelude.{codes};
 ghost use Rattle.serde_json.specs.View.{view};
-ghost use Rattle.mtp_json.specs.Form.{inside_if_there, list_or_none};
-ghost use Rattle.mtp_json.specs.Gives.{Gives};
-ghost use Rattle.chart_core.specs.Trees.{finish_plan, step_plan};
+ghost use Rattle.mtp_json.specs.Form.{nested_if_there, list_or_none};
+ghost use Rattle.mtp_json.specs.ReadsAs.{ReadsAs};
+ghost use Rattle.chart_core.specs.Trees.{plain_finish, plain_step};
 ghost use Rattle.chart_json.specs.Form.{condition_of, setting_of, step_of};
 ghost use Rattle.chart_core.specs.declared.limits.TheConstants.{MOST_SETTINGS};
 
@@ -20,7 +20,7 @@ use std::alloc::Global;
 
 #[tactic(auto, using(crate::proofs::Views::settings_seen))]
 fn settings_at(alloc: Global, value: &Value) -> Result<Vec<Setting>, JsonRefusal>
-    ensures { Gives (λ settings. settings.items) result (list_or_none (codes "settings") 0 MOST_SETTINGS setting_of
+    ensures { ReadsAs (λ settings. settings.items) result (list_or_none (codes "settings") 0 MOST_SETTINGS setting_of
         (view value.now)) }
 {
     list_or_none::<SettingJson>(alloc, value, "settings", 0, MOST_SETTINGS)
@@ -28,7 +28,7 @@ fn settings_at(alloc: Global, value: &Value) -> Result<Vec<Setting>, JsonRefusal
 
 #[tactic(auto, using(crate::proofs::Views::finish_seen))]
 fn finish_at(alloc: Global, value: &Value) -> Result<Option<Condition>, JsonRefusal>
-    ensures { Gives finish_plan result (inside_if_there (codes "finish") condition_of (view value.now)) }
+    ensures { ReadsAs plain_finish result (nested_if_there (codes "finish") condition_of (view value.now)) }
 {
     form_if_there::<ConditionJson>(alloc, value, "finish")
 }
@@ -36,7 +36,7 @@ fn finish_at(alloc: Global, value: &Value) -> Result<Option<Condition>, JsonRefu
 /// The step that this object is in the form of; else the first fault in reading order.
 #[tactic(auto, unfolding(crate::specs::Form::step_of))]
 pub fn read_step(alloc: Global, value: &Value) -> Result<Step, JsonRefusal>
-    ensures { Gives step_plan result (step_of (view value.now)) }
+    ensures { ReadsAs plain_step result (step_of (view value.now)) }
 {
     let name = name_at(alloc, value, "step")?;
     let role = name_at(alloc, value, "role")?;

@@ -5,8 +5,8 @@ ghost use Rattle.std.specs.List.{list_all};
 ghost use Rattle.serde_json.specs.Data.{depth};
 ghost use Rattle.serde_json.specs.View.{view};
 ghost use Rattle.serde_json.specs.Written.{has_float};
-ghost use Rattle.chart_core.specs.Charts.{plan};
-ghost use Rattle.chart_core.specs.Roles.{role_plan};
+ghost use Rattle.chart_core.specs.Charts.{plain_chart};
+ghost use Rattle.chart_core.specs.Roles.{plain_role};
 ghost use Rattle.chart_core.specs.Valid.{IsValid};
 ghost use Rattle.chart_json.specs.Form.{chart_of};
 ghost use Rattle.chart_json.specs.Sound.{is_role_sound};
@@ -19,8 +19,8 @@ use std::alloc::{AllocError, Global};
 
 #[tactic(auto, unfolding(crate::specs::Written::written_role), using(crate::proofs::Views::requirement_told))]
 fn write_role(alloc: Global, role: &Role) -> Result<Value, AllocError>
-    ensures value { IfOk result (λ value. view value ≡ written_role (role_plan role.now)) }
-    ensures sound { IfOk result (λ _. IsTrue (is_role_sound (role_plan role.now))) }
+    ensures value { IfOk result (λ value. view value ≡ written_role (plain_role role.now)) }
+    ensures sound { IfOk result (λ _. IsTrue (is_role_sound (plain_role role.now))) }
 {
     let name = role.role.as_str();
     let type_name = role.type_name.as_str();
@@ -29,8 +29,8 @@ fn write_role(alloc: Global, role: &Role) -> Result<Value, AllocError>
 }
 
 fn write_roles(alloc: Global, roles: &[Role]) -> Result<Value, AllocError>
-    ensures value { IfOk result (λ value. view value ≡ written_roles (map role_plan roles.now)) }
-    ensures sound { IfOk result (λ _. IsTrue (list_all is_role_sound (map role_plan roles.now))) }
+    ensures value { IfOk result (λ value. view value ≡ written_roles (map plain_role roles.now)) }
+    ensures sound { IfOk result (λ _. IsTrue (list_all is_role_sound (map plain_role roles.now))) }
 {
     let mut list = Vec::new(alloc);
     for role in roles {
@@ -40,7 +40,7 @@ fn write_roles(alloc: Global, roles: &[Role]) -> Result<Value, AllocError>
 }
 
 fn write_both(alloc: Global, chart: &Chart) -> Result<(Value, Value), AllocError>
-    ensures { IfOk result (λ pair. IsWritten (plan chart.now) (view pair.0) (view pair.1)) }
+    ensures { IfOk result (λ pair. IsWritten (plain_chart chart.now) (view pair.0) (view pair.1)) }
 {
     let roles = write_roles(alloc, &chart.roles)?;
     let root = write_node(alloc, &chart.root)?;
@@ -50,9 +50,9 @@ fn write_both(alloc: Global, chart: &Chart) -> Result<(Value, Value), AllocError
 /// The values that stand for a chart at the keys `roles` and `chart`, with every key of their forms but `finish` where
 /// there is none. What is written is read back as the chart.
 pub fn write_chart(alloc: Global, chart: &Chart) -> Result<(Value, Value), AllocError>
-    ensures values { IfOk result (λ pair. IsWritten (plan chart.now) (view pair.0) (view pair.1)) }
-    ensures reads_back { IfOk result (λ pair. chart_of (view pair.0) (view pair.1) ≡ Ok (plan chart.now)) }
-    ensures nests { IfOk result (λ pair. IsValid (plan chart.now) → (depth (view pair.0) ≤ 2)
+    ensures values { IfOk result (λ pair. IsWritten (plain_chart chart.now) (view pair.0) (view pair.1)) }
+    ensures reads_back { IfOk result (λ pair. chart_of (view pair.0) (view pair.1) ≡ Ok (plain_chart chart.now)) }
+    ensures nests { IfOk result (λ pair. IsValid (plain_chart chart.now) → (depth (view pair.0) ≤ 2)
         × (depth (view pair.1) ≤ 65)) }
     ensures whole { IfOk result (λ pair. (has_float (view pair.0) ≡ false) × (has_float (view pair.1) ≡ false)) }
 {

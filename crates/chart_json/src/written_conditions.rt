@@ -3,7 +3,7 @@
 ghost use Rattle.std.specs.Prelude.{◌≡◌, IfOk, IsTrue, codes};
 ghost use Rattle.serde_json.specs.Data.{array, member, no_members, object, string};
 ghost use Rattle.serde_json.specs.View.{items_view, view};
-ghost use Rattle.chart_core.specs.Formulas.{formula, formulas, test};
+ghost use Rattle.chart_core.specs.Formulas.{plain_condition, formulas, test};
 ghost use Rattle.chart_json.specs.Sound.{are_formulas_sound, is_compared_sound, is_formula_sound};
 ghost use Rattle.chart_json.specs.Words.{op_word};
 ghost use Rattle.chart_json.specs.Written.{written_compared, written_formula, written_formulas};
@@ -74,8 +74,8 @@ fn write_test(
 #[cycle(written)]
 #[tactic(auto, unfolding(crate::specs::Written::written_formula))]
 pub fn write_condition(alloc: Global, condition: &Condition) -> Result<Value, AllocError>
-    ensures value { IfOk result (λ value. view value ≡ written_formula (formula condition.now)) }
-    ensures sound { IfOk result (λ _. IsTrue (is_formula_sound (formula condition.now))) }
+    ensures value { IfOk result (λ value. view value ≡ written_formula (plain_condition condition.now)) }
+    ensures sound { IfOk result (λ _. IsTrue (is_formula_sound (plain_condition condition.now))) }
 {
     match condition {
         Condition::Const(holds) => json!(in alloc; {"const": *holds}),

@@ -3,8 +3,8 @@
 ghost use Rattle.std.specs.Prelude.{◌≡◌, ◌&&◌, IfOk, IsTrue};
 ghost use Rattle.serde_json.specs.Data.{array};
 ghost use Rattle.serde_json.specs.View.{view};
-ghost use Rattle.chart_core.specs.Formulas.{formula};
-ghost use Rattle.chart_core.specs.Trees.{arms, tree, trees};
+ghost use Rattle.chart_core.specs.Formulas.{plain_condition};
+ghost use Rattle.chart_core.specs.Trees.{arms, plain_node, trees};
 ghost use Rattle.chart_json.specs.Sound.{are_arms_sound, are_trees_sound, is_formula_sound, is_tree_sound};
 ghost use Rattle.chart_json.specs.Written.{written_arm, written_arms, written_formula, written_tree, written_trees};
 
@@ -18,8 +18,8 @@ use std::alloc::{AllocError, Global};
 #[cycle(written)]
 #[tactic(auto, unfolding(crate::specs::Written::written_tree))]
 pub fn write_node(alloc: Global, node: &Node) -> Result<Value, AllocError>
-    ensures value { IfOk result (λ value. view value ≡ written_tree (tree node.now)) }
-    ensures sound { IfOk result (λ _. IsTrue (is_tree_sound (tree node.now))) }
+    ensures value { IfOk result (λ value. view value ≡ written_tree (plain_node node.now)) }
+    ensures sound { IfOk result (λ _. IsTrue (is_tree_sound (plain_node node.now))) }
 {
     match node {
         Node::Step(step) => write_step(alloc, step),
@@ -58,9 +58,9 @@ fn write_each(alloc: Global, nodes: &[Node]) -> Result<Value, AllocError>
 #[cycle(written)]
 fn write_arm(alloc: Global, arm: &Arm) -> Result<Value, AllocError>
     ensures value { IfOk result (λ value. view value
-        ≡ written_arm (written_formula (formula arm.now.when)) (written_tree (tree arm.now.body))) }
+        ≡ written_arm (written_formula (plain_condition arm.now.when)) (written_tree (plain_node arm.now.body))) }
     ensures sound { IfOk result
-        (λ _. IsTrue (is_formula_sound (formula arm.now.when) && is_tree_sound (tree arm.now.body))) }
+        (λ _. IsTrue (is_formula_sound (plain_condition arm.now.when) && is_tree_sound (plain_node arm.now.body))) }
 {
     let when = write_condition(alloc, &arm.when)?;
     let body = write_node(alloc, &arm.body)?;

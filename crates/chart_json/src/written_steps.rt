@@ -4,8 +4,8 @@ ghost use Rattle.std.specs.Prelude.{◌≡◌, IfOk, IsTrue, codes};
 ghost use Rattle.std.specs.List.{list_all};
 ghost use Rattle.serde_json.specs.Data.{member, object};
 ghost use Rattle.serde_json.specs.View.{view};
-ghost use Rattle.chart_core.specs.Formulas.{formula};
-ghost use Rattle.chart_core.specs.Trees.{finish_plan, step_plan};
+ghost use Rattle.chart_core.specs.Formulas.{plain_condition};
+ghost use Rattle.chart_core.specs.Trees.{plain_finish, plain_step};
 ghost use Rattle.chart_json.specs.Sound.{is_finish_sound, is_setting_sound, is_step_sound};
 ghost use Rattle.chart_json.specs.Written.{finish_first, step_keys, written_setting, written_settings, written_step};
 
@@ -82,8 +82,8 @@ fn finished_step(
 /// A step, with every key but `finish` where there is none.
 #[tactic(auto, unfolding(crate::specs::Written::written_step))]
 pub fn write_step(alloc: Global, step: &Step) -> Result<Value, AllocError>
-    ensures value { IfOk result (λ value. view value ≡ written_step (step_plan step.now)) }
-    ensures sound { IfOk result (λ _. IsTrue (is_step_sound (step_plan step.now))) }
+    ensures value { IfOk result (λ value. view value ≡ written_step (plain_step step.now)) }
+    ensures sound { IfOk result (λ _. IsTrue (is_step_sound (plain_step step.now))) }
 {
     let settings = write_settings(alloc, &step.settings)?;
     let name = step.name.as_str();

@@ -7,8 +7,8 @@
 #![tactic(auto)]
 
 ghost use Rattle.std.specs.Prelude.{◌≡◌, ◌↔◌, [], length, IsTrue, IfOk};
-ghost use Rattle.chart_core.specs.Trees.{tree, size};
-ghost use Rattle.chart_core.specs.Charts.{plan};
+ghost use Rattle.chart_core.specs.Trees.{plain_node, size};
+ghost use Rattle.chart_core.specs.Charts.{plain_chart};
 ghost use Rattle.chart_core.specs.Valid.{IsValid};
 ghost use Rattle.chart_core.specs.Runs.{IsPartial, IsComplete};
 ghost use Rattle.chart_core.specs.Standing.{StandsFor};
@@ -18,11 +18,11 @@ use std::alloc::{AllocError, Global};
 
 // Takes the entries as far as each may come, and says whether all did.
 fn take_all(chart: &Chart, marks: &mut [Progress], log: &[LogEntry]) -> bool
-    requires valid { IsValid (plan chart.now) }
-    requires room { length marks.old ≡ size (tree chart.now.root) }
-    requires empty { StandsFor (plan chart.now) marks.old [] }
-    ensures taken { IsTrue result → StandsFor (plan chart.now) marks.new log.now }
-    ensures partial { IsPartial (plan chart.now) log.now → IsTrue result }
+    requires valid { IsValid (plain_chart chart.now) }
+    requires room { length marks.old ≡ size (plain_node chart.now.root) }
+    requires empty { StandsFor (plain_chart chart.now) marks.old [] }
+    ensures taken { IsTrue result → StandsFor (plain_chart chart.now) marks.new log.now }
+    ensures partial { IsPartial (plain_chart chart.now) log.now → IsTrue result }
 {
     for entry in log {
         if !take_entry(chart, marks, entry) {
@@ -38,8 +38,8 @@ fn take_all(chart: &Chart, marks: &mut [Progress], log: &[LogEntry]) -> bool
 ///
 /// AllocError where memory is wanting for one mark for each node.
 pub fn is_part(alloc: Global, chart: &Chart, log: &[LogEntry]) -> Result<bool, AllocError>
-    requires { IsValid (plan chart.now) }
-    ensures { IfOk result (λ answer. IsTrue answer ↔ IsPartial (plan chart.now) log.now) }
+    requires { IsValid (plain_chart chart.now) }
+    ensures { IfOk result (λ answer. IsTrue answer ↔ IsPartial (plain_chart chart.now) log.now) }
 {
     let mut marks = untouched(alloc, chart)?;
     Ok(take_all(chart, &mut marks, log))
@@ -47,10 +47,10 @@ pub fn is_part(alloc: Global, chart: &Chart, log: &[LogEntry]) -> Result<bool, A
 
 // Takes the log, and says whether the chart is then done.
 fn ends(chart: &Chart, marks: &mut [Progress], log: &[LogEntry]) -> bool
-    requires valid { IsValid (plan chart.now) }
-    requires room { length marks.old ≡ size (tree chart.now.root) }
-    requires empty { StandsFor (plan chart.now) marks.old [] }
-    ensures { IsTrue result ↔ IsComplete (plan chart.now) log.now }
+    requires valid { IsValid (plain_chart chart.now) }
+    requires room { length marks.old ≡ size (plain_node chart.now.root) }
+    requires empty { StandsFor (plain_chart chart.now) marks.old [] }
+    ensures { IsTrue result ↔ IsComplete (plain_chart chart.now) log.now }
 {
     if take_all(chart, marks, log) {
         is_done(chart, marks)
@@ -65,8 +65,8 @@ fn ends(chart: &Chart, marks: &mut [Progress], log: &[LogEntry]) -> bool
 ///
 /// AllocError where memory is wanting for one mark for each node.
 pub fn is_whole(alloc: Global, chart: &Chart, log: &[LogEntry]) -> Result<bool, AllocError>
-    requires { IsValid (plan chart.now) }
-    ensures { IfOk result (λ answer. IsTrue answer ↔ IsComplete (plan chart.now) log.now) }
+    requires { IsValid (plain_chart chart.now) }
+    ensures { IfOk result (λ answer. IsTrue answer ↔ IsComplete (plain_chart chart.now) log.now) }
 {
     let mut marks = untouched(alloc, chart)?;
     Ok(ends(chart, &mut marks, log))

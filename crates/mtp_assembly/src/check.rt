@@ -27,8 +27,8 @@ fn check_range(low: i64, high: i64, number: i64) -> Result<(), ValueFault>
     }
 }
 
-/// Whether a parameter takes the value: WrongKind exactly where the value isn't a whole number for Ana and DInt, a truth
-/// value for Bin, a text for Text; else OutOfRange exactly where a whole number is outside `min` to `max`.
+/// Whether a parameter takes the value: WrongKind exactly where the value isn't a whole number for Ana and DInt, a
+/// truth value for Bin, a text for Text; else OutOfRange exactly where a whole number is outside `min` to `max`.
 pub fn check_value(param: &Param, value: &Value) -> Result<(), ValueFault>
     ensures { result ≡ done_unless (value_fault param.now.kind value.now) }
 {
@@ -42,8 +42,8 @@ pub fn check_value(param: &Param, value: &Value) -> Result<(), ValueFault>
     }
 }
 
-/// Whether a variable may have the value: WrongKind as for a parameter; else OutOfRange exactly for a DInt number outside
-/// the range of 32 bits.
+/// Whether a variable may have the value: WrongKind as for a parameter; else OutOfRange exactly for a DInt number
+/// outside the range of 32 bits.
 pub fn check_view(view: &View, value: &Value) -> Result<(), ValueFault>
     ensures { result ≡ done_unless (view_fault view.now.kind value.now) }
 {

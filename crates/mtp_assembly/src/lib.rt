@@ -1,8 +1,9 @@
-//! What a module's assembly says of a service, a parameter and a variable (VDI/VDE/NAMUR 2658), and whether a value fits
-//! a parameter or a variable.
+//! What a module's assembly says of a service, a parameter and a variable (VDI/VDE/NAMUR 2658), and whether a value
+//! fits a parameter or a variable.
 //!
-//! It knows nothing of JSON, of whole descriptions, of the state machine or of recipes. Its main contract: `check_value`
-//! and `check_view` answer exactly the first of 'of another kind' and 'out of range', as `specs/Fits.antt` says.
+//! It knows nothing of JSON, of whole descriptions, of the state machine or of recipes. Its main contract:
+//! `check_value` and `check_view` answer exactly the first of 'of another kind' and 'out of range', as
+//! `specs/Fits.antt` says.
 #![tactic(auto)]
 
 mod check;

@@ -6,8 +6,8 @@ ghost use Rattle.mtp_assembly.specs.Kinds.{is_ordered};
 
 use mtp_codes::Name;
 
-/// The kind of a parameter with its least and its greatest value (VDI/VDE/NAMUR 2658 part 4). An analogue value is a whole
-/// number of thousandths.
+/// The kind of a parameter with its least and its greatest value (VDI/VDE/NAMUR 2658 part 4). An analogue value is a
+/// whole number of thousandths.
 #[derive(Clone, Copy, Debug, PartialEq, Eq)]
 pub enum ParamKind {
     /// AnaServParam.

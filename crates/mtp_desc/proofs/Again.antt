@@ -6,7 +6,7 @@ use Rattle.std.proofs.lemmas.Bool.{and_parts, not-true}
 use Rattle.mtp_codes.specs.Numbers.{greatest_i32, greatest_i64, is_within, least_i32, least_i64, is_between}
 use Rattle.mtp_codes.specs.Names.{is_name}
 use Rattle.mtp_assembly.specs.Kinds.{is_ordered}
-use Rattle.mtp_assembly.specs.Plain.{ParamForm, VariableForm}
+use Rattle.mtp_assembly.specs.Plain.{PlainParam, PlainVariable}
 use Rattle.mtp_assembly.specs.declared.param.ParamKind.{ParamKind}
 use Rattle.mtp_assembly.specs.declared.param.ParamKind.TheVariants.{Ana, DInt, Bin, Text}
 use Rattle.mtp_assembly.specs.declared.variable.ViewKind.{ViewKind}
@@ -15,7 +15,7 @@ use Rattle.mtp_json.specs.Form.{repeats_by}
 use Rattle.mtp_json.proofs.Again.{whole_again, each_again, len_again}
 use Rattle.mtp_desc.specs.declared.limits.TheConstants.{MOST_PROCEDURES, MOST_PARAMS, GREATEST_PROCEDURE}
 use Rattle.mtp_desc.specs.Form.{ranged_param, free_param, param_of, procedure_of, ruled_service, service_of, variable_of, description_of, has_one_default}
-use Rattle.mtp_desc.specs.Plain.{ProcedureForm, ServiceForm, DescriptionForm, same_param, same_procedure}
+use Rattle.mtp_desc.specs.Plain.{PlainProcedure, PlainService, PlainDescription, same_param, same_procedure}
 use Rattle.mtp_desc.specs.Written.{written_param, written_variable, written_procedure, written_service, written_description}
 use Rattle.mtp_desc.proofs.Sound.{is_param, is_variable, is_procedure, is_service, IsDescription}
 
@@ -35,7 +35,7 @@ kind_again named (DInt min max) is ordered =
 kind_again named Bin is ordered = rw is refl
 kind_again named Text is ordered = rw is refl
 
-pub param_again : (param : ParamForm) → is_param param ≡ true → param_of (written_param param) ≡ Ok param
+pub param_again : (param : PlainParam) → is_param param ≡ true → param_of (written_param param) ≡ Ok param
 param_again param sound = let parts = and_parts (is_name param.name) (is_ordered param.kind) sound in
     kind_again param.name param.kind parts.0 parts.1
 
@@ -47,11 +47,11 @@ variable_kind_again named variable.DInt is = rw is refl
 variable_kind_again named variable.Bin is = rw is refl
 variable_kind_again named variable.Text is = rw is refl
 
-pub variable_again : (variable : VariableForm) → is_variable variable ≡ true
+pub variable_again : (variable : PlainVariable) → is_variable variable ≡ true
     → variable_of (written_variable variable) ≡ Ok variable
 variable_again variable sound = variable_kind_again variable.name variable.kind sound
 
-pub procedure_again : (procedure : ProcedureForm) → is_procedure procedure ≡ true
+pub procedure_again : (procedure : PlainProcedure) → is_procedure procedure ≡ true
     → procedure_of (written_procedure procedure) ≡ Ok procedure
 unfolding procedure_of written_procedure
 procedure_again procedure sound =
@@ -70,7 +70,7 @@ procedure_again procedure sound =
       not-true (repeats_by same_param procedure.params) each.1,
     ) refl
 
-pub service_again : (service : ServiceForm) → is_service service ≡ true
+pub service_again : (service : PlainService) → is_service service ≡ true
     → service_of (written_service service) ≡ Ok service
 unfolding service_of ruled_service written_service
 service_again service sound =
@@ -97,7 +97,7 @@ service_again service sound =
     ) refl
 
 -- a description that is written is read back
-pub description_again : (description : DescriptionForm) → IsDescription description
+pub description_again : (description : PlainDescription) → IsDescription description
     → description_of (written_description description) ≡ Ok description
 unfolding description_of written_description
 description_again description is =

@@ -1,11 +1,11 @@
 -- What is written nests no deeper than its form.
 use Rattle.std.proofs.Common.{◌≤◌, ℕ, List, arith, max}
 use Rattle.serde_json.specs.Data.{depth}
-use Rattle.mtp_assembly.specs.Plain.{ParamForm, VariableForm}
+use Rattle.mtp_assembly.specs.Plain.{PlainParam, PlainVariable}
 use Rattle.mtp_assembly.specs.declared.param.ParamKind.{ParamKind}
 use Rattle.mtp_assembly.specs.declared.param.ParamKind.TheVariants.{Ana, DInt, Bin, Text}
 use Rattle.mtp_json.proofs.Again.{items_depth_below}
-use Rattle.mtp_desc.specs.Plain.{ProcedureForm, ServiceForm, DescriptionForm}
+use Rattle.mtp_desc.specs.Plain.{PlainProcedure, PlainService, PlainDescription}
 use Rattle.mtp_desc.specs.Written.{written_kind, written_param, written_variable, written_procedure, written_service, written_description}
 
 kind_depth : (named : List ℕ) (kind : ParamKind) → depth (written_kind named kind) ≤ 1
@@ -14,24 +14,24 @@ kind_depth named (DInt min max) = omega arith
 kind_depth named Bin = omega arith
 kind_depth named Text = omega arith
 
-param_depth : (param : ParamForm) → depth (written_param param) ≤ 1
+param_depth : (param : PlainParam) → depth (written_param param) ≤ 1
 unfolding written_param
 param_depth param = kind_depth param.name param.kind
 
-variable_depth : (variable : VariableForm) → depth (written_variable variable) ≤ 1
+variable_depth : (variable : PlainVariable) → depth (written_variable variable) ≤ 1
 unfolding written_variable
 variable_depth variable = omega arith
 
-procedure_depth : (procedure : ProcedureForm) → depth (written_procedure procedure) ≤ 3
+procedure_depth : (procedure : PlainProcedure) → depth (written_procedure procedure) ≤ 3
 unfolding written_procedure
 procedure_depth procedure = omega (arith, items_depth_below written_param 1 param_depth procedure.params)
 
-service_depth : (service : ServiceForm) → depth (written_service service) ≤ 5
+service_depth : (service : PlainService) → depth (written_service service) ≤ 5
 unfolding written_service
 service_depth service = omega (arith, items_depth_below written_procedure 3 procedure_depth service.procedures)
 
 -- a written description nests at most seven deep
-pub description_depth : (description : DescriptionForm) → depth (written_description description) ≤ 7
+pub description_depth : (description : PlainDescription) → depth (written_description description) ≤ 7
 unfolding written_description
 description_depth description =
     omega (

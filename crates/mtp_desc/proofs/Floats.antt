@@ -1,37 +1,37 @@
 -- What is written has no float.
 use Rattle.std.proofs.Common.{◌≡◌, ℕ, false, List, refl}
 use Rattle.serde_json.specs.Written.{has_float}
-use Rattle.mtp_assembly.specs.Plain.{ParamForm, VariableForm}
+use Rattle.mtp_assembly.specs.Plain.{PlainParam, PlainVariable}
 use Rattle.mtp_assembly.specs.declared.param.ParamKind.{ParamKind}
 use Rattle.mtp_assembly.specs.declared.param.ParamKind.TheVariants.{Ana, DInt, Bin, Text}
-use Rattle.mtp_json.proofs.Again.{of_integer-whole, items_whole}
-use Rattle.mtp_desc.specs.Plain.{ProcedureForm, ServiceForm, DescriptionForm}
+use Rattle.mtp_json.proofs.Again.{of_integer_whole, items_whole}
+use Rattle.mtp_desc.specs.Plain.{PlainProcedure, PlainService, PlainDescription}
 use Rattle.mtp_desc.specs.Written.{written_kind, written_param, written_variable, written_procedure, written_service, written_description}
 
 kind_whole : (named : List ℕ) (kind : ParamKind) → has_float (written_kind named kind) ≡ false
-kind_whole named (Ana min max) = rw (of_integer-whole max, of_integer-whole min) refl
-kind_whole named (DInt min max) = rw (of_integer-whole max, of_integer-whole min) refl
+kind_whole named (Ana min max) = rw (of_integer_whole max, of_integer_whole min) refl
+kind_whole named (DInt min max) = rw (of_integer_whole max, of_integer_whole min) refl
 kind_whole named Bin = refl
 kind_whole named Text = refl
 
-param_whole : (param : ParamForm) → has_float (written_param param) ≡ false
+param_whole : (param : PlainParam) → has_float (written_param param) ≡ false
 unfolding written_param
 param_whole param = kind_whole param.name param.kind
 
-variable_whole : (variable : VariableForm) → has_float (written_variable variable) ≡ false
+variable_whole : (variable : PlainVariable) → has_float (written_variable variable) ≡ false
 unfolding written_variable
 variable_whole variable = refl
 
-procedure_whole : (procedure : ProcedureForm) → has_float (written_procedure procedure) ≡ false
+procedure_whole : (procedure : PlainProcedure) → has_float (written_procedure procedure) ≡ false
 unfolding written_procedure
 procedure_whole procedure = rw (items_whole written_param param_whole procedure.params) refl
 
-service_whole : (service : ServiceForm) → has_float (written_service service) ≡ false
+service_whole : (service : PlainService) → has_float (written_service service) ≡ false
 unfolding written_service
 service_whole service = rw (items_whole written_procedure procedure_whole service.procedures) refl
 
 -- a written description has no float, so its compact text is exact
-pub description_whole : (description : DescriptionForm) → has_float (written_description description) ≡ false
+pub description_whole : (description : PlainDescription) → has_float (written_description description) ≡ false
 unfolding written_description
 description_whole description =
     rw (

@@ -34,15 +34,15 @@ pub looks_up : {X Y : Type 0} (view : X → Y) (test : Y → Bool) (xs : List X)
 looks_up view test xs None is = rw (find_map view test xs, ← is) refl
 looks_up view test xs (Some x) is = rw (find_map view test xs, ← is) refl
 
-prefix_len-map : {X Y : Type 0} (view : X → Y) (test : Y → Bool) (xs : List X)
+prefix_len_map : {X Y : Type 0} (view : X → Y) (test : Y → Bool) (xs : List X)
     → prefix_len test (map view xs) ≡ prefix_len (λ x. test (view x)) xs
-prefix_len-map view test [] = refl
-prefix_len-map view test (x ∷ xs) = ap (λ n. cond (test (view x)) (1 + n) 0) (prefix_len-map view test xs)
+prefix_len_map view test [] = refl
+prefix_len_map view test (x ∷ xs) = ap (λ n. cond (test (view x)) (1 + n) 0) (prefix_len_map view test xs)
 
 -- it stands at the same place
 pub position_map : {X Y : Type 0} (view : X → Y) (test : Y → Bool) (xs : List X)
     → position test (map view xs) ≡ position (λ x. test (view x)) xs
-position_map view test xs = rw (prefix_len-map view (λ y. not (test y)) xs, length-map xs view) refl
+position_map view test xs = rw (prefix_len_map view (λ y. not (test y)) xs, length-map xs view) refl
 
 none_in_step : {X : Type 0} (test : X → Bool) (start : ℕ) (x : X) (xs : List X) (passes : Bool) → test x ≡ passes
     → cond (test x) (Some x) (find test xs) ≡ None

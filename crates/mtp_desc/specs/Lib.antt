@@ -1,7 +1,7 @@
 pub mod Plain
-pub mod ProcedureView
-pub mod ServiceView
-pub mod DescriptionView
+pub mod PlainProcedure
+pub mod PlainService
+pub mod PlainDescription
 pub mod Words
 pub mod Version
 pub mod Form

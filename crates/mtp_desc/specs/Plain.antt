@@ -2,42 +2,42 @@
 use Rattle.std.specs.Prelude.{ℕ, ◌==◌, List, Bool}
 use Rattle.std.specs.Str.{bytes_eq}
 use Rattle.semver.specs.Parse.{Parts}
-use Rattle.mtp_assembly.specs.Plain.{ParamForm, VariableForm}
+use Rattle.mtp_assembly.specs.Plain.{PlainParam, PlainVariable}
 
 -- a procedure of a service: its number, whether it is the service's default, whether it completes by itself, what it
 -- takes
-pub record ProcedureForm : Type 0 where
+pub record PlainProcedure : Type 0 where
   pub number : ℕ
   pub is_default : Bool
   pub self_completing : Bool
-  pub params : List ParamForm
+  pub params : List PlainParam
 
 -- a service: its name and its procedures
-pub record ServiceForm : Type 0 where
+pub record PlainService : Type 0 where
   pub name : List ℕ
-  pub procedures : List ProcedureForm
+  pub procedures : List PlainProcedure
 
 -- a description: the module's type, the text of its version with what semver reads of it, its services and its
 -- variables
-pub record DescriptionForm : Type 0 where
+pub record PlainDescription : Type 0 where
   pub type_name : List ℕ
   pub version_text : List ℕ
   pub version : Parts
-  pub services : List ServiceForm
-  pub variables : List VariableForm
+  pub services : List PlainService
+  pub variables : List PlainVariable
 
 -- two parameters of one name
-abbrev pub same_param : ParamForm → ParamForm → Bool
+abbrev pub same_param : PlainParam → PlainParam → Bool
 same_param param other = bytes_eq param.name other.name
 
 -- two procedures of one number
-abbrev pub same_procedure : ProcedureForm → ProcedureForm → Bool
+abbrev pub same_procedure : PlainProcedure → PlainProcedure → Bool
 same_procedure procedure other = procedure.number == other.number
 
 -- two services of one name
-abbrev pub same_service : ServiceForm → ServiceForm → Bool
+abbrev pub same_service : PlainService → PlainService → Bool
 same_service service other = bytes_eq service.name other.name
 
 -- two variables of one name
-abbrev pub same_variable : VariableForm → VariableForm → Bool
+abbrev pub same_variable : PlainVariable → PlainVariable → Bool
 same_variable variable other = bytes_eq variable.name other.name

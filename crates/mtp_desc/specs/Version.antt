@@ -1,7 +1,7 @@
 -- What text is a version.
 use Rattle.std.specs.Prelude.{ℕ, List}
 use Rattle.semver.specs.Parse.{Parts, version_parts}
-use Rattle.mtp_json.specs.Reading.{Finding}
+use Rattle.mtp_json.specs.ReadResult.{Finding}
 use Rattle.mtp_json.specs.Leaf.{parsed}
 
 -- the version that semver reads of a text

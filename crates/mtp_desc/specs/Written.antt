@@ -3,12 +3,12 @@ use Rattle.std.specs.Prelude.{ℕ, ℤ, List, codes, map}
 use Rattle.serde_json.specs.Data.{Data, boolean, number, string, array, object, unsigned, no_members, member}
 use Rattle.serde_json.specs.Find.{of_integer}
 use Rattle.serde_json.specs.View.{items_of}
-use Rattle.mtp_assembly.specs.Plain.{ParamForm, VariableForm}
+use Rattle.mtp_assembly.specs.Plain.{PlainParam, PlainVariable}
 use Rattle.mtp_assembly.specs.declared.param.ParamKind.{ParamKind}
 use Rattle.mtp_assembly.specs.declared.param.ParamKind.TheVariants as param
 use Rattle.mtp_assembly.specs.declared.variable.ViewKind.{ViewKind}
 use Rattle.mtp_assembly.specs.declared.variable.ViewKind.TheVariants as variable
-use Rattle.mtp_desc.specs.Plain.{ProcedureForm, ServiceForm, DescriptionForm}
+use Rattle.mtp_desc.specs.Plain.{PlainProcedure, PlainService, PlainDescription}
 
 -- a name and a kind with its least and its greatest value
 abbrev pub ranged : List ℕ → List ℕ → ℤ → ℤ → Data
@@ -30,7 +30,7 @@ written_kind named param.Bin = free named (codes "BinServParam")
 written_kind named param.Text = free named (codes "StringServParam")
 
 -- a parameter: every key but `min` and `max` where the kind has none
-unfoldable pub written_param : ParamForm → Data
+unfoldable pub written_param : PlainParam → Data
 written_param param = written_kind param.name param.kind
 
 -- the name of the kind of a variable
@@ -41,11 +41,11 @@ variable_word variable.Bin = codes "BinView"
 variable_word variable.Text = codes "StringView"
 
 -- a variable
-unfoldable pub written_variable : VariableForm → Data
+unfoldable pub written_variable : PlainVariable → Data
 written_variable variable = free variable.name (variable_word variable.kind)
 
 -- a procedure, with every key
-unfoldable pub written_procedure : ProcedureForm → Data
+unfoldable pub written_procedure : PlainProcedure → Data
 written_procedure procedure = object
     (member (codes "default") (boolean procedure.is_default)
     (member (codes "number") (number (unsigned procedure.number))
@@ -53,13 +53,13 @@ written_procedure procedure = object
     (member (codes "self_completing") (boolean procedure.self_completing) no_members))))
 
 -- a service, with every key
-unfoldable pub written_service : ServiceForm → Data
+unfoldable pub written_service : PlainService → Data
 written_service service = object
     (member (codes "name") (string service.name)
     (member (codes "procedures") (array (items_of (map written_procedure service.procedures))) no_members))
 
 -- a description, with every key, and the text of the version that was read
-unfoldable pub written_description : DescriptionForm → Data
+unfoldable pub written_description : PlainDescription → Data
 written_description description = object
     (member (codes "services") (array (items_of (map written_service description.services)))
     (member (codes "type") (string description.type_name)

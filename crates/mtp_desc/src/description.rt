@@ -5,10 +5,10 @@ ghost use Rattle.std.specs.Str.{bytes_eq};
 ghost use Rattle.semver.specs.Identifiers.{parts_of};
 ghost use Rattle.mtp_codes.specs.Names.{is_name};
 ghost use Rattle.mtp_codes.specs.Numbers.{is_between};
-ghost use Rattle.mtp_assembly.specs.Plain.{variable_view};
+ghost use Rattle.mtp_assembly.specs.Plain.{plain_variable};
 ghost use Rattle.mtp_json.specs.Form.{repeats_by};
 ghost use Rattle.mtp_desc.specs.Plain.{same_service, same_variable};
-ghost use Rattle.mtp_desc.specs.ServiceView.{service_view};
+ghost use Rattle.mtp_desc.specs.PlainService.{plain_service};
 ghost use Rattle.mtp_desc.specs.Version.{version_of};
 ghost use Rattle.mtp_desc.specs.declared.limits.TheConstants.{LONGEST_VERSION, MOST_SERVICES, MOST_VARIABLES};
 
@@ -36,8 +36,8 @@ pub struct Description {
     ghost versioned: { version_of version_text ≡ Ok (parts_of version) },
     ghost some_services: { IsTrue (is_between 1 MOST_SERVICES (length services.items)) },
     ghost few_variables: { IsTrue (is_between 0 MOST_VARIABLES (length variables.items)) },
-    ghost unlike_services: { repeats_by same_service (map service_view services.items) ≡ false },
-    ghost unlike_variables: { repeats_by same_variable (map variable_view variables.items) ≡ false },
+    ghost unlike_services: { repeats_by same_service (map plain_service services.items) ≡ false },
+    ghost unlike_variables: { repeats_by same_variable (map plain_variable variables.items) ≡ false },
 }
 
 fn find_service(services: &[Service], name: Name) -> Option<&Service>
@@ -66,42 +66,42 @@ fn place_of_variable(variables: &[View], name: Name) -> Option<usize>
 }
 
 impl Description {
-    ghost use Rattle.mtp_desc.specs.DescriptionView.{description_view};
+    ghost use Rattle.mtp_desc.specs.PlainDescription.{plain_description};
     ghost use Rattle.mtp_desc.specs.Lookup.{self_completes, service_named, service_place, variable_named, variable_place};
 
     /// The service of this name.
     pub fn service(&self, name: Name) -> Option<&Service>
-        ensures { option_map (λ service. service_view service.now) result
-            ≡ service_named name (description_view self.now) }
+        ensures { option_map (λ service. plain_service service.now) result
+            ≡ service_named name (plain_description self.now) }
     {
         find_service(&self.services, name)
     }
 
     /// The place of the service of this name among the services, from 0.
     pub fn service_place(&self, name: Name) -> Option<usize>
-        ensures { result ≡ service_place name (description_view self.now) }
+        ensures { result ≡ service_place name (plain_description self.now) }
     {
         place_of_service(&self.services, name)
     }
 
     /// The variable of this name.
     pub fn variable(&self, name: Name) -> Option<&View>
-        ensures { option_map (λ variable. variable_view variable.now) result
-            ≡ variable_named name (description_view self.now) }
+        ensures { option_map (λ variable. plain_variable variable.now) result
+            ≡ variable_named name (plain_description self.now) }
     {
         find_variable(&self.variables, name)
     }
 
     /// The place of the variable of this name among the variables, from 0.
     pub fn variable_place(&self, name: Name) -> Option<usize>
-        ensures { result ≡ variable_place name (description_view self.now) }
+        ensures { result ≡ variable_place name (plain_description self.now) }
     {
         place_of_variable(&self.variables, name)
     }
 
     /// Whether the procedure completes by itself; false where there is no such procedure.
     pub fn self_completes(&self, service: Name, procedure: u16) -> bool
-        ensures { result ≡ self_completes service procedure (description_view self.now) }
+        ensures { result ≡ self_completes service procedure (plain_description self.now) }
     {
         match self.service(service) {
             Some(service) => match service.procedure(procedure) {

@@ -5,8 +5,8 @@ ghost use Rattle.serde_json.specs.View.{view};
 ghost use Rattle.mtp_codes.specs.Names.{is_name};
 ghost use Rattle.mtp_codes.specs.Numbers.{greatest_i32, greatest_i64, least_i32, least_i64};
 ghost use Rattle.mtp_assembly.specs.Kinds.{is_ordered};
-ghost use Rattle.mtp_assembly.specs.Plain.{ParamForm, param_view};
-ghost use Rattle.mtp_json.specs.Gives.{Gives};
+ghost use Rattle.mtp_assembly.specs.Plain.{PlainParam, plain_param};
+ghost use Rattle.mtp_json.specs.ReadsAs.{ReadsAs};
 ghost use Rattle.mtp_desc.specs.Form.{free_param, param_of, ranged_param};
 ghost use Rattle.mtp_desc.specs.Plain.{same_param};
 ghost use Rattle.mtp_desc.specs.Written.{written_param};
@@ -27,7 +27,7 @@ pub struct ParamJson;
 #[tactic(auto, unfolding(crate::specs::Form::ranged_param))]
 fn ana_param(alloc: Global, value: &Value, name: Name) -> Result<Param, JsonRefusal>
     requires { IsTrue (is_name name) }
-    ensures { Gives param_view result (ranged_param name least_i64 greatest_i64 ParamKind.Ana (view value.now)) }
+    ensures { ReadsAs plain_param result (ranged_param name least_i64 greatest_i64 ParamKind.Ana (view value.now)) }
 {
     let min = i64_at(alloc, value, "min")?;
     let max = i64_at(alloc, value, "max")?;
@@ -42,7 +42,7 @@ fn ana_param(alloc: Global, value: &Value, name: Name) -> Result<Param, JsonRefu
 #[tactic(auto, unfolding(crate::specs::Form::ranged_param))]
 fn dint_param(alloc: Global, value: &Value, name: Name) -> Result<Param, JsonRefusal>
     requires { IsTrue (is_name name) }
-    ensures { Gives param_view result (ranged_param name least_i32 greatest_i32 ParamKind.DInt (view value.now)) }
+    ensures { ReadsAs plain_param result (ranged_param name least_i32 greatest_i32 ParamKind.DInt (view value.now)) }
 {
     let min = i32_at(alloc, value, "min")?;
     let max = i32_at(alloc, value, "max")?;
@@ -63,7 +63,7 @@ fn free_param(
 ) -> Result<Param, JsonRefusal>
     requires name { IsTrue (is_name name) }
     requires kind { IsTrue (is_ordered kind) }
-    ensures { Gives param_view result (free_param name kind (view value.now)) }
+    ensures { ReadsAs plain_param result (free_param name kind (view value.now)) }
 {
     nothing_but(alloc, value, "name kind")?;
     Ok(Param { name, kind })
@@ -71,7 +71,7 @@ fn free_param(
 
 #[tactic(auto, unfolding(crate::specs::Form::param_of))]
 fn read_param(alloc: Global, value: &Value) -> Result<Param, JsonRefusal>
-    ensures { Gives param_view result (param_of (view value.now)) }
+    ensures { ReadsAs plain_param result (param_of (view value.now)) }
 {
     object_here(alloc, value)?;
     let name = name_at(alloc, value, "name")?;
@@ -86,9 +86,9 @@ fn read_param(alloc: Global, value: &Value) -> Result<Param, JsonRefusal>
 impl FromJson for ParamJson {
     type Item = Param;
 
-    ghost Form = { ParamForm };
+    ghost Form = { PlainParam };
 
-    ghost plain = { param_view };
+    ghost plain = { plain_param };
 
     ghost form = { param_of };
 
@@ -100,9 +100,9 @@ impl FromJson for ParamJson {
 impl Alike for ParamJson {
     type Item = Param;
 
-    ghost Form = { ParamForm };
+    ghost Form = { PlainParam };
 
-    ghost plain = { param_view };
+    ghost plain = { plain_param };
 
     ghost same = { same_param };
 
@@ -113,7 +113,7 @@ impl Alike for ParamJson {
 
 #[tactic(auto, unfolding(crate::specs::Written::written_param))]
 fn write_param(alloc: Global, param: &Param) -> Result<Value, AllocError>
-    ensures { IfOk result (λ value. view value ≡ written_param (param_view param.now)) }
+    ensures { IfOk result (λ value. view value ≡ written_param (plain_param param.now)) }
 {
     let name = param.name.as_str();
     match param.kind {
@@ -131,9 +131,9 @@ fn write_param(alloc: Global, param: &Param) -> Result<Value, AllocError>
 impl ToJson for ParamJson {
     type Item = Param;
 
-    ghost Form = { ParamForm };
+    ghost Form = { PlainParam };
 
-    ghost plain = { param_view };
+    ghost plain = { plain_param };
 
     ghost written = { written_param };
 

@@ -3,7 +3,7 @@
 ghost use Rattle.std.specs.Prelude.{◌≡◌, false, find, length, map, option_map, IsTrue};
 ghost use Rattle.std.specs.Str.{bytes_eq};
 ghost use Rattle.mtp_codes.specs.Numbers.{is_between};
-ghost use Rattle.mtp_assembly.specs.Plain.{param_view};
+ghost use Rattle.mtp_assembly.specs.Plain.{plain_param};
 ghost use Rattle.mtp_json.specs.Form.{repeats_by};
 ghost use Rattle.mtp_desc.specs.Plain.{same_param};
 ghost use Rattle.mtp_desc.specs.declared.limits.TheConstants.{GREATEST_PROCEDURE, MOST_PARAMS};
@@ -24,7 +24,7 @@ pub struct Procedure {
     pub params: Vec<Param>,
     ghost numbered: { IsTrue (is_between 1 GREATEST_PROCEDURE number) },
     ghost few: { IsTrue (is_between 0 MOST_PARAMS (length params.items)) },
-    ghost unlike: { repeats_by same_param (map param_view params.items) ≡ false },
+    ghost unlike: { repeats_by same_param (map plain_param params.items) ≡ false },
 }
 
 fn find_param(params: &[Param], name: Name) -> Option<&Param>
@@ -35,11 +35,11 @@ fn find_param(params: &[Param], name: Name) -> Option<&Param>
 
 impl Procedure {
     ghost use Rattle.mtp_desc.specs.Lookup.{param_named};
-    ghost use Rattle.mtp_desc.specs.ProcedureView.{procedure_view};
+    ghost use Rattle.mtp_desc.specs.PlainProcedure.{plain_procedure};
 
     /// The parameter of this name.
     pub fn param(&self, name: Name) -> Option<&Param>
-        ensures { option_map (λ param. param_view param.now) result ≡ param_named name (procedure_view self.now) }
+        ensures { option_map (λ param. plain_param param.now) result ≡ param_named name (plain_procedure self.now) }
     {
         find_param(&self.params, name)
     }

@@ -3,10 +3,10 @@
 ghost use Rattle.std.specs.Prelude.{◌≡◌, IfOk, codes};
 ghost use Rattle.serde_json.specs.Data.{boolean, member, no_members, number as whole, object, unsigned};
 ghost use Rattle.serde_json.specs.View.{view};
-ghost use Rattle.mtp_json.specs.Gives.{Gives};
+ghost use Rattle.mtp_json.specs.ReadsAs.{ReadsAs};
 ghost use Rattle.mtp_desc.specs.Form.{procedure_of};
-ghost use Rattle.mtp_desc.specs.Plain.{ProcedureForm, same_procedure};
-ghost use Rattle.mtp_desc.specs.ProcedureView.{procedure_view};
+ghost use Rattle.mtp_desc.specs.Plain.{PlainProcedure, same_procedure};
+ghost use Rattle.mtp_desc.specs.PlainProcedure.{plain_procedure};
 ghost use Rattle.mtp_desc.specs.Written.{written_procedure};
 
 use crate::limits::{GREATEST_PROCEDURE, MOST_PARAMS};
@@ -24,7 +24,7 @@ pub struct ProcedureJson;
 
 #[tactic(auto, unfolding(crate::specs::Form::procedure_of))]
 fn read_procedure(alloc: Global, value: &Value) -> Result<Procedure, JsonRefusal>
-    ensures { Gives procedure_view result (procedure_of (view value.now)) }
+    ensures { ReadsAs plain_procedure result (procedure_of (view value.now)) }
 {
     object_here(alloc, value)?;
     let number = u16_at(alloc, value, "number", 1, GREATEST_PROCEDURE)?;
@@ -44,9 +44,9 @@ fn read_procedure(alloc: Global, value: &Value) -> Result<Procedure, JsonRefusal
 impl FromJson for ProcedureJson {
     type Item = Procedure;
 
-    ghost Form = { ProcedureForm };
+    ghost Form = { PlainProcedure };
 
-    ghost plain = { procedure_view };
+    ghost plain = { plain_procedure };
 
     ghost form = { procedure_of };
 
@@ -58,9 +58,9 @@ impl FromJson for ProcedureJson {
 impl Alike for ProcedureJson {
     type Item = Procedure;
 
-    ghost Form = { ProcedureForm };
+    ghost Form = { PlainProcedure };
 
-    ghost plain = { procedure_view };
+    ghost plain = { plain_procedure };
 
     ghost same = { same_procedure };
 
@@ -92,7 +92,7 @@ fn procedure_object(
 
 #[tactic(auto, unfolding(crate::specs::Written::written_procedure))]
 fn write_procedure(alloc: Global, procedure: &Procedure) -> Result<Value, AllocError>
-    ensures { IfOk result (λ value. view value ≡ written_procedure (procedure_view procedure.now)) }
+    ensures { IfOk result (λ value. view value ≡ written_procedure (plain_procedure procedure.now)) }
 {
     let params = write_list::<ParamJson>(alloc, &procedure.params)?;
     procedure_object(
@@ -107,9 +107,9 @@ fn write_procedure(alloc: Global, procedure: &Procedure) -> Result<Value, AllocE
 impl ToJson for ProcedureJson {
     type Item = Procedure;
 
-    ghost Form = { ProcedureForm };
+    ghost Form = { PlainProcedure };
 
-    ghost plain = { procedure_view };
+    ghost plain = { plain_procedure };
 
     ghost written = { written_procedure };
 

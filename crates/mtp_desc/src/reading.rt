@@ -3,11 +3,11 @@
 ghost use Rattle.std.specs.Prelude.{◌≡◌, IfOk, Ok, codes};
 ghost use Rattle.semver.specs.Identifiers.{parts_of};
 ghost use Rattle.serde_json.specs.View.{view};
-ghost use Rattle.mtp_json.specs.Gives.{Gives};
-ghost use Rattle.mtp_json.specs.Reading.{here, under};
-ghost use Rattle.mtp_desc.specs.DescriptionView.{description_view};
+ghost use Rattle.mtp_json.specs.ReadsAs.{ReadsAs};
+ghost use Rattle.mtp_json.specs.ReadResult.{here, under};
+ghost use Rattle.mtp_desc.specs.PlainDescription.{plain_description};
 ghost use Rattle.mtp_desc.specs.Form.{description_of};
-ghost use Rattle.mtp_desc.specs.Plain.{DescriptionForm};
+ghost use Rattle.mtp_desc.specs.Plain.{PlainDescription};
 ghost use Rattle.mtp_desc.specs.Version.{version_of};
 
 use crate::description::Description;
@@ -23,7 +23,7 @@ use serde_json::Value;
 use std::alloc::{AllocError, Global};
 
 fn version_under(alloc: Global, text: &str) -> Result<Version, JsonRefusal>
-    ensures gives { Gives parts_of result (under (codes "version") (here (version_of text.now))) }
+    ensures gives { ReadsAs parts_of result (under (codes "version") (here (version_of text.now))) }
     ensures reads { IfOk result (λ version. version_of text.now ≡ Ok (parts_of version)) }
 {
     match Version::parse(alloc, text) {
@@ -41,7 +41,7 @@ fn version_under(alloc: Global, text: &str) -> Result<Version, JsonRefusal>
 /// The description that this value is in the form of; else the first fault in reading order, with its path.
 #[tactic(auto, unfolding(crate::specs::Form::description_of))]
 pub fn read_description(alloc: Global, value: &Value) -> Result<Description, JsonRefusal>
-    ensures { Gives description_view result (description_of (view value.now)) }
+    ensures { ReadsAs plain_description result (description_of (view value.now)) }
 {
     object_here(alloc, value)?;
     let type_name = name_at(alloc, value, "type")?;
@@ -67,9 +67,9 @@ pub struct DescriptionJson;
 impl FromJson for DescriptionJson {
     type Item = Description;
 
-    ghost Form = { DescriptionForm };
+    ghost Form = { PlainDescription };
 
-    ghost plain = { description_view };
+    ghost plain = { plain_description };
 
     ghost form = { description_of };
 

@@ -6,7 +6,7 @@ ghost use Rattle.mtp_codes.specs.Numbers.{is_between};
 ghost use Rattle.mtp_json.specs.Form.{repeats_by};
 ghost use Rattle.mtp_desc.specs.Form.{has_one_default};
 ghost use Rattle.mtp_desc.specs.Plain.{same_procedure};
-ghost use Rattle.mtp_desc.specs.ProcedureView.{procedure_view};
+ghost use Rattle.mtp_desc.specs.PlainProcedure.{plain_procedure};
 ghost use Rattle.mtp_desc.specs.declared.limits.TheConstants.{MOST_PROCEDURES};
 
 use crate::procedure::Procedure;
@@ -21,8 +21,8 @@ pub struct Service {
     pub procedures: Vec<Procedure>,
     ghost named: { IsTrue (is_name name) },
     ghost few: { IsTrue (is_between 1 MOST_PROCEDURES (length procedures.items)) },
-    ghost unlike: { repeats_by same_procedure (map procedure_view procedures.items) ≡ false },
-    ghost one_default: { IsTrue (has_one_default (map procedure_view procedures.items)) },
+    ghost unlike: { repeats_by same_procedure (map plain_procedure procedures.items) ≡ false },
+    ghost one_default: { IsTrue (has_one_default (map plain_procedure procedures.items)) },
 }
 
 fn find_procedure(procedures: &[Procedure], number: u16) -> Option<&Procedure>
@@ -43,19 +43,19 @@ fn find_default(procedures: &[Procedure]) -> Option<&Procedure>
 impl Service {
     ghost use Rattle.std.specs.Prelude.{Some};
     ghost use Rattle.mtp_desc.specs.Lookup.{default_procedure, procedure_numbered};
-    ghost use Rattle.mtp_desc.specs.ServiceView.{service_view};
+    ghost use Rattle.mtp_desc.specs.PlainService.{plain_service};
 
     /// The procedure of this number.
     pub fn procedure(&self, number: u16) -> Option<&Procedure>
-        ensures { option_map (λ procedure. procedure_view procedure.now) result
-            ≡ procedure_numbered number (service_view self.now) }
+        ensures { option_map (λ procedure. plain_procedure procedure.now) result
+            ≡ procedure_numbered number (plain_service self.now) }
     {
         find_procedure(&self.procedures, number)
     }
 
     /// The default procedure.
     pub fn default_procedure(&self) -> &Procedure
-        ensures { default_procedure (service_view self.now) ≡ Some (procedure_view result.now) }
+        ensures { default_procedure (plain_service self.now) ≡ Some (plain_procedure result.now) }
     {
         match find_default(&self.procedures) {
             Some(procedure) => procedure,

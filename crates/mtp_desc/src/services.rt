@@ -5,11 +5,11 @@ ghost use Rattle.serde_json.specs.Data.{member, no_members, object, string};
 ghost use Rattle.serde_json.specs.View.{view};
 ghost use Rattle.mtp_codes.specs.Names.{is_name};
 ghost use Rattle.mtp_codes.specs.Numbers.{is_between};
-ghost use Rattle.mtp_json.specs.Gives.{Gives};
+ghost use Rattle.mtp_json.specs.ReadsAs.{ReadsAs};
 ghost use Rattle.mtp_desc.specs.Form.{has_one_default, only_procedure, ruled_service, service_of};
-ghost use Rattle.mtp_desc.specs.Plain.{ServiceForm, same_service};
-ghost use Rattle.mtp_desc.specs.ProcedureView.{procedure_view};
-ghost use Rattle.mtp_desc.specs.ServiceView.{service_view};
+ghost use Rattle.mtp_desc.specs.Plain.{PlainService, same_service};
+ghost use Rattle.mtp_desc.specs.PlainProcedure.{plain_procedure};
+ghost use Rattle.mtp_desc.specs.PlainService.{plain_service};
 ghost use Rattle.mtp_desc.specs.Written.{written_service};
 ghost use Rattle.mtp_desc.specs.declared.limits.TheConstants.{MOST_PROCEDURES};
 
@@ -29,7 +29,7 @@ use std::alloc::{AllocError, Global};
 pub struct ServiceJson;
 
 fn only_procedures(alloc: Global) -> Result<Vec<Procedure>, AllocError>
-    ensures { IfOk result (λ procedures. map procedure_view procedures.items ≡ only_procedure ∷ []) }
+    ensures { IfOk result (λ procedures. map plain_procedure procedures.items ≡ only_procedure ∷ []) }
 {
     let mut procedures = Vec::new(alloc);
     procedures.push(Procedure {
@@ -43,8 +43,8 @@ fn only_procedures(alloc: Global) -> Result<Vec<Procedure>, AllocError>
 
 fn procedures_or(alloc: Global, found: Option<Vec<Procedure>>) -> Result<Vec<Procedure>, AllocError>
     requires { IfSome found (λ list. IsTrue (is_between 1 MOST_PROCEDURES (length list.items))) }
-    ensures value { IfOk result (λ procedures. map procedure_view procedures.items
-        ≡ unwrap_or (option_map (λ list. map procedure_view list.items) found) (only_procedure ∷ [])) }
+    ensures value { IfOk result (λ procedures. map plain_procedure procedures.items
+        ≡ unwrap_or (option_map (λ list. map plain_procedure list.items) found) (only_procedure ∷ [])) }
     ensures size { IfOk result (λ procedures. IsTrue (is_between 1 MOST_PROCEDURES (length procedures.items))) }
 {
     match found {
@@ -55,7 +55,7 @@ fn procedures_or(alloc: Global, found: Option<Vec<Procedure>>) -> Result<Vec<Pro
 
 #[tactic(auto, using(crate::proofs::Views::count_map))]
 fn has_one_default(procedures: &[Procedure]) -> bool
-    ensures { result ≡ has_one_default (map procedure_view procedures.now) }
+    ensures { result ≡ has_one_default (map plain_procedure procedures.now) }
 {
     procedures
         .iter()
@@ -72,7 +72,7 @@ fn ruled_service(
 ) -> Result<Service, JsonRefusal>
     requires name { IsTrue (is_name name) }
     requires size { IsTrue (is_between 1 MOST_PROCEDURES (length procedures.items)) }
-    ensures { Gives service_view result (ruled_service name (map procedure_view procedures.items)) }
+    ensures { ReadsAs plain_service result (ruled_service name (map plain_procedure procedures.items)) }
 {
     unlike_under::<ProcedureJson>(alloc, "procedures", &procedures)?;
     let lacks_default = !has_one_default(&procedures);
@@ -82,7 +82,7 @@ fn ruled_service(
 
 #[tactic(auto, unfolding(crate::specs::Form::service_of))]
 fn read_service(alloc: Global, value: &Value) -> Result<Service, JsonRefusal>
-    ensures { Gives service_view result (service_of (view value.now)) }
+    ensures { ReadsAs plain_service result (service_of (view value.now)) }
 {
     object_here(alloc, value)?;
     let name = name_at(alloc, value, "name")?;
@@ -95,9 +95,9 @@ fn read_service(alloc: Global, value: &Value) -> Result<Service, JsonRefusal>
 impl FromJson for ServiceJson {
     type Item = Service;
 
-    ghost Form = { ServiceForm };
+    ghost Form = { PlainService };
 
-    ghost plain = { service_view };
+    ghost plain = { plain_service };
 
     ghost form = { service_of };
 
@@ -109,9 +109,9 @@ impl FromJson for ServiceJson {
 impl Alike for ServiceJson {
     type Item = Service;
 
-    ghost Form = { ServiceForm };
+    ghost Form = { PlainService };
 
-    ghost plain = { service_view };
+    ghost plain = { plain_service };
 
     ghost same = { same_service };
 
@@ -131,7 +131,7 @@ fn service_object(alloc: Global, name: Name, procedures: Value) -> Result<Value,
 
 #[tactic(auto, unfolding(crate::specs::Written::written_service))]
 fn write_service(alloc: Global, service: &Service) -> Result<Value, AllocError>
-    ensures { IfOk result (λ value. view value ≡ written_service (service_view service.now)) }
+    ensures { IfOk result (λ value. view value ≡ written_service (plain_service service.now)) }
 {
     let procedures = write_list::<ProcedureJson>(alloc, &service.procedures)?;
     service_object(alloc, service.name, procedures)
@@ -140,9 +140,9 @@ fn write_service(alloc: Global, service: &Service) -> Result<Value, AllocError>
 impl ToJson for ServiceJson {
     type Item = Service;
 
-    ghost Form = { ServiceForm };
+    ghost Form = { PlainService };
 
-    ghost plain = { service_view };
+    ghost plain = { plain_service };
 
     ghost written = { written_service };
 

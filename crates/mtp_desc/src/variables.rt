@@ -2,8 +2,8 @@
 
 ghost use Rattle.std.specs.Prelude.{◌≡◌, IfOk};
 ghost use Rattle.serde_json.specs.View.{view};
-ghost use Rattle.mtp_assembly.specs.Plain.{VariableForm, variable_view};
-ghost use Rattle.mtp_json.specs.Gives.{Gives};
+ghost use Rattle.mtp_assembly.specs.Plain.{PlainVariable, plain_variable};
+ghost use Rattle.mtp_json.specs.ReadsAs.{ReadsAs};
 ghost use Rattle.mtp_desc.specs.Form.{variable_of};
 ghost use Rattle.mtp_desc.specs.Plain.{same_variable};
 ghost use Rattle.mtp_desc.specs.Written.{written_variable};
@@ -19,7 +19,7 @@ pub struct VariableJson;
 
 #[tactic(auto, unfolding(crate::specs::Form::variable_of))]
 fn read_variable(alloc: Global, value: &Value) -> Result<View, JsonRefusal>
-    ensures { Gives variable_view result (variable_of (view value.now)) }
+    ensures { ReadsAs plain_variable result (variable_of (view value.now)) }
 {
     object_here(alloc, value)?;
     let name = name_at(alloc, value, "name")?;
@@ -31,9 +31,9 @@ fn read_variable(alloc: Global, value: &Value) -> Result<View, JsonRefusal>
 impl FromJson for VariableJson {
     type Item = View;
 
-    ghost Form = { VariableForm };
+    ghost Form = { PlainVariable };
 
-    ghost plain = { variable_view };
+    ghost plain = { plain_variable };
 
     ghost form = { variable_of };
 
@@ -45,9 +45,9 @@ impl FromJson for VariableJson {
 impl Alike for VariableJson {
     type Item = View;
 
-    ghost Form = { VariableForm };
+    ghost Form = { PlainVariable };
 
-    ghost plain = { variable_view };
+    ghost plain = { plain_variable };
 
     ghost same = { same_variable };
 
@@ -58,7 +58,7 @@ impl Alike for VariableJson {
 
 #[tactic(auto, unfolding(crate::specs::Written::written_variable))]
 fn write_variable(alloc: Global, variable: &View) -> Result<Value, AllocError>
-    ensures { IfOk result (λ value. view value ≡ written_variable (variable_view variable.now)) }
+    ensures { IfOk result (λ value. view value ≡ written_variable (plain_variable variable.now)) }
 {
     let name = variable.name.as_str();
     match variable.kind {
@@ -72,9 +72,9 @@ fn write_variable(alloc: Global, variable: &View) -> Result<Value, AllocError>
 impl ToJson for VariableJson {
     type Item = View;
 
-    ghost Form = { VariableForm };
+    ghost Form = { PlainVariable };
 
-    ghost plain = { variable_view };
+    ghost plain = { plain_variable };
 
     ghost written = { written_variable };
 

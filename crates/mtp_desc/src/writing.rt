@@ -3,9 +3,9 @@
 ghost use Rattle.std.specs.Prelude.{◌≡◌, IfOk, Ok, codes};
 ghost use Rattle.serde_json.specs.Data.{member, no_members, object, string};
 ghost use Rattle.serde_json.specs.View.{view};
-ghost use Rattle.mtp_desc.specs.DescriptionView.{description_view};
+ghost use Rattle.mtp_desc.specs.PlainDescription.{plain_description};
 ghost use Rattle.mtp_desc.specs.Form.{description_of};
-ghost use Rattle.mtp_desc.specs.Plain.{DescriptionForm};
+ghost use Rattle.mtp_desc.specs.Plain.{PlainDescription};
 ghost use Rattle.mtp_desc.specs.Written.{written_description};
 
 use crate::description::Description;
@@ -42,7 +42,7 @@ fn description_object(
 
 #[tactic(auto, unfolding(crate::specs::Written::written_description))]
 fn write_whole(alloc: Global, description: &Description) -> Result<Value, AllocError>
-    ensures { IfOk result (λ value. view value ≡ written_description (description_view description.now)) }
+    ensures { IfOk result (λ value. view value ≡ written_description (plain_description description.now)) }
 {
     let services = write_list::<ServiceJson>(alloc, &description.services)?;
     let variables = write_list::<VariableJson>(alloc, &description.variables)?;
@@ -58,8 +58,8 @@ fn write_whole(alloc: Global, description: &Description) -> Result<Value, AllocE
 /// The whole form of a description, with the text of the version that was read. The form of what is written is the
 /// description again.
 pub fn write_description(alloc: Global, description: &Description) -> Result<Value, AllocError>
-    ensures value { IfOk result (λ value. view value ≡ written_description (description_view description.now)) }
-    ensures reads_back { IfOk result (λ value. description_of (view value) ≡ Ok (description_view description.now)) }
+    ensures value { IfOk result (λ value. view value ≡ written_description (plain_description description.now)) }
+    ensures reads_back { IfOk result (λ value. description_of (view value) ≡ Ok (plain_description description.now)) }
 {
     write_whole(alloc, description)
 }
@@ -67,9 +67,9 @@ pub fn write_description(alloc: Global, description: &Description) -> Result<Val
 impl ToJson for DescriptionJson {
     type Item = Description;
 
-    ghost Form = { DescriptionForm };
+    ghost Form = { PlainDescription };
 
-    ghost plain = { description_view };
+    ghost plain = { plain_description };
 
     ghost written = { written_description };
 

@@ -11,7 +11,7 @@ use Rattle.mtp_codes.specs.declared.value.Value.{Value}
 use Rattle.mtp_codes.specs.declared.value.Value.TheVariants.{Whole, Bit, Text}
 use Rattle.mtp_json.specs.Form.{each}
 use Rattle.mtp_json.specs.Leaf.{scalar}
-use Rattle.mtp_json.specs.Reading.{Reading}
+use Rattle.mtp_json.specs.ReadResult.{ReadResult}
 use Rattle.mtp_json.specs.Written.{is_scalar, scalar_data}
 
 -- a whole number that was written is read as itself
@@ -20,7 +20,7 @@ whole_again (pos n) = refl
 whole_again (negsuc n) = refl
 
 -- items that are each read back are read back as a list
-pub each_again : {A : Type 0} (form : Data → Reading A) (written : A → Data) (test : A → Bool) (again : (x : A)
+pub each_again : {A : Type 0} (form : Data → ReadResult A) (written : A → Data) (test : A → Bool) (again : (x : A)
     → test x ≡ true → form (written x) ≡ Ok x) (place : ℕ) (xs : List A) → list_all test xs ≡ true
     → each form place (items_of (map written xs)) ≡ Ok xs
 unfolding each
@@ -42,9 +42,9 @@ items_depth_below written limit each_below (x ∷ xs) =
     omega (arith, each_below x, items_depth_below written limit each_below xs)
 
 -- a whole number is written as no float
-pub of_integer-whole : (z : ℤ) → is_float (of_integer z) ≡ false
-of_integer-whole (pos n) = refl
-of_integer-whole (negsuc n) = refl
+pub of_integer_whole : (z : ℤ) → is_float (of_integer z) ≡ false
+of_integer_whole (pos n) = refl
+of_integer_whole (negsuc n) = refl
 
 -- a written list has no float where no item has one
 pub items_whole : {A : Type 0} (written : A → Data) → ((x : A) → has_float (written x) ≡ false) → (xs : List A)

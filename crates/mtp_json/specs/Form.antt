@@ -7,7 +7,7 @@ use Rattle.serde_json.specs.Find.{get, as_object}
 use Rattle.mtp_json.specs.declared.fault.FaultKind.{FaultKind}
 use Rattle.mtp_json.specs.declared.fault.FaultKind.TheVariants.{Missing, WrongKind, Unknown}
 use Rattle.mtp_json.specs.Leaf.{anything, items_in}
-use Rattle.mtp_json.specs.Reading.{Finding, Reading, ◌>>=◌, here, under, in_place}
+use Rattle.mtp_json.specs.ReadResult.{Finding, ReadResult, ◌>>=◌, here, under, in_place}
 
 -- ---- one field
 
@@ -21,21 +21,21 @@ abbrev pub field : {A : Type 0} → List ℕ → (Data → Finding A) → Data �
 field key form value = present form (get key value)
 
 -- the same, with the path
-abbrev pub need : {A : Type 0} → List ℕ → (Data → Finding A) → Data → Reading A
-need key form value = under key (here (field key form value))
+abbrev pub required : {A : Type 0} → List ℕ → (Data → Finding A) → Data → ReadResult A
+required key form value = under key (here (field key form value))
 
 -- what was found, as a value that is there
-abbrev pub some : {A : Type 0} → Finding A → Finding (Option A)
-some (Ok value) = Ok (Some value)
-some (Err kind) = Err kind
+abbrev pub some_found : {A : Type 0} → Finding A → Finding (Option A)
+some_found (Ok value) = Ok (Some value)
+some_found (Err kind) = Err kind
 
 -- a value by its form, if its key is there
 abbrev pub if_present : {A : Type 0} → (Data → Finding A) → Option Data → Finding (Option A)
 if_present form None = Ok None
-if_present form (Some value) = some (form value)
+if_present form (Some value) = some_found (form value)
 
 -- the value at a key, if the key is there
-abbrev pub optional : {A : Type 0} → List ℕ → (Data → Finding A) → Data → Reading (Option A)
+abbrev pub optional : {A : Type 0} → List ℕ → (Data → Finding A) → Data → ReadResult (Option A)
 optional key form value = under key (here (if_present form (get key value)))
 
 -- a value by its form, or what stands for it
@@ -44,30 +44,30 @@ present_or absent form None = Ok absent
 present_or absent form (Some value) = form value
 
 -- the value at a key, or what stands for it where the key is absent
-abbrev pub need_or : {A : Type 0} → List ℕ → A → (Data → Finding A) → Data → Reading A
-need_or key absent form value = under key (here (present_or absent form (get key value)))
+abbrev pub required_or : {A : Type 0} → List ℕ → A → (Data → Finding A) → Data → ReadResult A
+required_or key absent form value = under key (here (present_or absent form (get key value)))
 
 -- ---- a field that has a form of its own
 
 -- the value at a key that must be there, by a form
-abbrev pub inside : {A : Type 0} → List ℕ → (Data → Reading A) → Data → Reading A
-inside key form value =
-    need key anything value >>= λ inner.
+abbrev pub nested : {A : Type 0} → List ℕ → (Data → ReadResult A) → Data → ReadResult A
+nested key form value =
+    required key anything value >>= λ inner.
     under key (form inner)
 
 -- the same with a form of its own
-abbrev pub by_form : {A : Type 0} → (Data → Reading A) → Option Data → Reading (Option A)
-by_form form None = Ok None
-by_form form (Some value) = form value >>= λ found. Ok (Some found)
+abbrev pub nested_if_present : {A : Type 0} → (Data → ReadResult A) → Option Data → ReadResult (Option A)
+nested_if_present form None = Ok None
+nested_if_present form (Some value) = form value >>= λ found. Ok (Some found)
 
 -- the value at a key by a form, if the key is there
-abbrev pub inside_if_there : {A : Type 0} → List ℕ → (Data → Reading A) → Data → Reading (Option A)
-inside_if_there key form value = under key (by_form form (get key value))
+abbrev pub nested_if_there : {A : Type 0} → List ℕ → (Data → ReadResult A) → Data → ReadResult (Option A)
+nested_if_there key form value = under key (nested_if_present form (get key value))
 
 -- ---- lists
 
 -- each item by the form, from first to last, the first at this place
-unfoldable pub each : {A : Type 0} → (Data → Reading A) → ℕ → Items → Reading (List A)
+unfoldable pub each : {A : Type 0} → (Data → ReadResult A) → ℕ → Items → ReadResult (List A)
 each form place no_items = Ok []
 each form place (item value rest) =
     in_place place (form value) >>= λ first.
@@ -75,31 +75,31 @@ each form place (item value rest) =
     Ok (first ∷ others)
 
 -- a list of low to high items at a key that must be there, each by the form
-abbrev pub list : {A : Type 0} → List ℕ → ℕ → ℕ → (Data → Reading A) → Data → Reading (List A)
+abbrev pub list : {A : Type 0} → List ℕ → ℕ → ℕ → (Data → ReadResult A) → Data → ReadResult (List A)
 list key low high form value =
-    need key (items_in low high) value >>= λ values.
+    required key (items_in low high) value >>= λ values.
     under key (each form 0 values)
 
 -- each item of a list that is there, and none of one that is absent
-abbrev pub each_or_none : {A : Type 0} → List ℕ → (Data → Reading A) → Option Items → Reading (List A)
+abbrev pub each_or_none : {A : Type 0} → List ℕ → (Data → ReadResult A) → Option Items → ReadResult (List A)
 each_or_none key form None = Ok []
 each_or_none key form (Some values) = under key (each form 0 values)
 
 -- the same at a key that may be absent, and then the list is empty
-abbrev pub list_or_none : {A : Type 0} → List ℕ → ℕ → ℕ → (Data → Reading A) → Data → Reading (List A)
+abbrev pub list_or_none : {A : Type 0} → List ℕ → ℕ → ℕ → (Data → ReadResult A) → Data → ReadResult (List A)
 list_or_none key low high form value =
     optional key (items_in low high) value >>= λ values.
     each_or_none key form values
 
 -- each item of a list, if the list is there
-abbrev pub each_if_there : {A : Type 0} → List ℕ → (Data → Reading A) → Option Items → Reading (Option (List A))
+abbrev pub each_if_there : {A : Type 0} → List ℕ → (Data → ReadResult A) → Option Items → ReadResult (Option (List A))
 each_if_there key form None = Ok None
 each_if_there key form (Some values) =
     under key (each form 0 values) >>= λ found.
     Ok (Some found)
 
 -- the same at a key that may be absent, and then there is no list
-abbrev pub list_if_there : {A : Type 0} → List ℕ → ℕ → ℕ → (Data → Reading A) → Data → Reading (Option (List A))
+abbrev pub list_if_there : {A : Type 0} → List ℕ → ℕ → ℕ → (Data → ReadResult A) → Data → ReadResult (Option (List A))
 list_if_there key low high form value =
     optional key (items_in low high) value >>= λ values.
     each_if_there key form values
@@ -107,12 +107,12 @@ list_if_there key low high form value =
 -- ---- the object as a whole
 
 -- the members of an object, or none
-abbrev pub some_object : Option Members → Reading ⊤
+abbrev pub some_object : Option Members → ReadResult ⊤
 some_object None = here (Err WrongKind)
 some_object (Some _) = Ok tt
 
 -- the value is an object
-abbrev pub object_here : Data → Reading ⊤
+abbrev pub object_here : Data → ReadResult ⊤
 object_here value = some_object (as_object value)
 
 -- the words of a text with one space between neighbours
@@ -138,17 +138,17 @@ abbrev pub only_keys : List ℕ → Data → Finding ⊤
 only_keys keys value = listed_members keys (as_object value)
 
 -- the same as a step of reading
-abbrev pub nothing_but : List ℕ → Data → Reading ⊤
+abbrev pub nothing_but : List ℕ → Data → ReadResult ⊤
 nothing_but keys value = here (only_keys keys value)
 
 -- ---- a form's own rules
 
 -- a fault of this kind where the rule is broken
-abbrev pub refused_if : Bool → FaultKind → Reading ⊤
+abbrev pub refused_if : Bool → FaultKind → ReadResult ⊤
 refused_if true kind = here (Err kind)
 refused_if false kind = Ok tt
 
--- some item of the list is like a later one
+-- some_found item of the list is like a later one
 abbrev pub repeats_by : {A : Type 0} → (A → A → Bool) → List A → Bool
 repeats_by same [] = false
 repeats_by same (first ∷ others) = list_any (same first) others || repeats_by same others

@@ -11,7 +11,7 @@ use Rattle.mtp_codes.specs.Texts.{is_short}
 use Rattle.mtp_codes.specs.declared.value.Value.{Value}
 use Rattle.mtp_codes.specs.declared.value.Value.TheVariants.{Whole, Bit, Text}
 use Rattle.mtp_json.specs.declared.fault.FaultKind.TheVariants.{WrongKind, OutOfRange}
-use Rattle.mtp_json.specs.Reading.{Finding}
+use Rattle.mtp_json.specs.ReadResult.{Finding}
 
 -- what a value holds, where it is of the kind that is asked for
 abbrev pub of_kind : {A : Type 0} → Option A → Finding A

@@ -1,7 +1,7 @@
-pub mod Reading
+pub mod ReadResult
 pub mod Leaf
 pub mod Form
-pub mod Gives
+pub mod ReadsAs
 pub mod PathText
 pub mod Parse
 pub mod Written

@@ -4,7 +4,7 @@ use Rattle.std.specs.Str.{is_utf8}
 use Rattle.serde_json.specs.Data.{Data}
 use Rattle.serde_json.specs.Read.{read}
 use Rattle.mtp_json.specs.declared.fault.FaultKind.TheVariants.{NotJson}
-use Rattle.mtp_json.specs.Reading.{Finding}
+use Rattle.mtp_json.specs.ReadResult.{Finding}
 
 -- what serde_json read, or that it read nothing
 abbrev pub or_not_json : Option Data → Finding Data

@@ -4,8 +4,8 @@ ghost use Rattle.std.specs.Prelude.{◌≡◌, Bool, List, map, IsTrue, OnOk, fa
 ghost use Rattle.std.specs.List.{list_any};
 ghost use Rattle.mtp_codes.specs.Names.{is_name};
 ghost use Rattle.mtp_json.specs.Form.{refused_if, repeats_by};
-ghost use Rattle.mtp_json.specs.Gives.{Gives};
-ghost use Rattle.mtp_json.specs.Reading.{under};
+ghost use Rattle.mtp_json.specs.ReadsAs.{ReadsAs};
+ghost use Rattle.mtp_json.specs.ReadResult.{under};
 
 use crate::fault::{FaultKind, JsonRefusal};
 use crate::placed::refused_under;
@@ -59,7 +59,7 @@ pub fn unlike_under<T: Alike>(
     items: &[T::Item],
 ) -> Result<(), JsonRefusal>
     requires { IsTrue (is_name key.now) }
-    ensures gives { Gives (λ unit. unit) result
+    ensures gives { ReadsAs (λ unit. unit) result
         (under key.now (refused_if (repeats_by T.same (map T.plain items.now)) FaultKind.Repeated)) }
     ensures kept { OnOk result (repeats_by T.same (map T.plain items.now) ≡ false) }
 {

@@ -5,8 +5,8 @@ ghost use Rattle.serde_json.specs.View.{items_view, view};
 ghost use Rattle.mtp_codes.specs.Codes.{command_codes, state_codes};
 ghost use Rattle.mtp_codes.specs.Names.{is_name};
 ghost use Rattle.mtp_codes.specs.Numbers.{greatest_i32, greatest_i64, greatest_u64, is_between, is_within, least_i32, least_i64};
-ghost use Rattle.mtp_json.specs.Form.{field, need, need_or, optional};
-ghost use Rattle.mtp_json.specs.Gives.{Gives, seen};
+ghost use Rattle.mtp_json.specs.Form.{field, required, required_or, optional};
+ghost use Rattle.mtp_json.specs.ReadsAs.{ReadsAs, seen};
 ghost use Rattle.mtp_json.specs.Leaf.{anything, code, count, items_in, name, scalar, text, text_to, truth, whole, word};
 ghost use Rattle.mtp_json.specs.Written.{is_scalar};
 
@@ -28,7 +28,7 @@ pub fn whole_at(
     high: i64,
 ) -> Result<i64, JsonRefusal>
     requires { IsTrue (is_name key.now) }
-    ensures gives { Gives (λ number. number) result (need key.now (whole low high) (view object.now)) }
+    ensures gives { ReadsAs (λ number. number) result (required key.now (whole low high) (view object.now)) }
     ensures range { IfOk result (λ z. IsTrue (is_within low high z)) }
 {
     keyed(alloc, key, get_whole(object, key, low, high))
@@ -37,7 +37,8 @@ pub fn whole_at(
 /// A whole number of 64 bits.
 pub fn i64_at(alloc: Global, object: &Value, key: &str) -> Result<i64, JsonRefusal>
     requires { IsTrue (is_name key.now) }
-    ensures gives { Gives (λ number. number) result (need key.now (whole least_i64 greatest_i64) (view object.now)) }
+    ensures gives { ReadsAs (λ number. number) result
+        (required key.now (whole least_i64 greatest_i64) (view object.now)) }
     ensures range { IfOk result (λ z. IsTrue (is_within least_i64 greatest_i64 z)) }
 {
     keyed(alloc, key, get_whole(object, key, i64::MIN, i64::MAX))
@@ -46,7 +47,8 @@ pub fn i64_at(alloc: Global, object: &Value, key: &str) -> Result<i64, JsonRefus
 /// A whole number of 32 bits.
 pub fn i32_at(alloc: Global, object: &Value, key: &str) -> Result<i32, JsonRefusal>
     requires { IsTrue (is_name key.now) }
-    ensures gives { Gives (λ number. number) result (need key.now (whole least_i32 greatest_i32) (view object.now)) }
+    ensures gives { ReadsAs (λ number. number) result
+        (required key.now (whole least_i32 greatest_i32) (view object.now)) }
     ensures range { IfOk result (λ z. IsTrue (is_within least_i32 greatest_i32 z)) }
 {
     let number = whole_at(alloc, object, key, -2147483648, 2147483647)?;
@@ -56,7 +58,7 @@ pub fn i32_at(alloc: Global, object: &Value, key: &str) -> Result<i32, JsonRefus
 /// A whole number from 0 to 18446744073709551615.
 pub fn u64_at(alloc: Global, object: &Value, key: &str) -> Result<u64, JsonRefusal>
     requires { IsTrue (is_name key.now) }
-    ensures { Gives (λ number. number) result (need key.now (count 0 greatest_u64) (view object.now)) }
+    ensures { ReadsAs (λ number. number) result (required key.now (count 0 greatest_u64) (view object.now)) }
 {
     keyed(alloc, key, get_u64(object, key))
 }
@@ -78,7 +80,7 @@ pub fn u32_at(
     high: u32,
 ) -> Result<u32, JsonRefusal>
     requires { IsTrue (is_name key.now) }
-    ensures gives { Gives (λ number. number) result (need key.now (count low high) (view object.now)) }
+    ensures gives { ReadsAs (λ number. number) result (required key.now (count low high) (view object.now)) }
     ensures range { IfOk result (λ n. IsTrue (is_between low high n)) }
 {
     keyed(alloc, key, get_u32(object, key, low, high))
@@ -93,7 +95,7 @@ pub fn u16_at(
     high: u16,
 ) -> Result<u16, JsonRefusal>
     requires { IsTrue (is_name key.now) }
-    ensures gives { Gives (λ number. number) result (need key.now (count low high) (view object.now)) }
+    ensures gives { ReadsAs (λ number. number) result (required key.now (count low high) (view object.now)) }
     ensures range { IfOk result (λ n. IsTrue (is_between low high n)) }
 {
     let number = u32_at(alloc, object, key, low as u32, high as u32)?;
@@ -103,7 +105,7 @@ pub fn u16_at(
 /// A truth value.
 pub fn truth_at(alloc: Global, object: &Value, key: &str) -> Result<bool, JsonRefusal>
     requires { IsTrue (is_name key.now) }
-    ensures { Gives (λ truth. truth) result (need key.now truth (view object.now)) }
+    ensures { ReadsAs (λ truth. truth) result (required key.now truth (view object.now)) }
 {
     keyed(alloc, key, get_bool(object, key))
 }
@@ -111,7 +113,7 @@ pub fn truth_at(alloc: Global, object: &Value, key: &str) -> Result<bool, JsonRe
 /// A truth value, or `absent` where the key is absent.
 pub fn truth_or(alloc: Global, object: &Value, key: &str, absent: bool) -> Result<bool, JsonRefusal>
     requires { IsTrue (is_name key.now) }
-    ensures { Gives (λ truth. truth) result (need_or key.now absent truth (view object.now)) }
+    ensures { ReadsAs (λ truth. truth) result (required_or key.now absent truth (view object.now)) }
 {
     if object.get(key).is_none() {
         return Ok(absent);
@@ -122,7 +124,7 @@ pub fn truth_or(alloc: Global, object: &Value, key: &str, absent: bool) -> Resul
 /// A name.
 pub fn name_at(alloc: Global, object: &Value, key: &str) -> Result<Name, JsonRefusal>
     requires { IsTrue (is_name key.now) }
-    ensures gives { Gives (λ name. name) result (need key.now name (view object.now)) }
+    ensures gives { ReadsAs (λ name. name) result (required key.now name (view object.now)) }
     ensures form { IfOk result (λ bytes. IsTrue (is_name bytes)) }
 {
     keyed(alloc, key, get_name(object, key))
@@ -131,7 +133,7 @@ pub fn name_at(alloc: Global, object: &Value, key: &str) -> Result<Name, JsonRef
 /// A text of any length.
 pub fn text_at<'a>(alloc: Global, object: &'a Value, key: &str) -> Result<&'a str, JsonRefusal>
     requires { IsTrue (is_name key.now) }
-    ensures { Gives (λ text. text.now) result (need key.now text (view object.now)) }
+    ensures { ReadsAs (λ text. text.now) result (required key.now text (view object.now)) }
 {
     keyed(alloc, key, get_text(object, key))
 }
@@ -156,7 +158,7 @@ pub fn short_at(
 ) -> Result<Short, JsonRefusal>
     requires key { IsTrue (is_name key.now) }
     requires limit { limit ≤ 254 }
-    ensures { Gives (λ text. text) result (need key.now (text_to limit) (view object.now)) }
+    ensures { ReadsAs (λ text. text) result (required key.now (text_to limit) (view object.now)) }
 {
     keyed(alloc, key, get_short(object, key, limit))
 }
@@ -171,7 +173,7 @@ fn get_scalar(object: &Value, key: &str) -> Result<mtp_codes::Value, FaultKind>
 /// A value of a variable or of a parameter.
 pub fn scalar_at(alloc: Global, object: &Value, key: &str) -> Result<mtp_codes::Value, JsonRefusal>
     requires { IsTrue (is_name key.now) }
-    ensures gives { Gives (λ found. found) result (need key.now scalar (view object.now)) }
+    ensures gives { ReadsAs (λ found. found) result (required key.now scalar (view object.now)) }
     ensures form { IfOk result (λ found. IsTrue (is_scalar found)) }
 {
     keyed(alloc, key, get_scalar(object, key))
@@ -187,7 +189,7 @@ fn get_state(object: &Value, key: &str) -> Result<State, FaultKind>
 /// A state by its code.
 pub fn state_at(alloc: Global, object: &Value, key: &str) -> Result<State, JsonRefusal>
     requires { IsTrue (is_name key.now) }
-    ensures { Gives (λ state. state) result (need key.now (code state_codes) (view object.now)) }
+    ensures { ReadsAs (λ state. state) result (required key.now (code state_codes) (view object.now)) }
 {
     keyed(alloc, key, get_state(object, key))
 }
@@ -202,7 +204,7 @@ fn get_command(object: &Value, key: &str) -> Result<Command, FaultKind>
 /// A command by its code.
 pub fn command_at(alloc: Global, object: &Value, key: &str) -> Result<Command, JsonRefusal>
     requires { IsTrue (is_name key.now) }
-    ensures { Gives (λ command. command) result (need key.now (code command_codes) (view object.now)) }
+    ensures { ReadsAs (λ command. command) result (required key.now (code command_codes) (view object.now)) }
 {
     keyed(alloc, key, get_command(object, key))
 }
@@ -210,7 +212,7 @@ pub fn command_at(alloc: Global, object: &Value, key: &str) -> Result<Command, J
 /// A word of the table.
 pub fn word_at<T: Words>(alloc: Global, object: &Value, key: &str) -> Result<T::Item, JsonRefusal>
     requires { IsTrue (is_name key.now) }
-    ensures { Gives (λ meaning. meaning) result (need key.now (word T.words) (view object.now)) }
+    ensures { ReadsAs (λ meaning. meaning) result (required key.now (word T.words) (view object.now)) }
 {
     keyed(alloc, key, get_word::<T>(object, key))
 }
@@ -218,7 +220,7 @@ pub fn word_at<T: Words>(alloc: Global, object: &Value, key: &str) -> Result<T::
 /// Any value.
 pub fn value_at<'a>(alloc: Global, object: &'a Value, key: &str) -> Result<&'a Value, JsonRefusal>
     requires { IsTrue (is_name key.now) }
-    ensures { Gives (λ value. view value.now) result (need key.now anything (view object.now)) }
+    ensures { ReadsAs (λ value. view value.now) result (required key.now anything (view object.now)) }
 {
     keyed(alloc, key, object.get(key).ok_or(FaultKind::Missing))
 }
@@ -246,7 +248,8 @@ pub fn list_at<'a>(
     high: usize,
 ) -> Result<&'a [Value], JsonRefusal>
     requires { IsTrue (is_name key.now) }
-    ensures gives { Gives (λ list. items_view list.now) result (need key.now (items_in low high) (view object.now)) }
+    ensures gives { ReadsAs (λ list. items_view list.now) result
+        (required key.now (items_in low high) (view object.now)) }
     ensures size { IfOk result (λ list. IsTrue (is_between low high (length list.now))) }
 {
     let found = match object.get(key) {
@@ -265,7 +268,7 @@ pub fn list_if<'a>(
     high: usize,
 ) -> Result<Option<&'a [Value]>, JsonRefusal>
     requires { IsTrue (is_name key.now) }
-    ensures gives { Gives (option_map (λ list. items_view list.now)) result
+    ensures gives { ReadsAs (option_map (λ list. items_view list.now)) result
         (optional key.now (items_in low high) (view object.now)) }
     ensures size { IfOk result (λ found. IfSome found (λ list. IsTrue (is_between low high (length list.now)))) }
 {

@@ -5,9 +5,9 @@ ghost use Rattle.serde_json.specs.Data.{Data};
 ghost use Rattle.serde_json.specs.View.{items_view, view};
 ghost use Rattle.mtp_codes.specs.Names.{is_name};
 ghost use Rattle.mtp_codes.specs.Numbers.{is_between};
-ghost use Rattle.mtp_json.specs.Form.{each, inside, inside_if_there, list, list_if_there, list_or_none};
-ghost use Rattle.mtp_json.specs.Gives.{Gives};
-ghost use Rattle.mtp_json.specs.Reading.{Reading, under};
+ghost use Rattle.mtp_json.specs.Form.{each, nested, nested_if_there, list, list_if_there, list_or_none};
+ghost use Rattle.mtp_json.specs.ReadsAs.{ReadsAs};
+ghost use Rattle.mtp_json.specs.ReadResult.{ReadResult, under};
 
 use crate::at_key::{list_at, list_if, value_at};
 use crate::fault::JsonRefusal;
@@ -23,16 +23,16 @@ pub trait FromJson {
 
     ghost plain: { Self.Item → Form };
 
-    ghost form: { Data → Reading Form };
+    ghost form: { Data → ReadResult Form };
 
     /// The value that the form gives, or the first fault in reading order.
     fn read(alloc: Global, value: &Value) -> Result<Self::Item, JsonRefusal>
-        ensures { Gives plain result (form (view value.now)) };
+        ensures { ReadsAs plain result (form (view value.now)) };
 }
 
 /// Each of these values by the form, from first to last; a fault has the place in front of its path.
 pub fn read_every<T: FromJson>(alloc: Global, values: &[Value]) -> Result<Vec<T::Item>, JsonRefusal>
-    ensures gives { Gives (λ found. map T.plain found.items) result (each T.form 0 (items_view values.now)) }
+    ensures gives { ReadsAs (λ found. map T.plain found.items) result (each T.form 0 (items_view values.now)) }
     ensures size { IfOk result (λ found. length found.items ≡ length values.now) }
 {
     let mut found = Vec::new(alloc);
@@ -50,7 +50,7 @@ fn read_under<T: FromJson>(
     values: &[Value],
 ) -> Result<Vec<T::Item>, JsonRefusal>
     requires { IsTrue (is_name key.now) }
-    ensures gives { Gives (λ found. map T.plain found.items) result
+    ensures gives { ReadsAs (λ found. map T.plain found.items) result
         (under key.now (each T.form 0 (items_view values.now))) }
     ensures size { IfOk result (λ found. length found.items ≡ length values.now) }
 {
@@ -66,7 +66,7 @@ pub fn list_of<T: FromJson>(
     high: usize,
 ) -> Result<Vec<T::Item>, JsonRefusal>
     requires { IsTrue (is_name key.now) }
-    ensures gives { Gives (λ found. map T.plain found.items) result (list key.now low high T.form (view object.now)) }
+    ensures gives { ReadsAs (λ found. map T.plain found.items) result (list key.now low high T.form (view object.now)) }
     ensures size { IfOk result (λ found. IsTrue (is_between low high (length found.items))) }
 {
     let values = list_at(alloc, object, key, low, high)?;
@@ -82,7 +82,7 @@ pub fn list_or_none<T: FromJson>(
     high: usize,
 ) -> Result<Vec<T::Item>, JsonRefusal>
     requires { IsTrue (is_name key.now) }
-    ensures gives { Gives (λ found. map T.plain found.items) result
+    ensures gives { ReadsAs (λ found. map T.plain found.items) result
         (list_or_none key.now low high T.form (view object.now)) }
     ensures size { IfOk result (λ found. IsTrue (is_between 0 high (length found.items))) }
 {
@@ -101,7 +101,7 @@ pub fn list_if_there<T: FromJson>(
     high: usize,
 ) -> Result<Option<Vec<T::Item>>, JsonRefusal>
     requires { IsTrue (is_name key.now) }
-    ensures gives { Gives (option_map (λ found. map T.plain found.items)) result
+    ensures gives { ReadsAs (option_map (λ found. map T.plain found.items)) result
         (list_if_there key.now low high T.form (view object.now)) }
     ensures size { IfOk result (λ there. IfSome there (λ found. IsTrue (is_between low high (length found.items)))) }
 {
@@ -114,7 +114,7 @@ pub fn list_if_there<T: FromJson>(
 #[tactic(auto, using(crate::proofs::Each::gives_below))]
 fn form_under<T: FromJson>(alloc: Global, key: &str, value: &Value) -> Result<T::Item, JsonRefusal>
     requires { IsTrue (is_name key.now) }
-    ensures { Gives T.plain result (under key.now (T.form (view value.now))) }
+    ensures { ReadsAs T.plain result (under key.now (T.form (view value.now))) }
 {
     under(key, T::read(alloc, value))
 }
@@ -126,7 +126,7 @@ pub fn form_at<T: FromJson>(
     key: &str,
 ) -> Result<T::Item, JsonRefusal>
     requires { IsTrue (is_name key.now) }
-    ensures { Gives T.plain result (inside key.now T.form (view object.now)) }
+    ensures { ReadsAs T.plain result (nested key.now T.form (view object.now)) }
 {
     let value = value_at(alloc, object, key)?;
     form_under::<T>(alloc, key, value)
@@ -139,7 +139,7 @@ pub fn form_if_there<T: FromJson>(
     key: &str,
 ) -> Result<Option<T::Item>, JsonRefusal>
     requires { IsTrue (is_name key.now) }
-    ensures { Gives (option_map T.plain) result (inside_if_there key.now T.form (view object.now)) }
+    ensures { ReadsAs (option_map T.plain) result (nested_if_there key.now T.form (view object.now)) }
 {
     match object.get(key) {
         Some(value) => Ok(Some(form_under::<T>(alloc, key, value)?)),

@@ -8,7 +8,7 @@ ghost use Rattle.serde_json.specs.View.{items_view, members_view, view};
 ghost use Rattle.mtp_codes.specs.Names.{is_name};
 ghost use Rattle.mtp_codes.specs.Numbers.{greatest_u64, is_within};
 ghost use Rattle.mtp_json.specs.Form.{all_listed, field, is_listed, only_keys};
-ghost use Rattle.mtp_json.specs.Gives.{seen};
+ghost use Rattle.mtp_json.specs.ReadsAs.{seen};
 ghost use Rattle.mtp_json.specs.Leaf.{an_object, count, items, name, text, truth, whole, word};
 
 use crate::fault::FaultKind;

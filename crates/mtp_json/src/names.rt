@@ -3,7 +3,7 @@
 ghost use Rattle.std.specs.Prelude.{List, ℕ};
 ghost use Rattle.std.specs.Str.{bytes_eq};
 ghost use Rattle.mtp_json.specs.Leaf.{name};
-ghost use Rattle.mtp_json.specs.Reading.{here};
+ghost use Rattle.mtp_json.specs.ReadResult.{here};
 ghost use Rattle.serde_json.specs.Data.{string};
 
 use crate::alike::Alike;

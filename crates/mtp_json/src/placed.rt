@@ -3,8 +3,8 @@
 ghost use Rattle.std.specs.Prelude.{◌≡◌, ◌∷◌, [], IfOk, OnOk, IsTrue, false};
 ghost use Rattle.mtp_codes.specs.Names.{is_name};
 ghost use Rattle.mtp_json.specs.Form.{nothing_but, object_here, refused_if};
-ghost use Rattle.mtp_json.specs.Gives.{Below, Beneath, Gives, Here, Keyed};
-ghost use Rattle.mtp_json.specs.Reading.{under};
+ghost use Rattle.mtp_json.specs.ReadsAs.{ReadsUnder, RefusalUnder, ReadsAs, ReadsHere, ReadsAtKey};
+ghost use Rattle.mtp_json.specs.ReadResult.{under};
 ghost use Rattle.serde_json.specs.View.{view};
 
 use crate::fault::{FaultKind, JsonFault, JsonRefusal};
@@ -28,7 +28,7 @@ fn key_part(key: &str) -> PathPart
 /// What was found at a key of an object, with the key as the path where it is a fault.
 pub fn keyed<T>(alloc: Global, key: &str, found: Result<T, FaultKind>) -> Result<T, JsonRefusal>
     requires { IsTrue (is_name key.now) }
-    ensures { Keyed key.now found result }
+    ensures { ReadsAtKey key.now found result }
 {
     match found {
         Ok(value) => Ok(value),
@@ -42,7 +42,7 @@ pub fn keyed<T>(alloc: Global, key: &str, found: Result<T, FaultKind>) -> Result
 
 /// What was found of the value itself, with the empty path where it is a fault.
 pub fn here<T>(alloc: Global, found: Result<T, FaultKind>) -> Result<T, JsonRefusal>
-    ensures { Here found result }
+    ensures { ReadsHere found result }
 {
     match found {
         Ok(value) => Ok(value),
@@ -54,7 +54,7 @@ pub fn here<T>(alloc: Global, found: Result<T, FaultKind>) -> Result<T, JsonRefu
 }
 
 fn beneath(part: PathPart, refusal: JsonRefusal) -> JsonRefusal
-    ensures { Beneath part refusal result }
+    ensures { RefusalUnder part refusal result }
 {
     match refusal {
         JsonRefusal::Memory => JsonRefusal::Memory,
@@ -71,7 +71,7 @@ fn beneath(part: PathPart, refusal: JsonRefusal) -> JsonRefusal
 /// What was read below a key: a fault gets the key in front of its path.
 pub fn under<T>(key: &str, read: Result<T, JsonRefusal>) -> Result<T, JsonRefusal>
     requires { IsTrue (is_name key.now) }
-    ensures { Below (PathPart.Key key.now) read result }
+    ensures { ReadsUnder (PathPart.Key key.now) read result }
 {
     match read {
         Ok(value) => Ok(value),
@@ -81,7 +81,7 @@ pub fn under<T>(key: &str, read: Result<T, JsonRefusal>) -> Result<T, JsonRefusa
 
 /// What was read at a place of a list: a fault gets the place in front of its path.
 pub fn in_place<T>(place: usize, read: Result<T, JsonRefusal>) -> Result<T, JsonRefusal>
-    ensures { Below (PathPart.Place place) read result }
+    ensures { ReadsUnder (PathPart.Place place) read result }
 {
     match read {
         Ok(value) => Ok(value),
@@ -91,7 +91,7 @@ pub fn in_place<T>(place: usize, read: Result<T, JsonRefusal>) -> Result<T, Json
 
 /// Asks that the value is an object: else WrongKind at its own path.
 pub fn object_here(alloc: Global, value: &Value) -> Result<(), JsonRefusal>
-    ensures { Gives (λ unit. unit) result (object_here (view value.now)) }
+    ensures { ReadsAs (λ unit. unit) result (object_here (view value.now)) }
 {
     let found = if value.is_object() {
         Ok(())
@@ -104,14 +104,14 @@ pub fn object_here(alloc: Global, value: &Value) -> Result<(), JsonRefusal>
 /// Asks that the object has no key but these, which stand in one text with one space between neighbours: else Unknown
 /// at the object's path.
 pub fn nothing_but(alloc: Global, object: &Value, keys: &str) -> Result<(), JsonRefusal>
-    ensures { Gives (λ unit. unit) result (nothing_but keys.now (view object.now)) }
+    ensures { ReadsAs (λ unit. unit) result (nothing_but keys.now (view object.now)) }
 {
     here(alloc, only(object, keys))
 }
 
 /// A rule of a form's own: a fault of this kind, at the path of the value itself, where the rule is broken.
 pub fn refused_if(alloc: Global, broken: bool, kind: FaultKind) -> Result<(), JsonRefusal>
-    ensures gives { Gives (λ unit. unit) result (refused_if broken kind) }
+    ensures gives { ReadsAs (λ unit. unit) result (refused_if broken kind) }
     ensures kept { OnOk result (broken ≡ false) }
 {
     let found = if broken { Err(kind) } else { Ok(()) };
@@ -127,7 +127,7 @@ pub fn refused_under(
     kind: FaultKind,
 ) -> Result<(), JsonRefusal>
     requires { IsTrue (is_name key.now) }
-    ensures gives { Gives (λ unit. unit) result (under key.now (refused_if broken kind)) }
+    ensures gives { ReadsAs (λ unit. unit) result (under key.now (refused_if broken kind)) }
     ensures kept { OnOk result (broken ≡ false) }
 {
     under(key, refused_if(alloc, broken, kind))

@@ -7,22 +7,22 @@ use Rattle.mtp_codes.specs.declared.value.Setting.{Setting}
 use Rattle.mtp_assembly.specs.Fits.{value_fault}
 use Rattle.mtp_assembly.specs.declared.check.ValueFault.{ValueFault}
 use Rattle.mtp_assembly.specs.declared.check.ValueFault.TheVariants as value
-use Rattle.mtp_desc.specs.Plain.{ProcedureForm, DescriptionForm}
+use Rattle.mtp_desc.specs.Plain.{PlainProcedure, PlainDescription}
 use Rattle.mtp_desc.specs.Lookup.{param_named, procedure_at}
 use Rattle.mtp_procs.specs.declared.demand.StepFault.{StepFault}
 use Rattle.mtp_procs.specs.declared.demand.StepFault.TheVariants.{NotCovered, WrongKind, OutOfRange}
 
 -- the procedure has each parameter that is set
-abbrev pub has_params : ProcedureForm → List Setting → Bool
+abbrev pub has_params : PlainProcedure → List Setting → Bool
 has_params procedure settings = list_all (λ setting. is_some (param_named setting.name procedure)) settings
 
 -- what is wrong with the value that a parameter is set to
-abbrev pub setting_fault : ProcedureForm → Setting → Option ValueFault
+abbrev pub setting_fault : PlainProcedure → Setting → Option ValueFault
 setting_fault procedure setting =
     option_and_then (λ param. value_fault param.kind setting.value) (param_named setting.name procedure)
 
 -- the fault of the first setting that has one
-abbrev pub settings_fault : ProcedureForm → List Setting → Option ValueFault
+abbrev pub settings_fault : PlainProcedure → List Setting → Option ValueFault
 settings_fault procedure [] = None
 settings_fault procedure (setting ∷ others) = option_or (setting_fault procedure setting)
     (settings_fault procedure others)
@@ -35,7 +35,7 @@ of_value value.OutOfRange = OutOfRange
 -- What is wrong with demanding this of the procedure: it isn't there, it hasn't a parameter that is set, or it is
 -- finished
 -- by command where it completes by itself and the other way round; else the first value that doesn't fit.
-abbrev pub procedure_fault : List Setting → Bool → Option ProcedureForm → Option StepFault
+abbrev pub procedure_fault : List Setting → Bool → Option PlainProcedure → Option StepFault
 procedure_fault settings finishes None = Some NotCovered
 procedure_fault settings finishes (Some procedure) =
     if not (has_params procedure settings) || beq finishes procedure.self_completing
@@ -43,6 +43,6 @@ procedure_fault settings finishes (Some procedure) =
     else option_map of_value (settings_fault procedure settings)
 
 -- what is wrong with demanding this procedure of this service, with these settings, finished by command or not
-abbrev pub step_fault : DescriptionForm → List ℕ → ℕ → List Setting → Bool → Option StepFault
+abbrev pub step_fault : PlainDescription → List ℕ → ℕ → List Setting → Bool → Option StepFault
 step_fault description service procedure settings finishes =
     procedure_fault settings finishes (procedure_at service procedure description)

@@ -2,8 +2,8 @@
 
 ghost use Rattle.std.specs.Prelude.{◌≡◌, Some};
 ghost use Rattle.mtp_codes.specs.Faults.{done_unless};
-ghost use Rattle.mtp_desc.specs.DescriptionView.{description_view};
-ghost use Rattle.mtp_desc.specs.ProcedureView.{procedure_view};
+ghost use Rattle.mtp_desc.specs.PlainDescription.{plain_description};
+ghost use Rattle.mtp_desc.specs.PlainProcedure.{plain_procedure};
 ghost use Rattle.mtp_procs.specs.Demands.{has_params, procedure_fault, setting_fault, settings_fault, step_fault};
 
 use crate::demand::{StepDemand, StepFault};
@@ -13,7 +13,7 @@ use mtp_desc::{Description, Procedure};
 
 // Whether the procedure has each parameter that is set.
 fn has_params(procedure: &Procedure, settings: &[Setting]) -> bool
-    ensures { result ≡ has_params (procedure_view procedure.now) settings.now }
+    ensures { result ≡ has_params (plain_procedure procedure.now) settings.now }
 {
     for setting in settings {
         if procedure.param(setting.name).is_none() {
@@ -25,7 +25,7 @@ fn has_params(procedure: &Procedure, settings: &[Setting]) -> bool
 
 // Whether the value fits the parameter that is set; Ok where the procedure hasn't the parameter.
 fn check_setting(procedure: &Procedure, setting: &Setting) -> Result<(), ValueFault>
-    ensures { result ≡ done_unless (setting_fault (procedure_view procedure.now) setting.now) }
+    ensures { result ≡ done_unless (setting_fault (plain_procedure procedure.now) setting.now) }
 {
     match procedure.param(setting.name) {
         Some(param) => check_value(param, &setting.value),
@@ -34,7 +34,7 @@ fn check_setting(procedure: &Procedure, setting: &Setting) -> Result<(), ValueFa
 }
 
 fn check_settings(procedure: &Procedure, settings: &[Setting]) -> Result<(), ValueFault>
-    ensures { result ≡ done_unless (settings_fault (procedure_view procedure.now) settings.now) }
+    ensures { result ≡ done_unless (settings_fault (plain_procedure procedure.now) settings.now) }
 {
     for setting in settings {
         check_setting(procedure, setting)?;
@@ -47,7 +47,7 @@ fn check_procedure(
     settings: &[Setting],
     finishes: bool,
 ) -> Result<(), StepFault>
-    ensures { result ≡ done_unless (procedure_fault settings.now finishes (Some (procedure_view procedure.now))) }
+    ensures { result ≡ done_unless (procedure_fault settings.now finishes (Some (plain_procedure procedure.now))) }
 {
     if !has_params(procedure, settings) || finishes == procedure.self_completing {
         return Err(StepFault::NotCovered);
@@ -60,10 +60,10 @@ fn check_procedure(
 }
 
 /// Whether the module can do what the step demands: NotCovered exactly where the service, the procedure or a parameter
-/// that is set is missing, or the step completes the procedure by command exactly where it completes by itself; else the
-/// fault of the first setting whose value doesn't fit, as `check_value` says.
+/// that is set is missing, or the step completes the procedure by command exactly where it completes by itself; else
+/// the fault of the first setting whose value doesn't fit, as `check_value` says.
 pub fn check_step(description: &Description, demand: &StepDemand) -> Result<(), StepFault>
-    ensures { result ≡ done_unless (step_fault (description_view description.now)
+    ensures { result ≡ done_unless (step_fault (plain_description description.now)
         demand.now.service demand.now.procedure demand.now.settings.now demand.now.finishes) }
 {
     let Some(service) = description.service(demand.service) else {

@@ -10,7 +10,7 @@ use Rattle.mtp_codes.specs.declared.command.Command.TheVariants.{Complete}
 use Rattle.mtp_codes.specs.declared.state.State.{State}
 use Rattle.mtp_machine.specs.Machine.{every_state, every_command, own_target, command_target, is_edge, same_state, same_command}
 use Rattle.mtp_machine.proofs.EveryState.{of_each_state, of_each_command}
-use Rattle.mtp_desc.specs.Plain.{DescriptionForm, ServiceForm}
+use Rattle.mtp_desc.specs.Plain.{PlainDescription, PlainService}
 use Rattle.mtp_sim.specs.declared.service.SimService.{SimService}
 use Rattle.mtp_sim.specs.declared.drift.SimDrift.{SimDrift}
 use Rattle.mtp_sim.specs.Sims.{first_service}
@@ -26,80 +26,80 @@ leads_along from None = true
 leads_along from (Some to) = is_edge from to
 
 -- each change that a state makes by itself is along an edge
-own-edges : AllByRecursion (λ state. leads_along state (own_target state) ≡ true) every_state
+own_edges : AllByRecursion (λ state. leads_along state (own_target state) ≡ true) every_state
 unfolding own_target is_edge
-own-edges = search
+own_edges = search
 
 -- so is each change that a command makes
-command-edges : AllByRecursion (λ state. AllByRecursion
+command_edges : AllByRecursion (λ state. AllByRecursion
     (λ command. leads_along state (command_target state command) ≡ true) every_command) every_state
 unfolding command_target is_edge
-command-edges = search
+command_edges = search
 
 -- the same, of two states
-own-edge : (from to : State) → own_target from ≡ Some to → is_edge from to ≡ true
-own-edge from to is = let fact = of_each_state (λ state. leads_along state (own_target state) ≡ true) own-edges
+own_edge : (from to : State) → own_target from ≡ Some to → is_edge from to ≡ true
+own_edge from to is = let fact = of_each_state (λ state. leads_along state (own_target state) ≡ true) own_edges
     from in rw is at fact
 
 -- the same, of two states and a command
-command-edge : (from to : State) (command : Command) → command_target from command ≡ Some to → is_edge from to ≡ true
-command-edge from to command is =
+command_edge : (from to : State) (command : Command) → command_target from command ≡ Some to → is_edge from to ≡ true
+command_edge from to command is =
     let fact = of_each_command (λ command. leads_along from (command_target from command) ≡ true)
     (of_each_state (λ state. AllByRecursion (λ command. leads_along state (command_target state command) ≡ true)
-    every_command) command-edges from) command in
+    every_command) command_edges from) command in
     rw is at fact
 
 -- each state is found by its code
-every-coded : AllByRecursion (λ state. state_of (state_number state) state_codes ≡ Some state) every_state
-every-coded = search
+every_coded : AllByRecursion (λ state. state_of (state_number state) state_codes ≡ Some state) every_state
+every_coded = search
 
 -- states of one code are one state
-pub same-state-is : (one other : State) → same_state one other ≡ true → one ≡ other
-same-state-is one other is =
-    let coded = of_each_state (λ state. state_of (state_number state) state_codes ≡ Some state) every-coded in
+pub same_state_is : (one other : State) → same_state one other ≡ true → one ≡ other
+same_state_is one other is =
+    let coded = of_each_state (λ state. state_of (state_number state) state_codes ≡ Some state) every_coded in
     same_Some one other (sym (coded one) ∙ ap (λ n. state_of n state_codes)
     (eqb-true (state_number one) (state_number other) is) ∙ coded other)
 
 -- each state has its own code
-every-same : AllByRecursion (λ (state : State). same_state state state ≡ true) every_state
-every-same = search
+every_same : AllByRecursion (λ (state : State). same_state state state ≡ true) every_state
+every_same = search
 
 -- so each state is the same as itself
-pub state-refl : (state : State) → same_state state state ≡ true
-state-refl state = of_each_state (λ state. same_state state state ≡ true) every-same state
+pub state_refl : (state : State) → same_state state state ≡ true
+state_refl state = of_each_state (λ state. same_state state state ≡ true) every_same state
 
 -- ---- one service
 
 -- a service that is told told its state last
-pub told-last : (s : SimService) → is_untold s ≡ false → s.last ≡ Some s.state
-told-last s told = go s.last refl told
+pub told_last : (s : SimService) → is_untold s ≡ false → s.last ≡ Some s.state
+told_last s told = go s.last refl told
   where
     go : (last : Option State) → s.last ≡ last → not (is_state s.state last) ≡ false → last ≡ Some s.state
     go None e t = cc
-    go (Some last) e t = ap Some (same-state-is last s.state (holds (same_state last s.state) t))
+    go (Some last) e t = ap Some (same_state_is last s.state (holds (same_state last s.state) t))
       where
         holds : (b : Bool) → not b ≡ false → b ≡ true
         holds true e = refl
         holds false e = cc
 
 -- a service that isn't told may tell its state
-untold-may : (s : SimService) → is_untold s ≡ true → IsNext s → MayTell s.last s.state
-untold-may s untold (inr may) = may
-untold-may s untold (inl last) =
+untold_may : (s : SimService) → is_untold s ≡ true → IsNext s → MayTell s.last s.state
+untold_may s untold (inr may) = may
+untold_may s untold (inl last) =
     let same : is_state s.state s.last ≡ true =
-    ap (is_state s.state) last ∙ state-refl s.state in
+    ap (is_state s.state) last ∙ state_refl s.state in
     absurd (clash (ap not (sym same) ∙ untold))
   where
     clash : false ≡ true → ⊥
     clash e = cc
 
 -- a service may report the state to which an edge leads from the one that it reported last
-edge-may : (last : Option State) (from to : State) → last ≡ Some from → is_edge from to ≡ true → MayTell last to
-edge-may last from to is edge = rw is edge
+edge_may : (last : Option State) (from to : State) → last ≡ Some from → is_edge from to ≡ true → MayTell last to
+edge_may last from to is edge = rw is edge
 
 -- a tick that looks at a service leaves it where it may be
-next-ticked : (d : DescriptionForm) (limit : ℕ) (s : SimService) → IsNext s → IsNext (service_ticked d limit s)
-next-ticked d limit s next = go (is_untold s) (changes d s) (nat_le limit (s.count + 1)) (own_target s.state)
+next_ticked : (d : PlainDescription) (limit : ℕ) (s : SimService) → IsNext s → IsNext (service_ticked d limit s)
+next_ticked d limit s next = go (is_untold s) (changes d s) (nat_le limit (s.count + 1)) (own_target s.state)
   where
     go : (untold changing ripe : Bool) (target : Option State)
         → IsNext (cond untold (told s) (cond changing (cond ripe (moved_on s target) (counted s)) s))
@@ -110,24 +110,24 @@ next-ticked d limit s next = go (is_untold s) (changes d s) (nat_le limit (s.cou
     go false true true (Some state) = inl refl
 
 -- a service that a tick reports is in a state that it may report
-pub told-ticked : (d : DescriptionForm) (limit : ℕ) (s : SimService) → IsNext s → is_reported d limit s ≡ true
+pub told_ticked : (d : PlainDescription) (limit : ℕ) (s : SimService) → IsNext s → is_reported d limit s ≡ true
     → MayTell s.last (service_ticked d limit s).state
-told-ticked d limit s next reports = go (is_untold s) refl (changes d s) refl (nat_le limit (s.count + 1))
+told_ticked d limit s next reports = go (is_untold s) refl (changes d s) refl (nat_le limit (s.count + 1))
     (own_target s.state) refl reports
   where
     go : (untold : Bool) → is_untold s ≡ untold → (changing : Bool) → changes d s ≡ changing
         → (ripe : Bool) (target : Option State) → own_target s.state ≡ target
         → (untold || (changing && ripe)) ≡ true →
         MayTell s.last (cond untold (told s) (cond changing (cond ripe (moved_on s target) (counted s)) s)).state
-    go true u changing c ripe target e r = untold-may s u next
+    go true u changing c ripe target e r = untold_may s u next
     go false u false c ripe target e r = cc
     go false u true c false target e r = cc
     go false u true c true None e r = let clash : false ≡ true = sym (rw e refl) ∙ c in cc
-    go false u true c true (Some state) e r = edge-may s.last s.state state (told-last s u) (own-edge s.state state e)
+    go false u true c true (Some state) e r = edge_may s.last s.state state (told_last s u) (own_edge s.state state e)
 
 -- a tick leaves a service its name
-pub name-ticked : (d : DescriptionForm) (limit : ℕ) (s : SimService) → (service_ticked d limit s).name ≡ s.name
-name-ticked d limit s = go (is_untold s) (changes d s) (nat_le limit (s.count + 1)) (own_target s.state)
+pub name_ticked : (d : PlainDescription) (limit : ℕ) (s : SimService) → (service_ticked d limit s).name ≡ s.name
+name_ticked d limit s = go (is_untold s) (changes d s) (nat_le limit (s.count + 1)) (own_target s.state)
   where
     go : (untold changing ripe : Bool) (target : Option State) →
         (cond untold (told s) (cond changing (cond ripe (moved_on s target) (counted s)) s)).name ≡ s.name
@@ -138,31 +138,31 @@ name-ticked d limit s = go (is_untold s) (changes d s) (nat_le limit (s.count + 
     go false true true (Some state) = refl
 
 -- a tick leaves a service in a state that isn't reported yet
-stays-ticked : (d : DescriptionForm) (limit : ℕ) (s : SimService) → is_untold s ≡ true
+stays_ticked : (d : PlainDescription) (limit : ℕ) (s : SimService) → is_untold s ≡ true
     → (service_ticked d limit s).state ≡ s.state
-stays-ticked d limit s untold = rw untold refl
+stays_ticked d limit s untold = rw untold refl
 
 -- ---- lists
 
 -- what holds of each item holds of the one at a place
-pub all-at : {A : Type 0} (P : A → Type 0) (xs : List A) (i : ℕ) (x : A) → AllByRecursion P xs → slice_get xs i ≡ Some x
+pub all_at : {A : Type 0} (P : A → Type 0) (xs : List A) (i : ℕ) (x : A) → AllByRecursion P xs → slice_get xs i ≡ Some x
     → P x
-all-at P [] i x all at = cc
-all-at P (first ∷ others) zero x all at = subst P (same_Some first x at) all.0
-all-at P (first ∷ others) (suc i) x all at = all-at P others i x all.1 at
+all_at P [] i x all at = cc
+all_at P (first ∷ others) zero x all at = subst P (same_Some first x at) all.0
+all_at P (first ∷ others) (suc i) x all at = all_at P others i x all.1 at
 
 -- what holds of each item and of one more holds of each after that one is put at a place
-pub all-set : {A : Type 0} (P : A → Type 0) (xs : List A) (i : ℕ) (y : A) → AllByRecursion P xs → P y
+pub all_set : {A : Type 0} (P : A → Type 0) (xs : List A) (i : ℕ) (y : A) → AllByRecursion P xs → P y
     → AllByRecursion P (slice_set xs i y)
-all-set P [] i y all holds = tt
-all-set P (first ∷ others) zero y all holds = (holds, all.1)
-all-set P (first ∷ others) (suc i) y all holds = (all.0, all-set P others i y all.1 holds)
+all_set P [] i y all holds = tt
+all_set P (first ∷ others) zero y all holds = (holds, all.1)
+all_set P (first ∷ others) (suc i) y all holds = (all.0, all_set P others i y all.1 holds)
 
 -- where no item passes a test, the one at a place doesn't
-pub none-at : {A : Type 0} (test : A → Bool) (xs : List A) (i : ℕ) (x : A) → list_any test xs ≡ false
+pub none_at : {A : Type 0} (test : A → Bool) (xs : List A) (i : ℕ) (x : A) → list_any test xs ≡ false
     → slice_get xs i ≡ Some x → test x ≡ false
-none-at test [] i x none at = cc
-none-at {A} test (first ∷ others) i x none at = go (test first) refl none i at (none-at test others)
+none_at test [] i x none at = cc
+none_at {A} test (first ∷ others) i x none at = go (test first) refl none i at (none_at test others)
   where
     go : (b : Bool) → test first ≡ b → (b || list_any test others) ≡ false → (i : ℕ)
         → slice_get (first ∷ others) i ≡ Some x →
@@ -172,35 +172,35 @@ none-at {A} test (first ∷ others) i x none at = go (test first) refl none i at
     go false is none (suc i) at again = again i x none at
 
 -- an item that is put in place of another leaves what each place says, where it says the same as that other
-said-set : {A B : Type 0} (says : A → B) (xs : List A) (place i : ℕ) (old new x : A) → slice_get xs place ≡ Some old
+said_set : {A B : Type 0} (says : A → B) (xs : List A) (place i : ℕ) (old new x : A) → slice_get xs place ≡ Some old
     → slice_get xs i ≡ Some x
     → (x ≡ old → says new ≡ says x) → option_map says (slice_get (slice_set xs place new) i) ≡ Some (says x)
-said-set says [] place i old new x there at same = cc
-said-set says (first ∷ others) zero zero old new x there at same =
+said_set says [] place i old new x there at same = cc
+said_set says (first ∷ others) zero zero old new x there at same =
     ap Some (same (sym (same_Some first x at) ∙ same_Some first old there))
-said-set says (first ∷ others) zero (suc i) old new x there at same = ap (option_map says) at
-said-set says (first ∷ others) (suc place) zero old new x there at same = ap (option_map says) at
-said-set says (first ∷ others) (suc place) (suc i) old new x there at same =
-    said-set says others place i old new x there at same
+said_set says (first ∷ others) zero (suc i) old new x there at same = ap (option_map says) at
+said_set says (first ∷ others) (suc place) zero old new x there at same = ap (option_map says) at
+said_set says (first ∷ others) (suc place) (suc i) old new x there at same =
+    said_set says others place i old new x there at same
 
 -- ---- a module
 
 -- the services of a module at first are where they may be
-pub firsts-next : (services : List ServiceForm) → AreNext (map (λ service. first_service service.name) services)
-firsts-next [] = tt
-firsts-next (service ∷ others) = (inr refl, firsts-next others)
+pub firsts_next : (services : List PlainService) → AreNext (map (λ service. first_service service.name) services)
+firsts_next [] = tt
+firsts_next (service ∷ others) = (inr refl, firsts_next others)
 
 -- so of every description
 pub first_along : FirstModulesFollowEdges
-first_along description plan = firsts-next description.services
+first_along description plan = firsts_next description.services
 
 -- a tick that looks at the service at a place leaves each where it may be
-pub next-ticked-at : (d : DescriptionForm) (limit : ℕ) (services : List SimService) (place : ℕ) (s : SimService)
+pub next_ticked_at : (d : PlainDescription) (limit : ℕ) (services : List SimService) (place : ℕ) (s : SimService)
     → AreNext services
     → slice_get services place ≡ Some s → AreNext (slice_set services place (service_ticked d limit s))
-next-ticked-at d limit services place s next at =
-    all-set IsNext services place (service_ticked d limit s) next
-    (next-ticked d limit s (all-at IsNext services place s next at))
+next_ticked_at d limit services place s next at =
+    all_set IsNext services place (service_ticked d limit s) next
+    (next_ticked d limit s (all_at IsNext services place s next at))
 
 -- a tick of a module whose services are where they may be
 pub ticks_along : TicksFollowEdges
@@ -218,7 +218,7 @@ ticks_along sim next =
     kept : (service : Option SimService) → slice_get sim.services sim.place ≡ service
         → AreNext (ticked_at sim service).services
     kept None at = at_drift (drift_here sim)
-    kept (Some service) at = next-ticked-at sim.description (limit_of sim service) sim.services sim.place service next
+    kept (Some service) at = next_ticked_at sim.description (limit_of sim service) sim.services sim.place service next
         at
 
     tells : (service : SimService) → slice_get sim.services sim.place ≡ Some service → (reports : Bool)
@@ -230,9 +230,9 @@ ticks_along sim next =
         record {
           service = service;
           here = at;
-          named = name-ticked sim.description (limit_of sim service) service;
-          may = told-ticked sim.description (limit_of sim service) service
-              (all-at IsNext sim.services sim.place service next at) is;
+          named = name_ticked sim.description (limit_of sim service) service;
+          may = told_ticked sim.description (limit_of sim service) service
+              (all_at IsNext sim.services sim.place service next at) is;
         }
 
     drifts : (drift : Option SimDrift) → IfSome (drift_report sim drift) (FollowsEdges sim)
@@ -261,23 +261,23 @@ ticks_along sim next =
     stays_at None looks place service at untold =
         state_of_drift (drift_here sim) place ∙ ap (option_map (λ after. after.state)) at
     stays_at (Some looked) looks place service at untold =
-        said-set (λ after. after.state) sim.services sim.place place looked (ticked_service sim looked) service looks at
-        (λ same. rw (sym same) (stays-ticked sim.description (limit_of sim service) service untold))
+        said_set (λ after. after.state) sim.services sim.place place looked (ticked_service sim looked) service looks at
+        (λ same. rw (sym same) (stays_ticked sim.description (limit_of sim service) service untold))
 
     stays : StayUntold sim (ticked_at sim (slice_get sim.services sim.place))
     stays place service at untold = stays_at (slice_get sim.services sim.place) refl place service at untold
 
 -- a service that a command leads elsewhere, once it told its state, is then where it may be
-pub led-next : (s : SimService) (target : State) (procedure : ℕ) (command : Command) → is_untold s ≡ false
+pub led_next : (s : SimService) (target : State) (procedure : ℕ) (command : Command) → is_untold s ≡ false
     → command_target s.state command ≡ Some target → IsNext (sent_to s target procedure)
-led-next s target procedure command told leads =
-    inr (edge-may s.last s.state target (told-last s told) (command-edge s.state target command leads))
+led_next s target procedure command told leads =
+    inr (edge_may s.last s.state target (told_last s told) (command_edge s.state target command leads))
 
 -- so is one that takes a command
-took-next : (d : DescriptionForm) (s : SimService) (command : Command) (procedure : ℕ) → is_untold s ≡ false
+took_next : (d : PlainDescription) (s : SimService) (command : Command) (procedure : ℕ) → is_untold s ≡ false
     → (after : SimService)
     → service_took d s command procedure ≡ Some after → IsNext after
-took-next d s command procedure told after took =
+took_next d s command procedure told after took =
     go (same_command command Complete && runs_through d s) (command_target s.state command)
     (procedure_after d s command procedure) refl took
   where
@@ -289,12 +289,12 @@ took-next d s command procedure told after took =
     go false (Some target) None leads is = cc
     go false (Some target) (Some runs) leads is =
         subst IsNext (same_Some (sent_to s target runs) after is)
-        (led-next s target runs command told leads)
+        (led_next s target runs command told leads)
 
 -- a service that takes a command keeps its name
-pub name-taken : (d : DescriptionForm) (s : SimService) (command : Command) (procedure : ℕ) (after : SimService)
+pub name_taken : (d : PlainDescription) (s : SimService) (command : Command) (procedure : ℕ) (after : SimService)
     → service_took d s command procedure ≡ Some after → after.name ≡ s.name
-name-taken d s command procedure after took =
+name_taken d s command procedure after took =
     go (same_command command Complete && runs_through d s) (command_target s.state command)
     (procedure_after d s command procedure) took
   where
@@ -308,32 +308,32 @@ name-taken d s command procedure after took =
         (ap (λ service. service.name) (same_Some (sent_to s target runs) after is))
 
 -- a service at a place that takes a command leaves each where it may be, where each state was reported
-pub next-taken-at : (d : DescriptionForm) (services : List SimService) (place : ℕ) (s : SimService) (command : Command)
+pub next_taken_at : (d : PlainDescription) (services : List SimService) (place : ℕ) (s : SimService) (command : Command)
     (procedure : ℕ) (after : SimService)
     → list_any is_untold services ≡ false → AreNext services → slice_get services place ≡ Some s
     → service_took d s command procedure ≡ Some after
     → AreNext (slice_set services place after)
-next-taken-at d services place s command procedure after calm next at took =
-    all-set IsNext services place after next
-    (took-next d s command procedure (none-at is_untold services place s calm at) after took)
+next_taken_at d services place s command procedure after calm next at took =
+    all_set IsNext services place after next
+    (took_next d s command procedure (none_at is_untold services place s calm at) after took)
 
 -- where nothing is pending, each state was reported
-pub pending-none : (one other : Bool) → (one || other) ≡ false → one ≡ false
-pending-none true other is = cc
-pending-none false other is = refl
+pub pending_none : (one other : Bool) → (one || other) ≡ false → one ≡ false
+pending_none true other is = cc
+pending_none false other is = refl
 
 -- a command to a module whose services are where they may be, with nothing pending
 pub commands_along : CommandsFollowEdges
 commands_along sim service command procedure calm next = go (place_of service sim)
   where
     untold : list_any is_untold sim.services ≡ false
-    untold = pending-none (list_any is_untold sim.services) (list_any is_silent sim.drifts) calm
+    untold = pending_none (list_any is_untold sim.services) (list_any is_silent sim.drifts) calm
 
     taking : (place : ℕ) (s : SimService) → slice_get sim.services place ≡ Some s → (taken : Option SimService)
         → service_took sim.description s command procedure ≡ taken →
         AreNext (after_command sim (option_map (with_service sim place) taken)).services
     taking place s at None took = next
-    taking place s at (Some after) took = next-taken-at sim.description sim.services place s command procedure after
+    taking place s at (Some after) took = next_taken_at sim.description sim.services place s command procedure after
         untold next at took
 
     at_place : (place : ℕ) (s : Option SimService) → slice_get sim.services place ≡ s →

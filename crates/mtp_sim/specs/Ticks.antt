@@ -10,14 +10,14 @@ use Rattle.mtp_codes.specs.declared.value.Value.TheVariants.{Whole}
 use Rattle.mtp_machine.specs.Machine.{commanded, own_target, same_state, same_command}
 use Rattle.mtp_machine.specs.States.{is_execute}
 use Rattle.mtp_assembly.specs.declared.control.ServiceControl.{ServiceControl}
-use Rattle.mtp_desc.specs.Plain.{DescriptionForm}
+use Rattle.mtp_desc.specs.Plain.{PlainDescription}
 use Rattle.mtp_desc.specs.Lookup.{self_completes}
 use Rattle.mtp_sim.specs.declared.plan.Drift.{Drift}
 use Rattle.mtp_sim.specs.declared.service.SimService.{SimService}
 use Rattle.mtp_sim.specs.declared.drift.SimDrift.{SimDrift}
 use Rattle.mtp_sim.specs.declared.report.SimReport.{SimReport}
 use Rattle.mtp_sim.specs.declared.report.SimReport.TheVariants.{Service, Variable}
-use Rattle.mtp_sim.specs.Sims.{SimForm, drift_in}
+use Rattle.mtp_sim.specs.Sims.{PlainSim, drift_in}
 
 -- the sum of the commands that leave a state, without Complete where the procedure completes by itself
 unfoldable pub enabled_of : Bool → State → ℕ
@@ -37,11 +37,11 @@ control_in completes procedure state =
     }
 
 -- the running procedure of a service completes by itself
-abbrev pub runs_through : DescriptionForm → SimService → Bool
+abbrev pub runs_through : PlainDescription → SimService → Bool
 runs_through description service = self_completes service.name service.procedure description
 
 -- what a service reports of itself
-abbrev pub control_now : DescriptionForm → SimService → ServiceControl
+abbrev pub control_now : PlainDescription → SimService → ServiceControl
 control_now description service = control_in (runs_through description service) service.procedure service.state
 
 -- it is this state
@@ -58,7 +58,7 @@ abbrev pub changes_in : Bool → State → Bool
 changes_in completes state = is_some (own_target state) && (completes || not (is_execute state))
 
 -- the service changes by itself
-abbrev pub changes : DescriptionForm → SimService → Bool
+abbrev pub changes : PlainDescription → SimService → Bool
 changes description service = changes_in (runs_through description service) service.state
 
 -- how many ticks a change takes: in Execute those of an execution
@@ -94,7 +94,7 @@ counted service =
     }
 
 -- the service after a tick that looks at it
-abbrev pub service_ticked : DescriptionForm → ℕ → SimService → SimService
+abbrev pub service_ticked : PlainDescription → ℕ → SimService → SimService
 service_ticked description limit service =
     if is_untold service then told service
     else if changes description service
@@ -102,7 +102,7 @@ service_ticked description limit service =
     else service
 
 -- the tick reports the service: its state wasn't reported, or it changes now
-abbrev pub is_reported : DescriptionForm → ℕ → SimService → Bool
+abbrev pub is_reported : PlainDescription → ℕ → SimService → Bool
 is_reported description limit service =
     is_untold service || (changes description service && nat_le limit (service.count + 1))
 
@@ -139,7 +139,7 @@ abbrev pub place_after : ℕ → ℕ → ℕ
 place_after count place = if nat_le count (place + 1) then 0 else place + 1
 
 -- the module with the next place
-abbrev pub moved : SimForm → List SimService → List SimDrift → SimForm
+abbrev pub moved : PlainSim → List SimService → List SimDrift → PlainSim
 moved sim services drifts =
     record {
       description = sim.description;
@@ -151,11 +151,11 @@ moved sim services drifts =
     }
 
 -- the service at the place, if there is one
-abbrev pub service_here : SimForm → Option SimService
+abbrev pub service_here : PlainSim → Option SimService
 service_here sim = slice_get sim.services sim.place
 
 -- the drift at the place, if there is one
-abbrev pub drift_here : SimForm → Option SimDrift
+abbrev pub drift_here : PlainSim → Option SimDrift
 drift_here sim = slice_get sim.drifts (sim.place - length sim.services)
 
 -- a report of a variable
@@ -163,52 +163,52 @@ abbrev pub variable_report : List ℕ → ℤ → SimReport
 variable_report name value = Variable name (Whole value)
 
 -- the report of a service
-abbrev pub report_of : DescriptionForm → SimService → SimReport
+abbrev pub report_of : PlainDescription → SimService → SimReport
 report_of description service = Service service.name (control_now description service)
 
 -- how many ticks the next change of the service takes
-abbrev pub limit_of : SimForm → SimService → ℕ
+abbrev pub limit_of : PlainSim → SimService → ℕ
 limit_of sim service = ticks_of sim.ticks sim.run service.state
 
 -- the service after a tick of the module that looks at it
-abbrev pub ticked_service : SimForm → SimService → SimService
+abbrev pub ticked_service : PlainSim → SimService → SimService
 ticked_service sim service = service_ticked sim.description (limit_of sim service) service
 
 -- what the tick reports that looks at a service
-abbrev pub service_report : SimForm → SimService → Option SimReport
+abbrev pub service_report : PlainSim → SimService → Option SimReport
 service_report sim service =
     if is_reported sim.description (limit_of sim service) service
     then Some (report_of sim.description (ticked_service sim service))
     else None
 
 -- what the tick reports that looks at a drift
-abbrev pub drift_report : SimForm → Option SimDrift → Option SimReport
+abbrev pub drift_report : PlainSim → Option SimDrift → Option SimReport
 drift_report sim None = None
 drift_report sim (Some drift) = option_map (variable_report drift.name) (value_told (is_executing sim.services) drift)
 
 -- what a tick reports
-abbrev pub report_by : SimForm → Option SimService → Option SimReport
+abbrev pub report_by : PlainSim → Option SimService → Option SimReport
 report_by sim (Some service) = service_report sim service
 report_by sim None = drift_report sim (drift_here sim)
 
 -- what the next tick reports
-abbrev pub tick_report : SimForm → Option SimReport
+abbrev pub tick_report : PlainSim → Option SimReport
 tick_report sim = report_by sim (service_here sim)
 
 -- the module after a tick that looks at a drift
-abbrev pub ticked_at_drift : SimForm → Option SimDrift → SimForm
+abbrev pub ticked_at_drift : PlainSim → Option SimDrift → PlainSim
 ticked_at_drift sim None = moved sim sim.services sim.drifts
 ticked_at_drift sim (Some drift) =
     moved sim sim.services
     (drifts_after sim.drifts (sim.place - length sim.services) drift (value_told (is_executing sim.services) drift))
 
 -- the module after a tick
-abbrev pub ticked_at : SimForm → Option SimService → SimForm
+abbrev pub ticked_at : PlainSim → Option SimService → PlainSim
 ticked_at sim (Some service) = moved sim (slice_set sim.services sim.place (ticked_service sim service)) sim.drifts
 ticked_at sim None = ticked_at_drift sim (drift_here sim)
 
 -- the module after the next tick
-abbrev pub ticked : SimForm → SimForm
+abbrev pub ticked : PlainSim → PlainSim
 ticked sim = ticked_at sim (service_here sim)
 
 -- the value of the drift isn't reported yet
@@ -216,7 +216,7 @@ abbrev pub is_silent : SimDrift → Bool
 is_silent drift = is_none drift.last
 
 -- a state of a service, or a first value of a drift, isn't reported yet
-abbrev pub is_pending : SimForm → Bool
+abbrev pub is_pending : PlainSim → Bool
 is_pending sim = list_any is_untold sim.services || list_any is_silent sim.drifts
 
 -- a value of the drift is left
@@ -224,7 +224,7 @@ abbrev pub is_left : SimDrift → Bool
 is_left drift = is_some (next_value (drift_in drift) drift.last)
 
 -- nothing is pending, no service changes by itself, and no service executes while a drift has values left
-abbrev pub is_at_rest : SimForm → Bool
+abbrev pub is_at_rest : PlainSim → Bool
 is_at_rest sim =
     not (is_pending sim)
     && (not (list_any (changes sim.description) sim.services)

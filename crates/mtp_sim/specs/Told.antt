@@ -5,11 +5,11 @@ use Rattle.mtp_codes.specs.declared.command.Command.{Command}
 use Rattle.mtp_codes.specs.declared.state.State.{State}
 use Rattle.mtp_codes.specs.declared.state.State.TheVariants.{Idle}
 use Rattle.mtp_machine.specs.Machine.{IsEdge}
-use Rattle.mtp_desc.specs.Plain.{DescriptionForm}
+use Rattle.mtp_desc.specs.Plain.{PlainDescription}
 use Rattle.mtp_sim.specs.declared.report.SimReport.{SimReport}
 use Rattle.mtp_sim.specs.declared.report.SimReport.TheVariants.{Service, Variable}
 use Rattle.mtp_sim.specs.declared.service.SimService.{SimService}
-use Rattle.mtp_sim.specs.Sims.{PlanForm, SimForm, first_sim}
+use Rattle.mtp_sim.specs.Sims.{PlainPlan, PlainSim, first_sim}
 use Rattle.mtp_sim.specs.Ticks.{is_pending, is_untold, tick_report, ticked}
 use Rattle.mtp_sim.specs.Commands.{took, after_command}
 
@@ -27,26 +27,26 @@ abbrev pub AreNext : List SimService → Type 0
 AreNext services = AllByRecursion IsNext services
 
 -- a state that is reported under a name: it is reported of a service of this name, which may report it
-pub record TellsNext (sim : SimForm) (name : List ℕ) (state : State) : Type 0 where
+pub record TellsNext (sim : PlainSim) (name : List ℕ) (state : State) : Type 0 where
   pub service : SimService
   pub here : slice_get sim.services sim.place ≡ Some service
   pub named : name ≡ service.name
   pub may : MayTell service.last state
 
 -- what is reported follows the edges: a service reports a state that it may; a variable is free
-abbrev pub FollowsEdges : SimForm → SimReport → Type 0
+abbrev pub FollowsEdges : PlainSim → SimReport → Type 0
 FollowsEdges sim (Service name control) = TellsNext sim name control.state
 FollowsEdges sim (Variable name value) = ⊤
 
 -- no service leaves a state that it hasn't reported yet
-abbrev pub StayUntold : SimForm → SimForm → Type 0
+abbrev pub StayUntold : PlainSim → PlainSim → Type 0
 StayUntold old new =
     (place : ℕ) (service : SimService) → slice_get old.services place ≡ Some service → is_untold service ≡ true →
     option_map (λ after. after.state) (slice_get new.services place) ≡ Some service.state
 
 -- a tick of this module keeps each service where it may be, reports what it may, and leaves no state before it was
 -- reported
-pub record TicksRightly (sim : SimForm) : Type 0 where
+pub record TicksRightly (sim : PlainSim) : Type 0 where
   pub kept : AreNext (ticked sim).services
   pub edges : IfSome (tick_report sim) (FollowsEdges sim)
   pub stays : StayUntold sim (ticked sim)
@@ -54,14 +54,14 @@ pub record TicksRightly (sim : SimForm) : Type 0 where
 -- the services of a module at first are where they may be
 abbrev pub FirstModulesFollowEdges : Type 0
 FirstModulesFollowEdges =
-    (description : DescriptionForm) (plan : PlanForm) → AreNext (first_sim description plan).services
+    (description : PlainDescription) (plan : PlainPlan) → AreNext (first_sim description plan).services
 
 -- every tick of a module whose services are where they may be does so rightly
 abbrev pub TicksFollowEdges : Type 0
-TicksFollowEdges = (sim : SimForm) → AreNext sim.services → TicksRightly sim
+TicksFollowEdges = (sim : PlainSim) → AreNext sim.services → TicksRightly sim
 
 -- a command keeps each service where it may be, where nothing is pending
 abbrev pub CommandsFollowEdges : Type 0
 CommandsFollowEdges =
-    (sim : SimForm) (service : List ℕ) (command : Command) (procedure : ℕ) → is_pending sim ≡ false →
+    (sim : PlainSim) (service : List ℕ) (command : Command) (procedure : ℕ) → is_pending sim ≡ false →
     AreNext sim.services → AreNext (after_command sim (took sim service command procedure)).services

@@ -1,7 +1,7 @@
 //! Looks over the services and the drifts of a simulated module.
 ghost use Rattle.std.specs.Prelude.{◌≡◌, slice_get, slice_set};
 ghost use Rattle.std.specs.List.{list_any};
-ghost use Rattle.mtp_desc.specs.DescriptionView.{description_view};
+ghost use Rattle.mtp_desc.specs.PlainDescription.{plain_description};
 ghost use Rattle.mtp_sim.specs.Ticks.{changes, is_executing, is_left, is_silent, is_untold, place_after};
 
 use super::drift::SimDrift;
@@ -56,7 +56,7 @@ pub(crate) fn any_untold(services: &[SimService]) -> bool
 
 /// Whether some service changes by itself.
 pub(crate) fn any_changes(services: &[SimService], description: &Description) -> bool
-    ensures { result ≡ list_any (changes (description_view description.now)) services.now }
+    ensures { result ≡ list_any (changes (plain_description description.now)) services.now }
 {
     services.iter().any(|service| service.changes(description))
 }

@@ -1,6 +1,6 @@
 //! A service of a simulated module.
 ghost use Rattle.std.specs.Prelude.{◌≡◌};
-ghost use Rattle.mtp_desc.specs.DescriptionView.{description_view};
+ghost use Rattle.mtp_desc.specs.PlainDescription.{plain_description};
 ghost use Rattle.mtp_machine.specs.States.{is_execute};
 ghost use Rattle.mtp_sim.specs.Commands.{asked_procedure, procedure_after, service_took};
 ghost use Rattle.mtp_sim.specs.Sims.{first_service};
@@ -54,7 +54,7 @@ fn is_execute(state: State) -> bool
 
 // The procedure that a start asks for, if the module has it; 0 asks for the default one.
 fn asked_procedure(description: &Description, name: Name, procedure: u16) -> Option<u16>
-    ensures { result ≡ asked_procedure name procedure (description_view description.now) }
+    ensures { result ≡ asked_procedure name procedure (plain_description description.now) }
 {
     let service = description.service(name)?;
     if procedure == 0 {
@@ -83,7 +83,7 @@ impl SimService {
 
     // What it reports of itself.
     fn control(&self, description: &Description) -> ServiceControl
-        ensures { result ≡ control_now (description_view description.now) self.now }
+        ensures { result ≡ control_now (plain_description description.now) self.now }
     {
         ServiceControl {
             state: self.state,
@@ -99,7 +99,7 @@ impl SimService {
 
     /// The report of it.
     pub fn report(&self, description: &Description) -> SimReport
-        ensures { result ≡ report_of (description_view description.now) self.now }
+        ensures { result ≡ report_of (plain_description description.now) self.now }
     {
         SimReport::Service {
             name: self.name,
@@ -126,7 +126,7 @@ impl SimService {
 
     /// Whether it changes by itself: not from Execute where its procedure waits to be completed.
     pub fn changes(&self, description: &Description) -> bool
-        ensures { result ≡ changes (description_view description.now) self.now }
+        ensures { result ≡ changes (plain_description description.now) self.now }
     {
         changes_in(
             description.self_completes(self.name, self.procedure),
@@ -144,9 +144,9 @@ impl SimService {
     /// A tick that looks at it: whether it reports now.
     pub fn tick(&mut self, description: &Description, ticks: u16, run: u16) -> bool
         ensures report { result
-            ≡ is_reported (description_view description.now) (ticks_of ticks run self.old.state) self.old }
+            ≡ is_reported (plain_description description.now) (ticks_of ticks run self.old.state) self.old }
         ensures after { self.new
-            ≡ service_ticked (description_view description.now) (ticks_of ticks run self.old.state) self.old }
+            ≡ service_ticked (plain_description description.now) (ticks_of ticks run self.old.state) self.old }
     {
         if self.is_untold() {
             self.last = Some(self.state);
@@ -179,7 +179,7 @@ impl SimService {
         command: Command,
         procedure: u16,
     ) -> Option<u16>
-        ensures { result ≡ procedure_after (description_view description.now) self.now command procedure }
+        ensures { result ≡ procedure_after (plain_description description.now) self.now command procedure }
     {
         if command == Command::Start {
             asked_procedure(description, self.name, procedure)
@@ -195,7 +195,7 @@ impl SimService {
         command: Command,
         procedure: u16,
     ) -> Option<SimService>
-        ensures { result ≡ service_took (description_view description.now) self.now command procedure }
+        ensures { result ≡ service_took (plain_description description.now) self.now command procedure }
     {
         if command == Command::Complete && description.self_completes(self.name, self.procedure) {
             return None;

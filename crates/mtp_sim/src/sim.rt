@@ -1,11 +1,11 @@
 //! A simulated module.
 ghost use Rattle.std.specs.Prelude.{◌≡◌, ◌+◌, IfOk, IfSome, Some, ◌≤◌, false, is_some, length, map};
-ghost use Rattle.mtp_desc.specs.DescriptionView.{description_view};
+ghost use Rattle.mtp_desc.specs.PlainDescription.{plain_description};
 ghost use Rattle.mtp_desc.specs.Plain.{same_service};
-ghost use Rattle.mtp_desc.specs.ServiceView.{service_view};
+ghost use Rattle.mtp_desc.specs.PlainService.{plain_service};
 ghost use Rattle.mtp_json.specs.Form.{repeats_by};
 ghost use Rattle.mtp_sim.specs.Commands.{after_command, place_of, took, took_at};
-ghost use Rattle.mtp_sim.specs.Sims.{first_drift, first_service, first_sim, plan_view};
+ghost use Rattle.mtp_sim.specs.Sims.{first_drift, first_service, first_sim, plain_plan};
 ghost use Rattle.mtp_sim.specs.Ticks.{drift_here, drift_report, is_at_rest, is_executing, is_pending, place_after, service_here, service_report, tick_report, ticked, ticked_at, ticked_at_drift, value_told};
 ghost use Rattle.mtp_sim.specs.Told.{FollowsEdges, StayUntold};
 
@@ -39,14 +39,14 @@ pub struct Sim {
 }
 
 impl Model for Sim {
-    ghost use Rattle.mtp_desc.specs.DescriptionView.{description_view};
-    ghost use Rattle.mtp_sim.specs.Sims.{SimForm};
+    ghost use Rattle.mtp_desc.specs.PlainDescription.{plain_description};
+    ghost use Rattle.mtp_sim.specs.Sims.{PlainSim};
     ghost use Rattle.mtp_sim.specs.Kept.{IsIndexed};
 
-    ghost Value = { SimForm };
+    ghost Value = { PlainSim };
 
     ghost view = { λ sim. record {
-      description = description_view sim.description.value;
+      description = plain_description sim.description.value;
       ticks = sim.ticks;
       run = sim.run;
       services = sim.services.items;
@@ -60,7 +60,7 @@ impl Model for Sim {
 // The services of a description at first.
 fn first_services(alloc: Global, services: &[Service]) -> Result<Vec<SimService>, AllocError>
     ensures { IfOk result (λ first. first.items
-        ≡ map (λ service. first_service service.name) (map service_view services.now)) }
+        ≡ map (λ service. first_service service.name) (map plain_service services.now)) }
 {
     let mut first = Vec::new(alloc);
     for service in services {
@@ -82,8 +82,8 @@ fn first_drifts(alloc: Global, drifts: &[Drift]) -> Result<Vec<SimDrift>, AllocE
 
 // The names of the services of a description in their order.
 fn names_of(alloc: Global, services: &[Service]) -> Result<IndexSet<Name>, AllocError>
-    requires { repeats_by same_service (map service_view services.now) ≡ false }
-    ensures { IfOk result (λ names. names.keys ≡ map (λ service. service.name) (map service_view services.now)) }
+    requires { repeats_by same_service (map plain_service services.now) ≡ false }
+    ensures { IfOk result (λ names. names.keys ≡ map (λ service. service.name) (map plain_service services.now)) }
 {
     let mut names = IndexSet::new(alloc);
     for service in services {
@@ -104,7 +104,7 @@ impl Sim {
         description: Arc<Description>,
         plan: &SimPlan,
     ) -> Result<Sim, AllocError>
-        ensures { IfOk result (λ sim. sim ≡ first_sim (description_view description.value) (plan_view plan.now)) }
+        ensures { IfOk result (λ sim. sim ≡ first_sim (plain_description description.value) (plain_plan plan.now)) }
     {
         let described: &[Service] = &description.services;
         let names = names_of(alloc, described)?;

@@ -1,6 +1,6 @@
 //! The program `pol`: a process orchestration layer for modular plants. It makes the real source, sink and clock, does
-//! what its words ask for (`pol_cli::top`), says on standard error how it ended where not all is good, and ends with the
-//! status's number.
+//! what its words ask for (`pol_cli::top`), says on standard error how it ended where not all is good, and ends with
+//! the status's number.
 #![tactic(auto)]
 
 use pol_cli::{Status, top};
@@ -32,7 +32,8 @@ fn unread(error: &io::Error) -> Status {
     }
 }
 
-// Does what the words ask for. `top` has the output's buffer emptied before it waits for input; the rest goes at the end.
+// Does what the words ask for. `top` has the output's buffer emptied before it waits for input; the rest goes at the
+// end.
 fn run<R: Threads + Wait + Sync, S: Source, W: Write, C: Clock + Send>(
     rt: &R,
     alloc: Global,

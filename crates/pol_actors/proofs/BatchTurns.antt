@@ -7,7 +7,7 @@ use Rattle.mtp_codes.specs.Faults.{when}
 use Rattle.mtp_codes.specs.declared.command.Command.{Command}
 use Rattle.chart_core.specs.declared.entry.LogEntry.{LogEntry}
 use Rattle.chart_cursor.specs.Commands.{Sent, sent_by}
-use Rattle.pol_events.specs.Events.{EntryForm, EventForm, start, advance, desk}
+use Rattle.pol_events.specs.Events.{PlainEntry, PlainEvent, start, advance, desk}
 use Rattle.pol_events.specs.declared.answer.Answer.{Answer}
 use Rattle.pol_events.specs.declared.answer.Answer.TheVariants.{Done, Ticket, Did, Waiting, Closed, Refused}
 use Rattle.pol_events.specs.declared.answer.Rule.TheVariants.{HistoryFull}
@@ -15,13 +15,13 @@ use Rattle.pol_history.specs.Answers.{answer_of, is_full, otherwise, rules}
 use Rattle.pol_history.specs.Commands.{sent_command}
 use Rattle.pol_history.specs.Looking.{History, is_accepted, is_batch, past, subject}
 use Rattle.pol_history.proofs.Accepted.{paired}
-use Rattle.pol_history.proofs.Names.{same-true}
+use Rattle.pol_history.proofs.Names.{same_true}
 use Rattle.pol_history.specs.Modules.{is_moving}
 use Rattle.pol_site.specs.Actors.{owner_of}
 use Rattle.pol_site.specs.Commanded.{IsCommanded}
 use Rattle.pol_site.specs.Following.{IsAllowed, is_order, ordered}
 use Rattle.pol_site.specs.Settled.{waits_to_order}
-use Rattle.pol_site.specs.Sites.{SiteForm, SiteModuleForm, SiteBatchForm, SiteDeskForm}
+use Rattle.pol_site.specs.Sites.{PlainSite, PlainSiteModule, PlainSiteBatch, PlainSiteDesk}
 use Rattle.pol_site.specs.Stories.{if_to, sent_to, touches}
 use Rattle.pol_stillness.proofs.Desks.{desks_refused}
 use Rattle.pol_actors.specs.Batches.{batch_event, stage_after}
@@ -32,220 +32,220 @@ use Rattle.pol_actors.specs.declared.batch.Stage.{Stage}
 use Rattle.pol_actors.specs.declared.desk.Desk.{Desk}
 use Rattle.pol_actors.specs.declared.exchanger.Exchanger.{Exchanger}
 use Rattle.pol_actors.specs.declared.unit.Unit.{Unit as Module}
-use Rattle.pol_actors.proofs.Commanded.{Commands, commanded-more, unmoved, untouched}
-use Rattle.pol_actors.proofs.Exchanging.{exchanger-other}
-use Rattle.pol_actors.proofs.Numbers.{lt-not, set-got, set-long, within-item}
-use Rattle.pol_actors.proofs.Owners.{names-apart, owned-more, owner-batch, owner-desk}
-use Rattle.pol_actors.proofs.Stages.{IsBatchTurn, batch-turn, stage-other}
-use Rattle.pol_actors.proofs.Stamped.{IsNext, allowed-stamped, entry_at, next-kept, owner-stamped}
-use Rattle.pol_actors.proofs.Units.{sends-none, touches-none, touches-refused, unit-sent, unit-untouched}
+use Rattle.pol_actors.proofs.Commanded.{Commands, commanded_more, unmoved, untouched}
+use Rattle.pol_actors.proofs.Exchanging.{exchanger_other}
+use Rattle.pol_actors.proofs.Numbers.{lt_not, set_got, set_long, within_item}
+use Rattle.pol_actors.proofs.Owners.{names_apart, owned_more, owner_batch, owner_desk}
+use Rattle.pol_actors.proofs.Stages.{IsBatchTurn, batch_turn, stage_other}
+use Rattle.pol_actors.proofs.Stamped.{IsNext, allowed_stamped, entry_at, next_kept, owner_stamped}
+use Rattle.pol_actors.proofs.Units.{sends_none, touches_none, touches_refused, unit_sent, unit_untouched}
 
 -- an event of an actor that isn't the exchanger isn't the exchanger's
-pub not-first : (site : SiteForm) (at : ℕ) (event : EventForm) (n : ℕ) → owner_of site event ≡ Some (suc n) →
+pub not_first : (site : PlainSite) (at : ℕ) (event : PlainEvent) (n : ℕ) → owner_of site event ≡ Some (suc n) →
     owner_of site (stamped at event) ≡ Some 0 → ⊥
-not-first site at event n is e = let clash = sym (owner-stamped site at event ∙ is) ∙ e in cc
+not_first site at event n is e = let clash = sym (owner_stamped site at event ∙ is) ∙ e in cc
 
 -- ---- a batch
 
 -- a module after an advance that was answered so
-advanced-unit : (site : SiteForm) (older : History) (at : ℕ) (batch : List ℕ) (unit : SiteModuleForm) (own : Module)
+advanced_unit : (site : PlainSite) (older : History) (at : ℕ) (batch : List ℕ) (unit : PlainSiteModule) (own : Module)
     (answer : Answer) → IsNext site (paired (advance at batch) answer ∷ older) →
     IsCommanded older → IsUnit site unit older own →
     IsUnit site unit (paired (advance at batch) answer ∷ older) own
-advanced-unit site older at batch unit own (Did did) next commanded is = by (sent_by did) refl
+advanced_unit site older at batch unit own (Did did) next commanded is = by (sent_by did) refl
   where
-    entry : EntryForm
+    entry : PlainEntry
     entry = paired (advance at batch) (Did did)
 
     by : (sent : Option Sent) → sent_by did ≡ sent → IsUnit site unit (entry ∷ older) own
-    by None sends = unit-untouched site older entry unit own (touches-none unit.tag entry refl sends) is
-    by (Some sent) sends = own-or (bytes_eq sent.tag unit.tag) refl
+    by None sends = unit_untouched site older entry unit own (touches_none unit.tag entry refl sends) is
+    by (Some sent) sends = own_or (bytes_eq sent.tag unit.tag) refl
       where
-        own-or : (mine : Bool) → bytes_eq sent.tag unit.tag ≡ mine → IsUnit site unit (entry ∷ older) own
-        own-or true same =
-            unit-sent site older at batch did sent unit own next.legal next.orderly next.follows commanded sends
-            (same-true sent.tag unit.tag same) is
-        own-or false apart =
-            unit-untouched site older entry unit own
+        own_or : (mine : Bool) → bytes_eq sent.tag unit.tag ≡ mine → IsUnit site unit (entry ∷ older) own
+        own_or true same =
+            unit_sent site older at batch did sent unit own next.legal next.orderly next.follows commanded sends
+            (same_true sent.tag unit.tag same) is
+        own_or false apart =
+            unit_untouched site older entry unit own
             (ap (λ found. is_some (if_to unit.tag found)) sends
             ∙ ap (λ b. is_some (if b then Some sent else None)) apart) is
-advanced-unit site older at batch unit own Done next commanded is =
-    unit-untouched site older (paired (advance at batch) Done) unit own refl is
-advanced-unit site older at batch unit own (Ticket ticket) next commanded is =
-    unit-untouched site older (paired (advance at batch) (Ticket ticket)) unit own refl is
-advanced-unit site older at batch unit own (Waiting obstacle) next commanded is =
-    unit-untouched site older (paired (advance at batch) (Waiting obstacle)) unit own refl is
-advanced-unit site older at batch unit own (Closed outcome) next commanded is =
-    unit-untouched site older (paired (advance at batch) (Closed outcome)) unit own refl is
-advanced-unit site older at batch unit own (Refused rule) next commanded is =
-    unit-untouched site older (paired (advance at batch) (Refused rule)) unit own refl is
+advanced_unit site older at batch unit own Done next commanded is =
+    unit_untouched site older (paired (advance at batch) Done) unit own refl is
+advanced_unit site older at batch unit own (Ticket ticket) next commanded is =
+    unit_untouched site older (paired (advance at batch) (Ticket ticket)) unit own refl is
+advanced_unit site older at batch unit own (Waiting obstacle) next commanded is =
+    unit_untouched site older (paired (advance at batch) (Waiting obstacle)) unit own refl is
+advanced_unit site older at batch unit own (Closed outcome) next commanded is =
+    unit_untouched site older (paired (advance at batch) (Closed outcome)) unit own refl is
+advanced_unit site older at batch unit own (Refused rule) next commanded is =
+    unit_untouched site older (paired (advance at batch) (Refused rule)) unit own refl is
 
 -- its turn keeps all
-pub batch-kept : (site : SiteForm) (older : History) (by : List ℕ) (exchanger : Exchanger) (units : List Module)
-    (stages : List Stage) (orders : Desk) (at place : ℕ) (batch : SiteBatchForm) (stage : Stage) (event : EventForm) →
+pub batch_kept : (site : PlainSite) (older : History) (by : List ℕ) (exchanger : Exchanger) (units : List Module)
+    (stages : List Stage) (orders : Desk) (at place : ℕ) (batch : PlainSiteBatch) (stage : Stage) (event : PlainEvent) →
     is_full older ≡ false → slice_get site.batches place ≡ Some batch → slice_get stages place ≡ Some stage →
     batch_event older batch stage ≡ Some event → IsKept site older by exchanger units stages orders →
     IsKept site (entry_at older at event ∷ older) (by ++ suc (length site.modules + place) ∷ []) exchanger units
     (slice_set stages place (stage_after stage (answer_of older event))) orders
-batch-kept site older by exchanger units stages orders at place batch stage event room listed stands is kept =
+batch_kept site older by exchanger units stages orders at place batch stage event room listed stands is kept =
     record {
       sound = kept.sound;
       legal = next.legal;
       orderly = next.orderly;
       follows = next.follows;
-      commanded = commanded-more older entry kept.commanded (λ tag. unmoved (same-past tag) same-moving);
-      owned = owned-more site older entry by (suc (length site.modules + place))
-          (owner-stamped site at event ∙ owner) kept.owned;
-      exchanger_is = exchanger-other site older (stamped at event) answer exchanger
-          (not-first site at event (length site.modules + place) owner)
-          (allowed-stamped site older at event answer turn.allowed) kept.exchanger_is;
-      units_are = λ n unit own at' at''. unit-next unit own (kept.units_are n unit own at' at'');
+      commanded = commanded_more older entry kept.commanded (λ tag. unmoved (same_past tag) same_moving);
+      owned = owned_more site older entry by (suc (length site.modules + place))
+          (owner_stamped site at event ∙ owner) kept.owned;
+      exchanger_is = exchanger_other site older (stamped at event) answer exchanger
+          (not_first site at event (length site.modules + place) owner)
+          (allowed_stamped site older at event answer turn.allowed) kept.exchanger_is;
+      units_are = λ n unit own at' at''. unit_next unit own (kept.units_are n unit own at' at'');
       unit_count = kept.unit_count;
-      stages_are = stages-next;
-      stage_count = set-long stages place (stage_after stage answer) ∙ kept.stage_count;
-      desk_is = kept.desk_is ∙ sym same-ordered;
-      desk_within = subst (λ n. n ≤ length site.desk) (sym same-ordered) kept.desk_within;
+      stages_are = stages_next;
+      stage_count = set_long stages place (stage_after stage answer) ∙ kept.stage_count;
+      desk_is = kept.desk_is ∙ sym same_ordered;
+      desk_within = subst (λ n. n ≤ length site.desk) (sym same_ordered) kept.desk_within;
     }
   where
     answer : Answer
     answer = answer_of older event
 
-    entry : EntryForm
+    entry : PlainEntry
     entry = entry_at older at event
 
     turn : IsBatchTurn site older batch stage event
-    turn = batch-turn site older place batch stage event room kept.sound listed
+    turn = batch_turn site older place batch stage event room kept.sound listed
         (kept.stages_are place batch stage listed stands) is
 
     next : IsNext site (entry ∷ older)
-    next = next-kept site older at event room turn.formed turn.allowed kept.legal kept.orderly kept.follows
+    next = next_kept site older at event room turn.formed turn.allowed kept.legal kept.orderly kept.follows
 
     -- what follows from the kind of the event
-    by-kind : (Goal : EventForm → Type 0) → Goal (start 0 batch.batch batch.recipe batch.binds) →
+    by_kind : (Goal : PlainEvent → Type 0) → Goal (start 0 batch.batch batch.recipe batch.binds) →
         Goal (advance 0 batch.batch) → Goal event
-    by-kind Goal one other = go turn.kind
+    by_kind Goal one other = go turn.kind
       where
         go : (event ≡ start 0 batch.batch batch.recipe batch.binds) ⊎ (event ≡ advance 0 batch.batch) → Goal event
         go (inl e) = subst Goal (sym e) one
         go (inr e) = subst Goal (sym e) other
 
     owner : owner_of site event ≡ Some (suc (length site.modules + place))
-    owner = by-kind (λ event. owner_of site event ≡ Some (suc (length site.modules + place)))
-        (owner-batch site place batch kept.sound.unlike_batches listed)
-        (owner-batch site place batch kept.sound.unlike_batches listed)
+    owner = by_kind (λ event. owner_of site event ≡ Some (suc (length site.modules + place)))
+        (owner_batch site place batch kept.sound.unlike_batches listed)
+        (owner_batch site place batch kept.sound.unlike_batches listed)
 
-    same-past : (tag : List ℕ) →
+    same_past : (tag : List ℕ) →
         past tag (entry ∷ older) ≡ past tag older
-    same-past tag = by-kind (λ event. past tag (entry_at older at event ∷ older)
+    same_past tag = by_kind (λ event. past tag (entry_at older at event ∷ older)
         ≡ past tag older) refl refl
 
-    same-moving : is_moving (stamped at event) ≡ false
-    same-moving = by-kind (λ event. is_moving (stamped at event) ≡ false) refl refl
+    same_moving : is_moving (stamped at event) ≡ false
+    same_moving = by_kind (λ event. is_moving (stamped at event) ≡ false) refl refl
 
-    same-ordered : ordered (entry ∷ older) ≡ ordered older
-    same-ordered = by-kind (λ event. ordered (entry_at older at event ∷ older) ≡ ordered older) refl refl
+    same_ordered : ordered (entry ∷ older) ≡ ordered older
+    same_ordered = by_kind (λ event. ordered (entry_at older at event ∷ older) ≡ ordered older) refl refl
 
-    unit-next : (unit : SiteModuleForm) (own : Module) → IsUnit site unit older own →
+    unit_next : (unit : PlainSiteModule) (own : Module) → IsUnit site unit older own →
         IsUnit site unit (entry ∷ older) own
-    unit-next unit own is = by-kind
+    unit_next unit own is = by_kind
         (λ event. IsNext site (entry_at older at event ∷ older) →
         IsUnit site unit (entry_at older at event ∷ older) own)
-        (λ next. unit-untouched site older (entry_at older at (start 0 batch.batch batch.recipe batch.binds)) unit own
-        (touches-none unit.tag (entry_at older at (start 0 batch.batch batch.recipe batch.binds)) refl
-        (sends-none (when (is_full older) HistoryFull ∷ rules older
+        (λ next. unit_untouched site older (entry_at older at (start 0 batch.batch batch.recipe batch.binds)) unit own
+        (touches_none unit.tag (entry_at older at (start 0 batch.batch batch.recipe batch.binds)) refl
+        (sends_none (when (is_full older) HistoryFull ∷ rules older
         (start 0 batch.batch batch.recipe batch.binds)) Done refl))
         is)
-        (λ next. advanced-unit site older at batch.batch unit own (answer_of older (advance 0 batch.batch)) next
+        (λ next. advanced_unit site older at batch.batch unit own (answer_of older (advance 0 batch.batch)) next
         kept.commanded is) next
 
-    stages-next : AreStages site (entry ∷ older) (slice_set stages place (stage_after stage answer))
-    stages-next n other one at' at'' = go (set-got stages place (stage_after stage answer) n one at'')
+    stages_next : AreStages site (entry ∷ older) (slice_set stages place (stage_after stage answer))
+    stages_next n other one at' at'' = go (set_got stages place (stage_after stage answer) n one at'')
       where
         go : ((n ≡ place) × (one ≡ stage_after stage answer)) ⊎ ((n ≡ place → ⊥) × (slice_get stages n ≡ Some one)) →
             IsStage (entry ∷ older) other.batch one
         go (inl here) =
             let same : batch ≡ other = same_Some batch other
             (sym listed ∙ ap (slice_get site.batches) (sym here.0) ∙ at') in
-            subst (λ (each : SiteBatchForm). IsStage (entry ∷ older) each.batch one) same
+            subst (λ (each : PlainSiteBatch). IsStage (entry ∷ older) each.batch one) same
             (subst (IsStage (entry ∷ older) batch.batch) (sym here.1) (turn.stands at))
         go (inr apart) =
-            stage-other older other.batch entry one
-            (by-kind (λ event. is_batch other.batch (subject (stamped at event)) ≡ false) names names)
+            stage_other older other.batch entry one
+            (by_kind (λ event. is_batch other.batch (subject (stamped at event)) ≡ false) names names)
             (kept.stages_are n other one at' apart.1)
           where
             names : bytes_eq batch.batch other.batch ≡ false
-            names = names-apart (λ (each : SiteBatchForm). each.batch) site.batches place n batch other
+            names = names_apart (λ (each : PlainSiteBatch). each.batch) site.batches place n batch other
                 kept.sound.unlike_batches listed at' apart.0
 
 -- ---- the desk
 
 -- its turn keeps all
-pub desk-kept : (site : SiteForm) (older : History) (by : List ℕ) (exchanger : Exchanger) (units : List Module)
-    (stages : List Stage) (own : Desk) (at : ℕ) (event : EventForm) → is_full older ≡ false →
+pub desk_kept : (site : PlainSite) (older : History) (by : List ℕ) (exchanger : Exchanger) (units : List Module)
+    (stages : List Stage) (own : Desk) (at : ℕ) (event : PlainEvent) → is_full older ≡ false →
     order_event (length older) (slice_get site.desk own.ordered) ≡ Some event →
     IsKept site older by exchanger units stages own →
     IsKept site (entry_at older at event ∷ older)
     (by ++ suc (length site.modules + (length site.batches + 0)) ∷ []) exchanger units stages
     (record { ordered = own.ordered + 1 })
-desk-kept site older by exchanger units stages own at event room is kept =
+desk_kept site older by exchanger units stages own at event room is kept =
     go (slice_get site.desk own.ordered) refl is
   where
-    Goal : EventForm → Type 0
+    Goal : PlainEvent → Type 0
     Goal event = IsKept site (entry_at older at event ∷ older)
         (by ++ suc (length site.modules + (length site.batches + 0)) ∷ []) exchanger units stages
         (record { ordered = own.ordered + 1 })
 
-    ordered-one : (order : SiteDeskForm) → slice_get site.desk own.ordered ≡ Some order → order.after ≤ length older →
+    ordered_one : (order : PlainSiteDesk) → slice_get site.desk own.ordered ≡ Some order → order.after ≤ length older →
         Goal (desk 0 order.tag order.service order.command)
-    ordered-one order listed waited =
+    ordered_one order listed waited =
         record {
           sound = kept.sound;
           legal = next.legal;
           orderly = next.orderly;
           follows = next.follows;
-          commanded = commanded-more older entry kept.commanded (λ tag. untouched (touches-refused tag entry refused));
+          commanded = commanded_more older entry kept.commanded (λ tag. untouched (touches_refused tag entry refused));
           owned =
-              owned-more site older entry by (suc (length site.modules + (length site.batches + 0))) (owner-desk site)
+              owned_more site older entry by (suc (length site.modules + (length site.batches + 0))) (owner_desk site)
               kept.owned;
-          exchanger_is = exchanger-other site older (desk at order.tag order.service order.command) answer exchanger
-              (not-first site at sent (length site.modules + (length site.batches + 0)) (owner-desk site)) allowed
+          exchanger_is = exchanger_other site older (desk at order.tag order.service order.command) answer exchanger
+              (not_first site at sent (length site.modules + (length site.batches + 0)) (owner_desk site)) allowed
               kept.exchanger_is;
           units_are =
-              λ n unit own at' at''. unit-untouched site older entry unit own (touches-refused unit.tag entry refused)
+              λ n unit own at' at''. unit_untouched site older entry unit own (touches_refused unit.tag entry refused)
               (kept.units_are n unit own at' at'');
           unit_count = kept.unit_count;
-          stages_are = λ n batch stage at' at''. stage-other older batch.batch entry stage refl
+          stages_are = λ n batch stage at' at''. stage_other older batch.batch entry stage refl
               (kept.stages_are n batch stage at' at'');
           stage_count = kept.stage_count;
-          desk_is = let before = kept.desk_is in one-more own.ordered (ordered older) before;
-          desk_within = within-item site.desk (ordered older) order at-ordered;
+          desk_is = let before = kept.desk_is in one_more own.ordered (ordered older) before;
+          desk_within = within_item site.desk (ordered older) order at_ordered;
         }
       where
-        sent : EventForm
+        sent : PlainEvent
         sent = desk 0 order.tag order.service order.command
 
         answer : Answer
         answer = answer_of older sent
 
-        entry : EntryForm
+        entry : PlainEntry
         entry = entry_at older at sent
 
-        one-more : (n m : ℕ) → n ≡ m → n + 1 ≡ suc m
-        one-more n m e = omega (arith, e)
+        one_more : (n m : ℕ) → n ≡ m → n + 1 ≡ suc m
+        one_more n m e = omega (arith, e)
 
-        at-ordered : slice_get site.desk (ordered older) ≡ Some order
-        at-ordered = ap (slice_get site.desk) (sym kept.desk_is) ∙ listed
+        at_ordered : slice_get site.desk (ordered older) ≡ Some order
+        at_ordered = ap (slice_get site.desk) (sym kept.desk_is) ∙ listed
 
         refused : is_accepted answer ≡ false
         refused = (desks_refused site older kept.follows).refused 0 order.tag order.service order.command
 
         allowed : IsAllowed site older sent answer
-        allowed = record { after = order.after; listed = at-ordered; waited = waited }
+        allowed = record { after = order.after; listed = at_ordered; waited = waited }
 
         next : IsNext site (entry ∷ older)
-        next = next-kept site older at sent room refl allowed kept.legal kept.orderly kept.follows
+        next = next_kept site older at sent room refl allowed kept.legal kept.orderly kept.follows
 
-    go : (found : Option SiteDeskForm) → slice_get site.desk own.ordered ≡ found →
+    go : (found : Option PlainSiteDesk) → slice_get site.desk own.ordered ≡ found →
         order_event (length older) found ≡ Some event → Goal event
     go None at' e = cc
     go (Some order) at' e = early (nat_lt (length older) order.after) refl e
@@ -255,13 +255,13 @@ desk-kept site older by exchanger units stages own at event room is kept =
         early true w e = cc
         early false w e =
             subst Goal (same_Some (desk 0 order.tag order.service order.command) event e)
-            (ordered-one order at' (lt-not (length older) order.after w))
+            (ordered_one order at' (lt_not (length older) order.after w))
 
 -- where it does nothing it is settled
-pub desk-rests : (older : History) (found : Option SiteDeskForm) →
+pub desk_rests : (older : History) (found : Option PlainSiteDesk) →
     order_event (length older) found ≡ None → waits_to_order older found ≡ true
-desk-rests older None e = refl
-desk-rests older (Some order) e = go (nat_lt (length older) order.after) e
+desk_rests older None e = refl
+desk_rests older (Some order) e = go (nat_lt (length older) order.after) e
   where
     go : (waits : Bool) →
         (if waits then None else Some (desk 0 order.tag order.service order.command)) ≡ None → waits ≡ true

@@ -5,8 +5,8 @@ use Rattle.std.specs.Str.{bytes_eq}
 use Rattle.std.proofs.lemmas.List.Quantifiers.{position-Some}
 use Rattle.std.proofs.lemmas.Option.{get_or_from_slice_get, same_Some}
 use Rattle.mtp_codes.specs.Faults.{when}
-use Rattle.mtp_desc.specs.Plain.{DescriptionForm}
-use Rattle.pol_events.specs.Events.{EntryForm, EventForm, plug, recipe, exchange_begin, exchange_end, exchange_cancel}
+use Rattle.mtp_desc.specs.Plain.{PlainDescription}
+use Rattle.pol_events.specs.Events.{PlainEntry, PlainEvent, plug, recipe, exchange_begin, exchange_end, exchange_cancel}
 use Rattle.pol_events.specs.declared.answer.Answer.{Answer}
 use Rattle.pol_events.specs.declared.answer.Answer.TheVariants.{Done, Ticket, Did, Waiting, Closed, Refused}
 use Rattle.pol_events.specs.declared.answer.Rule.TheVariants.{HistoryFull}
@@ -15,13 +15,13 @@ use Rattle.pol_history.specs.Commands.{sent_command}
 use Rattle.pol_history.specs.Looking.{History, is_accepted, is_accepted_of, is_batch, is_module, past, subject}
 use Rattle.pol_history.specs.Modules.{Docking, absent, docked, away, docking_of, is_moving, next_ticket, since_docking}
 use Rattle.pol_history.specs.Rules.{tag_taken}
-use Rattle.pol_history.proofs.Accepted.{accepted-none, accepted-otherwise, paired}
-use Rattle.pol_history.proofs.Names.{same-refl, same-true}
-use Rattle.pol_conduct.specs.Known.{is_there}
+use Rattle.pol_history.proofs.Accepted.{accepted_none, accepted_otherwise, paired}
+use Rattle.pol_history.proofs.Names.{same_refl, same_true}
+use Rattle.pol_safety.specs.Known.{is_there}
 use Rattle.pol_site.specs.Following.{FollowsSite, exchanging, ordered, was_begun}
 use Rattle.pol_site.specs.Plans.{begun_in}
 use Rattle.pol_site.specs.Rules.{same_tag}
-use Rattle.pol_site.specs.Sites.{SiteForm, SiteModuleForm, SiteRecipeForm, SiteExchangeForm}
+use Rattle.pol_site.specs.Sites.{PlainSite, PlainSiteModule, PlainSiteRecipe, PlainSiteExchange}
 use Rattle.pol_site.specs.Stories.{touches}
 use Rattle.mtp_json.specs.Form.{repeats_by}
 use Rattle.pol_actors.specs.Exchanges.{end_event, exchanger_after, know_event, plug_event}
@@ -34,13 +34,13 @@ use Rattle.pol_actors.specs.declared.exchanger.Errand.{Errand}
 use Rattle.pol_actors.specs.declared.exchanger.Errand.TheVariants as task
 use Rattle.pol_actors.specs.declared.exchanger.Exchanger.{Exchanger}
 use Rattle.pol_actors.specs.declared.unit.Unit.{Unit as Module}
-use Rattle.pol_actors.proofs.Commanded.{Commands, commanded-more, fresh, unmoved, untouched}
+use Rattle.pol_actors.proofs.Commanded.{Commands, commanded_more, fresh, unmoved, untouched}
 use Rattle.pol_actors.proofs.Exchanging.{IsErrand, IsErrandKind, begins, cancels, ends, knows, plugs}
-use Rattle.pol_actors.proofs.Numbers.{set-got, set-long}
-use Rattle.pol_actors.proofs.Owners.{names-apart, owned-more, position-at}
-use Rattle.pol_actors.proofs.Stages.{stage-other}
-use Rattle.pol_actors.proofs.Stamped.{IsNext, entry_at, next-kept, owner-stamped}
-use Rattle.pol_actors.proofs.Units.{moved-fresh, refused-none, sends-none, touches-none, touches-refused, unit-begun, unit-cancelled, unit-ended, unit-plugged, unit-untouched}
+use Rattle.pol_actors.proofs.Numbers.{set_got, set_long}
+use Rattle.pol_actors.proofs.Owners.{names_apart, owned_more, position_at}
+use Rattle.pol_actors.proofs.Stages.{stage_other}
+use Rattle.pol_actors.proofs.Stamped.{IsNext, entry_at, next_kept, owner_stamped}
+use Rattle.pol_actors.proofs.Units.{moved_fresh, refused_none, sends_none, touches_none, touches_refused, unit_begun, unit_cancelled, unit_ended, unit_plugged, unit_untouched}
 
 -- ---- one module
 
@@ -54,17 +54,17 @@ abbrev unit_then : Errand → Answer → List ℕ → Module → Module
 unit_then errand answer tag own = if is_tag (errand_tag errand) tag then unit_after errand answer own else own
 
 -- a module whose tag isn't the event's
-apart-free : (entry : EntryForm) (tag : List ℕ) → is_module tag (subject entry.event) ≡ false →
+apart_free : (entry : PlainEntry) (tag : List ℕ) → is_module tag (subject entry.event) ≡ false →
     sent_command entry.answer ≡ None → touches tag entry ≡ false
-apart-free entry tag apart none =
-    touches-none tag entry (ap (λ own. own && is_accepted entry.answer) apart) none
+apart_free entry tag apart none =
+    touches_none tag entry (ap (λ own. own && is_accepted entry.answer) apart) none
 
 -- no event of the exchanger sends a command
 module _ (older : History) where
-  silent : (event : EventForm) → sent_command (otherwise older event) ≡ None →
+  silent : (event : PlainEvent) → sent_command (otherwise older event) ≡ None →
       sent_command (answer_of older event) ≡ None
   silent event none =
-      sends-none (when (is_full older) HistoryFull ∷ rules older event) (otherwise older event) none
+      sends_none (when (is_full older) HistoryFull ∷ rules older event) (otherwise older event) none
 
 -- two tags the other way round
 turned : (one other : List ℕ) → bytes_eq one other ≡ false → bytes_eq other one ≡ false
@@ -73,7 +73,7 @@ turned one other apart = go (bytes_eq other one) refl
     go : (same : Bool) → bytes_eq other one ≡ same → same ≡ false
     go false is = refl
     go true is =
-        let clash : false ≡ true = sym apart ∙ ap (bytes_eq one) (same-true other one is) ∙ same-refl one in cc
+        let clash : false ≡ true = sym apart ∙ ap (bytes_eq one) (same_true other one is) ∙ same_refl one in cc
 
 -- a module that was plugged wasn't there
 untaken : (docking : Docking) → tag_taken docking ≡ None → is_there docking ≡ false
@@ -82,93 +82,94 @@ untaken (docked count) none = cc
 untaken (away ticket) none = cc
 
 -- what the event of an errand makes of a module
-module _ (site : SiteForm) (older : History) (at : ℕ) (n : ℕ) (unit : SiteModuleForm) (own : Module)
+module _ (site : PlainSite) (older : History) (at : ℕ) (n : ℕ) (unit : PlainSiteModule) (own : Module)
     (follows : FollowsSite site older) (unlike : repeats_by same_tag site.modules ≡ false)
     (listed : slice_get site.modules n ≡ Some unit) (is : IsUnit site unit older own) where
-  abbrev Goal : Errand → EventForm → Type 0
+  abbrev Goal : Errand → PlainEvent → Type 0
   Goal errand event =
       IsUnit site unit (entry_at older at event ∷ older) (unit_then errand (answer_of older event) unit.tag own)
 
-  known : (place : ℕ) (each : SiteRecipeForm) → Goal (task.Open place) (know_event each)
+  known : (place : ℕ) (each : PlainSiteRecipe) → Goal (task.Open place) (know_event each)
   known place each =
-      unit-untouched site older (entry_at older at (know_event each)) unit own
-      (apart-free (entry_at older at (know_event each)) unit.tag refl (silent older (know_event each) refl)) is
+      unit_untouched site older (entry_at older at (know_event each)) unit own
+      (apart_free (entry_at older at (know_event each)) unit.tag refl (silent older (know_event each) refl)) is
 
-  plugged : (place m : ℕ) (other : SiteModuleForm) → slice_get site.modules m ≡ Some other →
+  plugged : (place m : ℕ) (other : PlainSiteModule) → slice_get site.modules m ≡ Some other →
       Goal (task.Open place) (plug_event other)
   plugged place m other listed' = go (bytes_eq other.tag unit.tag) refl
     where
-      entry : EntryForm
+      entry : PlainEntry
       entry = entry_at older at (plug_event other)
 
       taken : (kept : Bool) → is_accepted (answer_of older (plug_event other)) ≡ kept → other ≡ unit →
           IsUnit site unit (entry ∷ older) own
-      taken false refused same = unit-untouched site older entry unit own (touches-refused unit.tag entry refused) is
+      taken false refused same = unit_untouched site older entry unit own (touches_refused unit.tag entry refused) is
       taken true accepted same =
-          let free = accepted-none older (plug_event other) accepted in
-          subst (λ (each : EntryForm). IsUnit site unit (each ∷ older) own)
+          let free = accepted_none older (plug_event other) accepted in
+          subst (λ (each : PlainEntry). IsUnit site unit (each ∷ older) own)
           (λ i. paired (plug at (sym same i).tag (sym same i).description)
-          (sym (accepted-otherwise older (plug_event other) accepted) i))
-          (unit-plugged site older at n unit own unlike listed
-          (ap (λ (each : SiteModuleForm). is_there (docking_of older each.tag)) (sym same)
+          (sym (accepted_otherwise older (plug_event other) accepted) i))
+          (unit_plugged site older at n unit own unlike listed
+          (ap (λ (each : PlainSiteModule). is_there (docking_of older each.tag)) (sym same)
           ∙ untaken (docking_of older other.tag) free.0) is)
 
       go : (mine : Bool) → bytes_eq other.tag unit.tag ≡ mine → IsUnit site unit (entry ∷ older) own
       go false apart =
-          unit-untouched site older entry unit own (apart-free entry unit.tag apart
+          unit_untouched site older entry unit own (apart_free entry unit.tag apart
           (silent older (plug_event other) refl)) is
       go true same = taken (is_accepted (answer_of older (plug_event other))) refl
           (same_Some other unit (sym listed' ∙ ap (slice_get site.modules) places ∙ listed))
         where
           places : m ≡ n
           places = same_Some m n
-              (sym (position-at (λ (each : SiteModuleForm). each.tag) site.modules m other unit.tag unlike listed' same)
-              ∙ position-at (λ (each : SiteModuleForm). each.tag) site.modules n unit unit.tag unlike listed
-              (same-refl unit.tag))
+              (sym (position_at (λ (each : PlainSiteModule). each.tag) site.modules m other unit.tag unlike listed'
+              same)
+              ∙ position_at (λ (each : PlainSiteModule). each.tag) site.modules n unit unit.tag unlike listed
+              (same_refl unit.tag))
 
   begun : (tag : List ℕ) → is_there (docking_of older tag) ≡ true →
       is_accepted (answer_of older (exchange_begin 0 tag)) ≡ true → Goal (task.Begin tag) (exchange_begin 0 tag)
   begun tag there accepted = go (bytes_eq unit.tag tag) refl
     where
-      entry : EntryForm
+      entry : PlainEntry
       entry = entry_at older at (exchange_begin 0 tag)
 
       go : (mine : Bool) → bytes_eq unit.tag tag ≡ mine →
           IsUnit site unit (entry ∷ older) (if mine then record { made = None; brought = own.brought } else own)
       go true same =
-          let named = sym (same-true unit.tag tag same) in
-          unit-begun site older at tag (answer_of older (exchange_begin 0 tag)) unit own accepted named
+          let named = sym (same_true unit.tag tag same) in
+          unit_begun site older at tag (answer_of older (exchange_begin 0 tag)) unit own accepted named
           (ap (λ tag. is_there (docking_of older tag)) (sym named) ∙ there) is
       go false apart =
-          unit-untouched site older entry unit own
-          (apart-free entry unit.tag (turned unit.tag tag apart) (silent older (exchange_begin 0 tag) refl)) is
+          unit_untouched site older entry unit own
+          (apart_free entry unit.tag (turned unit.tag tag apart) (silent older (exchange_begin 0 tag) refl)) is
 
   cancelled : (tag : List ℕ) (ticket : ℕ) → is_there (docking_of older tag) ≡ true →
       is_accepted (answer_of older (exchange_cancel 0 tag ticket)) ≡ true →
       Goal (task.Cancel tag ticket) (exchange_cancel 0 tag ticket)
   cancelled tag ticket there accepted = go (bytes_eq unit.tag tag) refl
     where
-      entry : EntryForm
+      entry : PlainEntry
       entry = entry_at older at (exchange_cancel 0 tag ticket)
 
       go : (mine : Bool) → bytes_eq unit.tag tag ≡ mine →
           IsUnit site unit (entry ∷ older) (if mine then record { made = None; brought = own.brought } else own)
       go true same =
-          let named = sym (same-true unit.tag tag same) in
-          unit-cancelled site older at tag ticket (answer_of older
+          let named = sym (same_true unit.tag tag same) in
+          unit_cancelled site older at tag ticket (answer_of older
           (exchange_cancel 0 tag ticket)) unit own accepted named
           (ap (λ tag. is_there (docking_of older tag)) (sym named) ∙ there) is
       go false apart =
-          unit-untouched site older entry unit own
-          (apart-free entry unit.tag (turned unit.tag tag apart) (silent older (exchange_cancel 0 tag ticket) refl)) is
+          unit_untouched site older entry unit own
+          (apart_free entry unit.tag (turned unit.tag tag apart) (silent older (exchange_cancel 0 tag ticket) refl)) is
 
-  ended : (tag : List ℕ) (ticket place : ℕ) (exchange : SiteExchangeForm) →
+  ended : (tag : List ℕ) (ticket place : ℕ) (exchange : PlainSiteExchange) →
       exchanging older ≡ was_begun tag ticket →
       place ≡ pred (begun_in older) → slice_get site.exchanges place ≡ Some exchange →
       Goal (task.End tag ticket place) (end_event tag ticket exchange)
   ended tag ticket place exchange begun_now place_is at' = go (bytes_eq unit.tag tag) refl
     where
-      event : EventForm
+      event : PlainEvent
       event = end_event tag ticket exchange
 
       refused : (answer : Answer) → is_accepted answer ≡ false → unit_after (task.End tag ticket place) answer own ≡ own
@@ -183,56 +184,56 @@ module _ (site : SiteForm) (older : History) (at : ℕ) (n : ℕ) (unit : SiteMo
           IsUnit site unit (entry_at older at event ∷ older)
           (unit_after (task.End tag ticket place) (answer_of older event) own)
       by true accepted named =
-          let done : answer_of older event ≡ Done = accepted-otherwise older event accepted in
-          rw done (unit-ended site older at tag ticket place exchange unit own follows begun_now place_is at' named is)
+          let done : answer_of older event ≡ Done = accepted_otherwise older event accepted in
+          rw done (unit_ended site older at tag ticket place exchange unit own follows begun_now place_is at' named is)
       by false e named =
           subst (IsUnit site unit (entry_at older at event ∷ older)) (sym (refused (answer_of older event) e))
-          (unit-untouched site older (entry_at older at event) unit own
-          (touches-refused unit.tag (entry_at older at event) e) is)
+          (unit_untouched site older (entry_at older at event) unit own
+          (touches_refused unit.tag (entry_at older at event) e) is)
 
       go : (mine : Bool) → bytes_eq unit.tag tag ≡ mine →
           IsUnit site unit (entry_at older at event ∷ older)
           (if mine then unit_after (task.End tag ticket place) (answer_of older event) own else own)
-      go true same = by (is_accepted (answer_of older event)) refl (sym (same-true unit.tag tag same))
+      go true same = by (is_accepted (answer_of older event)) refl (sym (same_true unit.tag tag same))
       go false apart =
-          unit-untouched site older (entry_at older at event) unit own
-          (apart-free (entry_at older at event) unit.tag (turned unit.tag tag apart) (silent older event refl)) is
+          unit_untouched site older (entry_at older at event) unit own
+          (apart_free (entry_at older at event) unit.tag (turned unit.tag tag apart) (silent older event refl)) is
 
   -- by the kind of the errand
-  unit-next : (errand : Errand) (event : EventForm) → IsErrandKind site older errand event → Goal errand event
-  unit-next errand event (knows place each e f) =
+  unit_next : (errand : Errand) (event : PlainEvent) → IsErrandKind site older errand event → Goal errand event
+  unit_next errand event (knows place each e f) =
       subst (λ errand. Goal errand event) (sym e) (subst (Goal (task.Open place)) (sym f) (known place each))
-  unit-next errand event (plugs place m other e at' f) =
+  unit_next errand event (plugs place m other e at' f) =
       subst (λ errand. Goal errand event) (sym e) (subst (Goal (task.Open place)) (sym f) (plugged place m other at'))
-  unit-next errand event (begins tag e f there accepted) =
+  unit_next errand event (begins tag e f there accepted) =
       subst (λ errand. Goal errand event) (sym e) (subst (Goal (task.Begin tag)) (sym f) (begun tag there accepted))
-  unit-next errand event (ends tag ticket place exchange e f begun_now place_is at') =
+  unit_next errand event (ends tag ticket place exchange e f begun_now place_is at') =
       subst (λ errand. Goal errand event) (sym e)
       (subst (Goal (task.End tag ticket place)) (sym f) (ended tag ticket place exchange begun_now place_is at'))
-  unit-next errand event (cancels tag ticket e f there accepted) =
+  unit_next errand event (cancels tag ticket e f there accepted) =
       subst (λ errand. Goal errand event) (sym e)
       (subst (Goal (task.Cancel tag ticket)) (sym f) (cancelled tag ticket there accepted))
 
 -- ---- all modules
 
 -- the list stays as long
-changed-long : (units : List Module) (place : Option ℕ) (change : Module → Module) →
+changed_long : (units : List Module) (place : Option ℕ) (change : Module → Module) →
     length (changed_at units place change) ≡ length units
-changed-long units None change = refl
-changed-long units (Some place) change = go (slice_get units place)
+changed_long units None change = refl
+changed_long units (Some place) change = go (slice_get units place)
   where
     go : (found : Option Module) → length (put_at units place change found) ≡ length units
     go None = refl
-    go (Some own) = set-long units place (change own)
+    go (Some own) = set_long units place (change own)
 
 -- a module of the list with one changed is the one that was there, or that one changed
-changed-got : (site : SiteForm) (units : List Module) (tag : Option (List ℕ)) (change : Module → Module) (n : ℕ)
-    (unit : SiteModuleForm) (one : Module) → repeats_by same_tag site.modules ≡ false →
+changed_got : (site : PlainSite) (units : List Module) (tag : Option (List ℕ)) (change : Module → Module) (n : ℕ)
+    (unit : PlainSiteModule) (one : Module) → repeats_by same_tag site.modules ≡ false →
     slice_get site.modules n ≡ Some unit →
     slice_get (changed_at units (option_and_then (place_of_tag site) tag) change) n ≡ Some one →
     (own : Module) × (slice_get units n ≡ Some own) × (one ≡ (if is_tag tag unit.tag then change own else own))
-changed-got site units None change n unit one unlike listed at = (one, at, refl)
-changed-got site units (Some tag) change n unit one unlike listed at = by (place_of_tag site tag) refl at
+changed_got site units None change n unit one unlike listed at = (one, at, refl)
+changed_got site units (Some tag) change n unit one unlike listed at = by (place_of_tag site tag) refl at
   where
     Found : Type 0
     Found =
@@ -240,7 +241,7 @@ changed-got site units (Some tag) change n unit one unlike listed at = by (place
 
     -- the place of the tag is the module's, where it has it
     here : bytes_eq unit.tag tag ≡ true → place_of_tag site tag ≡ Some n
-    here named = position-at (λ (each : SiteModuleForm). each.tag) site.modules n unit tag unlike listed named
+    here named = position_at (λ (each : PlainSiteModule). each.tag) site.modules n unit tag unlike listed named
 
     other : (bytes_eq unit.tag tag ≡ true → ⊥) → slice_get units n ≡ Some one → Found
     other apart at = go (bytes_eq unit.tag tag) refl
@@ -261,16 +262,16 @@ changed-got site units (Some tag) change n unit one unlike listed at = by (place
         go None none at = other
             (λ named. let same : n ≡ place = same_Some n place (sym (here named) ∙ is) in
             let clash = sym at ∙ ap (slice_get units) same ∙ none in cc) at
-        go (Some own) found at = set (set-got units place (change own) n one at)
+        go (Some own) found at = set (set_got units place (change own) n one at)
           where
             set : ((n ≡ place) × (one ≡ change own)) ⊎ ((n ≡ place → ⊥) × (slice_get units n ≡ Some one)) → Found
             set (inl same) =
-                let passes = (position-Some (λ (each : SiteModuleForm). bytes_eq each.tag tag) site.modules place unit
+                let passes = (position-Some (λ (each : PlainSiteModule). bytes_eq each.tag tag) site.modules place unit
                 is).1 in
                 let it = get_or_from_slice_get site.modules place unit unit
                 (ap (slice_get site.modules) (sym same.0) ∙ listed) in
                 let named : bytes_eq unit.tag tag ≡ true =
-                ap (λ (each : SiteModuleForm). bytes_eq each.tag tag) (sym it) ∙ passes in (
+                ap (λ (each : PlainSiteModule). bytes_eq each.tag tag) (sym it) ∙ passes in (
                   own,
                   ap (slice_get units) same.0 ∙ found,
                   same.1 ∙ ap (λ b. if b then change own else own) (sym named),
@@ -280,26 +281,26 @@ changed-got site units (Some tag) change n unit one unlike listed at = by (place
 -- ---- commands
 
 -- an accepted event of the exchanger moves its module, and no other event of it touches one
-errand-commands : (site : SiteForm) (older : History) (at : ℕ) (errand : Errand) (event : EventForm) (tag : List ℕ) →
+errand_commands : (site : PlainSite) (older : History) (at : ℕ) (errand : Errand) (event : PlainEvent) (tag : List ℕ) →
     IsErrandKind site older errand event → Commands older (entry_at older at event) tag
-errand-commands site older at errand event tag kind = go kind
+errand_commands site older at errand event tag kind = go kind
   where
-    Goal : EventForm → Type 0
+    Goal : PlainEvent → Type 0
     Goal event = Commands older (entry_at older at event) tag
 
-    moves : (entry : EntryForm) → is_moving entry.event ≡ true → sent_command entry.answer ≡ None →
+    moves : (entry : PlainEntry) → is_moving entry.event ≡ true → sent_command entry.answer ≡ None →
         Commands older entry tag
     moves entry moving none = by (is_module tag (subject entry.event)) refl (is_accepted entry.answer) refl
       where
         by : (mine : Bool) → is_module tag (subject entry.event) ≡ mine → (kept : Bool) →
             is_accepted entry.answer ≡ kept → Commands older entry tag
-        by false apart kept k = untouched (apart-free entry tag apart none)
-        by true is false refused = untouched (touches-refused tag entry refused)
-        by true is true accepted = fresh (moved-fresh older entry tag is accepted moving).0
+        by false apart kept k = untouched (apart_free entry tag apart none)
+        by true is false refused = untouched (touches_refused tag entry refused)
+        by true is true accepted = fresh (moved_fresh older entry tag is accepted moving).0
 
     go : IsErrandKind site older errand event → Goal event
     go (knows place each e f) =
-        subst Goal (sym f) (untouched (apart-free (entry_at older at (know_event each)) tag refl
+        subst Goal (sym f) (untouched (apart_free (entry_at older at (know_event each)) tag refl
         (silent older (know_event each) refl)))
     go (plugs place m other e at' f) =
         subst Goal (sym f) (moves (entry_at older at (plug_event other)) refl (silent older (plug_event other) refl))
@@ -316,75 +317,75 @@ errand-commands site older at errand event tag kind = go kind
 -- ---- all
 
 -- what holds of the kinds of event of the exchanger holds of its event
-of-kind : (site : SiteForm) (older : History) (errand : Errand) (event : EventForm) (Goal : EventForm → Type 0) →
-    ((each : SiteRecipeForm) → Goal (know_event each)) → ((unit : SiteModuleForm) → Goal (plug_event unit)) →
+of_kind : (site : PlainSite) (older : History) (errand : Errand) (event : PlainEvent) (Goal : PlainEvent → Type 0) →
+    ((each : PlainSiteRecipe) → Goal (know_event each)) → ((unit : PlainSiteModule) → Goal (plug_event unit)) →
     ((tag : List ℕ) → Goal (exchange_begin 0 tag)) →
-    ((tag : List ℕ) (ticket : ℕ) (exchange : SiteExchangeForm) → Goal (end_event tag ticket exchange)) →
+    ((tag : List ℕ) (ticket : ℕ) (exchange : PlainSiteExchange) → Goal (end_event tag ticket exchange)) →
     ((tag : List ℕ) (ticket : ℕ) → Goal (exchange_cancel 0 tag ticket)) → IsErrandKind site older errand event →
     Goal event
-of-kind site older errand event Goal one two three four five (knows place each e f) = subst Goal (sym f) (one each)
-of-kind site older errand event Goal one two three four five (plugs place m other e at' f) =
+of_kind site older errand event Goal one two three four five (knows place each e f) = subst Goal (sym f) (one each)
+of_kind site older errand event Goal one two three four five (plugs place m other e at' f) =
     subst Goal (sym f) (two other)
-of-kind site older errand event Goal one two three four five (begins tag e f there accepted) =
+of_kind site older errand event Goal one two three four five (begins tag e f there accepted) =
     subst Goal (sym f) (three tag)
-of-kind site older errand event Goal one two three four five
+of_kind site older errand event Goal one two three four five
     (ends tag ticket place exchange e f begun_now place_is at') =
     subst Goal (sym f) (four tag ticket exchange)
-of-kind site older errand event Goal one two three four five (cancels tag ticket e f there accepted) =
+of_kind site older errand event Goal one two three four five (cancels tag ticket e f there accepted) =
     subst Goal (sym f) (five tag ticket)
 
 -- its turn keeps all
-pub exchanger-kept : (site : SiteForm) (older : History) (by : List ℕ) (exchanger : Exchanger) (units : List Module)
+pub exchanger_kept : (site : PlainSite) (older : History) (by : List ℕ) (exchanger : Exchanger) (units : List Module)
     (stages : List Stage) (desk : Desk) (at : ℕ) (errand : Errand) → is_full older ≡ false →
     (turn : IsErrand site older exchanger errand) → IsKept site older by exchanger units stages desk →
     IsKept site (entry_at older at turn.event ∷ older) (by ++ 0 ∷ [])
     (exchanger_after exchanger errand (answer_of older turn.event))
     (units_after site units errand (answer_of older turn.event)) stages desk
-exchanger-kept site older by exchanger units stages desk at errand room turn kept =
+exchanger_kept site older by exchanger units stages desk at errand room turn kept =
     record {
       sound = kept.sound;
       legal = next.legal;
       orderly = next.orderly;
       follows = next.follows;
-      commanded = commanded-more older entry kept.commanded
-          (λ tag. errand-commands site older at errand turn.event tag turn.kind);
-      owned = owned-more site older entry by 0 (owner-stamped site at turn.event ∙ turn.owner) kept.owned;
+      commanded = commanded_more older entry kept.commanded
+          (λ tag. errand_commands site older at errand turn.event tag turn.kind);
+      owned = owned_more site older entry by 0 (owner_stamped site at turn.event ∙ turn.owner) kept.owned;
       exchanger_is = turn.stands at;
-      units_are = units-next;
+      units_are = units_next;
       unit_count =
-          changed-long units (option_and_then (place_of_tag site) (errand_tag errand)) (unit_after errand answer)
+          changed_long units (option_and_then (place_of_tag site) (errand_tag errand)) (unit_after errand answer)
           ∙ kept.unit_count;
-      stages_are = λ n batch stage at' at''. stage-other older batch.batch entry stage (no-batch batch.batch)
+      stages_are = λ n batch stage at' at''. stage_other older batch.batch entry stage (no_batch batch.batch)
           (kept.stages_are n batch stage at' at'');
       stage_count = kept.stage_count;
-      desk_is = kept.desk_is ∙ sym same-ordered;
-      desk_within = subst (λ n. n ≤ length site.desk) (sym same-ordered) kept.desk_within;
+      desk_is = kept.desk_is ∙ sym same_ordered;
+      desk_within = subst (λ n. n ≤ length site.desk) (sym same_ordered) kept.desk_within;
     }
   where
     answer : Answer
     answer = answer_of older turn.event
 
-    entry : EntryForm
+    entry : PlainEntry
     entry = entry_at older at turn.event
 
     next : IsNext site (entry ∷ older)
-    next = next-kept site older at turn.event room turn.orderly turn.allowed kept.legal kept.orderly kept.follows
+    next = next_kept site older at turn.event room turn.orderly turn.allowed kept.legal kept.orderly kept.follows
 
-    no-batch : (batch : List ℕ) → is_batch batch (subject (stamped at turn.event)) ≡ false
-    no-batch batch =
-        of-kind site older errand turn.event (λ event. is_batch batch (subject (stamped at event)) ≡ false)
+    no_batch : (batch : List ℕ) → is_batch batch (subject (stamped at turn.event)) ≡ false
+    no_batch batch =
+        of_kind site older errand turn.event (λ event. is_batch batch (subject (stamped at event)) ≡ false)
         (λ each. refl) (λ unit. refl) (λ tag. refl) (λ tag ticket exchange. refl) (λ tag ticket. refl) turn.kind
 
-    same-ordered : ordered (entry ∷ older) ≡ ordered older
-    same-ordered =
-        of-kind site older errand turn.event (λ event. ordered (entry_at older at event ∷ older) ≡ ordered older)
+    same_ordered : ordered (entry ∷ older) ≡ ordered older
+    same_ordered =
+        of_kind site older errand turn.event (λ event. ordered (entry_at older at event ∷ older) ≡ ordered older)
         (λ each. refl) (λ unit. refl) (λ tag. refl) (λ tag ticket exchange. refl) (λ tag ticket. refl) turn.kind
 
-    units-next : AreUnits site (entry ∷ older) (units_after site units errand answer)
-    units-next n unit one at' at'' =
-        let found = changed-got site units (errand_tag errand)
+    units_next : AreUnits site (entry ∷ older) (units_after site units errand answer)
+    units_next n unit one at' at'' =
+        let found = changed_got site units (errand_tag errand)
         (unit_after errand answer) n unit one kept.sound.unlike_modules
         at' at'' in
         subst (IsUnit site unit (entry ∷ older)) (sym found.2)
-        (unit-next site older at n unit found.0 kept.follows kept.sound.unlike_modules at'
+        (unit_next site older at n unit found.0 kept.follows kept.sound.unlike_modules at'
         (kept.units_are n unit found.0 at' found.1) errand turn.event turn.kind)

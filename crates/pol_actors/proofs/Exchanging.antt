@@ -12,12 +12,12 @@ use Rattle.mtp_codes.specs.declared.limits.TheConstants.{MOST_MODULES}
 use Rattle.mtp_codes.specs.Faults.{when, first_of}
 use Rattle.mtp_codes.specs.Names.{is_among}
 use Rattle.mtp_assembly.specs.declared.control.ServiceControl.{ServiceControl}
-use Rattle.mtp_desc.specs.Plain.{DescriptionForm, ServiceForm}
-use Rattle.chart_core.specs.Roles.{ChartPlan}
-use Rattle.chart_core.specs.Trees.{StepPlan}
+use Rattle.mtp_desc.specs.Plain.{PlainDescription, PlainService}
+use Rattle.chart_core.specs.Roles.{PlainChart}
+use Rattle.chart_core.specs.Trees.{PlainStep}
 use Rattle.chart_cursor.specs.Logs.{active}
 use Rattle.pol_events.specs.Bound.{step_on}
-use Rattle.pol_events.specs.Events.{EventForm, EntryForm, plug, unplug, report, variable, recipe, start, advance, freeze, thaw, stop_batch, abandon, desk, exchange_begin, exchange_end, exchange_cancel}
+use Rattle.pol_events.specs.Events.{PlainEvent, PlainEntry, plug, unplug, report, variable, recipe, start, advance, freeze, thaw, stop_batch, abandon, desk, exchange_begin, exchange_end, exchange_cancel}
 use Rattle.pol_events.specs.Orderly.{is_orderly}
 use Rattle.pol_events.specs.Refusals.{in_exchange, service_not_at_rest, wrong_ticket}
 use Rattle.pol_events.specs.declared.answer.Answer.{Answer}
@@ -30,20 +30,20 @@ use Rattle.pol_history.specs.Looking.{History, is_accepted, last_of, past, past_
 use Rattle.pol_history.specs.Modules.{Docking, absent, docked, away, control_by, description_by, docking_by, docking_of, next_ticket, present_after, present_tags, tags_without, ticket_of}
 use Rattle.pol_history.specs.Rules.{active_step, module_not_at_rest, no_module, not_in_exchange, plant_full, tag_taken}
 use Rattle.pol_history.specs.Runs.{IsLegal}
-use Rattle.pol_history.proofs.Accepted.{paired, with-room}
-use Rattle.pol_history.proofs.Names.{same-refl, same-true}
+use Rattle.pol_history.proofs.Accepted.{paired, with_room}
+use Rattle.pol_history.proofs.Names.{same_refl, same_true}
 use Rattle.pol_core.specs.Calls.{refusal}
-use Rattle.pol_conduct.specs.Known.{is_there}
+use Rattle.pol_safety.specs.Known.{is_there}
 use Rattle.pol_site.specs.Actors.{owner_of}
 use Rattle.pol_site.specs.Following.{FollowsSite, IsAllowed, Exchanging, begun_with, ended_with, exchanging, is_opening, last_exchanging, none_open, opened, openings, was_begun, was_held}
 use Rattle.pol_site.specs.Plans.{begun_in}
 use Rattle.pol_site.specs.Rules.{has_module}
 use Rattle.pol_site.specs.Settled.{is_away, is_busy, is_busy_rule, is_settled_exchanger, waits_to_begin}
-use Rattle.pol_site.specs.Sites.{SiteForm, SiteModuleForm, SiteRecipeForm, SiteExchangeForm}
+use Rattle.pol_site.specs.Sites.{PlainSite, PlainSiteModule, PlainSiteRecipe, PlainSiteExchange}
 use Rattle.pol_site.specs.Sound.{IsSite}
 use Rattle.pol_stillness.specs.Exchanges.{open_ticket}
 use Rattle.pol_stillness.proofs.Exchanges.{open_away}
-use Rattle.pol_simulated.proofs.Places.{le-true, lt-true, lt-fails}
+use Rattle.pol_simulated.proofs.Places.{le_true, lt_true, lt_fails}
 use Rattle.pol_actors.specs.Exchanges.{begin_errand, begun_standing, ended_standing, end_event, errand_of, event_of, exchange_errand, exchanger_after, exchanging_in, is_refusal_busy, know_event, plug_event}
 use Rattle.pol_actors.specs.Kept.{IsExchanger, is_begun}
 use Rattle.pol_actors.specs.Stamps.{stamped}
@@ -52,38 +52,38 @@ use Rattle.pol_actors.specs.declared.exchanger.Errand.TheVariants as task
 use Rattle.pol_actors.specs.declared.exchanger.Exchanger.{Exchanger}
 use Rattle.pol_actors.specs.declared.exchanger.Standing.{Standing}
 use Rattle.pol_actors.specs.declared.exchanger.Standing.TheVariants as standing
-use Rattle.pol_actors.proofs.Owners.{owner-exchanger}
-use Rattle.pol_actors.proofs.Numbers.{IsEither, all-at, of_first, of_second, either-item, item-within, lt-holds, lt-not, none-behind, within-item}
+use Rattle.pol_actors.proofs.Owners.{owner_exchanger}
+use Rattle.pol_actors.proofs.Numbers.{IsEither, all_at, of_first, of_second, either_item, item_within, lt_holds, lt_not, none_behind, within_item}
 
 -- ---- entries of others
 
 -- a module is there after an entry of it that leaves it there
-there-after : (entry : EntryForm) (older : History) (own : Bool) →
+there_after : (entry : PlainEntry) (older : History) (own : Bool) →
     is_there (docking_by (entry ∷ older)) ≡ true → is_there (docking_by older) ≡ true →
     is_there (docking_by (cond own (entry ∷ older) older)) ≡ true
-there-after entry older true moved before = moved
-there-after entry older false moved before = before
+there_after entry older true moved before = moved
+there_after entry older false moved before = before
 
 -- an entry of a module, a batch or the desk leaves where the exchanger stands
-pub exchanger-other : (site : SiteForm) (older : History) (event : EventForm) (answer : Answer)
+pub exchanger_other : (site : PlainSite) (older : History) (event : PlainEvent) (answer : Answer)
     (exchanger : Exchanger) → (owner_of site event ≡ Some 0 → ⊥) → IsAllowed site older event answer →
     IsExchanger site older exchanger → IsExchanger site (paired event answer ∷ older) exchanger
-exchanger-other site older (plug at tag description) answer exchanger other allowed stands =
-    absurd (other (owner-exchanger site))
-exchanger-other site older (unplug at tag) answer exchanger other allowed stands = absurd allowed
-exchanger-other site older (recipe at name chart) answer exchanger other allowed stands =
-    absurd (other (owner-exchanger site))
-exchanger-other site older (exchange_begin at tag) answer exchanger other allowed stands =
-    absurd (other (owner-exchanger site))
-exchanger-other site older (exchange_end at tag ticket description) answer exchanger other allowed stands =
-    absurd (other (owner-exchanger site))
-exchanger-other site older (exchange_cancel at tag ticket) answer exchanger other allowed stands =
-    absurd (other (owner-exchanger site))
-exchanger-other site older (freeze at batch) answer exchanger other allowed stands = absurd allowed
-exchanger-other site older (thaw at batch) answer exchanger other allowed stands = absurd allowed
-exchanger-other site older (stop_batch at batch) answer exchanger other allowed stands = absurd allowed
-exchanger-other site older (abandon at batch) answer exchanger other allowed stands = absurd allowed
-exchanger-other site older (report at tag service control) answer exchanger other allowed stands =
+exchanger_other site older (plug at tag description) answer exchanger other allowed stands =
+    absurd (other (owner_exchanger site))
+exchanger_other site older (unplug at tag) answer exchanger other allowed stands = absurd allowed
+exchanger_other site older (recipe at name chart) answer exchanger other allowed stands =
+    absurd (other (owner_exchanger site))
+exchanger_other site older (exchange_begin at tag) answer exchanger other allowed stands =
+    absurd (other (owner_exchanger site))
+exchanger_other site older (exchange_end at tag ticket description) answer exchanger other allowed stands =
+    absurd (other (owner_exchanger site))
+exchanger_other site older (exchange_cancel at tag ticket) answer exchanger other allowed stands =
+    absurd (other (owner_exchanger site))
+exchanger_other site older (freeze at batch) answer exchanger other allowed stands = absurd allowed
+exchanger_other site older (thaw at batch) answer exchanger other allowed stands = absurd allowed
+exchanger_other site older (stop_batch at batch) answer exchanger other allowed stands = absurd allowed
+exchanger_other site older (abandon at batch) answer exchanger other allowed stands = absurd allowed
+exchanger_other site older (report at tag service control) answer exchanger other allowed stands =
     record {
       opened_is = stands.opened_is;
       begun_is = stands.begun_is;
@@ -92,12 +92,12 @@ exchanger-other site older (report at tag service control) answer exchanger othe
       within = stands.within;
       begun_within = stands.begun_within;
       listed = stands.listed;
-      there = λ place unit at' less. there-after (paired (report at tag service control) answer)
+      there = λ place unit at' less. there_after (paired (report at tag service control) answer)
           (past unit.tag older) (bytes_eq tag unit.tag && is_accepted answer) (stands.there place unit at' less)
           (stands.there place unit at' less);
       few = stands.few;
     }
-exchanger-other site older (variable at tag name value) answer exchanger other allowed stands =
+exchanger_other site older (variable at tag name value) answer exchanger other allowed stands =
     record {
       opened_is = stands.opened_is;
       begun_is = stands.begun_is;
@@ -106,12 +106,12 @@ exchanger-other site older (variable at tag name value) answer exchanger other a
       within = stands.within;
       begun_within = stands.begun_within;
       listed = stands.listed;
-      there = λ place unit at' less. there-after (paired (variable at tag name value) answer)
+      there = λ place unit at' less. there_after (paired (variable at tag name value) answer)
           (past unit.tag older) (bytes_eq tag unit.tag && is_accepted answer) (stands.there place unit at' less)
           (stands.there place unit at' less);
       few = stands.few;
     }
-exchanger-other site older (desk at tag service command) answer exchanger other allowed stands =
+exchanger_other site older (desk at tag service command) answer exchanger other allowed stands =
     record {
       opened_is = stands.opened_is;
       begun_is = stands.begun_is;
@@ -120,12 +120,12 @@ exchanger-other site older (desk at tag service command) answer exchanger other 
       within = stands.within;
       begun_within = stands.begun_within;
       listed = stands.listed;
-      there = λ place unit at' less. there-after (paired (desk at tag service command) answer)
+      there = λ place unit at' less. there_after (paired (desk at tag service command) answer)
           (past unit.tag older) (bytes_eq tag unit.tag && is_accepted answer) (stands.there place unit at' less)
           (stands.there place unit at' less);
       few = stands.few;
     }
-exchanger-other site older (start at batch name binds) answer exchanger other allowed stands =
+exchanger_other site older (start at batch name binds) answer exchanger other allowed stands =
     record {
       opened_is = stands.opened_is;
       begun_is = stands.begun_is;
@@ -137,7 +137,7 @@ exchanger-other site older (start at batch name binds) answer exchanger other al
       there = stands.there;
       few = stands.few;
     }
-exchanger-other site older (advance at batch) answer exchanger other allowed stands =
+exchanger_other site older (advance at batch) answer exchanger other allowed stands =
     record {
       opened_is = stands.opened_is;
       begun_is = stands.begun_is;
@@ -153,15 +153,15 @@ exchanger-other site older (advance at batch) answer exchanger other allowed sta
 -- ---- what it does next
 
 -- what kind of event an errand makes, and what holds before it
-pub data IsErrandKind (site : SiteForm) (older : History) (errand : Errand) (event : EventForm) : Type 0 where
-  knows : (place : ℕ) (each : SiteRecipeForm) → errand ≡ task.Open place → event ≡ know_event each →
+pub data IsErrandKind (site : PlainSite) (older : History) (errand : Errand) (event : PlainEvent) : Type 0 where
+  knows : (place : ℕ) (each : PlainSiteRecipe) → errand ≡ task.Open place → event ≡ know_event each →
       IsErrandKind site older errand event
-  plugs : (at place : ℕ) (unit : SiteModuleForm) → errand ≡ task.Open at → slice_get site.modules place ≡ Some unit →
+  plugs : (at place : ℕ) (unit : PlainSiteModule) → errand ≡ task.Open at → slice_get site.modules place ≡ Some unit →
       event ≡ plug_event unit → IsErrandKind site older errand event
   begins : (tag : List ℕ) → errand ≡ task.Begin tag → event ≡ exchange_begin 0 tag →
       is_there (docking_of older tag) ≡ true → is_accepted (answer_of older (exchange_begin 0 tag)) ≡ true →
       IsErrandKind site older errand event
-  ends : (tag : List ℕ) (ticket place : ℕ) (exchange : SiteExchangeForm) → errand ≡ task.End tag ticket place →
+  ends : (tag : List ℕ) (ticket place : ℕ) (exchange : PlainSiteExchange) → errand ≡ task.End tag ticket place →
       event ≡ end_event tag ticket exchange → exchanging older ≡ was_begun tag ticket →
       place ≡ pred (begun_in older) → slice_get site.exchanges place ≡ Some exchange →
       IsErrandKind site older errand event
@@ -171,8 +171,8 @@ pub data IsErrandKind (site : SiteForm) (older : History) (errand : Errand) (eve
 
 -- an errand: its event is one that the site allows and the exchanger owns, and after it the exchanger stands where the
 -- history says
-pub record IsErrand (site : SiteForm) (older : History) (exchanger : Exchanger) (errand : Errand) : Type 0 where
-  pub event : EventForm
+pub record IsErrand (site : PlainSite) (older : History) (exchanger : Exchanger) (errand : Errand) : Type 0 where
+  pub event : PlainEvent
   pub event_is : event_of site errand ≡ Some event
   pub kind : IsErrandKind site older errand event
   pub allowed : IsAllowed site older event (answer_of older event)
@@ -186,11 +186,11 @@ pub record IsErrand (site : SiteForm) (older : History) (exchanger : Exchanger) 
 -- ---- recipes and modules
 
 -- a recipe
-know-errand : (site : SiteForm) (older : History) (exchanger : Exchanger) (each : SiteRecipeForm) →
+know_errand : (site : PlainSite) (older : History) (exchanger : Exchanger) (each : PlainSiteRecipe) →
     IsSite site → exchanger.opened < length site.recipes → slice_get site.recipes exchanger.opened ≡ Some each →
     slice_get (openings site) exchanger.opened ≡ Some (know_event each) → IsExchanger site older exchanger →
     IsErrand site older exchanger (task.Open exchanger.opened)
-know-errand site older exchanger each sound less at listed stands =
+know_errand site older exchanger each sound less at listed stands =
     record {
       event = know_event each;
       event_is = listed;
@@ -199,9 +199,9 @@ know-errand site older exchanger each sound less at listed stands =
         listed = ap (slice_get (openings site)) (sym stands.opened_is) ∙ listed;
         unexchanged = stands.unexchanged (omega (arith, less, opened_is));
       };
-      orderly = all-at (λ each. is_orderly (recipe 0 each.recipe each.chart)) site.recipes exchanger.opened each
+      orderly = all_at (λ each. is_orderly (recipe 0 each.recipe each.chart)) site.recipes exchanger.opened each
           sound.orderly_recipes at;
-      owner = owner-exchanger site;
+      owner = owner_exchanger site;
       stands = λ stamp. record {
         opened_is = ap suc stands.opened_is;
         begun_is = stands.begun_is;
@@ -222,9 +222,9 @@ know-errand site older exchanger each sound less at listed stands =
     behind place there = omega (arith, there, less, opened_is)
 
 -- a filter keeps no more than there were
-filter-short : {A : Type 0} (keeps : A → Bool) (xs : List A) → length (filter keeps xs) ≤ length xs
-filter-short keeps [] = omega arith
-filter-short {A} keeps (x ∷ xs) = go (keeps x) (filter-short keeps xs)
+filter_short : {A : Type 0} (keeps : A → Bool) (xs : List A) → length (filter keeps xs) ≤ length xs
+filter_short keeps [] = omega arith
+filter_short {A} keeps (x ∷ xs) = go (keeps x) (filter_short keeps xs)
   where
     go : (kept : Bool) → length (filter keeps xs) ≤ length xs →
         length (cond kept (x ∷ filter keeps xs) (filter keeps xs)) ≤ length (x ∷ xs)
@@ -232,14 +232,14 @@ filter-short {A} keeps (x ∷ xs) = go (keeps x) (filter-short keeps xs)
     go false less = omega (arith, less)
 
 -- a plug of a tag that isn't there is accepted, where the history and the plant have room
-plug-taken : (older : History) (at : ℕ) (tag : List ℕ) (description : DescriptionForm) → is_full older ≡ false →
+plug_taken : (older : History) (at : ℕ) (tag : List ℕ) (description : PlainDescription) → is_full older ≡ false →
     length (present_tags older) < MOST_MODULES → is_accepted (answer_of older (plug at tag description)) ≡ false →
     is_there (docking_of older tag) ≡ true
-plug-taken older at tag description room few refused =
-    go (docking_of older tag) (ap is_accepted (sym (with-room older (plug at tag description) room)) ∙ refused)
+plug_taken older at tag description room few refused =
+    go (docking_of older tag) (ap is_accepted (sym (with_room older (plug at tag description) room)) ∙ refused)
   where
     unfull : plant_full older ≡ None
-    unfull = ap (λ full. when full PlantFull) (lt-fails MOST_MODULES (length (present_tags older)) few)
+    unfull = ap (λ full. when full PlantFull) (lt_fails MOST_MODULES (length (present_tags older)) few)
 
     go : (docking : Docking) → is_accepted (first_rule (tag_taken docking ∷ plant_full older ∷ []) Done) ≡ false →
         is_there docking ≡ true
@@ -249,12 +249,12 @@ plug-taken older at tag description room few refused =
     go (away ticket) e = refl
 
 -- a module
-plug-errand : (site : SiteForm) (older : History) (exchanger : Exchanger) (place : ℕ) (unit : SiteModuleForm) →
+plug_errand : (site : PlainSite) (older : History) (exchanger : Exchanger) (place : ℕ) (unit : PlainSiteModule) →
     is_full older ≡ false → length site.modules ≤ MOST_MODULES → exchanger.opened ≡ length site.recipes + place →
     slice_get site.modules place ≡ Some unit →
     slice_get (openings site) exchanger.opened ≡ Some (plug_event unit) → IsExchanger site older exchanger →
     IsErrand site older exchanger (task.Open exchanger.opened)
-plug-errand site older exchanger place unit room most is at listed stands =
+plug_errand site older exchanger place unit room most is at listed stands =
     record {
       event = plug_event unit;
       event_is = listed;
@@ -264,7 +264,7 @@ plug-errand site older exchanger place unit room most is at listed stands =
         unexchanged = stands.unexchanged (omega (arith, inside, opened_is, is));
       };
       orderly = refl;
-      owner = owner-exchanger site;
+      owner = owner_exchanger site;
       stands = λ stamp. record {
         opened_is = ap suc stands.opened_is;
         begun_is = stands.begun_is;
@@ -274,7 +274,7 @@ plug-errand site older exchanger place unit room most is at listed stands =
         begun_within = stands.begun_within;
         listed = stands.listed;
         there = there stamp;
-        few = few-after (is_accepted answer);
+        few = few_after (is_accepted answer);
       };
     }
   where
@@ -285,21 +285,21 @@ plug-errand site older exchanger place unit room most is at listed stands =
     opened_is = stands.opened_is
 
     inside : place < length site.modules
-    inside = within-item site.modules place unit at
+    inside = within_item site.modules place unit at
 
-    few-before : length (present_tags older) < MOST_MODULES
-    few-before = go (length (present_tags older)) stands.few
+    few_before : length (present_tags older) < MOST_MODULES
+    few_before = go (length (present_tags older)) stands.few
       where
         go : (n : ℕ) → (0 < n → n + length site.recipes ≤ opened older) → n < MOST_MODULES
         go zero less = omega arith
         go (suc n) less = let most' = less (omega arith) in omega (arith, most', opened_is, is, inside, most)
 
-    few-after : (kept : Bool) → 0 < length (present_after (plug_event unit) kept (present_tags older)) →
+    few_after : (kept : Bool) → 0 < length (present_after (plug_event unit) kept (present_tags older)) →
         length (present_after (plug_event unit) kept (present_tags older)) + length site.recipes ≤ suc (opened older)
-    few-after false some = let before = stands.few some in omega (arith, before)
-    few-after true some =
+    few_after false some = let before = stands.few some in omega (arith, before)
+    few_after true some =
         go (length (present_tags older)) stands.few
-        (filter-short (λ other. not (bytes_eq other unit.tag)) (present_tags older))
+        (filter_short (λ other. not (bytes_eq other unit.tag)) (present_tags older))
       where
         go : (n : ℕ) → (0 < n → n + length site.recipes ≤ opened older) →
             length (tags_without unit.tag (present_tags older)) ≤ n →
@@ -307,7 +307,7 @@ plug-errand site older exchanger place unit room most is at listed stands =
         go zero less short = omega (arith, short, opened_is, is)
         go (suc n) less short = let before = less (omega arith) in omega (arith, short, before)
 
-    there : (stamp other : ℕ) (each : SiteModuleForm) → slice_get site.modules other ≡ Some each →
+    there : (stamp other : ℕ) (each : PlainSiteModule) → slice_get site.modules other ≡ Some each →
         length site.recipes + other < suc (opened older) →
         is_there (docking_of (paired (plug stamp unit.tag unit.description) answer ∷ older) each.tag) ≡ true
     there stamp other each at' less = go (bytes_eq unit.tag each.tag) refl (is_accepted answer) refl
@@ -318,9 +318,9 @@ plug-errand site older exchanger place unit room most is at listed stands =
             by : (same : Bool) → (other == place) ≡ same → length site.recipes + other < opened older
             by true e =
                 let clash : false ≡ true = sym apart
-                ∙ ap (λ (found : SiteModuleForm). bytes_eq unit.tag found.tag)
+                ∙ ap (λ (found : PlainSiteModule). bytes_eq unit.tag found.tag)
                 (same_Some each unit (sym at' ∙ ap (slice_get site.modules) (eqb-true other place e) ∙ at))
-                ∙ same-refl unit.tag in cc
+                ∙ same_refl unit.tag in cc
             by false e = grind (arith, nat_tests)
 
         go : (own : Bool) → bytes_eq unit.tag each.tag ≡ own → (kept : Bool) → is_accepted answer ≡ kept →
@@ -329,8 +329,8 @@ plug-errand site older exchanger place unit room most is at listed stands =
         go false apart kept k = stands.there other each at' (before apart)
         go true same true k = refl
         go true same false k =
-            ap (λ tag. is_there (docking_of older tag)) (sym (same-true unit.tag each.tag same))
-            ∙ plug-taken older 0 unit.tag unit.description room few-before k
+            ap (λ tag. is_there (docking_of older tag)) (sym (same_true unit.tag each.tag same))
+            ∙ plug_taken older 0 unit.tag unit.description room few_before k
 
 -- ---- exchanges
 
@@ -340,27 +340,27 @@ IsBusy None = Unit {0}
 IsBusy (Some rule) = is_busy_rule rule ≡ true
 
 -- a rule of what was found
-busy-mapped : {X : Type 0} (says : X → Rule) → ((x : X) → is_busy_rule (says x) ≡ true) → (found : Option X) →
+busy_mapped : {X : Type 0} (says : X → Rule) → ((x : X) → is_busy_rule (says x) ≡ true) → (found : Option X) →
     IsBusy (option_map says found)
-busy-mapped says busy None = tt
-busy-mapped says busy (Some x) = busy x
+busy_mapped says busy None = tt
+busy_mapped says busy (Some x) = busy x
 
 -- likewise, where that may say nothing
-busy-then : {X : Type 0} (says : X → Option Rule) → ((x : X) → IsBusy (says x)) → (found : Option X) →
+busy_then : {X : Type 0} (says : X → Option Rule) → ((x : X) → IsBusy (says x)) → (found : Option X) →
     IsBusy (option_and_then says found)
-busy-then says busy None = tt
-busy-then says busy (Some x) = busy x
+busy_then says busy None = tt
+busy_then says busy (Some x) = busy x
 
 -- a rule under a test
-busy-when : (test : Bool) (rule : Rule) → is_busy_rule rule ≡ true → IsBusy (when test rule)
-busy-when true rule busy = busy
-busy-when false rule busy = tt
+busy_when : (test : Bool) (rule : Rule) → is_busy_rule rule ≡ true → IsBusy (when test rule)
+busy_when true rule busy = busy
+busy_when false rule busy = tt
 
 -- the first rule that holds over a list
-busy-each : {X : Type 0} (says : X → Option Rule) → ((x : X) → IsBusy (says x)) → (xs : List X) →
+busy_each : {X : Type 0} (says : X → Option Rule) → ((x : X) → IsBusy (says x)) → (xs : List X) →
     IsBusy (first_of (map says xs))
-busy-each says busy [] = tt
-busy-each says busy (x ∷ xs) = go (says x) (busy x) (busy-each says busy xs)
+busy_each says busy [] = tt
+busy_each says busy (x ∷ xs) = go (says x) (busy x) (busy_each says busy xs)
   where
     go : (one : Option Rule) → IsBusy one → IsBusy (first_of (map says xs)) →
         IsBusy (option_or one (first_of (map says xs)))
@@ -368,44 +368,44 @@ busy-each says busy (x ∷ xs) = go (says x) (busy x) (busy-each says busy xs)
     go (Some rule) here later = here
 
 -- an active step
-busy-active : (older : History) (tag : List ℕ) → IsBusy (active_step older tag)
-busy-active older tag =
-    busy-then _ (λ batch. busy-then _ (λ started. busy-then _
-    (λ chart. busy-mapped (λ (step : StepPlan). ActiveStep batch step.name) (λ step. refl)
+busy_active : (older : History) (tag : List ℕ) → IsBusy (active_step older tag)
+busy_active older tag =
+    busy_then _ (λ batch. busy_then _ (λ started. busy_then _
+    (λ chart. busy_mapped (λ (step : PlainStep). ActiveStep batch step.name) (λ step. refl)
     (step_on started.binds tag (active chart (log_by (past_of_batch batch older)))))
     (chart_by (recipes older) (Some started))) (start_by (past_of_batch batch older))) (holder_of older tag)
 
 -- a module that isn't at rest
-busy-rest : (past : History) (description : Option DescriptionForm) →
+busy_rest : (past : History) (description : Option PlainDescription) →
     IsBusy (option_and_then (module_not_at_rest past) description)
-busy-rest past None = tt
-busy-rest past (Some description) =
-    busy-each (λ (service : ServiceForm). service_not_at_rest service.name (control_by service.name past))
+busy_rest past None = tt
+busy_rest past (Some description) =
+    busy_each (λ (service : PlainService). service_not_at_rest service.name (control_by service.name past))
     (λ service. one service.name (control_by service.name past)) description.services
   where
     one : (name : List ℕ) (last : Option ServiceControl) → IsBusy (service_not_at_rest name last)
     one name None = tt
-    one name (Some control) = busy-when _ (NotAtRest name control.state) refl
+    one name (Some control) = busy_when _ (NotAtRest name control.state) refl
 
 -- an exchange waits where its begin is refused so
-busy-by : (answer : Answer) → is_busy answer ≡ is_refusal_busy (refusal answer)
-busy-by Done = refl
-busy-by (Ticket ticket) = refl
-busy-by (Did entry) = refl
-busy-by (Waiting obstacle) = refl
-busy-by (Closed outcome) = refl
-busy-by (Refused rule) = refl
+busy_by : (answer : Answer) → is_busy answer ≡ is_refusal_busy (refusal answer)
+busy_by Done = refl
+busy_by (Ticket ticket) = refl
+busy_by (Did entry) = refl
+busy_by (Waiting obstacle) = refl
+busy_by (Closed outcome) = refl
+busy_by (Refused rule) = refl
 
 -- the begin of an exchange is accepted, where its module is there, no exchange is open and it needn't wait
-begin-accepted : (older : History) (tag : List ℕ) → is_full older ≡ false → is_there (docking_of older tag) ≡ true →
+begin_accepted : (older : History) (tag : List ℕ) → is_full older ≡ false → is_there (docking_of older tag) ≡ true →
     ticket_of (docking_of older tag) ≡ None →
     is_refusal_busy (refusal (answer_of older (exchange_begin 0 tag))) ≡ false →
     is_accepted (answer_of older (exchange_begin 0 tag)) ≡ true
-begin-accepted older tag room there docked_now free =
+begin_accepted older tag room there docked_now free =
     ap is_accepted answered
     ∙ go (active_step older tag) (option_and_then (module_not_at_rest (past tag older))
     (description_by (past tag older)))
-    (busy-active older tag) (busy-rest (past tag older) (description_by (past tag older)))
+    (busy_active older tag) (busy_rest (past tag older) (description_by (past tag older)))
     (ap (λ answer. is_refusal_busy (refusal answer)) (sym answered) ∙ free)
   where
     rest : List (Option Rule)
@@ -421,7 +421,7 @@ begin-accepted older tag room there docked_now free =
     skipped (away ticket) there none = cc
 
     answered : answer_of older (exchange_begin 0 tag) ≡ first_rule rest (Ticket (next_ticket (past tag older)))
-    answered = with-room older (exchange_begin 0 tag) room ∙ skipped (docking_of older tag) there docked_now
+    answered = with_room older (exchange_begin 0 tag) room ∙ skipped (docking_of older tag) there docked_now
 
     go : (one other : Option Rule) → IsBusy one → IsBusy other →
         is_refusal_busy (refusal (first_rule (one ∷ other ∷ []) (Ticket (next_ticket (past tag older))))) ≡ false →
@@ -431,60 +431,60 @@ begin-accepted older tag room there docked_now free =
     go (Some rule) other busy rests e = let clash : true ≡ false = sym busy ∙ e in cc
 
 -- a module of the site that has the tag
-has-at : (modules : List SiteModuleForm) (tag : List ℕ) → has_module modules tag ≡ true →
-    (place : ℕ) × (unit : SiteModuleForm) × (slice_get modules place ≡ Some unit) × (unit.tag ≡ tag)
-has-at [] tag has = cc
-has-at (first ∷ others) tag has = go (bytes_eq first.tag tag) refl has (has-at others tag)
+has_at : (modules : List PlainSiteModule) (tag : List ℕ) → has_module modules tag ≡ true →
+    (place : ℕ) × (unit : PlainSiteModule) × (slice_get modules place ≡ Some unit) × (unit.tag ≡ tag)
+has_at [] tag has = cc
+has_at (first ∷ others) tag has = go (bytes_eq first.tag tag) refl has (has_at others tag)
   where
     go : (own : Bool) → bytes_eq first.tag tag ≡ own → (own || has_module others tag) ≡ true →
         (has_module others tag ≡ true →
-        (place : ℕ) × (unit : SiteModuleForm) × (slice_get others place ≡ Some unit) × (unit.tag ≡ tag)) →
-        (place : ℕ) × (unit : SiteModuleForm) × (slice_get (first ∷ others) place ≡ Some unit) × (unit.tag ≡ tag)
-    go true is e again = (0, first, refl, same-true first.tag tag is)
+        (place : ℕ) × (unit : PlainSiteModule) × (slice_get others place ≡ Some unit) × (unit.tag ≡ tag)) →
+        (place : ℕ) × (unit : PlainSiteModule) × (slice_get (first ∷ others) place ≡ Some unit) × (unit.tag ≡ tag)
+    go true is e again = (0, first, refl, same_true first.tag tag is)
     go false is e again = let found = again e in (suc found.0, found.1, found.2, found.3)
 
 -- the facts by which an exchange goes on
-module _ (site : SiteForm) (older : History) (exchanger : Exchanger) (sound : IsSite site) (legal : IsLegal older)
+module _ (site : PlainSite) (older : History) (exchanger : Exchanger) (sound : IsSite site) (legal : IsLegal older)
     (follows : FollowsSite site older) (room : is_full older ≡ false)
     (all : length site.recipes + length site.modules ≤ exchanger.opened)
     (stands : IsExchanger site older exchanger) where
-  opened-all : length site.recipes + length site.modules ≤ opened older
-  opened-all = let is = stands.opened_is in omega (arith, is, all)
+  opened_all : length site.recipes + length site.modules ≤ opened older
+  opened_all = let is = stands.opened_is in omega (arith, is, all)
 
   -- the module of an exchange is there
-  exchanged-there : (place : ℕ) (exchange : SiteExchangeForm) → slice_get site.exchanges place ≡ Some exchange →
+  exchanged_there : (place : ℕ) (exchange : PlainSiteExchange) → slice_get site.exchanges place ≡ Some exchange →
       is_there (docking_of older exchange.tag) ≡ true
-  exchanged-there place exchange listed =
-      let found = has-at site.modules exchange.tag
-      (all-at (λ (exchange : SiteExchangeForm). has_module site.modules exchange.tag) site.exchanges place exchange
+  exchanged_there place exchange listed =
+      let found = has_at site.modules exchange.tag
+      (all_at (λ (exchange : PlainSiteExchange). has_module site.modules exchange.tag) site.exchanges place exchange
       sound.known_tags listed) in
-      let within = within-item site.modules found.0 found.1 found.2 in
+      let within = within_item site.modules found.0 found.1 found.2 in
       ap (λ tag. is_there (docking_of older tag)) (sym found.3)
-      ∙ stands.there found.0 found.1 found.2 (omega (arith, within, opened-all))
+      ∙ stands.there found.0 found.1 found.2 (omega (arith, within, opened_all))
 
   -- an event that leaves every module there
-  moved-there : (entry : EntryForm) (own : List ℕ → Bool) →
+  moved_there : (entry : PlainEntry) (own : List ℕ → Bool) →
       ((tag : List ℕ) → is_there (docking_by (entry ∷ past tag older)) ≡ true) →
-      (place : ℕ) (unit : SiteModuleForm) → slice_get site.modules place ≡ Some unit →
+      (place : ℕ) (unit : PlainSiteModule) → slice_get site.modules place ≡ Some unit →
       is_there (docking_by (cond (own unit.tag) (entry ∷ past unit.tag older) (past unit.tag older))) ≡ true
-  moved-there entry own moved place unit at =
-      let within = within-item site.modules place unit at in
-      there-after entry (past unit.tag older) (own unit.tag) (moved unit.tag)
-      (stands.there place unit at (omega (arith, within, opened-all)))
+  moved_there entry own moved place unit at =
+      let within = within_item site.modules place unit at in
+      there_after entry (past unit.tag older) (own unit.tag) (moved unit.tag)
+      (stands.there place unit at (omega (arith, within, opened_all)))
 
-  none-left : opened older < length site.recipes + length site.modules → ⊥
-  none-left less = let most = opened-all in omega (arith, less, most)
+  none_left : opened older < length site.recipes + length site.modules → ⊥
+  none_left less = let most = opened_all in omega (arith, less, most)
 
   -- the begin
-  begin-errand : (exchange : SiteExchangeForm) → exchanger.standing ≡ standing.Closed →
+  errand_of_begin : (exchange : PlainSiteExchange) → exchanger.standing ≡ standing.Closed →
       slice_get site.exchanges exchanger.begun ≡ Some exchange → exchange.after ≤ length older →
       is_refusal_busy (refusal (answer_of older (exchange_begin 0 exchange.tag))) ≡ false →
       IsErrand site older exchanger (task.Begin exchange.tag)
-  begin-errand exchange closed listed waited free =
+  errand_of_begin exchange closed listed waited free =
       record {
         event = exchange_begin 0 exchange.tag;
         event_is = refl;
-        kind = begins exchange.tag refl refl (exchanged-there exchanger.begun exchange listed) accepted;
+        kind = begins exchange.tag refl refl (exchanged_there exchanger.begun exchange listed) accepted;
         allowed = record {
           exchange = exchange;
           listed = at;
@@ -494,16 +494,16 @@ module _ (site : SiteForm) (older : History) (exchanger : Exchanger) (sound : Is
           accepted = accepted;
         };
         orderly = refl;
-        owner = owner-exchanger site;
+        owner = owner_exchanger site;
         stands = λ stamp. record {
           opened_is = stands.opened_is;
           begun_is = ap suc stands.begun_is;
-          standing_is = standing-is answer;
-          unexchanged = λ less. absurd (none-left less);
+          standing_is = standing_is_that answer;
+          unexchanged = λ less. absurd (none_left less);
           within = stands.within;
-          begun_within = let less = within-item site.exchanges (begun_in older) exchange at in omega (arith, less);
+          begun_within = let less = within_item site.exchanges (begun_in older) exchange at in omega (arith, less);
           listed = λ is. ap is_some at;
-          there = λ place unit at' less. moved-there (paired (exchange_begin stamp exchange.tag) answer)
+          there = λ place unit at' less. moved_there (paired (exchange_begin stamp exchange.tag) answer)
               (λ tag. bytes_eq exchange.tag tag && is_accepted answer) (λ tag. refl) place unit at';
           few = stands.few;
         };
@@ -519,33 +519,34 @@ module _ (site : SiteForm) (older : History) (exchanger : Exchanger) (sound : Is
       none = sym stands.standing_is ∙ ap exchanging_in closed
 
       accepted : is_accepted answer ≡ true
-      accepted = begin-accepted older exchange.tag room (exchanged-there exchanger.begun exchange listed)
+      accepted = begin_accepted older exchange.tag room (exchanged_there exchanger.begun exchange listed)
           (open_away site older exchange.tag legal follows ∙ ap (open_ticket exchange.tag) none) free
 
-      standing-is : (answer : Answer) → exchanging_in (begun_standing exchange.tag answer)
+      standing_is_that : (answer : Answer) → exchanging_in (begun_standing exchange.tag answer)
           ≡ begun_with exchange.tag answer
-      standing-is Done = refl
-      standing-is (Ticket ticket) = refl
-      standing-is (Did entry) = refl
-      standing-is (Waiting obstacle) = refl
-      standing-is (Closed outcome) = refl
-      standing-is (Refused rule) = refl
+      standing_is_that Done = refl
+      standing_is_that (Ticket ticket) = refl
+      standing_is_that (Did entry) = refl
+      standing_is_that (Waiting obstacle) = refl
+      standing_is_that (Closed outcome) = refl
+      standing_is_that (Refused rule) = refl
 
   -- the end
-  end-errand : (tag : List ℕ) (ticket : ℕ) → exchanger.standing ≡ standing.Begun tag ticket →
+  end_errand : (tag : List ℕ) (ticket : ℕ) → exchanger.standing ≡ standing.Begun tag ticket →
       IsErrand site older exchanger (task.End tag ticket (pred exchanger.begun))
-  end-errand tag ticket begun = go (slice_get site.exchanges (pred (begun_in older))) refl
+  end_errand tag ticket begun = go (slice_get site.exchanges (pred (begun_in older))) refl
       (stands.listed (ap is_begun begun))
     where
-      standing-is : (answer : Answer) → exchanging_in (ended_standing tag ticket answer) ≡ ended_with tag ticket answer
-      standing-is (Refused (HeldBack batch missing)) = refl
-      standing-is _ = refl
+      standing_is_that : (answer : Answer)
+          → exchanging_in (ended_standing tag ticket answer) ≡ ended_with tag ticket answer
+      standing_is_that (Refused (HeldBack batch missing)) = refl
+      standing_is_that _ = refl
 
-      not-begun : (answer : Answer) → is_begun (ended_standing tag ticket answer) ≡ true → ⊥
-      not-begun (Refused (HeldBack batch missing)) is = cc
-      not-begun _ is = cc
+      not_begun : (answer : Answer) → is_begun (ended_standing tag ticket answer) ≡ true → ⊥
+      not_begun (Refused (HeldBack batch missing)) is = cc
+      not_begun _ is = cc
 
-      go : (found : Option SiteExchangeForm) → slice_get site.exchanges (pred (begun_in older)) ≡ found →
+      go : (found : Option PlainSiteExchange) → slice_get site.exchanges (pred (begun_in older)) ≡ found →
           is_some found ≡ true → IsErrand site older exchanger (task.End tag ticket (pred exchanger.begun))
       go None at is = cc
       go (Some exchange) at is =
@@ -563,16 +564,16 @@ module _ (site : SiteForm) (older : History) (exchanger : Exchanger) (sound : Is
               begun = sym stands.standing_is ∙ ap exchanging_in begun;
             };
             orderly = refl;
-            owner = owner-exchanger site;
+            owner = owner_exchanger site;
             stands = λ stamp. record {
               opened_is = stands.opened_is;
               begun_is = stands.begun_is;
-              standing_is = standing-is (answer_of older (end_event tag ticket exchange));
-              unexchanged = λ less. absurd (none-left less);
+              standing_is = standing_is_that (answer_of older (end_event tag ticket exchange));
+              unexchanged = λ less. absurd (none_left less);
               within = stands.within;
               begun_within = stands.begun_within;
-              listed = λ still. absurd (not-begun (answer_of older (end_event tag ticket exchange)) still);
-              there = λ place unit at' less. moved-there
+              listed = λ still. absurd (not_begun (answer_of older (end_event tag ticket exchange)) still);
+              there = λ place unit at' less. moved_there
                   (paired (exchange_end stamp tag ticket exchange.description)
                   (answer_of older (end_event tag ticket exchange)))
                   (λ other. bytes_eq tag other && is_accepted (answer_of older (end_event tag ticket exchange)))
@@ -582,25 +583,25 @@ module _ (site : SiteForm) (older : History) (exchanger : Exchanger) (sound : Is
           }
 
   -- the cancelling
-  cancel-errand : (tag : List ℕ) (ticket : ℕ) → exchanger.standing ≡ standing.Held tag ticket →
+  cancel_errand : (tag : List ℕ) (ticket : ℕ) → exchanger.standing ≡ standing.Held tag ticket →
       IsErrand site older exchanger (task.Cancel tag ticket)
-  cancel-errand tag ticket held =
+  cancel_errand tag ticket held =
       record {
         event = exchange_cancel 0 tag ticket;
         event_is = refl;
-        kind = cancels tag ticket refl refl (away-there (docking_of older tag) gone) accepted;
+        kind = cancels tag ticket refl refl (away_there (docking_of older tag) gone) accepted;
         allowed = record { held = held_is; accepted = accepted };
         orderly = refl;
-        owner = owner-exchanger site;
+        owner = owner_exchanger site;
         stands = λ stamp. record {
           opened_is = stands.opened_is;
           begun_is = stands.begun_is;
           standing_is = refl;
-          unexchanged = λ less. absurd (none-left less);
+          unexchanged = λ less. absurd (none_left less);
           within = stands.within;
           begun_within = stands.begun_within;
           listed = λ still. cc;
-          there = λ place unit at' less. moved-there (paired (exchange_cancel stamp tag ticket) answer)
+          there = λ place unit at' less. moved_there (paired (exchange_cancel stamp tag ticket) answer)
               (λ other. bytes_eq tag other && is_accepted answer) (λ other. refl) place unit at';
           few = stands.few;
         };
@@ -614,12 +615,12 @@ module _ (site : SiteForm) (older : History) (exchanger : Exchanger) (sound : Is
 
       gone : ticket_of (docking_of older tag) ≡ Some ticket
       gone = open_away site older tag legal follows ∙ ap (open_ticket tag) held_is
-          ∙ ap (λ b. if b then Some ticket else None) (same-refl tag)
+          ∙ ap (λ b. if b then Some ticket else None) (same_refl tag)
 
-      away-there : (docking : Docking) → ticket_of docking ≡ Some ticket → is_there docking ≡ true
-      away-there absent is = cc
-      away-there (docked count) is = cc
-      away-there (away other) is = refl
+      away_there : (docking : Docking) → ticket_of docking ≡ Some ticket → is_there docking ≡ true
+      away_there absent is = cc
+      away_there (docked count) is = cc
+      away_there (away other) is = refl
 
       itself : (n : ℕ) → (n == n) ≡ true
       itself n = grind (arith, nat_tests)
@@ -633,15 +634,15 @@ module _ (site : SiteForm) (older : History) (exchanger : Exchanger) (sound : Is
       skipped (away other) is = let same : other ≡ ticket = same_Some other ticket is in rw (same, itself ticket) refl
 
       accepted : is_accepted answer ≡ true
-      accepted = ap is_accepted (with-room older (exchange_cancel 0 tag ticket) room
+      accepted = ap is_accepted (with_room older (exchange_cancel 0 tag ticket) room
           ∙ skipped (docking_of older tag) gone)
 
 -- what it does next is an errand
-pub errand-next : (site : SiteForm) (older : History) (count : ℕ) (exchanger : Exchanger) (errand : Errand) →
+pub errand_next : (site : PlainSite) (older : History) (count : ℕ) (exchanger : Exchanger) (errand : Errand) →
     IsSite site → length site.modules ≤ MOST_MODULES → IsLegal older → FollowsSite site older → is_full older ≡ false →
     count ≡ length older → IsExchanger site older exchanger → errand_of site older count exchanger ≡ Some errand →
     IsErrand site older exchanger errand
-errand-next site older count exchanger errand sound most legal follows room counted stands is =
+errand_next site older count exchanger errand sound most legal follows room counted stands is =
     by (nat_lt exchanger.opened (length site.recipes + length site.modules)) refl is
   where
     opens : exchanger.opened < length site.recipes + length site.modules →
@@ -650,24 +651,24 @@ errand-next site older count exchanger errand sound most legal follows room coun
         let long : length (openings site) ≡ length site.recipes + length site.modules =
         length-append (map know_event site.recipes) (map plug_event site.modules)
         ∙ (λ i. length-map site.recipes know_event i + length-map site.modules plug_event i) in
-        let found = item-within (openings site) exchanger.opened (omega (arith, less, long)) in
+        let found = item_within (openings site) exchanger.opened (omega (arith, less, long)) in
         one found.0 found.1
-        (either-item know_event plug_event site.recipes site.modules exchanger.opened found.0 found.1)
+        (either_item know_event plug_event site.recipes site.modules exchanger.opened found.0 found.1)
       where
-        one : (event : EventForm) → slice_get (openings site) exchanger.opened ≡ Some event →
+        one : (event : PlainEvent) → slice_get (openings site) exchanger.opened ≡ Some event →
             IsEither know_event plug_event site.recipes site.modules exchanger.opened event →
             IsErrand site older exchanger (task.Open exchanger.opened)
         one event listed (of_first each less at e) =
-            know-errand site older exchanger each sound less at (listed ∙ ap Some e) stands
+            know_errand site older exchanger each sound less at (listed ∙ ap Some e) stands
         one event listed (of_second place unit place_is at e) =
-            plug-errand site older exchanger place unit room most place_is at (listed ∙ ap Some e) stands
+            plug_errand site older exchanger place unit room most place_is at (listed ∙ ap Some e) stands
 
-    by-standing : length site.recipes + length site.modules ≤ exchanger.opened → (standing : Standing) →
+    by_standing : length site.recipes + length site.modules ≤ exchanger.opened → (standing : Standing) →
         exchanger.standing ≡ standing → exchange_errand site older count exchanger.begun standing ≡ Some errand →
         IsErrand site older exchanger errand
-    by-standing all standing.Closed closed e = next (slice_get site.exchanges exchanger.begun) refl e
+    by_standing all standing.Closed closed e = next (slice_get site.exchanges exchanger.begun) refl e
       where
-        next : (found : Option SiteExchangeForm) → slice_get site.exchanges exchanger.begun ≡ found →
+        next : (found : Option PlainSiteExchange) → slice_get site.exchanges exchanger.begun ≡ found →
             begin_errand older count found ≡ Some errand → IsErrand site older exchanger errand
         next None at e = cc
         next (Some exchange) at e = early (nat_lt count exchange.after) refl e
@@ -679,7 +680,7 @@ errand-next site older count exchanger errand sound most legal follows room coun
             busy waited true b e = cc
             busy waited false b e =
                 subst (IsErrand site older exchanger) (same_Some (task.Begin exchange.tag) errand e)
-                (begin-errand site older exchanger sound legal follows room all stands exchange closed at waited b)
+                (errand_of_begin site older exchanger sound legal follows room all stands exchange closed at waited b)
 
             early : (waits : Bool) → nat_lt count exchange.after ≡ waits →
                 (if waits then None
@@ -687,15 +688,15 @@ errand-next site older count exchanger errand sound most legal follows room coun
                 else Some (task.Begin exchange.tag)) ≡ Some errand → IsErrand site older exchanger errand
             early true w e = cc
             early false w e =
-                let most = lt-not count exchange.after w in
+                let most = lt_not count exchange.after w in
                 busy (omega (arith, most, counted))
                 (is_refusal_busy (refusal (answer_of older (exchange_begin 0 exchange.tag)))) refl e
-    by-standing all (standing.Begun tag ticket) begun e =
+    by_standing all (standing.Begun tag ticket) begun e =
         subst (IsErrand site older exchanger) (same_Some (task.End tag ticket (pred exchanger.begun)) errand e)
-        (end-errand site older exchanger sound legal follows room all stands tag ticket begun)
-    by-standing all (standing.Held tag ticket) held e =
+        (end_errand site older exchanger sound legal follows room all stands tag ticket begun)
+    by_standing all (standing.Held tag ticket) held e =
         subst (IsErrand site older exchanger) (same_Some (task.Cancel tag ticket) errand e)
-        (cancel-errand site older exchanger sound legal follows room all stands tag ticket held)
+        (cancel_errand site older exchanger sound legal follows room all stands tag ticket held)
 
     by : (left : Bool) → nat_lt exchanger.opened (length site.recipes + length site.modules) ≡ left →
         (if left then Some (task.Open exchanger.opened)
@@ -703,28 +704,28 @@ errand-next site older count exchanger errand sound most legal follows room coun
         IsErrand site older exchanger errand
     by true l e =
         subst (IsErrand site older exchanger) (same_Some (task.Open exchanger.opened) errand e)
-        (opens (lt-holds exchanger.opened (length site.recipes + length site.modules) l))
+        (opens (lt_holds exchanger.opened (length site.recipes + length site.modules) l))
     by false l e =
-        by-standing (lt-not exchanger.opened (length site.recipes + length site.modules) l) exchanger.standing refl e
+        by_standing (lt_not exchanger.opened (length site.recipes + length site.modules) l) exchanger.standing refl e
 
 -- ---- when it has nothing to do
 
 -- where no item passes none does
-none-any : {A : Type 0} (test : A → Bool) (xs : List A) → ((x : A) → test x ≡ false) → list_any test xs ≡ false
-none-any test [] none = refl
-none-any test (x ∷ xs) none = rw (none x) (none-any test xs none)
+none_any : {A : Type 0} (test : A → Bool) (xs : List A) → ((x : A) → test x ≡ false) → list_any test xs ≡ false
+none_any test [] none = refl
+none_any test (x ∷ xs) none = rw (none x) (none_any test xs none)
 
 -- a module without a ticket isn't away
-not-away : (docking : Docking) → ticket_of docking ≡ None → is_away docking ≡ false
-not-away absent is = refl
-not-away (docked count) is = refl
-not-away (away ticket) is = cc
+not_away : (docking : Docking) → ticket_of docking ≡ None → is_away docking ≡ false
+not_away absent is = refl
+not_away (docked count) is = refl
+not_away (away ticket) is = cc
 
 -- where it does nothing it is settled
-pub exchanger-rests : (site : SiteForm) (older : History) (count : ℕ) (exchanger : Exchanger) → IsLegal older →
+pub exchanger_rests : (site : PlainSite) (older : History) (count : ℕ) (exchanger : Exchanger) → IsLegal older →
     FollowsSite site older → count ≡ length older → IsExchanger site older exchanger →
     errand_of site older count exchanger ≡ None → is_settled_exchanger site older ≡ true
-exchanger-rests site older count exchanger legal follows counted stands is =
+exchanger_rests site older count exchanger legal follows counted stands is =
     by (nat_lt exchanger.opened (length site.recipes + length site.modules)) refl is
   where
     settled : length site.recipes + length site.modules ≤ exchanger.opened → exchanger.standing ≡ standing.Closed →
@@ -738,23 +739,23 @@ exchanger-rests site older count exchanger legal follows counted stands is =
 
         told : nat_le (length (openings site)) (opened older) ≡ true
         told = let is = stands.opened_is in
-            le-true (length (openings site)) (opened older) (omega (arith, long, is, all))
+            le_true (length (openings site)) (opened older) (omega (arith, long, is, all))
 
         none : exchanging older ≡ none_open
         none = sym stands.standing_is ∙ ap exchanging_in closed
 
-        unaway : list_any (λ (unit : SiteModuleForm). is_away (docking_of older unit.tag)) site.modules ≡ false
-        unaway = none-any (λ (unit : SiteModuleForm). is_away (docking_of older unit.tag)) site.modules
-            (λ unit. not-away (docking_of older unit.tag)
+        unaway : list_any (λ (unit : PlainSiteModule). is_away (docking_of older unit.tag)) site.modules ≡ false
+        unaway = none_any (λ (unit : PlainSiteModule). is_away (docking_of older unit.tag)) site.modules
+            (λ unit. not_away (docking_of older unit.tag)
             (open_away site older unit.tag legal follows ∙ ap (open_ticket unit.tag) none))
 
-    begins : (found : Option SiteExchangeForm) → begin_errand older count found ≡ None →
+    begins : (found : Option PlainSiteExchange) → begin_errand older count found ≡ None →
         waits_to_begin older found ≡ true
     begins None e = refl
     begins (Some exchange) e =
         early (nat_lt count exchange.after) (is_refusal_busy
         (refusal (answer_of older (exchange_begin 0 exchange.tag))))
-        (ap (λ n. nat_lt n exchange.after) (sym counted)) (busy-by (answer_of older (exchange_begin 0 exchange.tag))) e
+        (ap (λ n. nat_lt n exchange.after) (sym counted)) (busy_by (answer_of older (exchange_begin 0 exchange.tag))) e
       where
         early : (waits busy : Bool) → nat_lt (length older) exchange.after ≡ waits →
             is_busy (answer_of older (exchange_begin 0 exchange.tag)) ≡ busy →
@@ -764,14 +765,14 @@ exchanger-rests site older count exchanger legal follows counted stands is =
         early false true w b e = rw (w, b) refl
         early false false w b e = cc
 
-    by-standing : length site.recipes + length site.modules ≤ exchanger.opened → (standing : Standing) →
+    by_standing : length site.recipes + length site.modules ≤ exchanger.opened → (standing : Standing) →
         exchanger.standing ≡ standing → exchange_errand site older count exchanger.begun standing ≡ None →
         is_settled_exchanger site older ≡ true
-    by-standing all standing.Closed closed e =
+    by_standing all standing.Closed closed e =
         settled all closed (begins (slice_get site.exchanges (begun_in older))
         (ap (λ n. begin_errand older count (slice_get site.exchanges n)) (sym stands.begun_is) ∙ e))
-    by-standing all (standing.Begun tag ticket) begun e = cc
-    by-standing all (standing.Held tag ticket) held e = cc
+    by_standing all (standing.Begun tag ticket) begun e = cc
+    by_standing all (standing.Held tag ticket) held e = cc
 
     by : (left : Bool) → nat_lt exchanger.opened (length site.recipes + length site.modules) ≡ left →
         (if left then Some (task.Open exchanger.opened)
@@ -779,4 +780,4 @@ exchanger-rests site older count exchanger legal follows counted stands is =
         is_settled_exchanger site older ≡ true
     by true l e = cc
     by false l e =
-        by-standing (lt-not exchanger.opened (length site.recipes + length site.modules) l) exchanger.standing refl e
+        by_standing (lt_not exchanger.opened (length site.recipes + length site.modules) l) exchanger.standing refl e

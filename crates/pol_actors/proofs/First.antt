@@ -3,7 +3,7 @@ use Rattle.std.proofs.Common.{◌≡◌, ◌<◌, ◌+◌, ℕ, suc, zero, true,
 use Rattle.std.specs.Prelude.{slice_get}
 use Rattle.std.specs.List.{AllByRecursion}
 use Rattle.std.proofs.lemmas.Option.{same_Some}
-use Rattle.pol_site.specs.Sites.{SiteForm, SiteModuleForm, SiteBatchForm}
+use Rattle.pol_site.specs.Sites.{PlainSite, PlainSiteModule, PlainSiteBatch}
 use Rattle.pol_site.specs.Sound.{IsSite}
 use Rattle.pol_actors.specs.Exchanges.{first_exchanger}
 use Rattle.pol_actors.specs.Kept.{AreFirstStages, AreFirstUnits, IsExchanger, IsKept, IsMadeUp, IsStage, IsUnit}
@@ -13,15 +13,15 @@ use Rattle.pol_actors.specs.declared.exchanger.Exchanger.{Exchanger}
 use Rattle.pol_actors.specs.declared.unit.Unit.{Unit as Module}
 
 -- what holds of all items holds of the one at a place
-each-at : {A : Type 0} (P : A → Type 0) (xs : List A) (n : ℕ) (x : A) → AllByRecursion P xs → slice_get xs n ≡ Some x →
+each_at : {A : Type 0} (P : A → Type 0) (xs : List A) (n : ℕ) (x : A) → AllByRecursion P xs → slice_get xs n ≡ Some x →
     P x
-each-at P [] n x all at = cc
-each-at P (first ∷ others) zero x all at = subst P (same_Some first x at) all.0
-each-at P (first ∷ others) (suc n) x all at = each-at P others n x all.1 at
+each_at P [] n x all at = cc
+each_at P (first ∷ others) zero x all at = subst P (same_Some first x at) all.0
+each_at P (first ∷ others) (suc n) x all at = each_at P others n x all.1 at
 
 -- the exchanger
-first-exchanger : (site : SiteForm) → IsExchanger site [] first_exchanger
-first-exchanger site =
+first_exchanger_is : (site : PlainSite) → IsExchanger site [] first_exchanger
+first_exchanger_is site =
     record {
       opened_is = refl;
       begun_is = refl;
@@ -41,9 +41,9 @@ first-exchanger site =
     nothing less = omega (arith, less)
 
 -- a module
-first-unit : (site : SiteForm) (unit : SiteModuleForm) (own : Module) → (own.made ≡ None) × (own.brought ≡ None) →
+first_unit : (site : PlainSite) (unit : PlainSiteModule) (own : Module) → (own.made ≡ None) × (own.brought ≡ None) →
     IsUnit site unit [] own
-first-unit site unit own none =
+first_unit site unit own none =
     record {
       unbrought = λ gone. (none.1, none.0);
       brought = λ there. cc;
@@ -51,10 +51,10 @@ first-unit site unit own none =
     }
 
 -- all
-pub first-kept : (site : SiteForm) (exchanger : Exchanger) (units : List Module) (stages : List Stage) → IsSite site →
+pub first_kept : (site : PlainSite) (exchanger : Exchanger) (units : List Module) (stages : List Stage) → IsSite site →
     exchanger ≡ first_exchanger → AreFirstUnits (length site.modules) units →
     AreFirstStages (length site.batches) stages → IsKept site [] [] exchanger units stages (record { ordered = 0 })
-first-kept site exchanger units stages sound is first_units first_stages =
+first_kept site exchanger units stages sound is first_units first_stages =
     record {
       sound = sound;
       legal = tt;
@@ -62,12 +62,12 @@ first-kept site exchanger units stages sound is first_units first_stages =
       follows = tt;
       commanded = tt;
       owned = refl;
-      exchanger_is = subst (IsExchanger site []) (sym is) (first-exchanger site);
-      units_are = λ n unit own at at'. first-unit site unit own
-          (each-at (λ (own : Module). (own.made ≡ None) × (own.brought ≡ None)) units n own first_units.1 at');
+      exchanger_is = subst (IsExchanger site []) (sym is) (first_exchanger_is site);
+      units_are = λ n unit own at at'. first_unit site unit own
+          (each_at (λ (own : Module). (own.made ≡ None) × (own.brought ≡ None)) units n own first_units.1 at');
       unit_count = first_units.0;
       stages_are = λ n batch one at at'. subst (IsStage [] batch.batch)
-          (sym (each-at (λ each. each ≡ stage.Unsent) stages n one first_stages.1 at')) (refl, refl);
+          (sym (each_at (λ each. each ≡ stage.Unsent) stages n one first_stages.1 at')) (refl, refl);
       stage_count = first_stages.0;
       desk_is = refl;
       desk_within = omega arith;

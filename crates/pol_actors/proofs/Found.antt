@@ -7,18 +7,18 @@ use Rattle.std.proofs.lemmas.List.{length-map, length-reverse, length-take-le, m
 use Rattle.chart_core.specs.declared.entry.LogEntry.{LogEntry}
 use Rattle.chart_core.specs.declared.entry.LogEntry.TheVariants.{Start, Finish, Reset, End, Chose, Turn, Leave, Stop, Broke, Left, StopAsked, Asked}
 use Rattle.chart_cursor.specs.Commands.{Sent, sent_by}
-use Rattle.pol_events.specs.Events.{EntryForm, entry_view, history_view}
+use Rattle.pol_events.specs.Events.{PlainEntry, plain_entry, plain_history}
 use Rattle.pol_events.specs.declared.answer.Answer.{Answer}
 use Rattle.pol_events.specs.declared.answer.Answer.TheVariants.{Done, Ticket, Did, Waiting, Closed, Refused}
 use Rattle.pol_events.specs.declared.event.Entry.{Entry}
 use Rattle.pol_history.specs.Looking.{History}
-use Rattle.pol_history.proofs.Names.{same-true}
+use Rattle.pol_history.proofs.Names.{same_true}
 use Rattle.pol_history.specs.Batches.{taken}
 use Rattle.pol_site.specs.Stories.{if_to, sent_to}
 use Rattle.pol_core.specs.Commands as plant
 use Rattle.pol_core.specs.declared.commands.Sent.{Sent as Order}
 use Rattle.pol_simulated.specs.Places.{Found, found_at, next_command}
-use Rattle.pol_simulated.proofs.Places.{le-true, lt-fails}
+use Rattle.pol_simulated.proofs.Places.{le_true, lt_fails}
 use Rattle.pol_stillness.specs.Phases.{asked_in}
 
 -- the plant found this command of the history: it is for the module, and its procedure is the one that was asked for
@@ -41,16 +41,16 @@ IsFoundAs tag count (Some order) after None = ⊥
 -- ---- one entry
 
 -- the entry at this place, where it commands the module
-abbrev at_place : List ℕ → ℕ → EntryForm → Option Found
+abbrev at_place : List ℕ → ℕ → PlainEntry → Option Found
 at_place tag place entry =
     if is_some (sent_to tag entry)
     then option_map (λ did. record { did = did; place = place }) (taken entry.answer)
     else None
 
 -- it is found from any place on that isn't behind it
-found-late : (tag : List ℕ) (from place : ℕ) (entry : EntryForm) → from ≤ place →
+found_late : (tag : List ℕ) (from place : ℕ) (entry : PlainEntry) → from ≤ place →
     found_at tag from place entry ≡ at_place tag place entry
-found-late tag from place entry late = rw (le-true from place late) refl
+found_late tag from place entry late = rw (le_true from place late) refl
 
 -- what an entry of a log commands, as the plant tells it and as looking back does
 abbrev IsOrder : LogEntry → Option (List ℕ × Order) → Option Sent → Type 0
@@ -61,33 +61,33 @@ IsOrder did (Some order) (Some sent) =
 IsOrder did None (Some sent) = ⊥
 IsOrder did (Some order) None = ⊥
 
-order-of : (batch : Option (List ℕ)) (did : LogEntry) → IsOrder did (plant.entry_command batch did) (sent_by did)
-order-of batch (Start step tag service procedure) = (refl, refl, refl, refl)
-order-of batch (Finish step tag service) = (refl, refl, refl, refl)
-order-of batch (Reset step tag service) = (refl, refl, refl, refl)
-order-of batch (Stop step tag service) = (refl, refl, refl, refl)
-order-of batch (Asked tag service command) = (refl, refl, refl, refl)
-order-of batch (End step) = tt
-order-of batch (Chose node arm values) = tt
-order-of batch (Turn node values) = tt
-order-of batch (Leave node values) = tt
-order-of batch (Broke step state) = tt
-order-of batch (Left step state) = tt
-order-of batch StopAsked = tt
+order_of : (batch : Option (List ℕ)) (did : LogEntry) → IsOrder did (plant.entry_command batch did) (sent_by did)
+order_of batch (Start step tag service procedure) = (refl, refl, refl, refl)
+order_of batch (Finish step tag service) = (refl, refl, refl, refl)
+order_of batch (Reset step tag service) = (refl, refl, refl, refl)
+order_of batch (Stop step tag service) = (refl, refl, refl, refl)
+order_of batch (Asked tag service command) = (refl, refl, refl, refl)
+order_of batch (End step) = tt
+order_of batch (Chose node arm values) = tt
+order_of batch (Turn node values) = tt
+order_of batch (Leave node values) = tt
+order_of batch (Broke step state) = tt
+order_of batch (Left step state) = tt
+order_of batch StopAsked = tt
 
 -- what was found of an entry of a log at a place
 abbrev found_of : LogEntry → ℕ → Found
 found_of did place = record { did = did; place = place }
 
 -- the plant finds it just so
-same-did : (tag : List ℕ) (place : ℕ) (did : LogEntry) (order : Option (List ℕ × Order)) (sent : Option Sent) →
+same_did : (tag : List ℕ) (place : ℕ) (did : LogEntry) (order : Option (List ℕ × Order)) (sent : Option Sent) →
     IsOrder did order sent → sent_by did ≡ sent →
     IsFoundAs tag (place + 1) (plant.for_tag tag order) (place + 1)
     (if is_some (if_to tag sent) then Some (found_of did place) else None)
-same-did tag place did None None is sends = refl
-same-did tag place did None (Some sent) is sends = absurd is
-same-did tag place did (Some order) None is sends = absurd is
-same-did tag place did (Some order) (Some sent) is sends =
+same_did tag place did None None is sends = refl
+same_did tag place did None (Some sent) is sends = absurd is
+same_did tag place did (Some order) None is sends = absurd is
+same_did tag place did (Some order) (Some sent) is sends =
     by (bytes_eq order.0 tag) (bytes_eq sent.tag tag) (ap (λ name. bytes_eq name tag) is.0) refl
   where
     by : (one other : Bool) → one ≡ other → bytes_eq sent.tag tag ≡ other →
@@ -97,7 +97,7 @@ same-did tag place did (Some order) (Some sent) is sends =
       after_is = omega arith;
       sent = sent;
       sends = sends;
-      tag_is = same-true sent.tag tag own;
+      tag_is = same_true sent.tag tag own;
       service_is = is.1;
       command_is = is.2;
       procedure_is = is.3;
@@ -106,33 +106,33 @@ same-did tag place did (Some order) (Some sent) is sends =
     by true false e own = cc
     by false true e own = cc
 
-same-one : (tag : List ℕ) (place : ℕ) (entry : EntryForm) →
+same_one : (tag : List ℕ) (place : ℕ) (entry : PlainEntry) →
     IsFoundAs tag (place + 1) (plant.sent_to tag entry) (place + 1) (at_place tag place entry)
-same-one tag place entry = go entry.answer
+same_one tag place entry = go entry.answer
   where
     go : (answer : Answer) →
         IsFoundAs tag (place + 1) (plant.answer_command tag (plant.batch_in entry.event) answer) (place + 1)
         (at_place tag place (record { event = entry.event; answer = answer }))
     go (Did did) =
-        same-did tag place did (plant.entry_command (plant.batch_in entry.event) did) (sent_by did)
-        (order-of (plant.batch_in entry.event) did) refl
+        same_did tag place did (plant.entry_command (plant.batch_in entry.event) did) (sent_by did)
+        (order_of (plant.batch_in entry.event) did) refl
     go _ = refl
 
 -- ---- all entries
 
 -- the first of these entries that commands the module, where the first of them stands at this place
-abbrev found_among : List ℕ → ℕ → List EntryForm → Option Found
+abbrev found_among : List ℕ → ℕ → List PlainEntry → Option Found
 found_among tag place [] = None
 found_among tag place (entry ∷ later) = option_or (at_place tag place entry) (found_among tag (suc place) later)
 
 -- the plant finds it just so
-same-among : (tag : List ℕ) (place : ℕ) (later : List EntryForm) →
+same_among : (tag : List ℕ) (place : ℕ) (later : List PlainEntry) →
     IsFoundAs tag (place + length later) (plant.next_sent tag place later).0 (plant.next_sent tag place later).1
     (found_among tag place later)
-same-among tag place [] = omega arith
-same-among tag place (entry ∷ later) =
-    go (plant.sent_to tag entry) (at_place tag place entry) (same-one tag place entry)
-    (same-among tag (place + 1) later)
+same_among tag place [] = omega arith
+same_among tag place (entry ∷ later) =
+    go (plant.sent_to tag entry) (at_place tag place entry) (same_one tag place entry)
+    (same_among tag (place + 1) later)
   where
     next : place + 1 ≡ suc place
     next = omega arith
@@ -157,78 +157,79 @@ same-among tag place (entry ∷ later) =
     go (Some order) None one rest = absurd one
 
 -- before the place to look from nothing is found
-none-before : (tag : List ℕ) (from : ℕ) (history : History) → length history ≤ from →
+none_before : (tag : List ℕ) (from : ℕ) (history : History) → length history ≤ from →
     next_command tag from history ≡ None
-none-before tag from [] long = refl
-none-before tag from (entry ∷ older) long =
-    rw (none-before tag from older (omega (arith, long)), lt-fails from (length older) (omega (arith, long))) refl
+none_before tag from [] long = refl
+none_before tag from (entry ∷ older) long =
+    rw (none_before tag from older (omega (arith, long)), lt_fails from (length older) (omega (arith, long))) refl
 
 -- what is found behind some entries is found among those behind them, if nothing was found before
-found-behind : (tag : List ℕ) (from : ℕ) (done later : List EntryForm) → from ≤ length done →
+found_behind : (tag : List ℕ) (from : ℕ) (done later : List PlainEntry) → from ≤ length done →
     next_command tag from (reverse (done ++ later))
     ≡ option_or (next_command tag from (reverse done)) (found_among tag (length done) later)
-found-behind tag from done [] late = ap (λ all. next_command tag from (reverse all)) (append-nil done) ∙ or-none _
+found_behind tag from done [] late = ap (λ all. next_command tag from (reverse all)) (append-nil done) ∙ or_none _
   where
-    or-none : (found : Option Found) → found ≡ option_or found None
-    or-none None = refl
-    or-none (Some found) = refl
-found-behind tag from done (entry ∷ later) late =
+    or_none : (found : Option Found) → found ≡ option_or found None
+    or_none None = refl
+    or_none (Some found) = refl
+found_behind tag from done (entry ∷ later) late =
     ap (λ all. next_command tag from (reverse all)) (sym (append_assoc done (entry ∷ []) later))
-    ∙ found-behind tag from (done ++ entry ∷ []) later (omega (arith, late, longer))
+    ∙ found_behind tag from (done ++ entry ∷ []) later (omega (arith, late, longer))
     ∙ ap (λ history. option_or (next_command tag from history) (found_among tag (length (done ++ entry ∷ [])) later))
     (reverse-append done (entry ∷ []))
     ∙ ap (λ n. option_or (next_command tag from (entry ∷ reverse done)) (found_among tag n later)) longer
     ∙ ap (λ found. option_or (option_or (next_command tag from (reverse done)) found)
     (found_among tag (suc (length done)) later)) here
-    ∙ or-or (next_command tag from (reverse done)) (at_place tag (length done) entry)
+    ∙ or_or (next_command tag from (reverse done)) (at_place tag (length done) entry)
     (found_among tag (suc (length done)) later)
   where
     longer : length (done ++ entry ∷ []) ≡ suc (length done)
     longer = let long = length-append done (entry ∷ []) in omega (arith, long)
 
     here : found_at tag from (length (reverse done)) entry ≡ at_place tag (length done) entry
-    here = ap (λ n. found_at tag from n entry) (length-reverse done) ∙ found-late tag from (length done) entry late
+    here = ap (λ n. found_at tag from n entry) (length-reverse done) ∙ found_late tag from (length done) entry late
 
-    or-or : (one other last : Option Found) →
+    or_or : (one other last : Option Found) →
         option_or (option_or one other) last ≡ option_or one (option_or other last)
-    or-or None other last = refl
-    or-or (Some one) other last = refl
+    or_or None other last = refl
+    or_or (Some one) other last = refl
 
 -- the next command that the plant finds
-pub found-next : (tag : List ℕ) (place : ℕ) (entries : List Entry) → place ≤ length entries →
-    IsFoundAs tag (length entries) (plant.next_sent tag place (map entry_view (drop place entries))).0
-    (plant.next_sent tag place (map entry_view (drop place entries))).1 (next_command tag place (history_view entries))
-found-next tag place entries within =
+pub found_next : (tag : List ℕ) (place : ℕ) (entries : List Entry) → place ≤ length entries →
+    IsFoundAs tag (length entries) (plant.next_sent tag place (map plain_entry (drop place entries))).0
+    (plant.next_sent tag place (map plain_entry (drop place entries))).1
+    (next_command tag place (plain_history entries))
+found_next tag place entries within =
     subst (λ found. IsFoundAs tag (length entries) (plant.next_sent tag place later).0
     (plant.next_sent tag place later).1 found)
     (sym split)
     (subst (λ n. IsFoundAs tag n (plant.next_sent tag place later).0 (plant.next_sent tag place later).1
-    (found_among tag place later)) count (same-among tag place later))
+    (found_among tag place later)) count (same_among tag place later))
   where
-    later : List EntryForm
-    later = map entry_view (drop place entries)
+    later : List PlainEntry
+    later = map plain_entry (drop place entries)
 
-    done : List EntryForm
-    done = map entry_view (take place entries)
+    done : List PlainEntry
+    done = map plain_entry (take place entries)
 
-    done-long : length done ≡ place
-    done-long = length-map (take place entries) entry_view ∙ length-take-le place entries within
+    done_long : length done ≡ place
+    done_long = length-map (take place entries) plain_entry ∙ length-take-le place entries within
 
     count : place + length later ≡ length entries
     count =
-        let one = length-map (drop place entries) entry_view in
+        let one = length-map (drop place entries) plain_entry in
         let other = length-drop place entries in omega (arith, one, other, within)
 
-    whole : map entry_view entries ≡ done ++ later
-    whole = ap (map entry_view) (sym (take-append-drop place entries))
-        ∙ map-append entry_view (take place entries) (drop place entries)
+    whole : map plain_entry entries ≡ done ++ later
+    whole = ap (map plain_entry) (sym (take-append-drop place entries))
+        ∙ map-append plain_entry (take place entries) (drop place entries)
 
     before : next_command tag place (reverse done) ≡ None
-    before = none-before tag place (reverse done) (let long = length-reverse done in omega (arith, long, done-long))
+    before = none_before tag place (reverse done) (let long = length-reverse done in omega (arith, long, done_long))
 
-    split : next_command tag place (history_view entries) ≡ found_among tag place later
+    split : next_command tag place (plain_history entries) ≡ found_among tag place later
     split =
         ap (λ all. next_command tag place (reverse all)) whole
-        ∙ found-behind tag place done later (omega (arith, done-long))
+        ∙ found_behind tag place done later (omega (arith, done_long))
         ∙ ap (λ found. option_or found (found_among tag (length done) later)) before
-        ∙ ap (λ n. found_among tag n later) done-long
+        ∙ ap (λ n. found_among tag n later) done_long

@@ -6,30 +6,30 @@ use Rattle.std.proofs.lemmas.Bool.Decides.{nat_tests}
 use Rattle.std.proofs.lemmas.Option.{same_Some}
 
 -- where the test holds, the first number is lower
-pub lt-holds : (n m : ℕ) → nat_lt n m ≡ true → n < m
-lt-holds n m is = grind (arith, nat_tests)
+pub lt_holds : (n m : ℕ) → nat_lt n m ≡ true → n < m
+lt_holds n m is = grind (arith, nat_tests)
 
 -- where it fails, it isn't
-pub lt-not : (n m : ℕ) → nat_lt n m ≡ false → m ≤ n
-lt-not n m is = grind (arith, nat_tests)
+pub lt_not : (n m : ℕ) → nat_lt n m ≡ false → m ≤ n
+lt_not n m is = grind (arith, nat_tests)
 
 -- within a list there is an item
-pub item-within : {A : Type 0} (xs : List A) (n : ℕ) → n < length xs → (x : A) × (slice_get xs n ≡ Some x)
-item-within [] n less = absurd (omega (arith, less))
-item-within (first ∷ others) zero less = (first, refl)
-item-within (first ∷ others) (suc n) less = item-within others n (omega (arith, less))
+pub item_within : {A : Type 0} (xs : List A) (n : ℕ) → n < length xs → (x : A) × (slice_get xs n ≡ Some x)
+item_within [] n less = absurd (omega (arith, less))
+item_within (first ∷ others) zero less = (first, refl)
+item_within (first ∷ others) (suc n) less = item_within others n (omega (arith, less))
 
 -- where there is an item, that is within the list
-pub within-item : {A : Type 0} (xs : List A) (n : ℕ) (x : A) → slice_get xs n ≡ Some x → n < length xs
-within-item [] n x at = cc
-within-item (first ∷ others) zero x at = omega arith
-within-item (first ∷ others) (suc n) x at = let less = within-item others n x at in omega (arith, less)
+pub within_item : {A : Type 0} (xs : List A) (n : ℕ) (x : A) → slice_get xs n ≡ Some x → n < length xs
+within_item [] n x at = cc
+within_item (first ∷ others) zero x at = omega arith
+within_item (first ∷ others) (suc n) x at = let less = within_item others n x at in omega (arith, less)
 
 -- behind a list there is none
-pub none-behind : {A : Type 0} (xs : List A) (n : ℕ) → slice_get xs n ≡ None → length xs ≤ n
-none-behind [] n at = omega arith
-none-behind (first ∷ others) zero at = cc
-none-behind (first ∷ others) (suc n) at = let less = none-behind others n at in omega (arith, less)
+pub none_behind : {A : Type 0} (xs : List A) (n : ℕ) → slice_get xs n ≡ None → length xs ≤ n
+none_behind [] n at = omega arith
+none_behind (first ∷ others) zero at = cc
+none_behind (first ∷ others) (suc n) at = let less = none_behind others n at in omega (arith, less)
 
 -- an item of two lists, one behind the other, is of the first or of the second
 pub data IsEither {A B E : Type 0} (here : A → E) (there : B → E) (front : List A) (back : List B) (place : ℕ)
@@ -41,32 +41,32 @@ pub data IsEither {A B E : Type 0} (here : A → E) (there : B → E) (front : L
       IsEither here there front back place found
 
 -- an item of a mapped list comes of one of the list
-pub mapped-item : {A E : Type 0} (change : A → E) (items : List A) (place : ℕ) (found : E) →
+pub mapped_item : {A E : Type 0} (change : A → E) (items : List A) (place : ℕ) (found : E) →
     slice_get (map change items) place ≡ Some found →
     (item : A) × (slice_get items place ≡ Some item) × (found ≡ change item)
-mapped-item change [] place found at = cc
-mapped-item change (first ∷ others) zero found at = (first, refl, sym (same_Some (change first) found at))
-mapped-item change (first ∷ others) (suc place) found at = mapped-item change others place found at
+mapped_item change [] place found at = cc
+mapped_item change (first ∷ others) zero found at = (first, refl, sym (same_Some (change first) found at))
+mapped_item change (first ∷ others) (suc place) found at = mapped_item change others place found at
 
-pub either-item : {A B E : Type 0} (here : A → E) (there : B → E) (front : List A) (back : List B) (place : ℕ)
+pub either_item : {A B E : Type 0} (here : A → E) (there : B → E) (front : List A) (back : List B) (place : ℕ)
     (found : E) →
     slice_get (map here front ++ map there back) place ≡ Some found → IsEither here there front back place found
-either-item here there [] back place found at =
-    let one = mapped-item there back place found at in of_second place one.0 (omega arith) one.1 one.2
-either-item here there (first ∷ front) back zero found at =
+either_item here there [] back place found at =
+    let one = mapped_item there back place found at in of_second place one.0 (omega arith) one.1 one.2
+either_item here there (first ∷ front) back zero found at =
     of_first first (omega arith) refl (sym (same_Some (here first) found at))
-either-item {A} {B} {E} here there (first ∷ front) back (suc place) found at =
-    go (either-item here there front back place found at)
+either_item {A} {B} {E} here there (first ∷ front) back (suc place) found at =
+    go (either_item here there front back place found at)
   where
     go : IsEither here there front back place found → IsEither here there (first ∷ front) back (suc place) found
     go (of_first item less at' is) = of_first item (omega (arith, less)) at' is
     go (of_second behind item place_is at' is) = of_second behind item (omega (arith, place_is)) at' is
 
 -- what holds of all items holds of one
-pub all-at : {A : Type 0} (test : A → Bool) (items : List A) (place : ℕ) (item : A) → list_all test items ≡ true →
+pub all_at : {A : Type 0} (test : A → Bool) (items : List A) (place : ℕ) (item : A) → list_all test items ≡ true →
     slice_get items place ≡ Some item → test item ≡ true
-all-at test [] place item all at = cc
-all-at {A} test (first ∷ others) place item all at = go (test first) refl place all at (all-at test others)
+all_at test [] place item all at = cc
+all_at {A} test (first ∷ others) place item all at = go (test first) refl place all at (all_at test others)
   where
     go : (own : Bool) → test first ≡ own → (place : ℕ) → (own && list_all test others) ≡ true →
         slice_get (first ∷ others) place ≡ Some item →
@@ -77,14 +77,14 @@ all-at {A} test (first ∷ others) place item all at = go (test first) refl plac
     go true is (suc place) all at again = again place item all at
 
 -- an item of a list with another item put at a place: that one, there; elsewhere the one that was there
-pub set-got : {A : Type 0} (items : List A) (place : ℕ) (put : A) (index : ℕ) (found : A) →
+pub set_got : {A : Type 0} (items : List A) (place : ℕ) (put : A) (index : ℕ) (found : A) →
     slice_get (slice_set items place put) index ≡ Some found →
     ((index ≡ place) × (found ≡ put)) ⊎ ((index ≡ place → ⊥) × (slice_get items index ≡ Some found))
-set-got [] place put index found at = cc
-set-got (first ∷ others) zero put zero found at = inl (refl, sym (same_Some put found at))
-set-got (first ∷ others) zero put (suc index) found at = inr (λ same. omega (arith, same), at)
-set-got (first ∷ others) (suc place) put zero found at = inr (λ same. omega (arith, same), at)
-set-got {A} (first ∷ others) (suc place) put (suc index) found at = go (set-got others place put index found at)
+set_got [] place put index found at = cc
+set_got (first ∷ others) zero put zero found at = inl (refl, sym (same_Some put found at))
+set_got (first ∷ others) zero put (suc index) found at = inr (λ same. omega (arith, same), at)
+set_got (first ∷ others) (suc place) put zero found at = inr (λ same. omega (arith, same), at)
+set_got {A} (first ∷ others) (suc place) put (suc index) found at = go (set_got others place put index found at)
   where
     go : ((index ≡ place) × (found ≡ put)) ⊎ ((index ≡ place → ⊥) × (slice_get others index ≡ Some found)) →
         ((suc index ≡ suc place) × (found ≡ put)) ⊎
@@ -93,32 +93,32 @@ set-got {A} (first ∷ others) (suc place) put (suc index) found at = go (set-go
     go (inr other) = inr (λ same. other.0 (omega (arith, same)), other.1)
 
 -- the list stays as long
-pub set-long : {A : Type 0} (xs : List A) (place : ℕ) (y : A) → length (slice_set xs place y) ≡ length xs
-set-long [] place y = refl
-set-long (first ∷ others) zero y = refl
-set-long (first ∷ others) (suc place) y = ap suc (set-long others place y)
+pub set_long : {A : Type 0} (xs : List A) (place : ℕ) (y : A) → length (slice_set xs place y) ≡ length xs
+set_long [] place y = refl
+set_long (first ∷ others) zero y = refl
+set_long (first ∷ others) (suc place) y = ap suc (set_long others place y)
 
 -- an item of a mapped list
-pub item-mapped : {A B : Type 0} (f : A → B) (xs : List A) (n : ℕ) →
+pub item_mapped : {A B : Type 0} (f : A → B) (xs : List A) (n : ℕ) →
     slice_get (map f xs) n ≡ option_map f (slice_get xs n)
-item-mapped f [] n = refl
-item-mapped f (x ∷ xs) zero = refl
-item-mapped f (x ∷ xs) (suc n) = item-mapped f xs n
+item_mapped f [] n = refl
+item_mapped f (x ∷ xs) zero = refl
+item_mapped f (x ∷ xs) (suc n) = item_mapped f xs n
 
 -- an item of the first of two lists
-pub item-first : {A E : Type 0} (change : A → E) (items : List A) (behind : List E) (place : ℕ) (item : A) →
+pub item_first : {A E : Type 0} (change : A → E) (items : List A) (behind : List E) (place : ℕ) (item : A) →
     slice_get items place ≡ Some item →
     slice_get (map change items ++ behind) place ≡ Some (change item)
-item-first change [] behind place item at = cc
-item-first change (first ∷ others) behind zero item at = ap Some (ap change (same_Some first item at))
-item-first change (first ∷ others) behind (suc place) item at = item-first change others behind place item at
+item_first change [] behind place item at = cc
+item_first change (first ∷ others) behind zero item at = ap Some (ap change (same_Some first item at))
+item_first change (first ∷ others) behind (suc place) item at = item_first change others behind place item at
 
 -- an item behind the first of two lists
-pub item-second : {A E : Type 0} (change : A → E) (items : List A) (behind : List E) (place : ℕ) →
+pub item_second : {A E : Type 0} (change : A → E) (items : List A) (behind : List E) (place : ℕ) →
     slice_get items place ≡ None →
     slice_get (map change items ++ behind) place ≡ slice_get behind (place - length items)
-item-second change [] behind place none = let same : place ≡ place - 0 = omega arith in ap (slice_get behind) same
-item-second change (first ∷ others) behind zero none = cc
-item-second change (first ∷ others) behind (suc place) none =
+item_second change [] behind place none = let same : place ≡ place - 0 = omega arith in ap (slice_get behind) same
+item_second change (first ∷ others) behind zero none = cc
+item_second change (first ∷ others) behind (suc place) none =
     let same : place - length others ≡ suc place - suc (length others) = omega arith in
-    item-second change others behind place none ∙ ap (slice_get behind) same
+    item_second change others behind place none ∙ ap (slice_get behind) same

@@ -7,29 +7,29 @@ use Rattle.std.proofs.lemmas.Bool.Decides.{nat_tests}
 use Rattle.std.proofs.lemmas.List.{map-append, reverse-append}
 use Rattle.std.proofs.lemmas.Option.{same_Some}
 use Rattle.mtp_json.specs.Form.{repeats_by}
-use Rattle.mtp_sim.proofs.Edges.{none-at}
+use Rattle.mtp_sim.proofs.Edges.{none_at}
 use Rattle.mtp_sim.proofs.Indexed.{neither}
-use Rattle.pol_events.specs.Events.{EntryForm, EventForm}
+use Rattle.pol_events.specs.Events.{PlainEntry, PlainEvent}
 use Rattle.pol_history.specs.Looking.{History}
-use Rattle.pol_history.proofs.Names.{same-refl, same-true}
+use Rattle.pol_history.proofs.Names.{same_refl, same_true}
 use Rattle.pol_site.specs.Actors.{Actor, the_exchanger, a_module, a_batch, the_desk, actors, has_batch, has_tag, is_desk, is_exchanger, owner_of}
-use Rattle.pol_site.specs.Sites.{SiteForm, SiteModuleForm, SiteBatchForm}
+use Rattle.pol_site.specs.Sites.{PlainSite, PlainSiteModule, PlainSiteBatch}
 use Rattle.pol_site.specs.Rules.{same_batch, same_tag}
-use Rattle.pol_simulated.proofs.Places.{lt-true}
+use Rattle.pol_simulated.proofs.Places.{lt_true}
 use Rattle.pol_actors.specs.Kept.{AreOwners}
 
 -- ---- the place of the first item that passes
 
 -- the first item
-pub position-here : {A : Type 0} (test : A → Bool) (x : A) (xs : List A) → test x ≡ true →
+pub position_here : {A : Type 0} (test : A → Bool) (x : A) (xs : List A) → test x ≡ true →
     position test (x ∷ xs) ≡ Some 0
-position-here test x xs is =
-    rw is (ap (λ b. cond b (Some 0) None) (lt-true 0 (length (x ∷ xs)) (omega arith)))
+position_here test x xs is =
+    rw is (ap (λ b. cond b (Some 0) None) (lt_true 0 (length (x ∷ xs)) (omega arith)))
 
 -- a later one
-pub position-later : {A : Type 0} (test : A → Bool) (x : A) (xs : List A) → test x ≡ false →
+pub position_later : {A : Type 0} (test : A → Bool) (x : A) (xs : List A) → test x ≡ false →
     position test (x ∷ xs) ≡ option_map suc (position test xs)
-position-later {A} test x xs is =
+position_later {A} test x xs is =
     rw is (go (nat_lt (position_or_len test xs) (length xs)) refl)
   where
     more : (n m : ℕ) (b : Bool) → nat_lt n m ≡ b → nat_lt (1 + n) (suc m) ≡ b
@@ -49,116 +49,117 @@ position-later {A} test x xs is =
         by false = refl
 
 -- behind items that don't pass
-pub position-behind : {A B : Type 0} (test : B → Bool) (f : A → B) (xs : List A) (ys : List B) (place : ℕ) →
+pub position_behind : {A B : Type 0} (test : B → Bool) (f : A → B) (xs : List A) (ys : List B) (place : ℕ) →
     ((x : A) → test (f x) ≡ false) → position test ys ≡ Some place →
     position test (map f xs ++ ys) ≡ Some (length xs + place)
-position-behind test f [] ys place none at = at ∙ ap Some (omega arith)
-position-behind test f (x ∷ xs) ys place none at =
-    position-later test (f x) (map f xs ++ ys) (none x)
-    ∙ ap (option_map suc) (position-behind test f xs ys place none at) ∙ ap Some (omega arith)
+position_behind test f [] ys place none at = at ∙ ap Some (omega arith)
+position_behind test f (x ∷ xs) ys place none at =
+    position_later test (f x) (map f xs ++ ys) (none x)
+    ∙ ap (option_map suc) (position_behind test f xs ys place none at) ∙ ap Some (omega arith)
 
 -- an item whose name no other item has
-pub position-named : {A B : Type 0} (name_of : A → List ℕ) (test : B → Bool) (f : A → B) (xs : List A) (ys : List B)
+pub position_named : {A B : Type 0} (name_of : A → List ℕ) (test : B → Bool) (f : A → B) (xs : List A) (ys : List B)
     (place : ℕ) (x : A) → ((y : A) → test (f y) ≡ bytes_eq (name_of y) (name_of x)) →
     repeats_by (λ one other. bytes_eq (name_of one) (name_of other)) xs ≡ false → slice_get xs place ≡ Some x →
     position test (map f xs ++ ys) ≡ Some place
-position-named name_of test f [] ys place x named unlike at = cc
-position-named name_of test f (first ∷ others) ys zero x named unlike at =
-    position-here test (f first) (map f others ++ ys)
-    (named first ∙ ap (λ each. bytes_eq (name_of each) (name_of x)) (same_Some first x at) ∙ same-refl (name_of x))
-position-named name_of test f (first ∷ others) ys (suc place) x named unlike at =
+position_named name_of test f [] ys place x named unlike at = cc
+position_named name_of test f (first ∷ others) ys zero x named unlike at =
+    position_here test (f first) (map f others ++ ys)
+    (named first ∙ ap (λ each. bytes_eq (name_of each) (name_of x)) (same_Some first x at) ∙ same_refl (name_of x))
+position_named name_of test f (first ∷ others) ys (suc place) x named unlike at =
     let parts = neither (list_any (λ other. bytes_eq (name_of first) (name_of other)) others)
     (repeats_by (λ one other. bytes_eq (name_of one) (name_of other)) others) unlike in
-    position-later test (f first) (map f others ++ ys)
-    (named first ∙ none-at (λ other. bytes_eq (name_of first) (name_of other)) others place x parts.0 at)
-    ∙ ap (option_map suc) (position-named name_of test f others ys place x named parts.1 at)
+    position_later test (f first) (map f others ++ ys)
+    (named first ∙ none_at (λ other. bytes_eq (name_of first) (name_of other)) others place x parts.0 at)
+    ∙ ap (option_map suc) (position_named name_of test f others ys place x named parts.1 at)
 
 -- likewise in a list of such items alone
-pub position-at : {A : Type 0} (name_of : A → List ℕ) (xs : List A) (place : ℕ) (x : A) (name : List ℕ) →
+pub position_at : {A : Type 0} (name_of : A → List ℕ) (xs : List A) (place : ℕ) (x : A) (name : List ℕ) →
     repeats_by (λ one other. bytes_eq (name_of one) (name_of other)) xs ≡ false → slice_get xs place ≡ Some x →
     bytes_eq (name_of x) name ≡ true → position (λ each. bytes_eq (name_of each) name) xs ≡ Some place
-position-at name_of [] place x name unlike at named = cc
-position-at name_of (first ∷ others) zero x name unlike at named =
-    position-here (λ each. bytes_eq (name_of each) name) first others
+position_at name_of [] place x name unlike at named = cc
+position_at name_of (first ∷ others) zero x name unlike at named =
+    position_here (λ each. bytes_eq (name_of each) name) first others
     (ap (λ each. bytes_eq (name_of each) name) (same_Some first x at) ∙ named)
-position-at name_of (first ∷ others) (suc place) x name unlike at named =
+position_at name_of (first ∷ others) (suc place) x name unlike at named =
     let parts = neither (list_any (λ other. bytes_eq (name_of first) (name_of other)) others)
     (repeats_by (λ one other. bytes_eq (name_of one) (name_of other)) others) unlike in
-    position-later (λ each. bytes_eq (name_of each) name) first others
-    (ap (bytes_eq (name_of first)) (sym (same-true (name_of x) name named))
-    ∙ none-at (λ other. bytes_eq (name_of first) (name_of other)) others place x parts.0 at)
-    ∙ ap (option_map suc) (position-at name_of others place x name parts.1 at named)
+    position_later (λ each. bytes_eq (name_of each) name) first others
+    (ap (bytes_eq (name_of first)) (sym (same_true (name_of x) name named))
+    ∙ none_at (λ other. bytes_eq (name_of first) (name_of other)) others place x parts.0 at)
+    ∙ ap (option_map suc) (position_at name_of others place x name parts.1 at named)
 
 -- items at different places have different names
-pub names-apart : {A : Type 0} (name_of : A → List ℕ) (xs : List A) (place other : ℕ) (x y : A) →
+pub names_apart : {A : Type 0} (name_of : A → List ℕ) (xs : List A) (place other : ℕ) (x y : A) →
     repeats_by (λ one other. bytes_eq (name_of one) (name_of other)) xs ≡ false → slice_get xs place ≡ Some x →
     slice_get xs other ≡ Some y → (other ≡ place → ⊥) → bytes_eq (name_of x) (name_of y) ≡ false
-names-apart name_of xs place other x y unlike at at' apart = go (bytes_eq (name_of x) (name_of y)) refl
+names_apart name_of xs place other x y unlike at at' apart = go (bytes_eq (name_of x) (name_of y)) refl
   where
     go : (same : Bool) → bytes_eq (name_of x) (name_of y) ≡ same → same ≡ false
     go false is = refl
     go true is =
-        let one = position-at name_of xs place x (name_of y) unlike at is in
-        let two = position-at name_of xs other y (name_of y) unlike at' (same-refl (name_of y)) in
+        let one = position_at name_of xs place x (name_of y) unlike at is in
+        let two = position_at name_of xs other y (name_of y) unlike at' (same_refl (name_of y)) in
         absurd (apart (same_Some other place (sym two ∙ one)))
 
 -- ---- owners
 
 -- the exchanger's
-pub owner-exchanger : (site : SiteForm) → position is_exchanger (actors site) ≡ Some 0
-owner-exchanger site =
-    position-here is_exchanger the_exchanger (map a_module site.modules ++
+pub owner_exchanger : (site : PlainSite) → position is_exchanger (actors site) ≡ Some 0
+owner_exchanger site =
+    position_here is_exchanger the_exchanger (map a_module site.modules ++
     (map a_batch site.batches ++ the_desk ∷ [])) refl
 
 -- a module's
-pub owner-module : (site : SiteForm) (place : ℕ) (unit : SiteModuleForm) → repeats_by same_tag site.modules ≡ false →
+pub owner_module : (site : PlainSite) (place : ℕ) (unit : PlainSiteModule) → repeats_by same_tag site.modules ≡ false →
     slice_get site.modules place ≡ Some unit → position (has_tag unit.tag) (actors site) ≡ Some (suc place)
-owner-module site place unit unlike at =
-    position-later (has_tag unit.tag) the_exchanger
+owner_module site place unit unlike at =
+    position_later (has_tag unit.tag) the_exchanger
     (map a_module site.modules ++ (map a_batch site.batches ++ the_desk ∷ []))
     refl
-    ∙ ap (option_map suc) (position-named (λ (each : SiteModuleForm). each.tag) (has_tag unit.tag) a_module site.modules
+    ∙ ap (option_map suc)
+    (position_named (λ (each : PlainSiteModule). each.tag) (has_tag unit.tag) a_module site.modules
     (map a_batch site.batches ++ the_desk ∷ []) place unit (λ each. refl) unlike at)
 
 -- a batch's
-pub owner-batch : (site : SiteForm) (place : ℕ) (batch : SiteBatchForm) → repeats_by same_batch site.batches ≡ false →
+pub owner_batch : (site : PlainSite) (place : ℕ) (batch : PlainSiteBatch) → repeats_by same_batch site.batches ≡ false →
     slice_get site.batches place ≡ Some batch →
     position (has_batch batch.batch) (actors site) ≡ Some (suc (length site.modules + place))
-owner-batch site place batch unlike at =
-    position-later (has_batch batch.batch) the_exchanger
+owner_batch site place batch unlike at =
+    position_later (has_batch batch.batch) the_exchanger
     (map a_module site.modules ++ (map a_batch site.batches ++ the_desk ∷ [])) refl
-    ∙ ap (option_map suc) (position-behind (has_batch batch.batch) a_module site.modules
+    ∙ ap (option_map suc) (position_behind (has_batch batch.batch) a_module site.modules
     (map a_batch site.batches ++ the_desk ∷ []) place (λ each. refl)
-    (position-named (λ (each : SiteBatchForm). each.batch) (has_batch batch.batch) a_batch site.batches
+    (position_named (λ (each : PlainSiteBatch). each.batch) (has_batch batch.batch) a_batch site.batches
     (the_desk ∷ []) place batch (λ each. refl) unlike at))
 
 -- the desk's
-pub owner-desk : (site : SiteForm) →
+pub owner_desk : (site : PlainSite) →
     position is_desk (actors site) ≡ Some (suc (length site.modules + (length site.batches + 0)))
-owner-desk site =
-    position-later is_desk the_exchanger (map a_module site.modules ++ (map a_batch site.batches ++ the_desk ∷ [])) refl
-    ∙ ap (option_map suc) (position-behind is_desk a_module site.modules (map a_batch site.batches ++ the_desk ∷ [])
+owner_desk site =
+    position_later is_desk the_exchanger (map a_module site.modules ++ (map a_batch site.batches ++ the_desk ∷ [])) refl
+    ∙ ap (option_map suc) (position_behind is_desk a_module site.modules (map a_batch site.batches ++ the_desk ∷ [])
     (length site.batches + 0) (λ each. refl)
-    (position-behind is_desk a_batch site.batches (the_desk ∷ []) 0 (λ each. refl)
-    (position-here is_desk the_desk [] refl)))
+    (position_behind is_desk a_batch site.batches (the_desk ∷ []) 0 (λ each. refl)
+    (position_here is_desk the_desk [] refl)))
 
 -- one more entry, with its owner
-pub owned-more : (site : SiteForm) (older : History) (entry : EntryForm) (by : List ℕ) (actor : ℕ) →
+pub owned_more : (site : PlainSite) (older : History) (entry : PlainEntry) (by : List ℕ) (actor : ℕ) →
     owner_of site entry.event ≡ Some actor → AreOwners site older by → AreOwners site (entry ∷ older) (by ++ actor ∷ [])
-owned-more site older entry by actor is owned =
+owned_more site older entry by actor is owned =
     map-append Some by (actor ∷ [])
     ∙ (λ i. owned i ++ sym is i ∷ [])
-    ∙ sym (map-append (λ (entry : EntryForm). owner_of site entry.event) (reverse older) (entry ∷ []))
-    ∙ ap (map (λ (entry : EntryForm). owner_of site entry.event)) (sym (reverse-append (entry ∷ []) older))
+    ∙ sym (map-append (λ (entry : PlainEntry). owner_of site entry.event) (reverse older) (entry ∷ []))
+    ∙ ap (map (λ (entry : PlainEntry). owner_of site entry.event)) (sym (reverse-append (entry ∷ []) older))
 
 -- ---- actors by their numbers
 
 -- a module's number is one more than its place
-pub actor-module : (site : SiteForm) (place : ℕ) (unit : SiteModuleForm) → slice_get site.modules place ≡ Some unit →
+pub actor_module : (site : PlainSite) (place : ℕ) (unit : PlainSiteModule) → slice_get site.modules place ≡ Some unit →
     slice_get (actors site) (suc place) ≡ Some (a_module unit)
-actor-module site place unit at = front site.modules place at
+actor_module site place unit at = front site.modules place at
   where
-    front : (modules : List SiteModuleForm) (place : ℕ) → slice_get modules place ≡ Some unit →
+    front : (modules : List PlainSiteModule) (place : ℕ) → slice_get modules place ≡ Some unit →
         slice_get (map a_module modules ++ (map a_batch site.batches ++ the_desk ∷ [])) place ≡ Some (a_module unit)
     front [] place at = cc
     front (first ∷ others) zero at = ap Some (ap a_module (same_Some first unit at))
@@ -173,26 +174,26 @@ behind f (x ∷ xs) ys place =
     ap (slice_get (f x ∷ (map f xs ++ ys))) next ∙ behind f xs ys place
 
 -- a batch's stands behind the modules'
-pub actor-batch : (site : SiteForm) (place : ℕ) (batch : SiteBatchForm) → slice_get site.batches place ≡ Some batch →
+pub actor_batch : (site : PlainSite) (place : ℕ) (batch : PlainSiteBatch) → slice_get site.batches place ≡ Some batch →
     slice_get (actors site) (suc (length site.modules + place)) ≡ Some (a_batch batch)
-actor-batch site place batch at =
+actor_batch site place batch at =
     behind a_module site.modules (map a_batch site.batches ++ the_desk ∷ []) place ∙ front site.batches place at
   where
-    front : (batches : List SiteBatchForm) (place : ℕ) → slice_get batches place ≡ Some batch →
+    front : (batches : List PlainSiteBatch) (place : ℕ) → slice_get batches place ≡ Some batch →
         slice_get (map a_batch batches ++ the_desk ∷ []) place ≡ Some (a_batch batch)
     front [] place at = cc
     front (first ∷ others) zero at = ap Some (ap a_batch (same_Some first batch at))
     front (first ∷ others) (suc place) at = front others place at
 
 -- the desk's is the last
-pub actor-desk : (site : SiteForm) →
+pub actor_desk : (site : PlainSite) →
     slice_get (actors site) (suc (length site.modules + (length site.batches + 0))) ≡ Some the_desk
-actor-desk site =
+actor_desk site =
     behind a_module site.modules (map a_batch site.batches ++ the_desk ∷ []) (length site.batches + 0)
     ∙ behind a_batch site.batches (the_desk ∷ []) 0
 
 -- what holds of the item at each place holds of all items
-pub all-from : {A : Type 0} (P : A → Type 0) (xs : List A) →
+pub all_from : {A : Type 0} (P : A → Type 0) (xs : List A) →
     ((place : ℕ) (x : A) → slice_get xs place ≡ Some x → P x) → AllByRecursion P xs
-all-from P [] each = tt
-all-from P (x ∷ xs) each = (each 0 x refl, all-from P xs (λ place y at. each (suc place) y at))
+all_from P [] each = tt
+all_from P (x ∷ xs) each = (each 0 x refl, all_from P xs (λ place y at. each (suc place) y at))

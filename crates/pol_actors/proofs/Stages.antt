@@ -5,11 +5,11 @@ use Rattle.std.specs.Option.{option_or}
 use Rattle.std.specs.Str.{bytes_eq}
 use Rattle.std.proofs.lemmas.Option.{same_Some}
 use Rattle.mtp_codes.specs.Faults.{when}
-use Rattle.chart_core.specs.Roles.{ChartPlan}
+use Rattle.chart_core.specs.Roles.{PlainChart}
 use Rattle.chart_core.specs.declared.next.Next.{Next}
 use Rattle.chart_core.specs.declared.next.Next.TheVariants as next
 use Rattle.chart_core.specs.declared.next.Outcome.{Outcome}
-use Rattle.pol_events.specs.Events.{EventForm, EntryForm, start, advance}
+use Rattle.pol_events.specs.Events.{PlainEvent, PlainEntry, start, advance}
 use Rattle.pol_events.specs.Orderly.{is_orderly}
 use Rattle.pol_events.specs.declared.answer.Answer.{Answer}
 use Rattle.pol_events.specs.declared.answer.Answer.TheVariants.{Done, Ticket, Did, Waiting, Closed, Refused}
@@ -21,28 +21,28 @@ use Rattle.pol_history.specs.Following.{next_of, next_of_started}
 use Rattle.pol_history.specs.Looking.{History, is_accepted, is_batch, past, past_of_batch, recipes, subject}
 use Rattle.pol_history.specs.Rules.{no_batch, batch_closed}
 use Rattle.pol_history.specs.Runs.{IsLegal, IsOrderly}
-use Rattle.pol_history.proofs.Accepted.{paired, with-room}
-use Rattle.pol_history.proofs.Names.{same-refl}
+use Rattle.pol_history.proofs.Accepted.{paired, with_room}
+use Rattle.pol_history.proofs.Names.{same_refl}
 use Rattle.pol_core.specs.Calls.{open_next, refusal}
-use Rattle.pol_conduct.proofs.Advances.{started_charted}
+use Rattle.pol_safety.proofs.Advances.{started_charted}
 use Rattle.pol_site.specs.Following.{IsAllowed, is_put_off, is_stepped, last_entry_of, listed_batch}
 use Rattle.pol_site.specs.Settled.{is_settled_batch, is_start_settled, is_waiting}
-use Rattle.pol_site.specs.Sites.{SiteForm, SiteBatchForm}
+use Rattle.pol_site.specs.Sites.{PlainSite, PlainSiteBatch}
 use Rattle.pol_site.specs.Sound.{IsSite}
-use Rattle.pol_simulated.proofs.Called.{called-at}
+use Rattle.pol_simulated.proofs.Called.{called_at}
 use Rattle.pol_actors.specs.Batches.{advance_event, batch_event, is_refusal_passing, stage_after, start_event}
 use Rattle.pol_actors.specs.Stamps.{stamped}
 use Rattle.pol_actors.specs.Kept.{IsStage, IsStageBy}
-use Rattle.pol_actors.proofs.Numbers.{all-at}
+use Rattle.pol_actors.proofs.Numbers.{all_at}
 use Rattle.pol_actors.specs.declared.batch.Stage.{Stage}
 use Rattle.pol_actors.specs.declared.batch.Stage.TheVariants as stage
 
 -- ---- one more entry
 
 -- an entry of something else leaves it
-pub stage-other : (older : History) (batch : List ℕ) (entry : EntryForm) (stage : Stage) →
+pub stage_other : (older : History) (batch : List ℕ) (entry : PlainEntry) (stage : Stage) →
     is_batch batch (subject entry.event) ≡ false → IsStage older batch stage → IsStage (entry ∷ older) batch stage
-stage-other older batch entry stage apart stands =
+stage_other older batch entry stage apart stands =
     subst (λ last. IsStageBy last (start_of (entry ∷ older) batch) stage) (sym last)
     (subst (λ begun. IsStageBy (last_entry_of batch older) begun stage) (sym begun) stands)
   where
@@ -55,12 +55,12 @@ stage-other older batch entry stage apart stands =
         (past_of_batch batch older))) apart
 
 -- its start
-pub stage-started : (older : History) (at : ℕ) (batch recipe : List ℕ) (binds : List Bind) (answer : Answer) →
+pub stage_started : (older : History) (at : ℕ) (batch recipe : List ℕ) (binds : List Bind) (answer : Answer) →
     IsStage older batch stage.Unsent →
     IsStage (paired (start at batch recipe binds) answer ∷ older) batch (stage_after stage.Unsent answer)
-stage-started older at batch recipe binds answer stands = by (bytes_eq batch batch) answer (same-refl batch)
+stage_started older at batch recipe binds answer stands = by (bytes_eq batch batch) answer (same_refl batch)
   where
-    entry : Answer → EntryForm
+    entry : Answer → PlainEntry
     entry answer = paired (start at batch recipe binds) answer
 
     by : (own : Bool) (answer : Answer) → own ≡ true →
@@ -77,12 +77,12 @@ stage-started older at batch recipe binds answer stands = by (bytes_eq batch bat
     by true (Refused rule) is = ((entry (Refused rule), refl, refl), stands.1)
 
 -- its advance
-pub stage-advanced : (older : History) (at : ℕ) (batch : List ℕ) (answer : Answer) → is_accepted answer ≡ true →
+pub stage_advanced : (older : History) (at : ℕ) (batch : List ℕ) (answer : Answer) → is_accepted answer ≡ true →
     IsStage older batch stage.Started → IsStage (paired (advance at batch) answer ∷ older) batch stage.Started
-stage-advanced older at batch answer accepted stands =
-    by (bytes_eq batch batch) (is_accepted answer) (same-refl batch) accepted
+stage_advanced older at batch answer accepted stands =
+    by (bytes_eq batch batch) (is_accepted answer) (same_refl batch) accepted
   where
-    entry : EntryForm
+    entry : PlainEntry
     entry = paired (advance at batch) answer
 
     by : (own kept : Bool) → own ≡ true → kept ≡ true →
@@ -95,16 +95,17 @@ stage-advanced older at batch answer accepted stands =
 -- ---- what it may do next
 
 -- a start waits where its refusal passes
-put-off-by : (answer : Answer) → is_put_off answer ≡ is_refusal_passing (refusal answer)
-put-off-by Done = refl
-put-off-by (Ticket ticket) = refl
-put-off-by (Did entry) = refl
-put-off-by (Waiting obstacle) = refl
-put-off-by (Closed outcome) = refl
-put-off-by (Refused rule) = refl
+put_off_by : (answer : Answer) → is_put_off answer ≡ is_refusal_passing (refusal answer)
+put_off_by Done = refl
+put_off_by (Ticket ticket) = refl
+put_off_by (Did entry) = refl
+put_off_by (Waiting obstacle) = refl
+put_off_by (Closed outcome) = refl
+put_off_by (Refused rule) = refl
 
 -- what a batch does next, and what it makes of where it stands
-pub record IsBatchTurn (site : SiteForm) (older : History) (batch : SiteBatchForm) (stage : Stage) (event : EventForm) :
+pub record IsBatchTurn (site : PlainSite) (older : History) (batch : PlainSiteBatch) (stage : Stage)
+    (event : PlainEvent) :
     Type 0 where
   pub kind : (event ≡ start 0 batch.batch batch.recipe batch.binds) ⊎ (event ≡ advance 0 batch.batch)
   pub formed : is_orderly event ≡ true
@@ -115,14 +116,14 @@ pub record IsBatchTurn (site : SiteForm) (older : History) (batch : SiteBatchFor
       (stage_after stage (answer_of older event))
 
 -- its start
-start-turn : (site : SiteForm) (older : History) (place : ℕ) (batch : SiteBatchForm) (event : EventForm) →
+start_turn : (site : PlainSite) (older : History) (place : ℕ) (batch : PlainSiteBatch) (event : PlainEvent) →
     IsSite site → slice_get site.batches place ≡ Some batch →
     IsStage older batch.batch stage.Unsent → start_event older batch ≡ Some event →
     IsBatchTurn site older batch stage.Unsent event
-start-turn site older place batch event sound listed stands is =
+start_turn site older place batch event sound listed stands is =
     go (is_refusal_passing (refusal (answer_of older (start 0 batch.batch batch.recipe batch.binds)))) refl is
   where
-    own : EventForm
+    own : PlainEvent
     own = start 0 batch.batch batch.recipe batch.binds
 
     go : (waits : Bool) → is_refusal_passing (refusal (answer_of older own)) ≡ waits →
@@ -131,23 +132,23 @@ start-turn site older place batch event sound listed stands is =
     go false free e = subst (IsBatchTurn site older batch stage.Unsent) (same_Some own event e) (record {
       kind = inl refl;
       formed =
-          all-at (λ (batch : SiteBatchForm). is_orderly (start 0 batch.batch batch.recipe batch.binds)) site.batches
+          all_at (λ (batch : PlainSiteBatch). is_orderly (start 0 batch.batch batch.recipe batch.binds)) site.batches
           place batch sound.orderly_starts listed;
       allowed = record {
-        listed = called-at (λ (each : SiteBatchForm). each.batch) site.batches place batch batch.batch
-            sound.unlike_batches listed (same-refl batch.batch);
+        listed = called_at (λ (each : PlainSiteBatch). each.batch) site.batches place batch batch.batch
+            sound.unlike_batches listed (same_refl batch.batch);
         first = stands.0;
-        not_put_off = put-off-by (answer_of older own) ∙ free;
+        not_put_off = put_off_by (answer_of older own) ∙ free;
       };
-      stands = λ at. stage-started older at batch.batch batch.recipe batch.binds (answer_of older own) stands;
+      stands = λ at. stage_started older at batch.batch batch.recipe batch.binds (answer_of older own) stands;
     })
 
 -- where the batch is open and its next entry is known, an advance gives it
-advance-answered : (older : History) (batch : List ℕ) (next : Next) → is_full older ≡ false →
+advance_answered : (older : History) (batch : List ℕ) (next : Next) → is_full older ≡ false →
     is_some (start_of older batch) ≡ true → open_next older batch ≡ Some next →
     answer_of older (advance 0 batch) ≡ advanced (Some next)
-advance-answered older batch next room begun is =
-    with-room older (advance 0 batch) room
+advance_answered older batch next room begun is =
+    with_room older (advance 0 batch) room
     ∙ go (start_by (past_of_batch batch older)) (outcome_of older batch) (next_of older batch) refl begun is
   where
     go : (found : Option Started) (outcome : Option Outcome) (following : Option Next) →
@@ -160,19 +161,20 @@ advance-answered older batch next room begun is =
     go (Some found) (Some outcome) following out there e = cc
 
 -- its advance
-advance-turn : (site : SiteForm) (older : History) (batch : SiteBatchForm) (event : EventForm) → is_full older ≡ false →
+advance_turn : (site : PlainSite) (older : History) (batch : PlainSiteBatch) (event : PlainEvent)
+    → is_full older ≡ false →
     IsStage older batch.batch stage.Started → advance_event batch.batch (open_next older batch.batch) ≡ Some event →
     IsBatchTurn site older batch stage.Started event
-advance-turn site older batch event room stands is = go (open_next older batch.batch) refl is
+advance_turn site older batch event room stands is = go (open_next older batch.batch) refl is
   where
-    own : EventForm
+    own : PlainEvent
     own = advance 0 batch.batch
 
     turn : (next : Next) → open_next older batch.batch ≡ Some next → is_stepped (advanced (Some next)) ≡ true →
         is_accepted (advanced (Some next)) ≡ true → Some own ≡ Some event →
         IsBatchTurn site older batch stage.Started event
     turn next found steps accepts e =
-        let answered = advance-answered older batch.batch next room stands.1 found in
+        let answered = advance_answered older batch.batch next room stands.1 found in
         subst (IsBatchTurn site older batch stage.Started) (same_Some own event e) (record {
           kind = inr refl;
           formed = refl;
@@ -182,7 +184,7 @@ advance-turn site older batch event room stands is = go (open_next older batch.b
             accepted = stands.0.2;
             stepped = ap is_stepped answered ∙ steps;
           };
-          stands = λ at. stage-advanced older at batch.batch (answer_of older own)
+          stands = λ at. stage_advanced older at batch.batch (answer_of older own)
               (ap is_accepted answered ∙ accepts) stands;
         })
 
@@ -194,22 +196,22 @@ advance-turn site older batch event room stands is = go (open_next older batch.b
     go (Some (next.Closed outcome)) found e = turn (next.Closed outcome) found refl refl e
 
 -- what it does next
-pub batch-turn : (site : SiteForm) (older : History) (place : ℕ) (batch : SiteBatchForm) (stage : Stage)
-    (event : EventForm) → is_full older ≡ false → IsSite site →
+pub batch_turn : (site : PlainSite) (older : History) (place : ℕ) (batch : PlainSiteBatch) (stage : Stage)
+    (event : PlainEvent) → is_full older ≡ false → IsSite site →
     slice_get site.batches place ≡ Some batch → IsStage older batch.batch stage →
     batch_event older batch stage ≡ Some event → IsBatchTurn site older batch stage event
-batch-turn site older place batch stage.Unsent event room sound listed stands is =
-    start-turn site older place batch event sound listed stands is
-batch-turn site older place batch stage.Refused event room sound listed stands is = cc
-batch-turn site older place batch stage.Started event room sound listed stands is =
-    advance-turn site older batch event room stands is
+batch_turn site older place batch stage.Unsent event room sound listed stands is =
+    start_turn site older place batch event sound listed stands is
+batch_turn site older place batch stage.Refused event room sound listed stands is = cc
+batch_turn site older place batch stage.Started event room sound listed stands is =
+    advance_turn site older batch event room stands is
 
 -- ---- when it has nothing to do
 
 -- a batch that was started has a next entry
-next-there : (older : History) (batch : List ℕ) → IsLegal older → IsOrderly older →
+next_there : (older : History) (batch : List ℕ) → IsLegal older → IsOrderly older →
     is_some (start_of older batch) ≡ true → next_of older batch ≡ None → ⊥
-next-there older batch legal orderly begun none = go (start_of older batch) refl begun none
+next_there older batch legal orderly begun none = go (start_of older batch) refl begun none
   where
     go : (found : Option Started) → start_of older batch ≡ found → is_some found ≡ true →
         option_and_then (next_of_started (recipes older) (past_of_batch batch older) (λ tag. past tag older)) found
@@ -223,28 +225,28 @@ next-there older batch legal orderly begun none = go (start_of older batch) refl
         let clash = sym (ap (option_map _) charted) ∙ e in cc
 
 -- where it does nothing it is settled
-pub batch-rests : (older : History) (batch : SiteBatchForm) (stage : Stage) → IsLegal older → IsOrderly older →
+pub batch_rests : (older : History) (batch : PlainSiteBatch) (stage : Stage) → IsLegal older → IsOrderly older →
     IsStage older batch.batch stage → batch_event older batch stage ≡ None → is_settled_batch older batch ≡ true
-batch-rests older batch stage.Unsent legal orderly stands none =
-    rw (stands.1, stands.0) (put-off-by (answer_of older own) ∙ go
+batch_rests older batch stage.Unsent legal orderly stands none =
+    rw (stands.1, stands.0) (put_off_by (answer_of older own) ∙ go
     (is_refusal_passing (refusal (answer_of older own))) none)
   where
-    own : EventForm
+    own : PlainEvent
     own = start 0 batch.batch batch.recipe batch.binds
 
     go : (waits : Bool) → (if waits then None else Some own) ≡ None → waits ≡ true
     go true e = refl
     go false e = cc
-batch-rests older batch stage.Refused legal orderly stands none =
+batch_rests older batch stage.Refused legal orderly stands none =
     rw (stands.1, stands.0.1) (ap not stands.0.2)
-batch-rests older batch stage.Started legal orderly stands none =
+batch_rests older batch stage.Started legal orderly stands none =
     rw (stands.1) (go (outcome_of older batch.batch) (next_of older batch.batch) refl none)
   where
     go : (outcome : Option Outcome) (following : Option Next) → next_of older batch.batch ≡ following →
         advance_event batch.batch (if is_none outcome then following else None) ≡ None →
         (is_some outcome || is_waiting following) ≡ true
     go (Some outcome) following is e = refl
-    go None None is e = absurd (next-there older batch.batch legal orderly stands.1 is)
+    go None None is e = absurd (next_there older batch.batch legal orderly stands.1 is)
     go None (Some (next.Waiting obstacle)) is e = refl
     go None (Some (next.Did entry)) is e = cc
     go None (Some (next.Closed outcome)) is e = cc

@@ -3,10 +3,10 @@ use Rattle.std.proofs.Common.{◌≡◌, ◌<◌, ◌≤◌, ◌+◌, ℕ, suc, 
 use Rattle.std.specs.Prelude.{◌&&◌, not, option_and_then, slice_get, if◌then◌else◌}
 use Rattle.std.proofs.lemmas.Option.{same_Some}
 use Rattle.mtp_json.specs.Form.{repeats_by}
-use Rattle.mtp_desc.specs.Plain.{DescriptionForm, same_service}
+use Rattle.mtp_desc.specs.Plain.{PlainDescription, same_service}
 use Rattle.mtp_sim.specs.declared.report.SimReport.{SimReport}
 use Rattle.mtp_sim.specs.declared.report.SimReport.TheVariants.{Service, Variable}
-use Rattle.mtp_sim.specs.Sims.{SimForm, first_sim}
+use Rattle.mtp_sim.specs.Sims.{PlainSim, first_sim}
 use Rattle.mtp_sim.specs.Ticks.{is_at_rest, is_pending, tick_report, ticked}
 use Rattle.mtp_sim.specs.Commands.{after_command, took}
 use Rattle.pol_events.specs.declared.answer.Answer.TheVariants.{Done}
@@ -14,13 +14,13 @@ use Rattle.pol_history.specs.Answers.{answer_of, is_full}
 use Rattle.pol_history.specs.Looking.{History, past}
 use Rattle.pol_history.specs.Modules.{docked, docking_by, docking_of}
 use Rattle.pol_history.specs.Runs.{IsLegal, IsOrderly}
-use Rattle.pol_history.proofs.Accepted.{accepted-otherwise, paired}
-use Rattle.pol_conduct.specs.Known.{is_there}
+use Rattle.pol_history.proofs.Accepted.{accepted_otherwise, paired}
+use Rattle.pol_safety.specs.Known.{is_there}
 use Rattle.pol_core.specs.declared.commands.Sent.{Sent as Order}
 use Rattle.pol_site.specs.Commanded.{IsCommanded}
 use Rattle.pol_site.specs.Following.{FollowsSite, IsAllowed}
 use Rattle.pol_site.specs.Settled.{is_settled_module}
-use Rattle.pol_site.specs.Sites.{SiteForm, SiteModuleForm, SiteExchangeForm}
+use Rattle.pol_site.specs.Sites.{PlainSite, PlainSiteModule, PlainSiteExchange}
 use Rattle.pol_site.specs.Sound.{IsSite, is_plan_ranged, is_plan_sound, is_plan_unlike}
 use Rattle.pol_simulated.specs.Places.{Found, next_command}
 use Rattle.pol_simulated.specs.Units.{report_event}
@@ -37,7 +37,7 @@ use Rattle.pol_actors.specs.declared.made.Decision.{Decision}
 use Rattle.pol_actors.specs.declared.made.Decision.TheVariants.{Reports, Looks, Rests}
 use Rattle.pol_actors.specs.declared.made.Made.{Made}
 use Rattle.pol_actors.specs.declared.unit.Unit.{Unit as Module}
-use Rattle.pol_actors.proofs.Numbers.{all-at}
+use Rattle.pol_actors.proofs.Numbers.{all_at}
 use Rattle.pol_actors.proofs.Found.{IsFoundAs, IsFoundOne}
 
 -- ---- its simulation at first
@@ -49,31 +49,31 @@ pub record IsSoundOrigin (origin : Origin) : Type 0 where
   pub sound : is_plan_sound origin.description origin.plan ≡ true
 
 -- whatever brought it, the site's module or an exchange
-pub origin-sound : (site : SiteForm) (place : ℕ) (unit : SiteModuleForm) (brought : Option ℕ) → IsSite site →
+pub origin_sound : (site : PlainSite) (place : ℕ) (unit : PlainSiteModule) (brought : Option ℕ) → IsSite site →
     slice_get site.modules place ≡ Some unit → IsSoundOrigin (origin_of site unit brought)
-origin-sound site place unit brought sound listed = by brought
+origin_sound site place unit brought sound listed = by brought
   where
     own : IsSoundOrigin (record { description = unit.description; plan = unit.plan })
     own = record {
-      ranged = all-at (λ (unit : SiteModuleForm). is_plan_ranged unit.plan) site.modules place unit
+      ranged = all_at (λ (unit : PlainSiteModule). is_plan_ranged unit.plan) site.modules place unit
           sound.ranged_modules listed;
-      unlike = all-at (λ (unit : SiteModuleForm). is_plan_unlike unit.plan) site.modules place unit
+      unlike = all_at (λ (unit : PlainSiteModule). is_plan_unlike unit.plan) site.modules place unit
           sound.unlike_drifts listed;
-      sound = all-at (λ (unit : SiteModuleForm). is_plan_sound unit.description unit.plan) site.modules place unit
+      sound = all_at (λ (unit : PlainSiteModule). is_plan_sound unit.description unit.plan) site.modules place unit
           sound.sound_drifts listed;
     }
 
-    found : (k : ℕ) (exchange : Option SiteExchangeForm) → slice_get site.exchanges k ≡ exchange →
+    found : (k : ℕ) (exchange : Option PlainSiteExchange) → slice_get site.exchanges k ≡ exchange →
         IsSoundOrigin (origin_by unit exchange)
     found k None at = own
     found k (Some exchange) at = record {
-      ranged = second _ _ (all-at (λ (exchange : SiteExchangeForm). _ && is_plan_ranged exchange.plan)
+      ranged = second _ _ (all_at (λ (exchange : PlainSiteExchange). _ && is_plan_ranged exchange.plan)
           site.exchanges k exchange
           sound.ranged_exchanges at);
-      unlike = all-at (λ (exchange : SiteExchangeForm). is_plan_unlike exchange.plan) site.exchanges k exchange
+      unlike = all_at (λ (exchange : PlainSiteExchange). is_plan_unlike exchange.plan) site.exchanges k exchange
           sound.unlike_exchanged at;
       sound =
-          all-at (λ (exchange : SiteExchangeForm). is_plan_sound exchange.description exchange.plan) site.exchanges k
+          all_at (λ (exchange : PlainSiteExchange). is_plan_sound exchange.description exchange.plan) site.exchanges k
           exchange sound.sound_exchanged at;
     }
       where
@@ -86,17 +86,17 @@ origin-sound site place unit brought sound listed = by brought
     by (Some k) = found k (slice_get site.exchanges k) refl
 
 -- the simulation with which it takes its turn keeps up, where the module is there
-pub made-up : (site : SiteForm) (history : History) (place : ℕ) (unit : SiteModuleForm) (own : Module) →
+pub made_up : (site : PlainSite) (history : History) (place : ℕ) (unit : PlainSiteModule) (own : Module) →
     IsSite site → slice_get site.modules place ≡ Some unit → is_there (docking_of history unit.tag) ≡ true →
     repeats_by same_service (origin_of site unit own.brought).description.services ≡ false →
     IsUnit site unit history own → (count : ℕ) → count ≡ length history → (made : Option Made) →
     IsMadeUp site unit.tag history made →
     KeepsUp site unit.tag (made_or made (first_made (origin_of site unit own.brought) count)).place history
     (made_or made (first_made (origin_of site unit own.brought) count)).sim
-made-up site history place unit own sound listed there services is count counted (Some made) up = up
-made-up site history place unit own sound listed there services is count counted None fresh =
+made_up site history place unit own sound listed there services is count counted (Some made) up = up
+made_up site history place unit own sound listed there services is count counted None fresh =
     let origin = origin_of site unit own.brought in
-    let plan = origin-sound site place unit own.brought sound listed in
+    let plan = origin_sound site place unit own.brought sound listed in
     let brought = is.brought there in
     subst (λ n. KeepsUp site unit.tag n history (first_sim origin.description origin.plan)) (sym counted)
     (firsts_up site unit.tag history origin.description origin.plan fresh.0 fresh.1 brought.described brought.planned
@@ -105,60 +105,60 @@ made-up site history place unit own sound listed there services is count counted
 -- ---- a turn
 
 -- it rests where it is settled; it looks where it isn't; what it reports is allowed and done; and it keeps up
-pub record HasRested (site : SiteForm) (tag : List ℕ) (history : History) (made : Made) : Type 0 where
+pub record HasRested (site : PlainSite) (tag : List ℕ) (history : History) (made : Made) : Type 0 where
   pub settled : is_settled_module site history tag ≡ true
   pub up : KeepsUp site tag made.place history made.sim
 
-pub record HasLooked (site : SiteForm) (tag : List ℕ) (history : History) (made : Made) : Type 0 where
+pub record HasLooked (site : PlainSite) (tag : List ℕ) (history : History) (made : Made) : Type 0 where
   pub unsettled : is_settled_module site history tag ≡ false
   pub up : KeepsUp site tag made.place history made.sim
 
-pub record HasReported (site : SiteForm) (tag : List ℕ) (history : History) (made : Made)
+pub record HasReported (site : PlainSite) (tag : List ℕ) (history : History) (made : Made)
     (told : SimReport) : Type 0 where
   pub allowed : IsAllowed site history (report_event 0 tag told) (answer_of history (report_event 0 tag told))
   pub done : answer_of history (report_event 0 tag told) ≡ Done
   pub up : (at : ℕ) → KeepsUp site tag made.place (paired (report_event at tag told) Done ∷ history) made.sim
 
-abbrev pub IsTurned : SiteForm → List ℕ → History → Made → Decision → Type 0
+abbrev pub IsTurned : PlainSite → List ℕ → History → Made → Decision → Type 0
 IsTurned site tag history made Rests = HasRested site tag history made
 IsTurned site tag history made Looks = HasLooked site tag history made
 IsTurned site tag history made (Reports told) = HasReported site tag history made told
 
 -- a module at rest has nothing pending
-calm-rest : (sim : SimForm) → is_at_rest sim ≡ true → is_pending sim ≡ false
-calm-rest sim is = first (is_pending sim) _ is
+calm_rest : (sim : PlainSim) → is_at_rest sim ≡ true → is_pending sim ≡ false
+calm_rest sim is = first (is_pending sim) _ is
   where
     first : (pending rest : Bool) → (not pending && rest) ≡ true → pending ≡ false
     first true rest is = cc
     first false rest is = refl
 
 -- a Bool that isn't true
-not-true : (b : Bool) → (b ≡ true → ⊥) → b ≡ false
-not-true true never = absurd (never refl)
-not-true false never = refl
+not_true : (b : Bool) → (b ≡ true → ⊥) → b ≡ false
+not_true true never = absurd (never refl)
+not_true false never = refl
 
-module _ (site : SiteForm) (tag : List ℕ) (history : History) (count : ℕ) (legal : IsLegal history)
+module _ (site : PlainSite) (tag : List ℕ) (history : History) (count : ℕ) (legal : IsLegal history)
     (orderly : IsOrderly history) (follows : FollowsSite site history) (commanded : IsCommanded history)
     (room : is_full history ≡ false) (is_docked : docking_by (past tag history) ≡ docked count) where
   -- a tick
-  tick-turned : (made : Made) → KeepsUp site tag made.place history made.sim →
+  tick_turned : (made : Made) → KeepsUp site tag made.place history made.sim →
       (is_settled_module site history tag ≡ true → ⊥) →
       IsTurned site tag history (made_ticked made) (decision_by (tick_report made.sim))
-  tick-turned made up unsettled =
+  tick_turned made up unsettled =
       go (tick_report made.sim) refl (λ at. ticks_up site tag at made.place history made.sim up)
     where
       go : (told : Option SimReport) → tick_report made.sim ≡ told →
           ((at : ℕ) → KeepsUp site tag made.place (after_report at tag told history) (ticked made.sim)) →
           IsTurned site tag history (made_ticked made) (decision_by told)
       go None is after =
-          record { unsettled = not-true (is_settled_module site history tag) unsettled; up = after 0 }
+          record { unsettled = not_true (is_settled_module site history tag) unsettled; up = after 0 }
       go (Some (Service name control)) is after =
           let allowed = reports_allowed site tag history made.sim 0 count made.place
           (Service name control) is_docked room
           up.step up.kept up.served is in
           record {
             allowed = allowed;
-            done = accepted-otherwise history (report_event 0 tag (Service name control)) allowed.accepted;
+            done = accepted_otherwise history (report_event 0 tag (Service name control)) allowed.accepted;
             up = after;
           }
       go (Some (Variable name value)) is after =
@@ -167,15 +167,15 @@ module _ (site : SiteForm) (tag : List ℕ) (history : History) (count : ℕ) (l
           up.step up.kept up.served is in
           record {
             allowed = allowed;
-            done = accepted-otherwise history (report_event 0 tag (Variable name value)) allowed.accepted;
+            done = accepted_otherwise history (report_event 0 tag (Variable name value)) allowed.accepted;
             up = after;
           }
 
   -- a turn of a simulation that keeps up, with the next command that was found
-  pub made-turned : (made : Made) (order : Option Order) (after : ℕ) → KeepsUp site tag made.place history made.sim →
+  pub made_turned : (made : Made) (order : Option Order) (after : ℕ) → KeepsUp site tag made.place history made.sim →
       IsFoundAs tag (length history) order after (next_command tag made.place history) →
       IsTurned site tag history (made_after (order, after) made) (made_decides (order, after) made)
-  made-turned made order after up found = by (is_pending made.sim) refl
+  made_turned made order after up found = by (is_pending made.sim) refl
     where
       rests : is_settled_module site history tag ≡ true →
           (next_command tag made.place history ≡ None) × (is_at_rest made.sim ≡ true)
@@ -200,30 +200,30 @@ module _ (site : SiteForm) (tag : List ℕ) (history : History) (count : ℕ) (l
       free None (Some ahead) calm next found = absurd found
       free (Some order) (Some ahead) calm next found =
           record {
-            unsettled = not-true (is_settled_module site history tag)
+            unsettled = not_true (is_settled_module site history tag)
                 (λ settled. let clash = sym next ∙ (rests settled).0 in cc);
             up = one order ahead calm next found;
           }
-      free None None calm next found = at-rest (is_at_rest made.sim) refl
+      free None None calm next found = at_rest (is_at_rest made.sim) refl
         where
-          at-rest : (rest : Bool) → is_at_rest made.sim ≡ rest →
+          at_rest : (rest : Bool) → is_at_rest made.sim ≡ rest →
               IsTurned site tag history
               (if rest then made_looked None after made else made_ticked (made_looked None after made))
               (if rest then Rests else decision_by (tick_report made.sim))
-          at-rest true is =
+          at_rest true is =
               record {
                 settled = rests_settled site tag made.place count history made.sim legal orderly follows commanded
                     is_docked up next is;
                 up = idle next found;
               }
-          at-rest false is =
-              tick-turned (made_looked None after made) (idle next found)
+          at_rest false is =
+              tick_turned (made_looked None after made) (idle next found)
               (λ settled. let clash : true ≡ false = sym (rests settled).1 ∙ is in cc)
 
       by : (pending : Bool) → is_pending made.sim ≡ pending →
           IsTurned site tag history (if pending then made_ticked made else free_after order after made)
           (if pending then decision_by (tick_report made.sim) else free_decides order made)
       by true pending =
-          tick-turned made up
-          (λ settled. let clash : true ≡ false = sym pending ∙ calm-rest made.sim (rests settled).1 in cc)
+          tick_turned made up
+          (λ settled. let clash : true ≡ false = sym pending ∙ calm_rest made.sim (rests settled).1 in cc)
       by false calm = free order (next_command tag made.place history) calm refl found

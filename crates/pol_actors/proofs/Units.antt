@@ -7,12 +7,12 @@ use Rattle.std.proofs.lemmas.Option.{same_Some}
 use Rattle.mtp_json.specs.Form.{repeats_by}
 use Rattle.mtp_modes.specs.declared.view.ServiceView.{ServiceView}
 use Rattle.mtp_assembly.specs.declared.control.ServiceControl.{ServiceControl}
-use Rattle.mtp_desc.specs.Plain.{DescriptionForm}
+use Rattle.mtp_desc.specs.Plain.{PlainDescription}
 use Rattle.mtp_sim.specs.declared.report.SimReport.{SimReport}
 use Rattle.mtp_sim.specs.declared.report.SimReport.TheVariants.{Service, Variable}
 use Rattle.chart_core.specs.declared.entry.LogEntry.{LogEntry}
 use Rattle.chart_cursor.specs.Commands.{Sent, sent_by}
-use Rattle.pol_events.specs.Events.{EntryForm, plug, report, variable, advance, exchange_begin, exchange_end, exchange_cancel}
+use Rattle.pol_events.specs.Events.{PlainEntry, plug, report, variable, advance, exchange_begin, exchange_end, exchange_cancel}
 use Rattle.pol_events.specs.declared.answer.Answer.{Answer}
 use Rattle.pol_events.specs.declared.answer.Answer.TheVariants.{Done, Ticket, Did, Waiting, Closed, Refused}
 use Rattle.pol_events.specs.declared.answer.Rule.{Rule}
@@ -21,14 +21,14 @@ use Rattle.pol_history.specs.Commands.{sent_command}
 use Rattle.pol_history.specs.Looking.{History, is_accepted, is_accepted_of, is_module, last_of, past, subject, of_module}
 use Rattle.pol_history.specs.Modules.{control_by, description_by, docking_by, docking_of, is_moving, seen_with, reported, since_docking, view_by, view_of}
 use Rattle.pol_history.specs.Runs.{IsLegal, IsOrderly}
-use Rattle.pol_history.proofs.Accepted.{accepted-otherwise, paired}
-use Rattle.pol_history.proofs.Names.{same-refl, same-true}
-use Rattle.pol_conduct.specs.Known.{is_there}
+use Rattle.pol_history.proofs.Accepted.{accepted_otherwise, paired}
+use Rattle.pol_history.proofs.Names.{same_refl, same_true}
+use Rattle.pol_safety.specs.Known.{is_there}
 use Rattle.pol_site.specs.Commanded.{IsCommanded}
 use Rattle.pol_site.specs.Following.{FollowsSite, exchanging, was_begun}
 use Rattle.pol_site.specs.Plans.{begun_in, plan_by}
 use Rattle.pol_site.specs.Rules.{same_tag}
-use Rattle.pol_site.specs.Sites.{SiteForm, SiteModuleForm, SiteExchangeForm}
+use Rattle.pol_site.specs.Sites.{PlainSite, PlainSiteModule, PlainSiteExchange}
 use Rattle.pol_site.specs.Stories.{if_to, sent_to, story, touches}
 use Rattle.pol_simulated.specs.Units.{report_event}
 use Rattle.pol_simulated.proofs.Counted.{untouched_kept}
@@ -44,9 +44,9 @@ use Rattle.pol_actors.specs.declared.unit.Unit.{Unit as Module}
 -- ---- entries of others
 
 -- an entry that doesn't touch it
-pub unit-untouched : (site : SiteForm) (older : History) (entry : EntryForm) (unit : SiteModuleForm) (own : Module) →
+pub unit_untouched : (site : PlainSite) (older : History) (entry : PlainEntry) (unit : PlainSiteModule) (own : Module) →
     touches unit.tag entry ≡ false → IsUnit site unit older own → IsUnit site unit (entry ∷ older) own
-unit-untouched site older entry unit own free is =
+unit_untouched site older entry unit own free is =
     let same = untouched_kept unit.tag older entry free in
     record {
       unbrought = λ gone. is.unbrought (ap (λ p. is_there (docking_by p)) (sym same.0) ∙ gone);
@@ -69,16 +69,16 @@ unseen past service view fresh seen =
     (last_of (λ entry. reported service entry.event) entries)) fresh) ∙ seen in cc
 
 -- a command that a batch sends it
-pub unit-sent : (site : SiteForm) (older : History) (at : ℕ) (batch : List ℕ) (did : LogEntry) (sent : Sent)
-    (unit : SiteModuleForm) (own : Module) → IsLegal (paired (advance at batch) (Did did) ∷ older) →
+pub unit_sent : (site : PlainSite) (older : History) (at : ℕ) (batch : List ℕ) (did : LogEntry) (sent : Sent)
+    (unit : PlainSiteModule) (own : Module) → IsLegal (paired (advance at batch) (Did did) ∷ older) →
     IsOrderly (paired (advance at batch) (Did did) ∷ older) →
     FollowsSite site (paired (advance at batch) (Did did) ∷ older) →
     IsCommanded older → sent_by did ≡ Some sent → sent.tag ≡ unit.tag → IsUnit site unit older own →
     IsUnit site unit (paired (advance at batch) (Did did) ∷ older) own
-unit-sent site older at batch did sent unit own legal orderly follows commanded sends named is =
+unit_sent site older at batch did sent unit own legal orderly follows commanded sends named is =
     record { unbrought = is.unbrought; brought = is.brought; made = go own.made is.made }
   where
-    entry : EntryForm
+    entry : PlainEntry
     entry = paired (advance at batch) (Did did)
 
     go : (made : Option Made) → IsMadeUp site unit.tag older made → IsMadeUp site unit.tag (entry ∷ older) made
@@ -94,73 +94,73 @@ unit-sent site older at batch did sent unit own legal orderly follows commanded 
 -- ---- entries that move it
 
 -- an accepted event of it stands in its past and in its story
-module _ (older : History) (entry : EntryForm) (tag : List ℕ) (mine : is_module tag (subject entry.event) ≡ true)
+module _ (older : History) (entry : PlainEntry) (tag : List ℕ) (mine : is_module tag (subject entry.event) ≡ true)
     (accepted : is_accepted entry.answer ≡ true) where
   both : is_accepted_of tag entry ≡ true
   both = and_from (is_module tag (subject entry.event)) (is_accepted entry.answer) mine accepted
 
-  pub own-past : past tag (entry ∷ older) ≡ entry ∷ past tag older
-  own-past = ap (λ own. cond own (entry ∷ past tag older) (past tag older)) both
+  pub own_past : past tag (entry ∷ older) ≡ entry ∷ past tag older
+  own_past = ap (λ own. cond own (entry ∷ past tag older) (past tag older)) both
 
-  pub own-story : story tag (entry ∷ older) ≡ entry ∷ story tag older
-  own-story =
+  pub own_story : story tag (entry ∷ older) ≡ entry ∷ story tag older
+  own_story =
       ap (λ own. cond (own || is_some (sent_to tag entry)) (entry ∷ story tag older) (story tag older)) both
 
   -- where it moves the module, nothing was told of it since
-  pub moved-fresh : is_moving entry.event ≡ true →
+  pub moved_fresh : is_moving entry.event ≡ true →
       (since_docking (past tag (entry ∷ older)) ≡ []) × (since_docking (story tag (entry ∷ older)) ≡ [])
-  moved-fresh moving = (
-    ap since_docking own-past ∙ ap (λ b. if b then [] else entry ∷ since_docking (past tag older)) moving,
-    ap since_docking own-story ∙ ap (λ b. if b then [] else entry ∷ since_docking (story tag older)) moving,
+  moved_fresh moving = (
+    ap since_docking own_past ∙ ap (λ b. if b then [] else entry ∷ since_docking (past tag older)) moving,
+    ap since_docking own_story ∙ ap (λ b. if b then [] else entry ∷ since_docking (story tag older)) moving,
   )
 
 -- a tag is its own
-mine-by : (tag other : List ℕ) → tag ≡ other → bytes_eq tag other ≡ true
-mine-by tag other is = ap (λ name. bytes_eq name other) is ∙ same-refl other
+mine_by : (tag other : List ℕ) → tag ≡ other → bytes_eq tag other ≡ true
+mine_by tag other is = ap (λ name. bytes_eq name other) is ∙ same_refl other
 
 -- the begin of its exchange: its simulation is dropped
-pub unit-begun : (site : SiteForm) (older : History) (at : ℕ) (tag : List ℕ) (answer : Answer) (unit : SiteModuleForm)
+pub unit_begun : (site : PlainSite) (older : History) (at : ℕ) (tag : List ℕ) (answer : Answer) (unit : PlainSiteModule)
     (own : Module) → is_accepted answer ≡ true → tag ≡ unit.tag → is_there (docking_of older unit.tag) ≡ true →
     IsUnit site unit older own →
     IsUnit site unit (paired (exchange_begin at tag) answer ∷ older) (record { made = None; brought = own.brought })
-unit-begun site older at tag answer unit own accepted named there is =
-    let entry : EntryForm = paired (exchange_begin at tag) answer in
-    let same = own-past older entry unit.tag (mine-by tag unit.tag named) accepted in
+unit_begun site older at tag answer unit own accepted named there is =
+    let entry : PlainEntry = paired (exchange_begin at tag) answer in
+    let same = own_past older entry unit.tag (mine_by tag unit.tag named) accepted in
     let before = is.brought there in
     record {
       unbrought = λ gone. let clash : true ≡ false = ap (λ p. is_there (docking_by p)) (sym same) ∙ gone in cc;
       brought = λ now. subst (λ p. IsBrought site unit.tag p (origin_of site unit own.brought)) (sym same)
           (record { described = before.described; planned = before.planned });
-      made = moved-fresh older entry unit.tag (mine-by tag unit.tag named) accepted refl;
+      made = moved_fresh older entry unit.tag (mine_by tag unit.tag named) accepted refl;
     }
 
 -- the cancelling of its exchange
-pub unit-cancelled : (site : SiteForm) (older : History) (at : ℕ) (tag : List ℕ) (ticket : ℕ) (answer : Answer)
-    (unit : SiteModuleForm) (own : Module) → is_accepted answer ≡ true → tag ≡ unit.tag →
+pub unit_cancelled : (site : PlainSite) (older : History) (at : ℕ) (tag : List ℕ) (ticket : ℕ) (answer : Answer)
+    (unit : PlainSiteModule) (own : Module) → is_accepted answer ≡ true → tag ≡ unit.tag →
     is_there (docking_of older unit.tag) ≡ true → IsUnit site unit older own →
     IsUnit site unit (paired (exchange_cancel at tag ticket) answer ∷ older)
     (record { made = None; brought = own.brought })
-unit-cancelled site older at tag ticket answer unit own accepted named there is =
-    let entry : EntryForm = paired (exchange_cancel at tag ticket) answer in
-    let same = own-past older entry unit.tag (mine-by tag unit.tag named) accepted in
+unit_cancelled site older at tag ticket answer unit own accepted named there is =
+    let entry : PlainEntry = paired (exchange_cancel at tag ticket) answer in
+    let same = own_past older entry unit.tag (mine_by tag unit.tag named) accepted in
     let before = is.brought there in
     record {
       unbrought = λ gone. let clash : true ≡ false = ap (λ p. is_there (docking_by p)) (sym same) ∙ gone in cc;
       brought = λ now. subst (λ p. IsBrought site unit.tag p (origin_of site unit own.brought)) (sym same)
           (record { described = before.described; planned = before.planned });
-      made = moved-fresh older entry unit.tag (mine-by tag unit.tag named) accepted refl;
+      made = moved_fresh older entry unit.tag (mine_by tag unit.tag named) accepted refl;
     }
 
 -- the end of its exchange: it is the module that the exchange brings
-pub unit-ended : (site : SiteForm) (older : History) (at : ℕ) (tag : List ℕ) (ticket place : ℕ)
-    (exchange : SiteExchangeForm) (unit : SiteModuleForm) (own : Module) → FollowsSite site older →
+pub unit_ended : (site : PlainSite) (older : History) (at : ℕ) (tag : List ℕ) (ticket place : ℕ)
+    (exchange : PlainSiteExchange) (unit : PlainSiteModule) (own : Module) → FollowsSite site older →
     exchanging older ≡ was_begun tag ticket → place ≡ pred (begun_in older) →
     slice_get site.exchanges place ≡ Some exchange → tag ≡ unit.tag → IsUnit site unit older own →
     IsUnit site unit (paired (exchange_end at tag ticket exchange.description) Done ∷ older)
     (record { made = None; brought = Some place })
-unit-ended site older at tag ticket place exchange unit own follows begun place_is listed named is =
-    let entry : EntryForm = paired (exchange_end at tag ticket exchange.description) Done in
-    let same = own-past older entry unit.tag (mine-by tag unit.tag named) refl in
+unit_ended site older at tag ticket place exchange unit own follows begun place_is listed named is =
+    let entry : PlainEntry = paired (exchange_end at tag ticket exchange.description) Done in
+    let same = own_past older entry unit.tag (mine_by tag unit.tag named) refl in
     let planned : plan_by site unit.tag (past unit.tag (entry ∷ older)) ≡ Some exchange.plan =
     ap (λ name. plan_by site name (past name (entry ∷ older))) (sym named)
     ∙ ends_bring site older at tag ticket exchange.description exchange follows begun
@@ -171,17 +171,17 @@ unit-ended site older at tag ticket place exchange unit own follows begun place_
         described = ap description_by same;
         planned = planned;
       });
-      made = moved-fresh older entry unit.tag (mine-by tag unit.tag named) refl refl;
+      made = moved_fresh older entry unit.tag (mine_by tag unit.tag named) refl refl;
     }
 
 -- its plug
-pub unit-plugged : (site : SiteForm) (older : History) (at place : ℕ) (unit : SiteModuleForm) (own : Module) →
+pub unit_plugged : (site : PlainSite) (older : History) (at place : ℕ) (unit : PlainSiteModule) (own : Module) →
     repeats_by same_tag site.modules ≡ false → slice_get site.modules place ≡ Some unit →
     is_there (docking_of older unit.tag) ≡ false → IsUnit site unit older own →
     IsUnit site unit (paired (plug at unit.tag unit.description) Done ∷ older) own
-unit-plugged site older at place unit own unlike listed gone is =
-    let entry : EntryForm = paired (plug at unit.tag unit.description) Done in
-    let same = own-past older entry unit.tag (same-refl unit.tag) refl in
+unit_plugged site older at place unit own unlike listed gone is =
+    let entry : PlainEntry = paired (plug at unit.tag unit.description) Done in
+    let same = own_past older entry unit.tag (same_refl unit.tag) refl in
     let before = is.unbrought gone in
     record {
       unbrought = λ gone. let clash : true ≡ false = ap (λ p. is_there (docking_by p)) (sym same) ∙ gone in cc;
@@ -193,20 +193,20 @@ unit-plugged site older at place unit own unlike listed gone is =
             planned = plugs_bring site older at unit.tag unit.description place unit unlike listed refl;
           });
       made = subst (IsMadeUp site unit.tag (entry ∷ older)) (sym before.1)
-          (moved-fresh older entry unit.tag (same-refl unit.tag) refl refl);
+          (moved_fresh older entry unit.tag (same_refl unit.tag) refl refl);
     }
 
 -- ---- its own reports
 
 -- a report of it, with which its simulation keeps up
-pub unit-reported : (site : SiteForm) (older : History) (at : ℕ) (told : SimReport) (unit : SiteModuleForm)
+pub unit_reported : (site : PlainSite) (older : History) (at : ℕ) (told : SimReport) (unit : PlainSiteModule)
     (own : Module) (made : Made) → is_there (docking_of older unit.tag) ≡ true → IsUnit site unit older own →
     KeepsUp site unit.tag made.place (paired (report_event at unit.tag told) Done ∷ older) made.sim →
     IsUnit site unit (paired (report_event at unit.tag told) Done ∷ older)
     (record { made = Some made; brought = own.brought })
-unit-reported site older at (Service name control) unit own made there is up =
-    let entry : EntryForm = paired (report at unit.tag name control) Done in
-    let same = own-past older entry unit.tag (same-refl unit.tag) refl in
+unit_reported site older at (Service name control) unit own made there is up =
+    let entry : PlainEntry = paired (report at unit.tag name control) Done in
+    let same = own_past older entry unit.tag (same_refl unit.tag) refl in
     let before = is.brought there in
     record {
       unbrought =
@@ -215,9 +215,9 @@ unit-reported site older at (Service name control) unit own made there is up =
           (record { described = before.described; planned = before.planned });
       made = up;
     }
-unit-reported site older at (Variable name value) unit own made there is up =
-    let entry : EntryForm = paired (variable at unit.tag name value) Done in
-    let same = own-past older entry unit.tag (same-refl unit.tag) refl in
+unit_reported site older at (Variable name value) unit own made there is up =
+    let entry : PlainEntry = paired (variable at unit.tag name value) Done in
+    let same = own_past older entry unit.tag (same_refl unit.tag) refl in
     let before = is.brought there in
     record {
       unbrought =
@@ -228,11 +228,11 @@ unit-reported site older at (Variable name value) unit own made there is up =
     }
 
 -- its simulation changes, and nothing is told
-pub unit-looked : (site : SiteForm) (history : History) (unit : SiteModuleForm) (own : Module) (made : Made) →
+pub unit_looked : (site : PlainSite) (history : History) (unit : PlainSiteModule) (own : Module) (made : Made) →
     is_there (docking_of history unit.tag) ≡ true → IsUnit site unit history own →
     KeepsUp site unit.tag made.place history made.sim →
     IsUnit site unit history (record { made = Some made; brought = own.brought })
-unit-looked site history unit own made there is up =
+unit_looked site history unit own made there is up =
     record {
       unbrought = λ gone. let clash : true ≡ false = sym there ∙ gone in cc;
       brought = is.brought;
@@ -242,29 +242,29 @@ unit-looked site history unit own made there is up =
 -- ---- what touches no module
 
 -- the first rule that holds sends nothing
-pub sends-none : (rules : List (Option Rule)) (answer : Answer) → sent_command answer ≡ None →
+pub sends_none : (rules : List (Option Rule)) (answer : Answer) → sent_command answer ≡ None →
     sent_command (first_rule rules answer) ≡ None
-sends-none [] answer none = none
-sends-none (Some rule ∷ rules) answer none = refl
-sends-none (None ∷ rules) answer none = sends-none rules answer none
+sends_none [] answer none = none
+sends_none (Some rule ∷ rules) answer none = refl
+sends_none (None ∷ rules) answer none = sends_none rules answer none
 
 -- a refusal sends nothing
-pub refused-none : (answer : Answer) → is_accepted answer ≡ false → sent_command answer ≡ None
-refused-none (Refused rule) refused = refl
-refused-none Done refused = cc
-refused-none (Ticket ticket) refused = cc
-refused-none (Did entry) refused = cc
-refused-none (Waiting obstacle) refused = cc
-refused-none (Closed outcome) refused = cc
+pub refused_none : (answer : Answer) → is_accepted answer ≡ false → sent_command answer ≡ None
+refused_none (Refused rule) refused = refl
+refused_none Done refused = cc
+refused_none (Ticket ticket) refused = cc
+refused_none (Did entry) refused = cc
+refused_none (Waiting obstacle) refused = cc
+refused_none (Closed outcome) refused = cc
 
 -- an entry that isn't the module's, or was refused, and sends nothing
-pub touches-none : (tag : List ℕ) (entry : EntryForm) → is_accepted_of tag entry ≡ false →
+pub touches_none : (tag : List ℕ) (entry : PlainEntry) → is_accepted_of tag entry ≡ false →
     sent_command entry.answer ≡ None → touches tag entry ≡ false
-touches-none tag entry apart none =
+touches_none tag entry apart none =
     ap (λ own. own || is_some (sent_to tag entry)) apart ∙ ap (λ sent. is_some (if_to tag sent)) none
 
 -- a refused one
-pub touches-refused : (tag : List ℕ) (entry : EntryForm) → is_accepted entry.answer ≡ false → touches tag entry ≡ false
-touches-refused tag entry refused =
-    touches-none tag entry (and_right (is_module tag (subject entry.event)) (is_accepted entry.answer) refused)
-    (refused-none entry.answer refused)
+pub touches_refused : (tag : List ℕ) (entry : PlainEntry) → is_accepted entry.answer ≡ false → touches tag entry ≡ false
+touches_refused tag entry refused =
+    touches_none tag entry (and_right (is_module tag (subject entry.event)) (is_accepted entry.answer) refused)
+    (refused_none entry.answer refused)

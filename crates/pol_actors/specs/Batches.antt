@@ -2,7 +2,7 @@
 use Rattle.std.specs.Prelude.{ℕ, Bool, true, false, List, Option, Some, None, Result, Ok, Err, ⊤, if◌then◌else◌}
 use Rattle.chart_core.specs.declared.next.Next.{Next}
 use Rattle.chart_core.specs.declared.next.Next.TheVariants as next
-use Rattle.pol_events.specs.Events.{EventForm, start, advance}
+use Rattle.pol_events.specs.Events.{PlainEvent, start, advance}
 use Rattle.pol_events.specs.declared.answer.Answer.{Answer}
 use Rattle.pol_events.specs.declared.answer.Answer.TheVariants.{Refused}
 use Rattle.pol_events.specs.declared.answer.Rule.{Rule}
@@ -10,7 +10,7 @@ use Rattle.pol_history.specs.Answers.{answer_of}
 use Rattle.pol_history.specs.Looking.{History}
 use Rattle.pol_core.specs.Calls.{open_next, refusal}
 use Rattle.pol_site.specs.Following.{is_passing}
-use Rattle.pol_site.specs.Sites.{SiteBatchForm}
+use Rattle.pol_site.specs.Sites.{PlainSiteBatch}
 use Rattle.pol_actors.specs.declared.batch.Stage.{Stage}
 use Rattle.pol_actors.specs.declared.batch.Stage.TheVariants as stage
 
@@ -20,7 +20,7 @@ is_refusal_passing (Ok done) = false
 is_refusal_passing (Err rule) = is_passing rule
 
 -- its start, unless it waits
-abbrev pub start_event : History → SiteBatchForm → Option EventForm
+abbrev pub start_event : History → PlainSiteBatch → Option PlainEvent
 start_event history batch =
     if is_refusal_passing (refusal (answer_of history (start 0 batch.batch batch.recipe batch.binds)))
     then None
@@ -34,11 +34,11 @@ goes_on (Some (next.Did entry)) = true
 goes_on (Some (next.Closed outcome)) = true
 
 -- its advance, where it goes on
-abbrev pub advance_event : List ℕ → Option Next → Option EventForm
+abbrev pub advance_event : List ℕ → Option Next → Option PlainEvent
 advance_event batch next = if goes_on next then Some (advance 0 batch) else None
 
 -- its start, and once it is started its advance
-abbrev pub batch_event : History → SiteBatchForm → Stage → Option EventForm
+abbrev pub batch_event : History → PlainSiteBatch → Stage → Option PlainEvent
 batch_event history batch stage.Unsent = start_event history batch
 batch_event history batch stage.Refused = None
 batch_event history batch stage.Started = advance_event batch.batch (open_next history batch.batch)

@@ -1,6 +1,6 @@
 -- What the exchanger does next, and where it stands.
 use Rattle.std.specs.Prelude.{ℕ, suc, pred, ◌+◌, nat_lt, Bool, true, false, List, length, Option, Some, None, Result, Ok, Err, ⊤, option_map, slice_get, if◌then◌else◌}
-use Rattle.pol_events.specs.Events.{EventForm, recipe, plug, exchange_begin, exchange_end, exchange_cancel}
+use Rattle.pol_events.specs.Events.{PlainEvent, recipe, plug, exchange_begin, exchange_end, exchange_cancel}
 use Rattle.pol_events.specs.declared.answer.Answer.{Answer}
 use Rattle.pol_events.specs.declared.answer.Answer.TheVariants.{Ticket, Refused}
 use Rattle.pol_events.specs.declared.answer.Rule.{Rule}
@@ -10,7 +10,7 @@ use Rattle.pol_history.specs.Looking.{History}
 use Rattle.pol_core.specs.Calls.{refusal}
 use Rattle.pol_site.specs.Following.{Exchanging, none_open, was_begun, was_held, openings}
 use Rattle.pol_site.specs.Settled.{is_busy_rule}
-use Rattle.pol_site.specs.Sites.{SiteForm, SiteModuleForm, SiteRecipeForm, SiteExchangeForm}
+use Rattle.pol_site.specs.Sites.{PlainSite, PlainSiteModule, PlainSiteRecipe, PlainSiteExchange}
 use Rattle.pol_actors.specs.declared.exchanger.Errand.{Errand}
 use Rattle.pol_actors.specs.declared.exchanger.Errand.TheVariants as errand
 use Rattle.pol_actors.specs.declared.exchanger.Exchanger.{Exchanger}
@@ -29,7 +29,7 @@ is_refusal_busy (Ok done) = false
 is_refusal_busy (Err rule) = is_busy_rule rule
 
 -- the begin of the next exchange, unless it waits
-abbrev pub begin_errand : History → ℕ → Option SiteExchangeForm → Option Errand
+abbrev pub begin_errand : History → ℕ → Option PlainSiteExchange → Option Errand
 begin_errand history count None = None
 begin_errand history count (Some exchange) =
     if nat_lt count exchange.after then None
@@ -37,13 +37,13 @@ begin_errand history count (Some exchange) =
     else Some (errand.Begin exchange.tag)
 
 -- by where the exchanges stand: the begin of the next one, or the end or the cancelling of the one that is open
-abbrev pub exchange_errand : SiteForm → History → ℕ → ℕ → Standing → Option Errand
+abbrev pub exchange_errand : PlainSite → History → ℕ → ℕ → Standing → Option Errand
 exchange_errand site history count begun standing.Closed = begin_errand history count (slice_get site.exchanges begun)
 exchange_errand site history count begun (standing.Begun tag ticket) = Some (errand.End tag ticket (pred begun))
 exchange_errand site history count begun (standing.Held tag ticket) = Some (errand.Cancel tag ticket)
 
 -- the recipes and modules first, and then the exchanges
-abbrev pub errand_of : SiteForm → History → ℕ → Exchanger → Option Errand
+abbrev pub errand_of : PlainSite → History → ℕ → Exchanger → Option Errand
 errand_of site history count exchanger =
     if nat_lt exchanger.opened (length site.recipes + length site.modules)
     then Some (errand.Open exchanger.opened)
@@ -52,19 +52,19 @@ errand_of site history count exchanger =
 -- ---- the event of an errand
 
 -- a recipe is made known
-abbrev pub know_event : SiteRecipeForm → EventForm
+abbrev pub know_event : PlainSiteRecipe → PlainEvent
 know_event each = recipe 0 each.recipe each.chart
 
 -- a module is plugged
-abbrev pub plug_event : SiteModuleForm → EventForm
+abbrev pub plug_event : PlainSiteModule → PlainEvent
 plug_event unit = plug 0 unit.tag unit.description
 
 -- an exchange ends
-abbrev pub end_event : List ℕ → ℕ → SiteExchangeForm → EventForm
+abbrev pub end_event : List ℕ → ℕ → PlainSiteExchange → PlainEvent
 end_event tag ticket exchange = exchange_end 0 tag ticket exchange.description
 
 -- the event of an errand, where the site has something at its place
-abbrev pub event_of : SiteForm → Errand → Option EventForm
+abbrev pub event_of : PlainSite → Errand → Option PlainEvent
 event_of site (errand.Open place) = slice_get (openings site) place
 event_of site (errand.Begin tag) = Some (exchange_begin 0 tag)
 event_of site (errand.End tag ticket place) = option_map (end_event tag ticket) (slice_get site.exchanges place)

@@ -1,17 +1,17 @@
 -- What the actors of a running plant keep of its history.
 use Rattle.std.specs.Prelude.{ℕ, pred, ◌+◌, ◌≡◌, ◌<◌, ◌≤◌, Bool, true, false, List, [], length, map, reverse, Option, Some, None, is_some, slice_get}
 use Rattle.std.specs.List.{AllByRecursion}
-use Rattle.pol_events.specs.Events.{EntryForm}
+use Rattle.pol_events.specs.Events.{PlainEntry}
 use Rattle.pol_history.specs.Batches.{Started, start_of}
 use Rattle.pol_history.specs.Looking.{History, past, is_accepted}
-use Rattle.pol_conduct.specs.Known.{is_there}
+use Rattle.pol_safety.specs.Known.{is_there}
 use Rattle.pol_history.specs.Modules.{docking_of, description_by, present_tags, since_docking}
 use Rattle.pol_history.specs.Runs.{IsLegal, IsOrderly}
 use Rattle.pol_site.specs.Actors.{owner_of}
 use Rattle.pol_site.specs.Commanded.{IsCommanded}
 use Rattle.pol_site.specs.Following.{FollowsSite, exchanging, last_entry_of, last_exchanging, opened, ordered}
 use Rattle.pol_site.specs.Plans.{begun_in, plan_by}
-use Rattle.pol_site.specs.Sites.{SiteForm, SiteModuleForm, SiteBatchForm}
+use Rattle.pol_site.specs.Sites.{PlainSite, PlainSiteModule, PlainSiteBatch}
 use Rattle.pol_site.specs.Sound.{IsSite}
 use Rattle.pol_site.specs.Stories.{story}
 use Rattle.pol_stillness.specs.KeepingUp.{KeepsUp}
@@ -34,9 +34,9 @@ is_begun standing.Closed = false
 is_begun (standing.Begun tag ticket) = true
 is_begun (standing.Held tag ticket) = false
 
--- it stands where the history says; no exchange began before all recipes and modules had their events; the exchange that
--- was begun is one of the site's; the modules that had their events are there, and no others are
-pub record IsExchanger (site : SiteForm) (history : History) (exchanger : Exchanger) : Type 0 where
+-- it stands where the history says; no exchange began before all recipes and modules had their events; the exchange
+-- that was begun is one of the site's; the modules that had their events are there, and no others are
+pub record IsExchanger (site : PlainSite) (history : History) (exchanger : Exchanger) : Type 0 where
   pub opened_is : exchanger.opened ≡ opened history
   pub begun_is : exchanger.begun ≡ begun_in history
   pub standing_is : exchanging_in exchanger.standing ≡ exchanging history
@@ -45,7 +45,7 @@ pub record IsExchanger (site : SiteForm) (history : History) (exchanger : Exchan
   pub begun_within : begun_in history ≤ length site.exchanges
   pub listed : is_begun exchanger.standing ≡ true → is_some (slice_get site.exchanges (pred (begun_in history))) ≡ true
   pub there :
-      (place : ℕ) (unit : SiteModuleForm) → slice_get site.modules place ≡ Some unit →
+      (place : ℕ) (unit : PlainSiteModule) → slice_get site.modules place ≡ Some unit →
       length site.recipes + place < opened history → is_there (docking_of history unit.tag) ≡ true
   pub few :
       0 < length (present_tags history) → length (present_tags history) + length site.recipes ≤ opened history
@@ -54,12 +54,12 @@ pub record IsExchanger (site : SiteForm) (history : History) (exchanger : Exchan
 
 -- by its last entry and its start: neither is there; its start was refused; or it was started, and its last entry was
 -- accepted
-abbrev pub IsStageBy : Option EntryForm → Option Started → Stage → Type 0
+abbrev pub IsStageBy : Option PlainEntry → Option Started → Stage → Type 0
 IsStageBy last begun stage.Unsent = (last ≡ None) × (begun ≡ None)
 IsStageBy last begun stage.Refused =
-    ((entry : EntryForm) × (last ≡ Some entry) × (is_accepted entry.answer ≡ false)) × (begun ≡ None)
+    ((entry : PlainEntry) × (last ≡ Some entry) × (is_accepted entry.answer ≡ false)) × (begun ≡ None)
 IsStageBy last begun stage.Started =
-    ((entry : EntryForm) × (last ≡ Some entry) × (is_accepted entry.answer ≡ true)) × (is_some begun ≡ true)
+    ((entry : PlainEntry) × (last ≡ Some entry) × (is_accepted entry.answer ≡ true)) × (is_some begun ≡ true)
 
 -- the batch of this name stands so
 abbrev pub IsStage : History → List ℕ → Stage → Type 0
@@ -68,19 +68,19 @@ IsStage history batch stage = IsStageBy (last_entry_of batch history) (start_of 
 -- ---- a module
 
 -- what is docked, or away, is of this origin
-pub record IsBrought (site : SiteForm) (tag : List ℕ) (past : History) (origin : Origin) : Type 0 where
+pub record IsBrought (site : PlainSite) (tag : List ℕ) (past : History) (origin : Origin) : Type 0 where
   pub described : description_by past ≡ Some origin.description
   pub planned : plan_by site tag past ≡ Some origin.plan
 
 -- its simulation keeps up with the history; before there is one nothing happened to the module since it was docked
-abbrev pub IsMadeUp : SiteForm → List ℕ → History → Option Made → Type 0
+abbrev pub IsMadeUp : PlainSite → List ℕ → History → Option Made → Type 0
 IsMadeUp site tag history None =
     (since_docking (past tag history) ≡ []) × (since_docking (story tag history) ≡ [])
 IsMadeUp site tag history (Some made) = KeepsUp site tag made.place history made.sim
 
 -- a module of the site: before it is there no exchange brought it and it isn't simulated; then it is of the origin that
 -- brought it, and its simulation keeps up
-pub record IsUnit (site : SiteForm) (unit : SiteModuleForm) (history : History) (own : Module) : Type 0 where
+pub record IsUnit (site : PlainSite) (unit : PlainSiteModule) (history : History) (own : Module) : Type 0 where
   pub unbrought : is_there (docking_of history unit.tag) ≡ false → (own.brought ≡ None) × (own.made ≡ None)
   pub brought :
       is_there (docking_of history unit.tag) ≡ true →
@@ -90,24 +90,24 @@ pub record IsUnit (site : SiteForm) (unit : SiteModuleForm) (history : History) 
 -- ---- all
 
 -- each batch of the site
-abbrev pub AreStages : SiteForm → History → List Stage → Type 0
+abbrev pub AreStages : PlainSite → History → List Stage → Type 0
 AreStages site history stages =
-    (place : ℕ) (batch : SiteBatchForm) (stage : Stage) → slice_get site.batches place ≡ Some batch →
+    (place : ℕ) (batch : PlainSiteBatch) (stage : Stage) → slice_get site.batches place ≡ Some batch →
     slice_get stages place ≡ Some stage → IsStage history batch.batch stage
 
 -- each module of the site
-abbrev pub AreUnits : SiteForm → History → List Module → Type 0
+abbrev pub AreUnits : PlainSite → History → List Module → Type 0
 AreUnits site history units =
-    (place : ℕ) (unit : SiteModuleForm) (own : Module) → slice_get site.modules place ≡ Some unit →
+    (place : ℕ) (unit : PlainSiteModule) (own : Module) → slice_get site.modules place ≡ Some unit →
     slice_get units place ≡ Some own → IsUnit site unit history own
 
 -- these are the owners of the entries, the oldest first
-abbrev pub AreOwners : SiteForm → History → List ℕ → Type 0
+abbrev pub AreOwners : PlainSite → History → List ℕ → Type 0
 AreOwners site history by = map Some by ≡ map (λ entry. owner_of site entry.event) (reverse history)
 
 -- the history is legal, follows its site, each change has its command, each entry has its owner, and each actor stands
 -- where the history says
-pub record IsKept (site : SiteForm) (history : History) (by : List ℕ) (exchanger : Exchanger)
+pub record IsKept (site : PlainSite) (history : History) (by : List ℕ) (exchanger : Exchanger)
     (units : List Module) (stages : List Stage) (desk : Desk) : Type 0 where
   pub sound : IsSite site
   pub legal : IsLegal history

@@ -3,7 +3,7 @@ use Rattle.std.specs.Prelude.{ℕ, List, Option, Some, None, option_and_then, po
 use Rattle.std.specs.Str.{bytes_eq}
 use Rattle.pol_events.specs.declared.answer.Answer.{Answer}
 use Rattle.pol_events.specs.declared.answer.Answer.TheVariants.{Done}
-use Rattle.pol_site.specs.Sites.{SiteForm}
+use Rattle.pol_site.specs.Sites.{PlainSite}
 use Rattle.pol_actors.specs.declared.exchanger.Errand.{Errand}
 use Rattle.pol_actors.specs.declared.exchanger.Errand.TheVariants as errand
 use Rattle.pol_actors.specs.declared.unit.Unit.{Unit as Module}
@@ -15,8 +15,8 @@ errand_tag (errand.Begin tag) = Some tag
 errand_tag (errand.End tag ticket place) = Some tag
 errand_tag (errand.Cancel tag ticket) = Some tag
 
--- that module after the errand was answered so: its simulation is dropped, and after an end that is done it is the module
--- that the exchange brought
+-- that module after the errand was answered so: its simulation is dropped, and after an end that is done it is the
+-- module that the exchange brought
 abbrev pub unit_after : Errand → Answer → Module → Module
 unit_after (errand.Open place) answer own = own
 unit_after (errand.Begin tag) answer own = record { made = None; brought = own.brought }
@@ -35,10 +35,10 @@ changed_at xs None change = xs
 changed_at xs (Some place) change = put_at xs place change (slice_get xs place)
 
 -- the place of the module of a tag
-abbrev pub place_of_tag : SiteForm → List ℕ → Option ℕ
+abbrev pub place_of_tag : PlainSite → List ℕ → Option ℕ
 place_of_tag site tag = position (λ unit. bytes_eq unit.tag tag) site.modules
 
 -- the modules after the errand was answered so
-abbrev pub units_after : SiteForm → List Module → Errand → Answer → List Module
+abbrev pub units_after : PlainSite → List Module → Errand → Answer → List Module
 units_after site units errand answer =
     changed_at units (option_and_then (place_of_tag site) (errand_tag errand)) (unit_after errand answer)

@@ -1,9 +1,9 @@
 -- Events with their stamps.
 use Rattle.std.specs.Prelude.{ℕ}
-use Rattle.pol_events.specs.Events.{EventForm, plug, unplug, report, variable, recipe, start, advance, freeze, thaw, stop_batch, abandon, desk, exchange_begin, exchange_end, exchange_cancel}
+use Rattle.pol_events.specs.Events.{PlainEvent, plug, unplug, report, variable, recipe, start, advance, freeze, thaw, stop_batch, abandon, desk, exchange_begin, exchange_end, exchange_cancel}
 
 -- the event with this stamp
-abbrev pub stamped : ℕ → EventForm → EventForm
+abbrev pub stamped : ℕ → PlainEvent → PlainEvent
 stamped at (plug old tag description) = plug at tag description
 stamped at (unplug old tag) = unplug at tag
 stamped at (report old tag service control) = report at tag service control

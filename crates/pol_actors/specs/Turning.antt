@@ -1,15 +1,15 @@
 -- What a simulated module does in a turn.
 use Rattle.std.specs.Prelude.{ℕ, List, drop, map, Option, Some, None, option_and_then, slice_get, if◌then◌else◌}
-use Rattle.mtp_desc.specs.Plain.{DescriptionForm}
+use Rattle.mtp_desc.specs.Plain.{PlainDescription}
 use Rattle.mtp_sim.specs.declared.report.SimReport.{SimReport}
-use Rattle.mtp_sim.specs.Sims.{PlanForm, first_sim}
+use Rattle.mtp_sim.specs.Sims.{PlainPlan, first_sim}
 use Rattle.mtp_sim.specs.Ticks.{is_at_rest, is_pending, tick_report, ticked}
 use Rattle.mtp_sim.specs.Commands.{after_command, took}
-use Rattle.pol_events.specs.Events.{entry_view}
+use Rattle.pol_events.specs.Events.{plain_entry}
 use Rattle.pol_events.specs.declared.event.Entry.{Entry}
 use Rattle.pol_core.specs.Commands.{next_sent}
 use Rattle.pol_core.specs.declared.commands.Sent.{Sent}
-use Rattle.pol_site.specs.Sites.{SiteForm, SiteModuleForm, SiteExchangeForm}
+use Rattle.pol_site.specs.Sites.{PlainSite, PlainSiteModule, PlainSiteExchange}
 use Rattle.pol_actors.specs.declared.made.Decision.{Decision}
 use Rattle.pol_actors.specs.declared.made.Decision.TheVariants.{Reports, Looks, Rests}
 use Rattle.pol_actors.specs.declared.made.Made.{Made}
@@ -56,16 +56,16 @@ made_after found made = if is_pending made.sim then made_ticked made else free_a
 
 -- what a module is, and how it is simulated
 pub record Origin : Type 0 where
-  pub description : DescriptionForm
-  pub plan : PlanForm
+  pub description : PlainDescription
+  pub plan : PlainPlan
 
 -- the module of an exchange, or else that of the site
-abbrev pub origin_by : SiteModuleForm → Option SiteExchangeForm → Origin
+abbrev pub origin_by : PlainSiteModule → Option PlainSiteExchange → Origin
 origin_by unit None = record { description = unit.description; plan = unit.plan }
 origin_by unit (Some exchange) = record { description = exchange.description; plan = exchange.plan }
 
 -- the module of the exchange that brought it, if one did, or else that of the site
-abbrev pub origin_of : SiteForm → SiteModuleForm → Option ℕ → Origin
+abbrev pub origin_of : PlainSite → PlainSiteModule → Option ℕ → Origin
 origin_of site unit brought = origin_by unit (option_and_then (slice_get site.exchanges) brought)
 
 -- its simulation at first, which looks from a place on
@@ -78,7 +78,7 @@ made_or None first = first
 made_or (Some made) first = made
 
 -- the simulation with which it takes its turn, where the history has this length
-abbrev pub made_of : SiteForm → SiteModuleForm → ℕ → Module → Made
+abbrev pub made_of : PlainSite → PlainSiteModule → ℕ → Module → Made
 made_of site unit count own = made_or own.made (first_made (origin_of site unit own.brought) count)
 
 -- the module with this simulation
@@ -87,4 +87,4 @@ simulated own made = record { made = Some made; brought = own.brought }
 
 -- the next command to the module that the simulation looks for, by the plant's entries
 abbrev pub next_found : List ℕ → Made → List Entry → Option Sent × ℕ
-next_found tag made entries = next_sent tag made.place (map entry_view (drop made.place entries))
+next_found tag made entries = next_sent tag made.place (map plain_entry (drop made.place entries))

@@ -1,11 +1,11 @@
 //! A batch: it starts, and then advances wherever it doesn't wait.
 ghost use Rattle.std.specs.Prelude.{◌≡◌, IfOk, option_map};
-ghost use Rattle.pol_events.specs.Events.{event_view, start};
+ghost use Rattle.pol_events.specs.Events.{plain_event, start};
 ghost use Rattle.pol_history.specs.Answers.{answer_of};
 ghost use Rattle.pol_core.specs.Calls.{open_next, refusal};
 ghost use Rattle.pol_core.specs.Plants.{plant_history};
 ghost use Rattle.pol_site.specs.Following.{is_passing};
-ghost use Rattle.pol_site.specs.Views.{batch_view};
+ghost use Rattle.pol_site.specs.Views.{plain_batch};
 ghost use Rattle.pol_actors.specs.Batches.{advance_event, batch_event, goes_on, is_refusal_passing, stage_after, start_event};
 
 use chart_core::Next;
@@ -71,8 +71,8 @@ fn copied(alloc: Global, binds: &[Bind]) -> Result<Vec<Bind>, AllocError>
 
 // The start of the batch, unless it waits.
 fn start_event(alloc: Global, batch: &SiteBatch, plant: &Plant) -> Result<Option<Event>, AllocError>
-    ensures { IfOk result (λ event. option_map event_view event
-        ≡ start_event (plant_history plant.now) (batch_view batch.now)) }
+    ensures { IfOk result (λ event. option_map plain_event event
+        ≡ start_event (plant_history plant.now) (plain_batch batch.now)) }
 {
     if waits(batch, plant) {
         return Ok(None);
@@ -95,7 +95,7 @@ fn goes_on(next: &Option<Next>) -> bool
 
 // The advance of the batch, unless it waits or is closed.
 fn advance_event(batch: &SiteBatch, plant: &Plant) -> Option<Event>
-    ensures { option_map event_view result
+    ensures { option_map plain_event result
         ≡ advance_event batch.now.batch (open_next (plant_history plant.now) batch.now.batch) }
 {
     let next = plant.would(batch.batch);
@@ -109,8 +109,8 @@ fn advance_event(batch: &SiteBatch, plant: &Plant) -> Option<Event>
 }
 
 impl Stage {
-    /// What the batch does next, as an event with the stamp 0: its start, or else its advance. None where it waits or has
-    /// nothing more to do.
+    /// What the batch does next, as an event with the stamp 0: its start, or else its advance. None where it waits or
+    /// has nothing more to do.
     ///
     /// # Errors
     ///
@@ -121,8 +121,8 @@ impl Stage {
         batch: &SiteBatch,
         plant: &Plant,
     ) -> Result<Option<Event>, AllocError>
-        ensures { IfOk result (λ event. option_map event_view event
-            ≡ batch_event (plant_history plant.now) (batch_view batch.now) self) }
+        ensures { IfOk result (λ event. option_map plain_event event
+            ≡ batch_event (plant_history plant.now) (plain_batch batch.now) self) }
     {
         match self {
             Stage::Unsent => start_event(alloc, batch, plant),

@@ -1,7 +1,7 @@
 //! The desk: it sends its commands in their order, each once the history is long enough.
 ghost use Rattle.std.specs.Prelude.{◌≡◌, ◌<◌, ◌+◌, ◌^◌, slice_get, option_map};
-ghost use Rattle.pol_events.specs.Events.{event_view};
-ghost use Rattle.pol_site.specs.SiteView.{site_view};
+ghost use Rattle.pol_events.specs.Events.{plain_event};
+ghost use Rattle.pol_site.specs.PlainSite.{plain_site};
 ghost use Rattle.pol_actors.specs.Orders.{order_event};
 
 use pol_events::Event;
@@ -18,8 +18,8 @@ impl Desk {
     /// The next command, as an event with the stamp 0, once the history has as many entries as it waits for. None where
     /// it waits, or where none is left.
     pub fn next_event(&self, site: &Site, length: u32) -> Option<Event>
-        ensures { option_map event_view result
-            ≡ order_event length (slice_get (site_view site.now).desk self.now.ordered) }
+        ensures { option_map plain_event result
+            ≡ order_event length (slice_get (plain_site site.now).desk self.now.ordered) }
     {
         let order = site.desk.get(self.ordered)?;
         if length < order.after {

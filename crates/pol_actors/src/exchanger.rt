@@ -1,13 +1,13 @@
 //! The exchanger: it makes the recipes known, plugs the modules, and works through the exchanges, all in their order.
 ghost use Rattle.std.specs.Prelude.{◌≡◌, ◌<◌, ◌^◌, IfOk, Some, option_map, slice_get};
-ghost use Rattle.pol_events.specs.Events.{event_view, exchange_begin};
+ghost use Rattle.pol_events.specs.Events.{plain_event, exchange_begin};
 ghost use Rattle.pol_history.specs.Answers.{answer_of};
 ghost use Rattle.pol_core.specs.Calls.{refusal};
 ghost use Rattle.pol_core.specs.Plants.{plant_history};
 ghost use Rattle.pol_site.specs.Settled.{is_busy_rule};
-ghost use Rattle.pol_site.specs.SiteView.{site_view};
+ghost use Rattle.pol_site.specs.PlainSite.{plain_site};
 ghost use Rattle.pol_site.specs.Following.{openings};
-ghost use Rattle.pol_site.specs.Views.{exchange_view, module_view, recipe_view};
+ghost use Rattle.pol_site.specs.Views.{plain_exchange, plain_module, plain_recipe};
 ghost use Rattle.pol_actors.specs.Moved.{errand_tag};
 ghost use Rattle.pol_actors.specs.Exchanges.{begin_errand, begun_standing, ended_standing, end_event, errand_of, event_of, exchanger_after, first_exchanger, is_refusal_busy, know_event, plug_event};
 
@@ -90,7 +90,7 @@ fn is_busy(tag: Name, plant: &Plant) -> bool
 
 // Begins the exchange, unless it waits.
 fn begin_errand(exchange: &SiteExchange, plant: &Plant, length: u32) -> Option<Errand>
-    ensures { result ≡ begin_errand (plant_history plant.now) length (Some (exchange_view exchange.now)) }
+    ensures { result ≡ begin_errand (plant_history plant.now) length (Some (plain_exchange exchange.now)) }
 {
     if length < exchange.after || is_busy(exchange.tag, plant) {
         return None;
@@ -112,7 +112,7 @@ impl Exchanger {
 
     /// What it does next. None where it waits or has nothing more to do. The history has this length.
     pub fn errand(&self, site: &Site, plant: &Plant, length: u32) -> Option<Errand>
-        ensures { result ≡ errand_of (site_view site.now) (plant_history plant.now) length self.now }
+        ensures { result ≡ errand_of (plain_site site.now) (plant_history plant.now) length self.now }
     {
         if self.opened < site.recipes.len() + site.modules.len() {
             return Some(Errand::Open { place: self.opened });
@@ -180,7 +180,7 @@ fn ended_standing(tag: Name, ticket: u32, answer: &Answer) -> Standing
 
 // Makes a recipe known.
 fn recipe_event(recipe: &SiteRecipe) -> Result<Event, AllocError>
-    ensures { IfOk result (λ event. event_view event ≡ know_event (recipe_view recipe.now)) }
+    ensures { IfOk result (λ event. plain_event event ≡ know_event (plain_recipe recipe.now)) }
 {
     Ok(Event::Recipe {
         at: 0,
@@ -191,7 +191,7 @@ fn recipe_event(recipe: &SiteRecipe) -> Result<Event, AllocError>
 
 // Plugs a module.
 fn plug_event(unit: &SiteModule) -> Result<Event, AllocError>
-    ensures { IfOk result (λ event. event_view event ≡ plug_event (module_view unit.now)) }
+    ensures { IfOk result (λ event. plain_event event ≡ plug_event (plain_module unit.now)) }
 {
     Ok(Event::Plug {
         at: 0,
@@ -202,7 +202,7 @@ fn plug_event(unit: &SiteModule) -> Result<Event, AllocError>
 
 // Ends an exchange.
 fn end_event(tag: Name, ticket: u32, exchange: &SiteExchange) -> Result<Event, AllocError>
-    ensures { IfOk result (λ event. event_view event ≡ end_event tag ticket (exchange_view exchange.now)) }
+    ensures { IfOk result (λ event. plain_event event ≡ end_event tag ticket (plain_exchange exchange.now)) }
 {
     Ok(Event::ExchangeEnd {
         at: 0,
@@ -214,8 +214,8 @@ fn end_event(tag: Name, ticket: u32, exchange: &SiteExchange) -> Result<Event, A
 
 // Plugs the module at this place.
 fn plugging_event(site: &Site, place: usize) -> Result<Option<Event>, AllocError>
-    ensures { IfOk result (λ event. option_map event_view event
-        ≡ option_map plug_event (slice_get (site_view site.now).modules place)) }
+    ensures { IfOk result (λ event. option_map plain_event event
+        ≡ option_map plug_event (slice_get (plain_site site.now).modules place)) }
 {
     match item_at(&site.modules, place) {
         Some(unit) => Ok(Some(plug_event(unit)?)),
@@ -225,7 +225,7 @@ fn plugging_event(site: &Site, place: usize) -> Result<Option<Event>, AllocError
 
 // Makes the recipe at this place known, or plugs the module at this place after the recipes.
 fn opening_event(site: &Site, place: usize) -> Result<Option<Event>, AllocError>
-    ensures { IfOk result (λ event. option_map event_view event ≡ slice_get (openings (site_view site.now)) place) }
+    ensures { IfOk result (λ event. option_map plain_event event ≡ slice_get (openings (plain_site site.now)) place) }
 {
     match item_at(&site.recipes, place) {
         Some(recipe) => Ok(Some(recipe_event(recipe)?)),
@@ -240,8 +240,8 @@ fn ending_event(
     ticket: u32,
     place: usize,
 ) -> Result<Option<Event>, AllocError>
-    ensures { IfOk result (λ event. option_map event_view event
-        ≡ option_map (end_event tag ticket) (slice_get (site_view site.now).exchanges place)) }
+    ensures { IfOk result (λ event. option_map plain_event event
+        ≡ option_map (end_event tag ticket) (slice_get (plain_site site.now).exchanges place)) }
 {
     match item_at(&site.exchanges, place) {
         Some(exchange) => Ok(Some(end_event(tag, ticket, exchange)?)),
@@ -268,7 +268,7 @@ impl Errand {
     ///
     /// Where a chart or a description can't be shared once more.
     pub fn event(&self, site: &Site) -> Result<Option<Event>, AllocError>
-        ensures { IfOk result (λ event. option_map event_view event ≡ event_of (site_view site.now) self.now) }
+        ensures { IfOk result (λ event. option_map plain_event event ≡ event_of (plain_site site.now) self.now) }
     {
         match *self {
             Errand::Open { place } => opening_event(site, place),

@@ -1,6 +1,6 @@
 //! A simulated module that is docked, and what it does in a turn.
 ghost use Rattle.std.specs.Prelude.{◌≡◌, ◌≤◌, drop, length, map};
-ghost use Rattle.pol_events.specs.Events.{entry_view};
+ghost use Rattle.pol_events.specs.Events.{plain_entry};
 ghost use Rattle.pol_core.specs.Commands.{next_sent};
 ghost use Rattle.pol_actors.specs.Turning.{decision_by, made_after, made_decides, made_ticked};
 ghost use Rattle.mtp_sim.specs.Ticks.{tick_report};
@@ -53,9 +53,9 @@ impl Made {
     pub fn turn(&mut self, tag: Name, plant: &Plant) -> Decision
         requires place { self.old.place ≤ length plant.now.entries }
         ensures decides { result ≡ made_decides
-            (next_sent tag self.old.place (map entry_view (drop self.old.place plant.now.entries))) self.old }
+            (next_sent tag self.old.place (map plain_entry (drop self.old.place plant.now.entries))) self.old }
         ensures after { self.new ≡ made_after
-            (next_sent tag self.old.place (map entry_view (drop self.old.place plant.now.entries))) self.old }
+            (next_sent tag self.old.place (map plain_entry (drop self.old.place plant.now.entries))) self.old }
     {
         if self.sim.pending() {
             return self.tick();

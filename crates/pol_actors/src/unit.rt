@@ -1,9 +1,9 @@
 //! A module of a site: its simulation, while it is docked, and which exchange brought what is docked.
 ghost use Rattle.std.specs.Prelude.{◌≡◌, ◌≤◌, IfOk, None, OnErr, OnOk, length};
-ghost use Rattle.mtp_desc.specs.DescriptionView.{description_view};
-ghost use Rattle.mtp_sim.specs.Sims.{plan_view};
-ghost use Rattle.pol_site.specs.SiteView.{site_view};
-ghost use Rattle.pol_site.specs.Views.{module_view};
+ghost use Rattle.mtp_desc.specs.PlainDescription.{plain_description};
+ghost use Rattle.mtp_sim.specs.Sims.{plain_plan};
+ghost use Rattle.pol_site.specs.PlainSite.{plain_site};
+ghost use Rattle.pol_site.specs.Views.{plain_module};
 ghost use Rattle.pol_actors.specs.Moved.{unit_after};
 ghost use Rattle.pol_actors.specs.Turning.{first_made, made_after, made_decides, made_of, next_found, origin_of, simulated};
 
@@ -35,7 +35,8 @@ fn first_made(
     length: u32,
 ) -> Result<Made, AllocError>
     ensures { IfOk result (λ made. made
-        ≡ first_made (record { description = description_view description.now.value; plan = plan_view plan.now }) length) }
+        ≡ first_made (record { description = plain_description description.now.value; plan = plain_plan plan.now })
+        length) }
 {
     let sim = Sim::new(alloc, description.clone()?, plan)?;
     Ok(Made { sim, place: length })
@@ -62,7 +63,7 @@ impl Unit {
         length: u32,
     ) -> Result<Made, AllocError>
         ensures { IfOk result (λ made. made
-            ≡ first_made (origin_of (site_view site.now) (module_view unit.now) self.now.brought) length) }
+            ≡ first_made (origin_of (plain_site site.now) (plain_module unit.now) self.now.brought) length) }
     {
         match self.brought {
             Some(place) => match item_at(&site.exchanges, place) {
@@ -86,14 +87,14 @@ impl Unit {
         plant: &Plant,
         count: u32,
     ) -> Result<Decision, AllocError>
-        requires place { (made_of (site_view site.now) (module_view unit.now) count self.old).place
+        requires place { (made_of (plain_site site.now) (plain_module unit.now) count self.old).place
             ≤ length plant.now.entries }
         ensures decides { IfOk result (λ decision. decision ≡ made_decides
-            (next_found unit.now.tag (made_of (site_view site.now) (module_view unit.now) count self.old)
-            plant.now.entries) (made_of (site_view site.now) (module_view unit.now) count self.old)) }
+            (next_found unit.now.tag (made_of (plain_site site.now) (plain_module unit.now) count self.old)
+            plant.now.entries) (made_of (plain_site site.now) (plain_module unit.now) count self.old)) }
         ensures after { OnOk result (self.new ≡ simulated self.old (made_after
-            (next_found unit.now.tag (made_of (site_view site.now) (module_view unit.now) count self.old)
-            plant.now.entries) (made_of (site_view site.now) (module_view unit.now) count self.old))) }
+            (next_found unit.now.tag (made_of (plain_site site.now) (plain_module unit.now) count self.old)
+            plant.now.entries) (made_of (plain_site site.now) (plain_module unit.now) count self.old))) }
         ensures err { OnErr result (self.new ≡ self.old) }
     {
         let mut made = match self.made.take() {

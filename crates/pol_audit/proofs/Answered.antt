@@ -5,7 +5,7 @@ use Rattle.std.proofs.lemmas.Bool.{false_from_ne_true, leb-true}
 use Rattle.std.proofs.lemmas.List.{length-reverse}
 use Rattle.mtp_codes.specs.Faults.{when, first_of}
 use Rattle.mtp_codes.specs.declared.limits.TheConstants.{LONGEST_HISTORY}
-use Rattle.pol_events.specs.Events.{EventForm, entry_view, history_view}
+use Rattle.pol_events.specs.Events.{PlainEvent, plain_entry, plain_history}
 use Rattle.pol_events.specs.declared.answer.Answer.{Answer}
 use Rattle.pol_events.specs.declared.answer.Answer.TheVariants.{Refused}
 use Rattle.pol_events.specs.declared.answer.Rule.{Rule}
@@ -19,27 +19,32 @@ abbrev pub refused_or : Option Rule → Answer → Answer
 refused_or None answer = answer
 refused_or (Some rule) answer = Refused rule
 
-answered_is : (rules : List (Option Rule)) (answer : Answer) → first_rule rules answer ≡ refused_or (first_of rules) answer
+answered_is : (rules : List (Option Rule)) (answer : Answer)
+    → first_rule rules answer ≡ refused_or (first_of rules) answer
 answered_is [] answer = refl
 answered_is (Some rule ∷ rules) answer = refl
 answered_is (None ∷ rules) answer = answered_is rules answer
 
-length-map : {A B : Type 0} (f : A → B) (xs : List A) → length (map f xs) ≡ length xs
-length-map f [] = refl
-length-map f (x ∷ xs) = ap suc (length-map f xs)
+length_map : {A B : Type 0} (f : A → B) (xs : List A) → length (map f xs) ≡ length xs
+length_map f [] = refl
+length_map f (x ∷ xs) = ap suc (length_map f xs)
 
 -- a history is as long as the list of its entries
-history_length : (entries : List Entry) → length (history_view entries) ≡ length entries
-history_length entries = length-reverse (map entry_view entries) ∙ length-map entry_view entries
+history_length : (entries : List Entry) → length (plain_history entries) ≡ length entries
+history_length entries = length-reverse (map plain_entry entries) ∙ length_map plain_entry entries
 
 -- a history that has room is not full
-not-full : (history : History) → length history < LONGEST_HISTORY → is_full history ≡ false
-not-full history room = false_from_ne_true (nat_le LONGEST_HISTORY (length history)) (λ full. let over = leb-true LONGEST_HISTORY (length history) full in absurd (omega arith))
+not_full : (history : History) → length history < LONGEST_HISTORY → is_full history ≡ false
+not_full history room =
+    false_from_ne_true (nat_le LONGEST_HISTORY (length history))
+    (λ full. let over = leb-true LONGEST_HISTORY (length history) full in absurd (omega arith))
 
 -- the answer where the history has room: the first rule that holds, else what is answered otherwise
-pub answered : (entries : List Entry) (event : EventForm) → length entries < LONGEST_HISTORY →
-    answer_of (history_view entries) event ≡ refused_or (first_of (rules (history_view entries) event)) (otherwise (history_view entries) event)
+pub answered : (entries : List Entry) (event : PlainEvent) → length entries < LONGEST_HISTORY →
+    answer_of (plain_history entries) event
+    ≡ refused_or (first_of (rules (plain_history entries) event)) (otherwise (plain_history entries) event)
 answered entries event room =
-    ap (λ full. first_rule (when full HistoryFull ∷ rules (history_view entries) event) (otherwise (history_view entries) event))
-    (not-full (history_view entries) (rw (history_length entries) room))
-    ∙ answered_is (rules (history_view entries) event) (otherwise (history_view entries) event)
+    ap (λ full. first_rule (when full HistoryFull ∷ rules (plain_history entries) event)
+    (otherwise (plain_history entries) event))
+    (not_full (plain_history entries) (rw (history_length entries) room))
+    ∙ answered_is (rules (plain_history entries) event) (otherwise (plain_history entries) event)

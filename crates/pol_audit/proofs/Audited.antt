@@ -6,7 +6,7 @@ use Rattle.std.proofs.lemmas.List.Folds.{list_all-append}
 use Rattle.std.specs.List.{AllByRecursion, list_all}
 use Rattle.std.specs.Prelude.{◌&&◌, IsTrue}
 use Rattle.std.specs.Result.{result_ok}
-use Rattle.pol_events.specs.Events.{EntryForm, entry_view, event_view, history_view}
+use Rattle.pol_events.specs.Events.{PlainEntry, plain_entry, plain_event, plain_history}
 use Rattle.pol_events.specs.Orderly.{is_orderly}
 use Rattle.pol_events.specs.declared.event.Entry.{Entry}
 use Rattle.pol_events.specs.declared.answer.Answer.{Answer}
@@ -27,35 +27,35 @@ use Rattle.pol_audit.proofs.Reading.{read_to_verdict}
 
 -- one more entry
 pub orderly_more : (entries : List Entry) (entry : Entry) → IsTrue (are_orderly entries) →
-    IsTrue (is_orderly (event_view entry.event)) → IsTrue (are_orderly (entries ++ entry ∷ []))
+    IsTrue (is_orderly (plain_event entry.event)) → IsTrue (are_orderly (entries ++ entry ∷ []))
 orderly_more entries entry all one =
-    list_all-append (λ entry. is_orderly (event_view entry.event)) entries (entry ∷ []) ∙ rw (all, one) refl
+    list_all-append (λ entry. is_orderly (plain_event entry.event)) entries (entry ∷ []) ∙ rw (all, one) refl
 
 -- two facts together are each of them
 both : (one other : Bool) → (one && other) ≡ true → (one ≡ true) × (other ≡ true)
 both true other is = (refl, is)
 both false other is = absurd (true≢false (sym is))
 
-each-orderly : (entries : List Entry) → IsTrue (are_orderly entries) →
-    AllByRecursion (λ entry. is_orderly entry.event ≡ true) (map entry_view entries)
-each-orderly [] all = tt
-each-orderly (entry ∷ entries) all =
-    let parts = both (is_orderly (event_view entry.event)) (are_orderly entries) all in
-    (parts.0, each-orderly entries parts.1)
+each_orderly : (entries : List Entry) → IsTrue (are_orderly entries) →
+    AllByRecursion (λ entry. is_orderly entry.event ≡ true) (map plain_entry entries)
+each_orderly [] all = tt
+each_orderly (entry ∷ entries) all =
+    let parts = both (is_orderly (plain_event entry.event)) (are_orderly entries) all in
+    (parts.0, each_orderly entries parts.1)
 
 -- one more entry, where there was memory for it
 pub orderly_pushed : (entries next : List Entry) (entry : Entry) (taken : Bool) →
     next ≡ (if taken then entries ++ entry ∷ [] else entries) → IsTrue (are_orderly entries) →
-    IsTrue (is_orderly (event_view entry.event)) → IsTrue (are_orderly next)
+    IsTrue (is_orderly (plain_event entry.event)) → IsTrue (are_orderly next)
 orderly_pushed entries next entry true is all one = rw is (orderly_more entries entry all one)
 orderly_pushed entries next entry false is all one = rw is all
 
 -- no entry
-abbrev none_said : Option EntryForm
+abbrev none_said : Option PlainEntry
 none_said = None
 
 -- a line says the entry that is read of it
-pub entry_read : (line : List ℕ) (entry : EntryForm) → entry_of line ≡ Ok entry → Some entry ≡ entry_on (Some line)
+pub entry_read : (line : List ℕ) (entry : PlainEntry) → entry_of line ≡ Ok entry → Some entry ≡ entry_on (Some line)
 entry_read line entry is = sym (ap result_ok is)
 
 -- and none where it is at fault
@@ -64,9 +64,9 @@ fault_read line fault is = sym (ap result_ok is)
 
 -- the entries that are judged have orderly events
 pub orderly_front : (entries front : List Entry) → front ≡ take MOST_JUDGED entries → IsTrue (are_orderly entries) →
-    IsOrderly (history_view front)
+    IsOrderly (plain_history front)
 orderly_front entries front is all = rw is (orderly_before entries MOST_JUDGED
-    (all_turned (λ entry. is_orderly entry.event ≡ true) (map entry_view entries) (each-orderly entries all)))
+    (all_turned (λ entry. is_orderly entry.event ≡ true) (map plain_entry entries) (each_orderly entries all)))
 
 -- and are few
 pub front_few : (entries front : List Entry) → front ≡ take MOST_JUDGED entries → length front ≤ MOST_JUDGED
@@ -78,37 +78,37 @@ all_taken entries few = sym (take_all MOST_JUDGED entries few)
 
 -- what is found of them is what is found of the first entries that were read
 pub front_judged : (entries front : List Entry) (found : Judged) → front ≡ take MOST_JUDGED entries →
-    found ≡ judged (map entry_view front) → judged (take MOST_JUDGED (map entry_view entries)) ≡ found
+    found ≡ judged (map plain_entry front) → judged (take MOST_JUDGED (map plain_entry entries)) ≡ found
 front_judged entries front found is judgement =
-    ap judged (take-map entry_view MOST_JUDGED entries ∙ ap (map entry_view) (sym is)) ∙ sym judgement
+    ap judged (take-map plain_entry MOST_JUDGED entries ∙ ap (map plain_entry) (sym is)) ∙ sym judgement
 
 -- ---- the verdict
 
 -- an answer is wrong
 pub wrong_found : (entries front : List Entry) (behind : List Line) (place : ℕ) (says : Answer) →
-    front ≡ take MOST_JUDGED entries → Wrong place says ≡ judged (map entry_view front) →
-    verdict.WrongAnswer place says ≡ verdict_on (map entry_view entries) behind
+    front ≡ take MOST_JUDGED entries → Wrong place says ≡ judged (map plain_entry front) →
+    verdict.WrongAnswer place says ≡ verdict_on (map plain_entry entries) behind
 wrong_found entries front behind place says is judgement =
-    sym (ap (by_answers (map entry_view entries) behind) (front_judged entries front (Wrong place says) is judgement))
+    sym (ap (by_answers (map plain_entry entries) behind) (front_judged entries front (Wrong place says) is judgement))
 
 -- there are too many
 pub many_found : (entries front : List Entry) (behind : List Line) → MOST_JUDGED < length entries →
-    front ≡ take MOST_JUDGED entries → Good ≡ judged (map entry_view front) →
-    verdict.TooMany MOST_JUDGED ≡ verdict_on (map entry_view entries) behind
+    front ≡ take MOST_JUDGED entries → Good ≡ judged (map plain_entry front) →
+    verdict.TooMany MOST_JUDGED ≡ verdict_on (map plain_entry entries) behind
 many_found entries front behind many is judgement =
-    let more = lt-ltb MOST_JUDGED (length (map entry_view entries)) (rw (length-map entries entry_view) many) in
-    sym (ap (by_answers (map entry_view entries) behind) (front_judged entries front Good is judgement) ∙ rw more refl)
+    let more = lt-ltb MOST_JUDGED (length (map plain_entry entries)) (rw (length-map entries plain_entry) many) in
+    sym (ap (by_answers (map plain_entry entries) behind) (front_judged entries front Good is judgement) ∙ rw more refl)
 
 -- all is right but what stands behind the entries
 pub tail_found : (entries front : List Entry) (behind : List Line) (found : Verdict) → length entries ≤ MOST_JUDGED →
-    front ≡ take MOST_JUDGED entries → Good ≡ judged (map entry_view front) →
-    found ≡ by_tail (length (map entry_view entries))
-    (first_other (length (map entry_view entries)) (closing_lines (reverse (map entry_view entries))) behind) →
-    found ≡ verdict_on (map entry_view entries) behind
+    front ≡ take MOST_JUDGED entries → Good ≡ judged (map plain_entry front) →
+    found ≡ by_tail (length (map plain_entry entries))
+    (first_other (length (map plain_entry entries)) (closing_lines (reverse (map plain_entry entries))) behind) →
+    found ≡ verdict_on (map plain_entry entries) behind
 tail_found entries front behind found few is judgement tail =
-    let fits = le-ltb MOST_JUDGED (length (map entry_view entries)) (rw (length-map entries entry_view) few) in
+    let fits = le-ltb MOST_JUDGED (length (map plain_entry entries)) (rw (length-map entries plain_entry) few) in
     tail
-    ∙ sym (ap (by_answers (map entry_view entries) behind) (front_judged entries front Good is judgement)
+    ∙ sym (ap (by_answers (map plain_entry entries) behind) (front_judged entries front Good is judgement)
     ∙ rw fits refl)
 
 -- what is found over what was kept is found over all lines

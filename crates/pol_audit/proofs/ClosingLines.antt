@@ -2,7 +2,7 @@
 use Rattle.std.proofs.Common.{◌≡◌, ◌≤◌, ◌∷◌, [], ◌++◌, ℕ, suc, List, Vec, length, map, arith, ap, refl, ◌∙◌}
 use Rattle.std.proofs.lemmas.List.{length-map, length-reverse, map-append}
 use Rattle.std.specs.declared.alloc.Global.{Global}
-use Rattle.pol_events.specs.Events.{entry_view, history_view}
+use Rattle.pol_events.specs.Events.{plain_entry, plain_history}
 use Rattle.pol_events.specs.declared.event.Entry.{Entry}
 use Rattle.pol_history.specs.Batches.{batches}
 use Rattle.pol_history.specs.Looking.{History, past_of_batch}
@@ -13,37 +13,37 @@ use Rattle.pol_audit.specs.Verdict.{closing_lines}
 use Rattle.pol_audit.proofs.Reading.{few_wanted}
 
 -- what was gathered gives the lines of these batches
-each-gathered : (gathered : BatchRecords) (history : History) → IsGathered gathered history →
+each_gathered : (gathered : BatchRecords) (history : History) → IsGathered gathered history →
     (names : List (List ℕ)) →
     map (λ batch. record_text batch (known_of gathered.records.entries batch)) names ≡ map (batch_text history) names
-each-gathered gathered history is [] = refl
-each-gathered gathered history is (name ∷ names) =
+each_gathered gathered history is [] = refl
+each_gathered gathered history is (name ∷ names) =
     ap (λ known. record_text name known
     ∷ map (λ batch. record_text batch (known_of gathered.records.entries batch)) names) (is.known name)
     ∙ ap (λ rest. record_text name (record_by (past_of_batch name history)) ∷ rest)
-    (each-gathered gathered history is names)
+    (each_gathered gathered history is names)
 
 -- those of all batches, and the end line, are the closing lines
 pub closing_is : (gathered : BatchRecords) (history : List Entry) (lines : List (Vec ℕ Global)) (last : Vec ℕ Global) →
-    IsGathered gathered (history_view history) →
+    IsGathered gathered (plain_history history) →
     map (λ line. line.items) lines
     ≡ map (λ batch. record_text batch (known_of gathered.records.entries batch)) gathered.started.items →
     last.items ≡ end_text →
-    map (λ line. line.items) (lines ++ last ∷ []) ≡ closing_lines (history_view history)
+    map (λ line. line.items) (lines ++ last ∷ []) ≡ closing_lines (plain_history history)
 closing_is gathered history lines last is texts ends =
     map-append (λ line. line.items) lines (last ∷ [])
     ∙ ap (λ rest. map (λ line. line.items) lines ++ rest ∷ []) ends
     ∙ ap (λ front. front ++ end_text ∷ []) (texts
-    ∙ each-gathered gathered (history_view history) is gathered.started.items
-    ∙ ap (map (batch_text (history_view history))) is.started)
+    ∙ each_gathered gathered (plain_history history) is gathered.started.items
+    ∙ ap (map (batch_text (plain_history history))) is.started)
 
 -- they are no more than the entries, and one
 pub closing_few : (history : List Entry) (lines : List (Vec ℕ Global)) →
-    map (λ line. line.items) lines ≡ closing_lines (history_view history) → length lines ≤ suc (length history)
+    map (λ line. line.items) lines ≡ closing_lines (plain_history history) → length lines ≤ suc (length history)
 closing_few history lines is =
-    let few = few_wanted (history_view history) in
-    let turned = length-reverse (map entry_view history) in
-    let mapped = length-map history entry_view in
+    let few = few_wanted (plain_history history) in
+    let turned = length-reverse (map plain_entry history) in
+    let mapped = length-map history plain_entry in
     let same = length-map lines (λ line. line.items) in
     let texts = ap length is in
     omega (arith, few, turned, mapped, same, texts)

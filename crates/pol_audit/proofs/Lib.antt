@@ -1,3 +1,4 @@
+pub mod LookingBack
 pub mod Docked
 pub mod Logged
 pub mod Seeing

@@ -7,9 +7,9 @@ use Rattle.std.specs.Result.{result_ok}
 use Rattle.serde_json.specs.Data.{Data}
 use Rattle.chart_core.specs.declared.fault.ChartFault.{ChartFault}
 use Rattle.chart_json.proofs.Told.{any_before, told_before, told_inside}
-use Rattle.mtp_json.specs.Form.{inside, nothing_but, object_here}
-use Rattle.mtp_json.specs.Reading.{Reading}
-use Rattle.pol_events.specs.Events.{EntryForm}
+use Rattle.mtp_json.specs.Form.{nested, nothing_but, object_here}
+use Rattle.mtp_json.specs.ReadResult.{ReadResult}
+use Rattle.pol_events.specs.Events.{PlainEntry}
 use Rattle.pol_events.specs.Forms.{event_in}
 use Rattle.pol_events.specs.Lines.{fault_within}
 use Rattle.pol_events.specs.Orderly.{is_orderly}
@@ -23,73 +23,74 @@ use Rattle.pol_audit.specs.Verdict.{Line, entry_on, entries_of, run_from}
 -- ---- one entry
 
 -- the event is orderly, unless its chart has a fault
-abbrev IsOrderlyEntry : EntryForm → Type 0
+abbrev IsOrderlyEntry : PlainEntry → Type 0
 IsOrderlyEntry entry = IsOrderly entry.event
 
-form-orderly : (value : Data) → IfOk (entry_form value) IsOrderlyEntry
+form_orderly : (value : Data) → IfOk (entry_form value) IsOrderlyEntry
 unfolding entry_form
-form-orderly value =
+form_orderly value =
     any_before IsOrderlyEntry (object_here value) _ (λ _.
-    any_before IsOrderlyEntry (inside (codes "answer") answer_form value) _ (λ answer.
-    told_before IsOrderly IsOrderlyEntry (inside (codes "event") event_in value) _
+    any_before IsOrderlyEntry (nested (codes "answer") answer_form value) _ (λ answer.
+    told_before IsOrderly IsOrderlyEntry (nested (codes "event") event_in value) _
     (told_inside IsOrderly (codes "event") event_in value_orderly value) (λ event orderly.
     any_before IsOrderlyEntry (nothing_but (codes "answer event") value) _ (λ _. orderly))))
 
-read-orderly : (line : List ℕ) → IfOk (read_of line) IsOrderlyEntry
-read-orderly line = search (rules, any_before, form-orderly)
+read_orderly : (line : List ℕ) → IfOk (read_of line) IsOrderlyEntry
+read_orderly line = search (rules, any_before, form_orderly)
 
-valid-orderly : (found entry : EntryForm) (fault : Option ChartFault) → fault_within found.event ≡ fault →
+valid_orderly : (found entry : PlainEntry) (fault : Option ChartFault) → fault_within found.event ≡ fault →
     IsOrderlyEntry found → unless_faulty found fault ≡ Ok entry → is_orderly entry.event ≡ true
-valid-orderly found entry None none orderly is = let same : found ≡ entry = cc in rw (← same) (orderly none)
-valid-orderly found entry (Some fault) some orderly is = absurd cc
+valid_orderly found entry None none orderly is = let same : found ≡ entry = cc in rw (← same) (orderly none)
+valid_orderly found entry (Some fault) some orderly is = absurd cc
 
-said-orderly : (said : Reading EntryForm) (entry : EntryForm) → IfOk said IsOrderlyEntry → of_line said ≡ Ok entry →
+said_orderly : (said : ReadResult PlainEntry) (entry : PlainEntry) → IfOk said IsOrderlyEntry
+    → of_line said ≡ Ok entry →
     is_orderly entry.event ≡ true
-said-orderly (Ok found) entry orderly is = valid-orderly found entry (fault_within found.event) refl orderly is
-said-orderly (Err fault) entry orderly is = absurd cc
+said_orderly (Ok found) entry orderly is = valid_orderly found entry (fault_within found.event) refl orderly is
+said_orderly (Err fault) entry orderly is = absurd cc
 
 -- the event of an entry that a line says is orderly
-entry-orderly : (line : List ℕ) (entry : EntryForm) → entry_of line ≡ Ok entry → is_orderly entry.event ≡ true
+entry_orderly : (line : List ℕ) (entry : PlainEntry) → entry_of line ≡ Ok entry → is_orderly entry.event ≡ true
 unfolding entry_of
-entry-orderly line entry is = said-orderly (read_of line) entry (read-orderly line) is
+entry_orderly line entry is = said_orderly (read_of line) entry (read_orderly line) is
 
 -- ---- all entries
 
 -- each of these events is orderly
-abbrev AreOrderly : List EntryForm → Type 0
+abbrev AreOrderly : List PlainEntry → Type 0
 AreOrderly entries = AllByRecursion (λ entry. is_orderly entry.event ≡ true) entries
 
-line-orderly : (line : Line) (entry : EntryForm) → entry_on line ≡ Some entry → is_orderly entry.event ≡ true
-line-orderly None entry is = absurd cc
-line-orderly (Some bytes) entry is = go (entry_of bytes) refl is
+line_orderly : (line : Line) (entry : PlainEntry) → entry_on line ≡ Some entry → is_orderly entry.event ≡ true
+line_orderly None entry is = absurd cc
+line_orderly (Some bytes) entry is = go (entry_of bytes) refl is
   where
-    go : (said : Result EntryForm LineFault) → entry_of bytes ≡ said → result_ok said ≡ Some entry →
+    go : (said : Result PlainEntry LineFault) → entry_of bytes ≡ said → result_ok said ≡ Some entry →
         is_orderly entry.event ≡ true
-    go (Ok own) said is = let same : own ≡ entry = cc in rw (← same) (entry-orderly bytes own said)
+    go (Ok own) said is = let same : own ≡ entry = cc in rw (← same) (entry_orderly bytes own said)
     go (Err fault) said is = absurd cc
 
-each-orderly : (lines : List Line) → AreOrderly (entries_of lines)
-each-orderly [] = tt
-each-orderly (line ∷ lines) = go (entry_on line) (line-orderly line) (each-orderly lines)
+each_orderly : (lines : List Line) → AreOrderly (entries_of lines)
+each_orderly [] = tt
+each_orderly (line ∷ lines) = go (entry_on line) (line_orderly line) (each_orderly lines)
   where
-    go : (says : Option EntryForm) → ((entry : EntryForm) → says ≡ Some entry → is_orderly entry.event ≡ true) →
+    go : (says : Option PlainEntry) → ((entry : PlainEntry) → says ≡ Some entry → is_orderly entry.event ≡ true) →
         AreOrderly (entries_of lines) → AreOrderly (run_from says (entries_of lines))
     go None one rest = tt
     go (Some entry) one rest = (one entry refl, rest)
 
 -- what holds of all of two lists holds of all of them together
-all-both : {A : Type 0} (P : A → Type 0) (xs ys : List A) → AllByRecursion P xs → AllByRecursion P ys →
+all_both : {A : Type 0} (P : A → Type 0) (xs ys : List A) → AllByRecursion P xs → AllByRecursion P ys →
     AllByRecursion P (xs ++ ys)
-all-both P [] ys one other = other
-all-both P (x ∷ xs) ys one other = (one.0, all-both P xs ys one.1 other)
+all_both P [] ys one other = other
+all_both P (x ∷ xs) ys one other = (one.0, all_both P xs ys one.1 other)
 
 -- what holds of all in one order holds of all in the other
 pub all_turned : {A : Type 0} (P : A → Type 0) (xs : List A) → AllByRecursion P xs → AllByRecursion P (reverse xs)
 all_turned P [] all = tt
 all_turned P (x ∷ xs) all =
     subst (AllByRecursion P) (sym (reverse-append (x ∷ []) xs))
-    (all-both P (reverse xs) (x ∷ []) (all_turned P xs all.1) (all.0, tt))
+    (all_both P (reverse xs) (x ∷ []) (all_turned P xs all.1) (all.0, tt))
 
 -- the events of a history that lines spell are orderly
 pub lines_orderly : (lines : List Line) → runs.IsOrderly (reverse (entries_of lines))
-lines_orderly lines = all_turned (λ entry. is_orderly entry.event ≡ true) (entries_of lines) (each-orderly lines)
+lines_orderly lines = all_turned (λ entry. is_orderly entry.event ≡ true) (entries_of lines) (each_orderly lines)

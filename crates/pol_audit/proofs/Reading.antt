@@ -5,7 +5,7 @@ use Rattle.std.proofs.lemmas.Bool.{le-ltb, lt-ltb, ltb-true}
 use Rattle.std.proofs.lemmas.List.{length-map, length-reverse, take-append-le}
 use Rattle.std.specs.Prelude.{◌==◌, nat_lt}
 use Rattle.std.specs.List.{cons_option, filter_map, fold}
-use Rattle.pol_events.specs.Events.{EntryForm}
+use Rattle.pol_events.specs.Events.{PlainEntry}
 use Rattle.pol_history.specs.Batches.{batches}
 use Rattle.pol_history.specs.Looking.{History}
 use Rattle.pol_record.specs.Gathered.{newly_started}
@@ -22,9 +22,9 @@ use Rattle.pol_audit.specs.declared.judging.TheConstants.{MOST_JUDGED}
 -- ---- how many lines can be wanted
 
 -- what is found of items is no more than they are
-few-kept : {X Y : Type 0} (f : X → Option Y) (xs : List X) → length (filter_map f xs) ≤ length xs
-few-kept f [] = omega arith
-few-kept f (x ∷ xs) = go (f x) (few-kept f xs)
+few_kept : {X Y : Type 0} (f : X → Option Y) (xs : List X) → length (filter_map f xs) ≤ length xs
+few_kept f [] = omega arith
+few_kept f (x ∷ xs) = go (f x) (few_kept f xs)
   where
     go : (found : Option _) → length (filter_map f xs) ≤ length xs →
         length (cons_option found (filter_map f xs)) ≤ suc (length xs)
@@ -35,7 +35,7 @@ few-kept f (x ∷ xs) = go (f x) (few-kept f xs)
 pub few_wanted : (history : History) → length (closing_lines history) ≤ suc (length history)
 few_wanted history =
     let end : List (List ℕ) = end_text ∷ [] in
-    let kept = few-kept newly_started history in
+    let kept = few_kept newly_started history in
     let turned = length-reverse (filter_map newly_started history) in
     rw (
       length-append (map (batch_text history) (batches history)) end,
@@ -43,43 +43,43 @@ few_wanted history =
     ) (omega (arith, kept, turned))
 
 -- lines behind more than are wanted tell nothing more
-first-enough : (place : ℕ) (wanted : List (List ℕ)) (lines later : List Line) → length wanted < length lines →
+first_enough : (place : ℕ) (wanted : List (List ℕ)) (lines later : List Line) → length wanted < length lines →
     first_other place wanted (lines ++ later) ≡ first_other place wanted lines
-first-enough place [] [] later more = absurd (omega (arith, more))
-first-enough place [] (line ∷ lines) later more = refl
-first-enough place (one ∷ wanted) [] later more = absurd (omega (arith, more))
-first-enough place (one ∷ wanted) (line ∷ lines) later more =
+first_enough place [] [] later more = absurd (omega (arith, more))
+first_enough place [] (line ∷ lines) later more = refl
+first_enough place (one ∷ wanted) [] later more = absurd (omega (arith, more))
+first_enough place (one ∷ wanted) (line ∷ lines) later more =
     ap (λ found. if is_line one line then found else Some place)
-    (first-enough (suc place) wanted lines later (omega (arith, more)))
+    (first_enough (suc place) wanted lines later (omega (arith, more)))
 
 -- a verdict, by the first of the lines behind the entries that differs
-abbrev verdict_found : List EntryForm → Judged → Option ℕ → Verdict
+abbrev verdict_found : List PlainEntry → Judged → Option ℕ → Verdict
 verdict_found entries (Wrong place says) found = verdict.WrongAnswer place says
 verdict_found entries Good found =
     if nat_lt MOST_JUDGED (length entries) then verdict.TooMany MOST_JUDGED else by_tail (length entries) found
 
 -- it is by that line alone
-found_is : (entries : List EntryForm) (lines : List Line) (found : Judged) →
+found_is : (entries : List PlainEntry) (lines : List Line) (found : Judged) →
     by_answers entries lines found
     ≡ verdict_found entries found (first_other (length entries) (closing_lines (reverse entries)) lines)
 found_is entries lines (Wrong place says) = refl
 found_is entries lines Good = refl
 
 -- so the verdict over them is the same
-decided-behind : (entries : List EntryForm) (lines later : List Line) → suc (length entries) < length lines →
+decided_behind : (entries : List PlainEntry) (lines later : List Line) → suc (length entries) < length lines →
     verdict_on entries (lines ++ later) ≡ verdict_on entries lines
-decided-behind entries lines later more =
+decided_behind entries lines later more =
     let few = few_wanted (reverse entries) in
     let turned = length-reverse entries in
     found_is entries (lines ++ later) (judged (take MOST_JUDGED entries))
     ∙ ap (verdict_found entries (judged (take MOST_JUDGED entries)))
-    (first-enough (length entries) (closing_lines (reverse entries)) lines later (omega (arith, few, turned, more)))
+    (first_enough (length entries) (closing_lines (reverse entries)) lines later (omega (arith, few, turned, more)))
     ∙ sym (found_is entries lines (judged (take MOST_JUDGED entries)))
 
 -- where there are more entries than are judged, neither further entries nor the lines behind them change the verdict
-decided-front : (entries later : List EntryForm) (lines others : List Line) → MOST_JUDGED < length entries →
+decided_front : (entries later : List PlainEntry) (lines others : List Line) → MOST_JUDGED < length entries →
     verdict_on (entries ++ later) lines ≡ verdict_on entries others
-decided-front entries later lines others many =
+decided_front entries later lines others many =
     ap (by_answers (entries ++ later) lines)
     (ap judged (take-append-le MOST_JUDGED entries later (omega (arith, many))))
     ∙ go (judged (take MOST_JUDGED entries)) (lt-ltb MOST_JUDGED (length entries) many)
@@ -94,21 +94,21 @@ decided-front entries later lines others many =
 -- ---- reading on
 
 -- once the verdict is decided nothing more is kept
-stays-decided : (read : Read) (lines : List Line) → is_decided read ≡ true → fold after_line read lines ≡ read
-stays-decided read [] decided = refl
-stays-decided read (line ∷ lines) decided =
+stays_decided : (read : Read) (lines : List Line) → is_decided read ≡ true → fold after_line read lines ≡ read
+stays_decided read [] decided = refl
+stays_decided read (line ∷ lines) decided =
     ap (λ next. fold after_line next lines) (ap (λ enough. if enough then read else with_line read line) decided)
-    ∙ stays-decided read lines decided
+    ∙ stays_decided read lines decided
 
 -- lines that are read behind the entries
-behind-on : (entries : List EntryForm) (line : Line) (lines later : List Line)
+behind_on : (entries : List PlainEntry) (line : Line) (lines later : List Line)
     → nat_lt MOST_JUDGED (length entries) ≡ false →
     verdict_after (fold after_line (record { entries = entries; behind = line ∷ lines }) later)
     ≡ verdict_on entries ((line ∷ lines) ++ later)
-behind-on entries line lines [] few = ap (verdict_on entries) (sym (append-nil (line ∷ lines)))
-behind-on entries line lines (next ∷ later) few =
+behind_on entries line lines [] few = ap (verdict_on entries) (sym (append-nil (line ∷ lines)))
+behind_on entries line lines (next ∷ later) few =
     go (nat_lt (suc (length entries)) (length (line ∷ lines))) refl
-    (behind-on entries line (lines ++ next ∷ []) later few)
+    (behind_on entries line (lines ++ next ∷ []) later few)
   where
     now : Read
     now = record { entries = entries; behind = line ∷ lines }
@@ -121,8 +121,8 @@ behind-on entries line lines (next ∷ later) few =
         ≡ verdict_on entries ((line ∷ lines ++ next ∷ []) ++ later) →
         verdict_after (fold after_line now (next ∷ later)) ≡ verdict_on entries ((line ∷ lines) ++ next ∷ later)
     go true is further =
-        ap verdict_after (stays-decided now (next ∷ later) (decided true is))
-        ∙ sym (decided-behind entries (line ∷ lines) (next ∷ later)
+        ap verdict_after (stays_decided now (next ∷ later) (decided true is))
+        ∙ sym (decided_behind entries (line ∷ lines) (next ∷ later)
         (ltb-true (suc (length entries)) (length (line ∷ lines)) is))
     go false is further =
         ap (λ enough. verdict_after (fold after_line (if enough then now else with_line now next) later))
@@ -134,12 +134,12 @@ behind-on entries line lines (next ∷ later) few =
         ∙ ap (verdict_on entries) (append_assoc (line ∷ lines) (next ∷ []) later)
 
 -- lines that are read while each before them was an entry
-front-on : (entries : List EntryForm) (lines : List Line) →
+front_on : (entries : List PlainEntry) (lines : List Line) →
     verdict_after (fold after_line (record { entries = entries; behind = [] }) lines)
     ≡ verdict_on (entries ++ entries_of lines) (lines_behind lines)
-front-on entries [] = ap (λ all. verdict_on all []) (sym (append-nil entries))
-front-on entries (line ∷ lines) =
-    by_many (nat_lt MOST_JUDGED (length entries)) refl (λ entry. front-on (entries ++ entry ∷ []) lines)
+front_on entries [] = ap (λ all. verdict_on all []) (sym (append-nil entries))
+front_on entries (line ∷ lines) =
+    by_many (nat_lt MOST_JUDGED (length entries)) refl (λ entry. front_on (entries ++ entry ∷ []) lines)
   where
     now : Read
     now = record { entries = entries; behind = [] }
@@ -148,15 +148,15 @@ front-on entries (line ∷ lines) =
     undecided few = rw (few, le-ltb (suc (length entries)) 0 (omega arith)) refl
 
     Further : Type 0
-    Further = (entry : EntryForm)
+    Further = (entry : PlainEntry)
         → verdict_after (fold after_line (record { entries = entries ++ entry ∷ []; behind = [] }) lines)
         ≡ verdict_on ((entries ++ entry ∷ []) ++ entries_of lines) (lines_behind lines)
 
-    by_entry : (says : Option EntryForm) → nat_lt MOST_JUDGED (length entries) ≡ false → Further →
+    by_entry : (says : Option PlainEntry) → nat_lt MOST_JUDGED (length entries) ≡ false → Further →
         verdict_after (fold after_line (with_front now says line) lines)
         ≡ verdict_on (entries ++ run_from says (entries_of lines))
         (drop (length (run_from says (entries_of lines))) (line ∷ lines))
-    by_entry None few further = behind-on entries line [] lines few ∙ ap (λ all. verdict_on all (line ∷ lines))
+    by_entry None few further = behind_on entries line [] lines few ∙ ap (λ all. verdict_on all (line ∷ lines))
         (sym (append-nil entries))
     by_entry (Some entry) few further =
         further entry
@@ -166,8 +166,8 @@ front-on entries (line ∷ lines) =
         verdict_after (fold after_line now (line ∷ lines))
         ≡ verdict_on (entries ++ entries_of (line ∷ lines)) (lines_behind (line ∷ lines))
     by_many true is further =
-        ap verdict_after (stays-decided now (line ∷ lines) (rw is refl))
-        ∙ sym (decided-front entries (entries_of (line ∷ lines)) (lines_behind (line ∷ lines)) []
+        ap verdict_after (stays_decided now (line ∷ lines) (rw is refl))
+        ∙ sym (decided_front entries (entries_of (line ∷ lines)) (lines_behind (line ∷ lines)) []
         (ltb-true MOST_JUDGED (length entries) is))
     by_many false few further =
         ap (λ enough. verdict_after (fold after_line (if enough then now else with_line now line) lines))
@@ -177,4 +177,4 @@ front-on entries (line ∷ lines) =
 -- what is kept of all lines gives the verdict over them
 pub read_to_verdict : (lines : List Line) → verdict_after (read_all lines) ≡ verdict_of lines
 unfolding verdict_of
-read_to_verdict lines = front-on [] lines
+read_to_verdict lines = front_on [] lines

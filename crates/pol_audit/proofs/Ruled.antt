@@ -15,7 +15,8 @@ by_docking absent docked away Absent = absent
 by_docking absent docked away Docked = docked
 by_docking absent docked away (Away ticket) = away ticket
 
-pub taken_is : (docking : modules.Docking) → tag_taken docking ≡ by_docking None (Some TagTaken) (λ ticket. Some TagTaken) (docking_seen docking)
+pub taken_is : (docking : modules.Docking)
+    → tag_taken docking ≡ by_docking None (Some TagTaken) (λ ticket. Some TagTaken) (docking_seen docking)
 taken_is modules.absent = refl
 taken_is (modules.docked count) = refl
 taken_is (modules.away ticket) = refl
@@ -33,7 +34,8 @@ in_exchange_is tag modules.absent = refl
 in_exchange_is tag (modules.docked count) = refl
 in_exchange_is tag (modules.away ticket) = refl
 
-pub not_in_exchange_is : (docking : modules.Docking) → not_in_exchange docking ≡ by_docking None (Some NotInExchange) (λ ticket. None) (docking_seen docking)
+pub not_in_exchange_is : (docking : modules.Docking)
+    → not_in_exchange docking ≡ by_docking None (Some NotInExchange) (λ ticket. None) (docking_seen docking)
 not_in_exchange_is modules.absent = refl
 not_in_exchange_is (modules.docked count) = refl
 not_in_exchange_is (modules.away ticket) = refl

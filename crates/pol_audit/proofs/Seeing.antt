@@ -19,7 +19,8 @@ sight_where Absent view = sight.Unreported
 sight_where Docked view = sight_of_view view
 sight_where (Away ticket) view = sight.Away
 
-pub sight_is : (docking : modules.Docking) (view : Option ServiceView) → sight_in docking view ≡ sight_where (docking_seen docking) view
+pub sight_is : (docking : modules.Docking) (view : Option ServiceView)
+    → sight_in docking view ≡ sight_where (docking_seen docking) view
 sight_is modules.absent view = refl
 sight_is (modules.docked count) view = refl
 sight_is (modules.away ticket) view = refl
@@ -30,7 +31,8 @@ reading_where Absent value = reading_sight.Unreported
 reading_where Docked value = reading_of_value value
 reading_where (Away ticket) value = reading_sight.Away
 
-pub reading_is : (docking : modules.Docking) (value : Option Value) → reading_in docking value ≡ reading_where (docking_seen docking) value
+pub reading_is : (docking : modules.Docking) (value : Option Value)
+    → reading_in docking value ≡ reading_where (docking_seen docking) value
 reading_is modules.absent value = refl
 reading_is (modules.docked count) value = refl
 reading_is (modules.away ticket) value = refl

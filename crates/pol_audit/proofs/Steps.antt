@@ -7,8 +7,8 @@ use Rattle.std.proofs.Math.Seq.{drop-cons}
 use Rattle.std.specs.Prelude.{filter, map, unwrap_or, is_none}
 use Rattle.std.specs.Option.{option_or}
 use Rattle.chart_core.specs.Active.{is_active, phase_after, is_running}
-use Rattle.chart_core.specs.Roles.{ChartPlan, is_chart_form}
-use Rattle.chart_core.specs.Trees.{StepPlan, Placed, steps, step_plan}
+use Rattle.chart_core.specs.Roles.{PlainChart, is_chart_form}
+use Rattle.chart_core.specs.Trees.{PlainStep, Placed, steps, plain_step}
 use Rattle.chart_core.specs.Order.{plans_seen}
 use Rattle.chart_core.specs.declared.node.Step.{Step}
 use Rattle.chart_core.specs.Valid.{IsValid, chart_fault}
@@ -16,7 +16,7 @@ use Rattle.chart_core.specs.declared.entry.LogEntry.{LogEntry}
 use Rattle.chart_core.specs.declared.fault.ChartFault.{ChartFault}
 use Rattle.chart_cursor.specs.Sights.{or_role}
 use Rattle.chart_cursor.specs.Logs.{active}
-use Rattle.pol_events.specs.Events.{EventForm, recipe}
+use Rattle.pol_events.specs.Events.{PlainEvent, recipe}
 use Rattle.pol_events.specs.Orderly.{is_orderly, is_valid}
 use Rattle.pol_history.specs.Looking.{History, recipes, is_accepted_recipe}
 use Rattle.pol_history.specs.Batches.{charted, chart_named}
@@ -30,15 +30,18 @@ unfolding is_active_plan
 filter_first log [] = refl
 filter_first log (placed ∷ others) = go (is_running (phase_after log placed.step.name)) (filter_first log others)
   where
-    go : (running : Bool) → filter (is_active_plan log) (map (λ placed. placed.step) others) ≡ map (λ placed. placed.step) (filter (is_active log) others) →
+    go : (running : Bool) → filter (is_active_plan log) (map (λ placed. placed.step) others)
+        ≡ map (λ placed. placed.step) (filter (is_active log) others) →
         cond running (placed.step ∷ filter (is_active_plan log) (map (λ placed. placed.step) others))
         (filter (is_active_plan log) (map (λ placed. placed.step) others))
-        ≡ map (λ placed. placed.step) (cond running (placed ∷ filter (is_active log) others) (filter (is_active log) others))
+        ≡ map (λ placed. placed.step)
+        (cond running (placed ∷ filter (is_active log) others) (filter (is_active log) others))
     go true rest = ap (λ steps. placed.step ∷ steps) rest
     go false rest = rest
 
 -- the active ones of a chart's steps
-pub active_is : (chart : ChartPlan) (log : List LogEntry) → filter (is_active_plan log) (map (λ placed. placed.step) (steps chart.root 0)) ≡ active chart log
+pub active_is : (chart : PlainChart) (log : List LogEntry)
+    → filter (is_active_plan log) (map (λ placed. placed.step) (steps chart.root 0)) ≡ active chart log
 active_is chart log = filter_first log (steps chart.root 0)
 
 -- the tag of a role, or the role itself
@@ -50,24 +53,29 @@ no_fault : (fault : Option ChartFault) → is_none fault ≡ true → fault ≡ 
 no_fault None none = refl
 no_fault (Some fault) none = cc
 
-valid_from : (chart : ChartPlan) → is_valid chart ≡ true → IsValid chart
+valid_from : (chart : PlainChart) → is_valid chart ≡ true → IsValid chart
 valid_from chart valid = no_fault (chart_fault chart) valid
 
 -- a chart that an orderly event brings is valid
-charted_valid : (name : List ℕ) (event : EventForm) (chart : ChartPlan) → is_orderly event ≡ true → charted name event ≡ Some chart → IsValid chart
+charted_valid : (name : List ℕ) (event : PlainEvent) (chart : PlainChart) → is_orderly event ≡ true
+    → charted name event ≡ Some chart → IsValid chart
 charted_valid name (recipe at other own) chart orderly is = go (bytes_eq other name) is
   where
     go : (same : Bool) → cond same (Some own) None ≡ Some chart → IsValid chart
-    go true is = let same : own ≡ chart = cc in subst IsValid same (valid_from own (and_parts (is_chart_form own) (is_valid own) orderly).1)
+    go true is = let same : own ≡ chart = cc in
+        subst IsValid same (valid_from own (and_parts (is_chart_form own) (is_valid own) orderly).1)
     go false is = cc
 charted_valid name _ chart orderly is = cc
 
 -- the chart of a recipe in an orderly history is valid
-pub recipe_valid : (name : List ℕ) (history : History) (chart : ChartPlan) → IsOrderly history → chart_named name (recipes history) ≡ Some chart → IsValid chart
+pub recipe_valid : (name : List ℕ) (history : History) (chart : PlainChart) → IsOrderly history
+    → chart_named name (recipes history) ≡ Some chart → IsValid chart
 recipe_valid name [] chart orderly is = cc
-recipe_valid name (entry ∷ history) chart orderly is = go (is_accepted_recipe entry) is (recipe_valid name history chart orderly.1)
+recipe_valid name (entry ∷ history) chart orderly is =
+    go (is_accepted_recipe entry) is (recipe_valid name history chart orderly.1)
   where
-    here : (said : Option ChartPlan) → charted name entry.event ≡ said → option_or said (chart_named name (recipes history)) ≡ Some chart →
+    here : (said : Option PlainChart) → charted name entry.event ≡ said
+        → option_or said (chart_named name (recipes history)) ≡ Some chart →
         (chart_named name (recipes history) ≡ Some chart → IsValid chart) → IsValid chart
     here None says is rest = rest is
     here (Some own) says is rest = charted_valid name entry.event chart orderly.0 (says ∙ is)
@@ -78,7 +86,7 @@ recipe_valid name (entry ∷ history) chart orderly is = go (is_accepted_recipe 
     go false is rest = rest is
 
 -- the first of the steps from a place on is kept where it passes the test
-pub kept_first : (test : StepPlan → Bool) (steps : List (Bor Step)) (i : ℕ) (step : Bor Step) → i < length steps
-    → step ≡ get_or steps i step → test (step_plan step.now) ≡ true →
-    step_plan step.now ∷ filter test (plans_seen (drop (suc i) steps)) ≡ filter test (plans_seen (drop i steps))
+pub kept_first : (test : PlainStep → Bool) (steps : List (Bor Step)) (i : ℕ) (step : Bor Step) → i < length steps
+    → step ≡ get_or steps i step → test (plain_step step.now) ≡ true →
+    plain_step step.now ∷ filter test (plans_seen (drop (suc i) steps)) ≡ filter test (plans_seen (drop i steps))
 kept_first test steps i step inside same passes = rw (drop-cons steps i step inside, ← same, passes) refl

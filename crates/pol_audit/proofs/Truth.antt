@@ -3,7 +3,7 @@ use Rattle.std.proofs.Common.{◌≡◌, ◌≤◌, [], ◌∷◌, ℕ, List, Bo
 use Rattle.std.proofs.lemmas.Bool.{ltb-false}
 use Rattle.std.proofs.lemmas.List.{take_all}
 use Rattle.std.specs.Prelude.{nat_lt}
-use Rattle.pol_events.specs.Events.{EntryForm}
+use Rattle.pol_events.specs.Events.{PlainEntry}
 use Rattle.pol_record.specs.declared.verdicts.Verdict.{Verdict}
 use Rattle.pol_record.specs.declared.verdicts.Verdict.TheVariants as verdict
 use Rattle.pol_audit.specs.Judging.{judged}
@@ -16,15 +16,15 @@ use Rattle.pol_audit.proofs.Found.{judges_all}
 use Rattle.pol_audit.proofs.Orderly.{lines_orderly}
 
 -- the number of the entries, where nothing behind them differs
-tail-good : (count own : ℕ) (found : Option ℕ) → by_tail own found ≡ verdict.Good count → (own ≡ count) × (found ≡ None)
-tail-good count own None is = (cc, refl)
-tail-good count own (Some place) is = absurd cc
+tail_good : (count own : ℕ) (found : Option ℕ) → by_tail own found ≡ verdict.Good count → (own ≡ count) × (found ≡ None)
+tail_good count own None is = (cc, refl)
+tail_good count own (Some place) is = absurd cc
 
 pub good_is_true : GoodIsTrue
 unfolding verdict_of
 good_is_true lines count is = by_judged (judged (take MOST_JUDGED entries)) refl is
   where
-    entries : List EntryForm
+    entries : List PlainEntry
     entries = entries_of lines
 
     found : Option ℕ
@@ -37,7 +37,7 @@ good_is_true lines count is = by_judged (judged (take MOST_JUDGED entries)) refl
     by_count true many good is = absurd cc
     by_count false many good is =
         let few : length entries ≤ MOST_JUDGED = ltb-false MOST_JUDGED (length entries) many in
-        let tail = tail-good count (length entries) found is in
+        let tail = tail_good count (length entries) found is in
         record {
           legal = judges_all entries few Good (sym good ∙ ap judged (take_all MOST_JUDGED entries few));
           orderly = lines_orderly lines;

@@ -2,9 +2,9 @@
 use Rattle.std.proofs.Common.{◌≡◌, ℕ, List, Option, Some, None, refl}
 use Rattle.std.specs.Prelude.{option_map}
 use Rattle.mtp_codes.specs.declared.cover.CoverFault.{CoverFault}
-use Rattle.mtp_desc.specs.Plain.{DescriptionForm}
+use Rattle.mtp_desc.specs.Plain.{PlainDescription}
 use Rattle.mtp_procs.specs.Covers.{cover_fault, missing_by}
-use Rattle.chart_core.specs.Roles.{ChartPlan}
+use Rattle.chart_core.specs.Roles.{PlainChart}
 use Rattle.pol_events.specs.declared.answer.Rule.{Rule}
 use Rattle.pol_events.specs.declared.answer.Rule.TheVariants.{HeldBack}
 use Rattle.pol_events.specs.Bound.{bound_role}
@@ -23,9 +23,11 @@ lacks : (batch role : List ℕ) (fault : Option CoverFault)
 lacks batch role None = refl
 lacks batch role (Some fault) = refl
 
-pub uncovered_is : (recipes past : History) (tag : List ℕ) (description : DescriptionForm) (batch : List ℕ)
-    (started : Started) (chart : ChartPlan) (role : List ℕ) →
-    start_by past ≡ Some started → chart_named started.recipe recipes ≡ Some chart → bound_role started.binds tag ≡ Some role →
-    uncovered_by recipes tag description batch past ≡ held_back_for batch (option_map (missing_by role) (cover_fault chart role description))
+pub uncovered_is : (recipes past : History) (tag : List ℕ) (description : PlainDescription) (batch : List ℕ)
+    (started : Started) (chart : PlainChart) (role : List ℕ) →
+    start_by past ≡ Some started → chart_named started.recipe recipes ≡ Some chart
+    → bound_role started.binds tag ≡ Some role →
+    uncovered_by recipes tag description batch past
+    ≡ held_back_for batch (option_map (missing_by role) (cover_fault chart role description))
 uncovered_is recipes past tag description batch started chart role is charted bound =
     rw (is, charted, bound) (lacks batch role (cover_fault chart role description))

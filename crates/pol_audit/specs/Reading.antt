@@ -1,7 +1,7 @@
 -- What is kept of the lines of an input while they are read.
 use Rattle.std.specs.Prelude.{ℕ, suc, ◌==◌, ◌||◌, nat_lt, List, [], ◌∷◌, ◌++◌, length, Bool, Option, Some, None, if◌then◌else◌}
 use Rattle.std.specs.List.{fold, list_all}
-use Rattle.pol_events.specs.Events.{EntryForm, event_view}
+use Rattle.pol_events.specs.Events.{PlainEntry, plain_event}
 use Rattle.pol_events.specs.Orderly.{is_orderly}
 use Rattle.pol_events.specs.declared.event.Entry.{Entry}
 use Rattle.pol_record.specs.declared.verdicts.Verdict.{Verdict}
@@ -10,7 +10,7 @@ use Rattle.pol_audit.specs.declared.judging.TheConstants.{MOST_JUDGED}
 
 -- the entries up to the first line that is none, the oldest first, and the lines from that one on
 pub record Read : Type 0 where
-  pub entries : List EntryForm
+  pub entries : List PlainEntry
   pub behind : List Line
 
 -- nothing was read yet
@@ -22,7 +22,7 @@ abbrev pub with_behind : Read → Line → Read
 with_behind read line = record { entries = read.entries; behind = read.behind ++ line ∷ [] }
 
 -- one more line of those in front, which says this entry, if it says one
-abbrev pub with_front : Read → Option EntryForm → Line → Read
+abbrev pub with_front : Read → Option PlainEntry → Line → Read
 with_front read None line = with_behind read line
 with_front read (Some entry) line = record { entries = read.entries ++ entry ∷ []; behind = read.behind }
 
@@ -50,4 +50,4 @@ verdict_after read = verdict_on read.entries read.behind
 
 -- the events of these entries are as a line says them
 abbrev pub are_orderly : List Entry → Bool
-are_orderly entries = list_all (λ entry. is_orderly (event_view entry.event)) entries
+are_orderly entries = list_all (λ entry. is_orderly (plain_event entry.event)) entries

@@ -1,7 +1,7 @@
 -- What contracts see of a batch's start, and of its active steps.
 use Rattle.std.specs.Prelude.{List, Bool}
 use Rattle.chart_core.specs.Active.{phase_after, is_running}
-use Rattle.chart_core.specs.Trees.{StepPlan}
+use Rattle.chart_core.specs.Trees.{PlainStep}
 use Rattle.chart_core.specs.declared.entry.LogEntry.{LogEntry}
 use Rattle.pol_history.specs.Batches.{Started}
 use Rattle.pol_audit.specs.declared.batches.Start.{Start}
@@ -11,5 +11,5 @@ abbrev pub started : Start → Started
 started start = record { recipe = start.recipe; binds = start.binds.now }
 
 -- the step is active after the log
-unfoldable pub is_active_plan : List LogEntry → StepPlan → Bool
+unfoldable pub is_active_plan : List LogEntry → PlainStep → Bool
 is_active_plan log step = is_running (phase_after log step.name)

@@ -2,7 +2,7 @@
 use Rattle.std.specs.Prelude.{ℕ, suc, nat_lt, List, [], ◌∷◌, ◌++◌, length, map, reverse, take, drop, Bool, false, Option, Some, None, if◌then◌else◌}
 use Rattle.std.specs.Result.{result_ok}
 use Rattle.std.specs.Str.{bytes_eq}
-use Rattle.pol_events.specs.Events.{EntryForm}
+use Rattle.pol_events.specs.Events.{PlainEntry}
 use Rattle.pol_history.specs.Batches.{batches}
 use Rattle.pol_history.specs.Looking.{History}
 use Rattle.pol_record.specs.Texts.{batch_text, end_text}
@@ -19,17 +19,17 @@ abbrev pub Line : Type 0
 Line = Option (List ℕ)
 
 -- the entry that a line says, if it says one
-abbrev pub entry_on : Line → Option EntryForm
+abbrev pub entry_on : Line → Option PlainEntry
 entry_on None = None
 entry_on (Some bytes) = result_ok (entry_of bytes)
 
 -- an entry before these, if there is one
-abbrev pub run_from : Option EntryForm → List EntryForm → List EntryForm
+abbrev pub run_from : Option PlainEntry → List PlainEntry → List PlainEntry
 run_from None later = []
 run_from (Some entry) later = entry ∷ later
 
 -- the longest run of entries from the first line on, the oldest first
-abbrev pub entries_of : List Line → List EntryForm
+abbrev pub entries_of : List Line → List PlainEntry
 entries_of [] = []
 entries_of (line ∷ lines) = run_from (entry_on line) (entries_of lines)
 
@@ -62,14 +62,14 @@ by_tail count None = verdict.Good count
 by_tail count (Some place) = verdict.WrongTail place
 
 -- the verdict over entries, of which the first 20,000 were found so, and the lines behind them
-abbrev pub by_answers : List EntryForm → List Line → Judged → Verdict
+abbrev pub by_answers : List PlainEntry → List Line → Judged → Verdict
 by_answers entries lines (Wrong place says) = verdict.WrongAnswer place says
 by_answers entries lines Good =
     if nat_lt MOST_JUDGED (length entries) then verdict.TooMany MOST_JUDGED
     else by_tail (length entries) (first_other (length entries) (closing_lines (reverse entries)) lines)
 
 -- the verdict over entries and the lines behind them
-abbrev pub verdict_on : List EntryForm → List Line → Verdict
+abbrev pub verdict_on : List PlainEntry → List Line → Verdict
 verdict_on entries lines = by_answers entries lines (judged (take MOST_JUDGED entries))
 
 -- the verdict over the lines of an input that aren't blank

@@ -2,10 +2,10 @@
 ghost use Rattle.std.specs.Prelude.{◌≡◌, ◌≤◌, ◌∷◌, [], length, IfOk};
 ghost use Rattle.mtp_codes.specs.Faults.{first_of};
 ghost use Rattle.mtp_codes.specs.declared.limits.TheConstants.{LONGEST_HISTORY};
-ghost use Rattle.mtp_desc.specs.DescriptionView.{description_view};
-ghost use Rattle.chart_core.specs.Charts.{plan};
+ghost use Rattle.mtp_desc.specs.PlainDescription.{plain_description};
+ghost use Rattle.chart_core.specs.Charts.{plain_chart};
 ghost use Rattle.chart_core.specs.Roles.{role_names};
-ghost use Rattle.pol_events.specs.Events.{event_view, history_view, unplug, report, variable, start, freeze, thaw, desk, exchange_begin, exchange_end, exchange_cancel};
+ghost use Rattle.pol_events.specs.Events.{plain_event, plain_history, unplug, report, variable, start, freeze, thaw, desk, exchange_begin, exchange_end, exchange_cancel};
 ghost use Rattle.pol_history.specs.Looking.{past, past_of_batch, recipes};
 ghost use Rattle.pol_history.specs.Modules.{docking_by};
 ghost use Rattle.pol_history.specs.Batches.{start_by};
@@ -36,13 +36,13 @@ use std::alloc::{AllocError, Global};
 
 fn plug_rule(alloc: Global, history: &[Entry], tag: Name) -> Result<Option<Rule>, AllocError>
     ensures { IfOk result (λ rule. rule ≡ first_of
-        (tag_taken (docking_by (past tag (history_view history.now))) ∷ plant_full (history_view history.now) ∷ [])) }
+        (tag_taken (docking_by (past tag (plain_history history.now))) ∷ plant_full (plain_history history.now) ∷ [])) }
 {
     Ok(first_of(&[tag_taken(history, tag), plant_full(alloc, history)?]))
 }
 
 fn unplug_rule(history: &[Entry], tag: Name) -> Option<Rule>
-    ensures { result ≡ first_of (rules (history_view history.now) (unplug 0 tag)) }
+    ensures { result ≡ first_of (rules (plain_history history.now) (unplug 0 tag)) }
 {
     first_of(&[
         no_module(history, tag),
@@ -57,7 +57,7 @@ fn report_rule(
     service: Name,
     control: &ServiceControl,
 ) -> Option<Rule>
-    ensures { result ≡ first_of (rules (history_view history.now) (report 0 tag service control.now)) }
+    ensures { result ≡ first_of (rules (plain_history history.now) (report 0 tag service control.now)) }
 {
     first_of(&[
         no_module(history, tag),
@@ -68,7 +68,7 @@ fn report_rule(
 }
 
 fn variable_rule(history: &[Entry], tag: Name, name: Name, value: &Value) -> Option<Rule>
-    ensures { result ≡ first_of (rules (history_view history.now) (variable 0 tag name value.now)) }
+    ensures { result ≡ first_of (rules (plain_history history.now) (variable 0 tag name value.now)) }
 {
     first_of(&[
         no_module(history, tag),
@@ -80,15 +80,15 @@ fn variable_rule(history: &[Entry], tag: Name, name: Name, value: &Value) -> Opt
 
 fn recipe_rule(history: &[Entry], name: Name) -> Option<Rule>
     ensures { result ≡ first_of
-        (recipe_known name (recipes (history_view history.now))
-        ∷ recipes_full (recipes (history_view history.now)) ∷ []) }
+        (recipe_known name (recipes (plain_history history.now))
+        ∷ recipes_full (recipes (plain_history history.now)) ∷ []) }
 {
     first_of(&[recipe_known(history, name), recipes_full(history)])
 }
 
 // The roles that binds are held against.
 fn roles_of(chart: &Chart) -> &[Role]
-    ensures { names_in result.now ≡ role_names (plan chart.now) }
+    ensures { names_in result.now ≡ role_names (plain_chart chart.now) }
 {
     &chart.roles
 }
@@ -100,7 +100,7 @@ fn start_rule(
     name: Name,
     binds: &[Bind],
 ) -> Result<Option<Rule>, AllocError>
-    ensures { IfOk result (λ rule. rule ≡ first_of (rules (history_view history.now) (start 0 batch name binds.now))) }
+    ensures { IfOk result (λ rule. rule ≡ first_of (rules (plain_history history.now) (start 0 batch name binds.now))) }
 {
     let Some(chart) = chart_named(history, name) else {
         return Ok(Some(Rule::NoRecipe));
@@ -120,14 +120,14 @@ fn start_rule(
 // The rules that each event of an open batch has.
 fn open_rule(history: &[Entry], batch: Name) -> Option<Rule>
     ensures { result ≡ first_of
-        (no_batch (start_by (past_of_batch batch (history_view history.now)))
-        ∷ batch_closed (past_of_batch batch (history_view history.now)) ∷ []) }
+        (no_batch (start_by (past_of_batch batch (plain_history history.now)))
+        ∷ batch_closed (past_of_batch batch (plain_history history.now)) ∷ []) }
 {
     first_of(&[no_batch(history, batch), batch_closed(history, batch)])
 }
 
 fn freeze_rule(history: &[Entry], batch: Name) -> Option<Rule>
-    ensures { result ≡ first_of (rules (history_view history.now) (freeze 0 batch)) }
+    ensures { result ≡ first_of (rules (plain_history history.now) (freeze 0 batch)) }
 {
     first_of(&[
         no_batch(history, batch),
@@ -137,7 +137,7 @@ fn freeze_rule(history: &[Entry], batch: Name) -> Option<Rule>
 }
 
 fn thaw_rule(history: &[Entry], batch: Name) -> Option<Rule>
-    ensures { result ≡ first_of (rules (history_view history.now) (thaw 0 batch)) }
+    ensures { result ≡ first_of (rules (plain_history history.now) (thaw 0 batch)) }
 {
     first_of(&[
         no_batch(history, batch),
@@ -147,7 +147,7 @@ fn thaw_rule(history: &[Entry], batch: Name) -> Option<Rule>
 }
 
 fn desk_rule(history: &[Entry], tag: Name, service: Name, command: Command) -> Option<Rule>
-    ensures { result ≡ first_of (rules (history_view history.now) (desk 0 tag service command)) }
+    ensures { result ≡ first_of (rules (plain_history history.now) (desk 0 tag service command)) }
 {
     first_of(&[
         no_module(history, tag),
@@ -159,7 +159,7 @@ fn desk_rule(history: &[Entry], tag: Name, service: Name, command: Command) -> O
 }
 
 fn begin_rule(alloc: Global, history: &[Entry], tag: Name) -> Result<Option<Rule>, AllocError>
-    ensures { IfOk result (λ rule. rule ≡ first_of (rules (history_view history.now) (exchange_begin 0 tag))) }
+    ensures { IfOk result (λ rule. rule ≡ first_of (rules (plain_history history.now) (exchange_begin 0 tag))) }
 {
     Ok(first_of(&[
         no_module(history, tag),
@@ -171,7 +171,7 @@ fn begin_rule(alloc: Global, history: &[Entry], tag: Name) -> Result<Option<Rule
 
 fn end_rule(history: &[Entry], tag: Name, ticket: u32, description: &Description) -> Option<Rule>
     ensures { result ≡ first_of
-        (rules (history_view history.now) (exchange_end 0 tag ticket (description_view description.now))) }
+        (rules (plain_history history.now) (exchange_end 0 tag ticket (plain_description description.now))) }
 {
     first_of(&[
         no_module(history, tag),
@@ -182,7 +182,7 @@ fn end_rule(history: &[Entry], tag: Name, ticket: u32, description: &Description
 }
 
 fn cancel_rule(history: &[Entry], tag: Name, ticket: u32) -> Option<Rule>
-    ensures { result ≡ first_of (rules (history_view history.now) (exchange_cancel 0 tag ticket)) }
+    ensures { result ≡ first_of (rules (plain_history history.now) (exchange_cancel 0 tag ticket)) }
 {
     first_of(&[
         no_module(history, tag),
@@ -193,7 +193,7 @@ fn cancel_rule(history: &[Entry], tag: Name, ticket: u32) -> Option<Rule>
 
 // The first rule that refuses the event, where the history has room.
 fn event_rule(alloc: Global, history: &[Entry], event: &Event) -> Result<Option<Rule>, AllocError>
-    ensures { IfOk result (λ rule. rule ≡ first_of (rules (history_view history.now) (event_view event.now))) }
+    ensures { IfOk result (λ rule. rule ≡ first_of (rules (plain_history history.now) (plain_event event.now))) }
 {
     match event {
         Event::Recipe { recipe, .. } => Ok(recipe_rule(history, *recipe)),
@@ -253,7 +253,7 @@ fn advanced(next: Option<Next>) -> Answer
 
 // The answer to a stop: StopAsked goes into the log, unless the batch is being stopped already.
 fn stopped(alloc: Global, history: &[Entry], batch: Name) -> Result<Answer, AllocError>
-    ensures { IfOk result (λ answer. answer ≡ stopped (past_of_batch batch (history_view history.now))) }
+    ensures { IfOk result (λ answer. answer ≡ stopped (past_of_batch batch (plain_history history.now))) }
 {
     let log = log_of(alloc, history, batch)?;
     if has_broken(&log) || was_stopped(&log) {
@@ -265,9 +265,9 @@ fn stopped(alloc: Global, history: &[Entry], batch: Name) -> Result<Answer, Allo
 
 // The answer to an event that no rule refuses.
 fn otherwise(alloc: Global, history: &[Entry], event: &Event) -> Result<Answer, AllocError>
-    requires orderly { IsOrderly (history_view history.now) }
+    requires orderly { IsOrderly (plain_history history.now) }
     requires few { length history.now ≤ LONGEST_HISTORY }
-    ensures { IfOk result (λ answer. answer ≡ otherwise (history_view history.now) (event_view event.now)) }
+    ensures { IfOk result (λ answer. answer ≡ otherwise (plain_history history.now) (plain_event event.now)) }
 {
     match event {
         Event::Advance { batch, .. } => Ok(advanced(next_of(alloc, history, *batch)?)),
@@ -289,19 +289,19 @@ fn otherwise(alloc: Global, history: &[Entry], event: &Event) -> Result<Answer, 
 }
 
 /// The answer to an event after a history, the oldest entry first: the one that `pol_history` defines. It is a refusal
-/// with HistoryFull where the history has 200,000 entries; else with the first rule that holds, of those that the event's
-/// kind has, in their order; and where none holds, the answer that the kind is given otherwise.
+/// with HistoryFull where the history has 200,000 entries; else with the first rule that holds, of those that the
+/// event's kind has, in their order; and where none holds, the answer that the kind is given otherwise.
 ///
 /// The charts of the history are valid, and the binds of each start are at most 64 and rise by role, as those of every
 /// line do.
 ///
 /// # Errors
 ///
-/// AllocError where memory is wanting: for the tags that are there, for the log of a batch, for the steps or the marks of
-/// its chart, or for the roles of a start.
+/// AllocError where memory is wanting: for the tags that are there, for the log of a batch, for the steps or the marks
+/// of its chart, or for the roles of a start.
 pub fn says(alloc: Global, history: &[Entry], event: &Event) -> Result<Answer, AllocError>
-    requires { IsOrderly (history_view history.now) }
-    ensures { IfOk result (λ answer. answer ≡ answer_of (history_view history.now) (event_view event.now)) }
+    requires { IsOrderly (plain_history history.now) }
+    ensures { IfOk result (λ answer. answer ≡ answer_of (plain_history history.now) (plain_event event.now)) }
 {
     if history.len() >= LONGEST_HISTORY {
         return Ok(Answer::Refused(Rule::HistoryFull));

@@ -1,6 +1,6 @@
 //! An audit: it reads the lines of an input one after another, and then has its verdict.
 ghost use Rattle.std.specs.Prelude.{◌≡◌, ◌≤◌, IfOk, IsTrue, OnOk, Some, None, length, take};
-ghost use Rattle.pol_events.specs.Events.{entry_view, event_view};
+ghost use Rattle.pol_events.specs.Events.{plain_entry, plain_event};
 ghost use Rattle.pol_events.specs.Orderly.{is_orderly};
 ghost use Rattle.pol_audit.specs.Reading.{are_orderly};
 ghost use Rattle.pol_audit.specs.declared.judging.TheConstants.{MOST_JUDGED};
@@ -26,13 +26,13 @@ pub struct Audit {
 impl Audit {
     ghost use Rattle.std.specs.Prelude.{List, reverse};
     ghost use Rattle.std.specs.Option.{option_map};
-    ghost use Rattle.pol_audit.specs.Audits.{read_view};
+    ghost use Rattle.pol_audit.specs.Audits.{plain_audit};
     ghost use Rattle.pol_audit.specs.Reading.{after_line, is_decided, nothing_read, read_all, verdict_after, with_behind, with_front, with_line};
     ghost use Rattle.pol_audit.specs.Verdict.{Line, by_tail, closing_lines, entry_on, first_other, verdict_of};
 
     /// Nothing was read yet.
     pub fn new(alloc: Global) -> Audit
-        ensures { read_view result ≡ nothing_read }
+        ensures { plain_audit result ≡ nothing_read }
     {
         Audit {
             alloc,
@@ -44,14 +44,14 @@ impl Audit {
     // Whether no further line changes the verdict: there are more entries than are judged, or more lines behind them
     // than can be wanted.
     fn is_decided(&self) -> bool
-        ensures { result ≡ is_decided (read_view self.now) }
+        ensures { result ≡ is_decided (plain_audit self.now) }
     {
         self.entries.len() > MOST_JUDGED || self.behind.len() > self.entries.len() + 1
     }
 
     fn keep(&mut self, line: Option<Vec<u8>>) -> Result<(), AllocError>
-        ensures { OnOk result (read_view self.new
-            ≡ with_behind (read_view self.old) (option_map (λ line. line.items) line)) }
+        ensures { OnOk result (plain_audit self.new
+            ≡ with_behind (plain_audit self.old) (option_map (λ line. line.items) line)) }
     {
         self.behind.push(line)?;
         Ok(())
@@ -59,16 +59,16 @@ impl Audit {
 
     // Keeps one more line behind the entries.
     fn keep_line(&mut self, line: &[u8]) -> Result<(), AllocError>
-        ensures { OnOk result (read_view self.new ≡ with_behind (read_view self.old) (Some line.now)) }
+        ensures { OnOk result (plain_audit self.new ≡ with_behind (plain_audit self.old) (Some line.now)) }
     {
         let kept = line.to_vec(self.alloc)?;
         self.keep(Some(kept))
     }
 
     fn keep_entry(&mut self, entry: Entry) -> Result<(), AllocError>
-        requires { IsTrue (is_orderly (event_view entry.event)) }
-        ensures { OnOk result (read_view self.new
-            ≡ with_front (read_view self.old) (Some (entry_view entry)) None) }
+        requires { IsTrue (is_orderly (plain_event entry.event)) }
+        ensures { OnOk result (plain_audit self.new
+            ≡ with_front (plain_audit self.old) (Some (plain_entry entry)) None) }
     {
         self.entries.push(entry)?;
         Ok(())
@@ -77,8 +77,8 @@ impl Audit {
     // Reads one more line, where each line before it was an entry.
     #[tactic(auto, using(crate::proofs::Audited::entry_read, crate::proofs::Audited::fault_read))]
     fn read_front(&mut self, line: &[u8]) -> Result<(), AllocError>
-        ensures { OnOk result (read_view self.new
-            ≡ with_front (read_view self.old) (entry_on (Some line.now)) (Some line.now)) }
+        ensures { OnOk result (plain_audit self.new
+            ≡ with_front (plain_audit self.old) (entry_on (Some line.now)) (Some line.now)) }
     {
         match read_entry(self.alloc, line) {
             Ok(entry) => self.keep_entry(entry),
@@ -89,7 +89,7 @@ impl Audit {
 
     // Reads one more line, which may be an entry where each line before it was one.
     fn read_next(&mut self, line: &[u8]) -> Result<(), AllocError>
-        ensures { OnOk result (read_view self.new ≡ with_line (read_view self.old) (Some line.now)) }
+        ensures { OnOk result (plain_audit self.new ≡ with_line (plain_audit self.old) (Some line.now)) }
     {
         if self.behind.is_empty() {
             self.read_front(line)
@@ -104,7 +104,7 @@ impl Audit {
     ///
     /// AllocError where memory is wanting.
     pub fn read_line(&mut self, line: &[u8]) -> Result<(), AllocError>
-        ensures { OnOk result (read_view self.new ≡ after_line (read_view self.old) (Some line.now)) }
+        ensures { OnOk result (plain_audit self.new ≡ after_line (plain_audit self.old) (Some line.now)) }
     {
         if self.is_decided() {
             return Ok(());
@@ -118,7 +118,7 @@ impl Audit {
     ///
     /// AllocError where memory is wanting.
     pub fn read_too_long(&mut self) -> Result<(), AllocError>
-        ensures { OnOk result (read_view self.new ≡ after_line (read_view self.old) None) }
+        ensures { OnOk result (plain_audit self.new ≡ after_line (plain_audit self.old) None) }
     {
         if self.is_decided() {
             return Ok(());
@@ -140,9 +140,9 @@ impl Audit {
     // The verdict over the lines behind the entries, each of which is right.
     fn tail_verdict(&self) -> Result<Verdict, AllocError>
         requires { length self.now.entries.items ≤ MOST_JUDGED }
-        ensures { IfOk result (λ verdict. verdict ≡ by_tail (length (read_view self.now).entries)
-            (first_other (length (read_view self.now).entries) (closing_lines (reverse (read_view self.now).entries))
-            (read_view self.now).behind)) }
+        ensures { IfOk result (λ verdict. verdict ≡ by_tail (length (plain_audit self.now).entries)
+            (first_other (length (plain_audit self.now).entries) (closing_lines (reverse (plain_audit self.now).entries))
+            (plain_audit self.now).behind)) }
     {
         let wanted = closing_lines(self.alloc, &self.entries)?;
         let count = self.entries.len() as u32;
@@ -153,7 +153,7 @@ impl Audit {
     }
 
     fn found(&self) -> Result<Verdict, AllocError>
-        ensures { IfOk result (λ verdict. verdict ≡ verdict_after (read_view self.now)) }
+        ensures { IfOk result (λ verdict. verdict ≡ verdict_after (plain_audit self.now)) }
     {
         match judge(self.alloc, self.front()) {
             Ok(Judged::Wrong { place, says }) => Ok(Verdict::WrongAnswer { place, says }),
@@ -171,8 +171,8 @@ impl Audit {
     ///
     /// AllocError where memory is wanting.
     pub fn verdict(&self) -> Result<Verdict, AllocError>
-        ensures value { IfOk result (λ verdict. verdict ≡ verdict_after (read_view self.now)) }
-        ensures exact { (lines : List Line) → read_view self.now ≡ read_all lines
+        ensures value { IfOk result (λ verdict. verdict ≡ verdict_after (plain_audit self.now)) }
+        ensures exact { (lines : List Line) → plain_audit self.now ≡ read_all lines
             → IfOk result (λ verdict. verdict ≡ verdict_of lines) }
     {
         self.found()

@@ -2,8 +2,8 @@
 ghost use Rattle.std.specs.Prelude.{◌≡◌, IfOk, filter};
 ghost use Rattle.std.specs.Option.{option_map};
 ghost use Rattle.chart_core.specs.Order.{plans_seen};
-ghost use Rattle.mtp_desc.specs.DescriptionView.{description_view};
-ghost use Rattle.pol_events.specs.Events.{history_view};
+ghost use Rattle.mtp_desc.specs.PlainDescription.{plain_description};
+ghost use Rattle.pol_events.specs.Events.{plain_history};
 ghost use Rattle.pol_events.specs.Bound.{bound_tag, is_tag, step_on};
 ghost use Rattle.pol_history.specs.Looking.{past_of_batch, recipes};
 ghost use Rattle.pol_history.specs.Batches.{start_by};
@@ -23,7 +23,7 @@ use std::alloc::{AllocError, Global};
 
 /// A recipe of this name is known.
 pub fn recipe_known(history: &[Entry], name: Name) -> Option<Rule>
-    ensures { result ≡ recipe_known name (recipes (history_view history.now)) }
+    ensures { result ≡ recipe_known name (recipes (plain_history history.now)) }
 {
     match chart_named(history, name) {
         Some(_) => Some(Rule::RecipeKnown),
@@ -33,7 +33,7 @@ pub fn recipe_known(history: &[Entry], name: Name) -> Option<Rule>
 
 /// 64 recipes are known.
 pub fn recipes_full(history: &[Entry]) -> Option<Rule>
-    ensures { result ≡ recipes_full (recipes (history_view history.now)) }
+    ensures { result ≡ recipes_full (recipes (plain_history history.now)) }
 {
     if recipe_count(history) >= MOST_RECIPES {
         Some(Rule::RecipesFull)
@@ -44,7 +44,7 @@ pub fn recipes_full(history: &[Entry]) -> Option<Rule>
 
 /// The batch was started.
 pub fn batch_known(history: &[Entry], batch: Name) -> Option<Rule>
-    ensures { result ≡ batch_known (start_by (past_of_batch batch (history_view history.now))) }
+    ensures { result ≡ batch_known (start_by (past_of_batch batch (plain_history history.now))) }
 {
     match start_of(history, batch) {
         Some(_) => Some(Rule::BatchKnown),
@@ -54,7 +54,7 @@ pub fn batch_known(history: &[Entry], batch: Name) -> Option<Rule>
 
 /// The batch wasn't started.
 pub fn no_batch(history: &[Entry], batch: Name) -> Option<Rule>
-    ensures { result ≡ no_batch (start_by (past_of_batch batch (history_view history.now))) }
+    ensures { result ≡ no_batch (start_by (past_of_batch batch (plain_history history.now))) }
 {
     match start_of(history, batch) {
         Some(_) => None,
@@ -64,7 +64,7 @@ pub fn no_batch(history: &[Entry], batch: Name) -> Option<Rule>
 
 /// The batch is closed.
 pub fn batch_closed(history: &[Entry], batch: Name) -> Option<Rule>
-    ensures { result ≡ batch_closed (past_of_batch batch (history_view history.now)) }
+    ensures { result ≡ batch_closed (past_of_batch batch (plain_history history.now)) }
 {
     match outcome_of(history, batch) {
         Some(_) => Some(Rule::BatchClosed),
@@ -74,7 +74,7 @@ pub fn batch_closed(history: &[Entry], batch: Name) -> Option<Rule>
 
 /// The batch is frozen.
 pub fn already_frozen(history: &[Entry], batch: Name) -> Option<Rule>
-    ensures { result ≡ already_frozen (past_of_batch batch (history_view history.now)) }
+    ensures { result ≡ already_frozen (past_of_batch batch (plain_history history.now)) }
 {
     if is_frozen(history, batch) {
         Some(Rule::AlreadyFrozen)
@@ -85,7 +85,7 @@ pub fn already_frozen(history: &[Entry], batch: Name) -> Option<Rule>
 
 /// The batch isn't frozen.
 pub fn not_frozen(history: &[Entry], batch: Name) -> Option<Rule>
-    ensures { result ≡ not_frozen (past_of_batch batch (history_view history.now)) }
+    ensures { result ≡ not_frozen (past_of_batch batch (plain_history history.now)) }
 {
     if is_frozen(history, batch) {
         None
@@ -96,7 +96,7 @@ pub fn not_frozen(history: &[Entry], batch: Name) -> Option<Rule>
 
 /// 128 batches were started.
 pub fn batches_full(history: &[Entry]) -> Option<Rule>
-    ensures { result ≡ batches_full (history_view history.now) }
+    ensures { result ≡ batches_full (plain_history history.now) }
 {
     if start_count(history) >= MOST_BATCHES {
         Some(Rule::BatchesFull)
@@ -137,8 +137,8 @@ fn active_step_of(
     tag: Name,
     batch: Name,
 ) -> Result<Option<Rule>, AllocError>
-    ensures { IfOk result (λ rule. rule
-        ≡ active_step_on (recipes (history_view history.now)) tag batch (past_of_batch batch (history_view history.now))) }
+    ensures { IfOk result (λ rule. rule ≡ active_step_on (recipes (plain_history history.now)) tag batch
+        (past_of_batch batch (plain_history history.now))) }
 {
     let Some(start) = start_of(history, batch) else {
         return Ok(None);
@@ -156,7 +156,7 @@ fn active_step_of(
 
 /// The batch that holds the module has an active step on it.
 pub fn active_step(alloc: Global, history: &[Entry], tag: Name) -> Result<Option<Rule>, AllocError>
-    ensures { IfOk result (λ rule. rule ≡ active_step (history_view history.now) tag) }
+    ensures { IfOk result (λ rule. rule ≡ active_step (plain_history history.now) tag) }
 {
     match holder_of(history, tag) {
         Some(batch) => active_step_of(alloc, history, tag, batch),
@@ -171,8 +171,8 @@ fn uncovered_by(
     description: &Description,
     batch: Name,
 ) -> Option<Rule>
-    ensures { result ≡ uncovered_by (recipes (history_view history.now)) tag (description_view description.now) batch
-        (past_of_batch batch (history_view history.now)) }
+    ensures { result ≡ uncovered_by (recipes (plain_history history.now)) tag (plain_description description.now) batch
+        (past_of_batch batch (plain_history history.now)) }
 {
     let Some(start) = start_of(history, batch) else {
         return None;
@@ -191,7 +191,7 @@ fn uncovered_by(
 
 /// The new module doesn't cover its role in the batch that holds the tag.
 pub fn held_back(history: &[Entry], tag: Name, description: &Description) -> Option<Rule>
-    ensures { result ≡ held_back (history_view history.now) tag (description_view description.now) }
+    ensures { result ≡ held_back (plain_history history.now) tag (plain_description description.now) }
 {
     let batch = holder_of(history, tag)?;
     uncovered_by(history, tag, description, batch)

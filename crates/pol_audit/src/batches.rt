@@ -1,15 +1,15 @@
 //! Looking back at a batch, at the recipes and at the holders of modules.
-ghost use Rattle.std.specs.Prelude.{◌≡◌, IfOk, filter, length};
+ghost use Rattle.std.specs.Prelude.{◌≡◌, IfOk, None, filter, if◌then◌else◌, length};
 ghost use Rattle.std.specs.Option.{option_map};
 ghost use Rattle.mtp_codes.specs.Names.{is_among};
-ghost use Rattle.chart_core.specs.Charts.{plan};
-ghost use Rattle.pol_events.specs.Events.{entry_view, event_view, history_view};
+ghost use Rattle.chart_core.specs.Charts.{plain_chart};
+ghost use Rattle.pol_events.specs.Events.{plain_entry, plain_event, plain_history};
 ghost use Rattle.pol_events.specs.Bound.{tags_of};
-ghost use Rattle.pol_history.specs.Looking.{past_of_batch, recipes, last_of};
+ghost use Rattle.pol_history.specs.Looking.{is_accepted_of_batch, is_accepted_recipe, past_of_batch, recipes, last_of};
 ghost use Rattle.pol_history.specs.Batches.{starting, start_by, charted, chart_named, closing, outcome_by, freezing, is_frozen_by, taken, log_by, takes, holder_of, is_start};
 ghost use Rattle.pol_audit.specs.Starts.{started};
 
-use crate::entries::{is_of_batch, is_of_recipe, newest};
+use crate::entries::{is_of_batch, is_of_recipe};
 use chart_core::{Chart, LogEntry};
 use mtp_codes::Name;
 use pol_events::{Answer, Bind, Entry, Event, Outcome};
@@ -23,7 +23,7 @@ pub struct Start<'a> {
 }
 
 fn charted(event: &Event, name: Name) -> Option<&Chart>
-    ensures { option_map (λ chart. plan chart.now) result ≡ charted name (event_view event.now) }
+    ensures { option_map (λ chart. plain_chart chart.now) result ≡ charted name (plain_event event.now) }
 {
     match event {
         Event::Recipe { recipe, chart, .. } if *recipe == name => Some(chart),
@@ -31,39 +31,37 @@ fn charted(event: &Event, name: Name) -> Option<&Chart>
     }
 }
 
+// The chart that an accepted recipe of this name makes known.
+fn charted_by(entry: &Entry, name: Name) -> Option<&Chart>
+    ensures { option_map (λ chart. plain_chart chart.now) result ≡
+        (if is_accepted_recipe (plain_entry entry.now) then charted name (plain_event entry.now.event) else None) }
+{
+    if !is_of_recipe(entry) {
+        return None;
+    }
+    charted(&entry.event, name)
+}
+
 /// The chart of the recipe of this name.
 pub fn chart_named(history: &[Entry], name: Name) -> Option<&Chart>
-    ensures { option_map (λ chart. plan chart.now) result ≡ chart_named name (recipes (history_view history.now)) }
+    ensures { option_map (λ chart. plain_chart chart.now) result
+        ≡ chart_named name (recipes (plain_history history.now)) }
 {
-    let mut rest = history;
-    while let Some((entry, older)) = newest(rest) {
-        if is_of_recipe(entry) {
-            if let Some(chart) = charted(&entry.event, name) {
-                return Some(chart);
-            }
-        }
-        rest = older;
-    }
-    None
+    history
+        .iter()
+        .rev()
+        .find_map(|entry| charted_by(entry, name))
 }
 
 /// How many recipes are known.
 pub fn recipe_count(history: &[Entry]) -> usize
-    ensures { result ≡ length (recipes (history_view history.now)) }
+    ensures { result ≡ length (recipes (plain_history history.now)) }
 {
-    let mut count = 0;
-    let mut rest = history;
-    while let Some((entry, older)) = newest(rest) {
-        if is_of_recipe(entry) {
-            count += 1;
-        }
-        rest = older;
-    }
-    count
+    history.iter().filter(|entry| is_of_recipe(entry)).count()
 }
 
 fn starting(event: &Event) -> Option<Start<'_>>
-    ensures { option_map started result ≡ starting (event_view event.now) }
+    ensures { option_map started result ≡ starting (plain_event event.now) }
 {
     match event {
         Event::Start { recipe, bind, .. } => Some(Start {
@@ -74,20 +72,25 @@ fn starting(event: &Event) -> Option<Start<'_>>
     }
 }
 
+// The start that an accepted entry of the batch is.
+fn started_by(entry: &Entry, batch: Name) -> Option<Start<'_>>
+    ensures { option_map started result ≡
+        (if is_accepted_of_batch batch (plain_entry entry.now) then starting (plain_event entry.now.event) else None) }
+{
+    match starting(&entry.event) {
+        Some(start) if is_of_batch(entry, batch) => Some(start),
+        _ => None,
+    }
+}
+
 /// What the batch was started with.
 pub fn start_of(history: &[Entry], batch: Name) -> Option<Start<'_>>
-    ensures { option_map started result ≡ start_by (past_of_batch batch (history_view history.now)) }
+    ensures { option_map started result ≡ start_by (past_of_batch batch (plain_history history.now)) }
 {
-    let mut rest = history;
-    while let Some((entry, older)) = newest(rest) {
-        if let Some(start) = starting(&entry.event) {
-            if is_of_batch(entry, batch) {
-                return Some(start);
-            }
-        }
-        rest = older;
-    }
-    None
+    history
+        .iter()
+        .rev()
+        .find_map(|entry| started_by(entry, batch))
 }
 
 fn closing(answer: &Answer) -> Option<Outcome>
@@ -101,22 +104,15 @@ fn closing(answer: &Answer) -> Option<Outcome>
 
 /// The outcome with which the batch was closed.
 pub fn outcome_of(history: &[Entry], batch: Name) -> Option<Outcome>
-    ensures { result ≡ outcome_by (past_of_batch batch (history_view history.now)) }
+    ensures { result ≡ outcome_by (past_of_batch batch (plain_history history.now)) }
 {
-    let mut rest = history;
-    while let Some((entry, older)) = newest(rest) {
-        if let Some(outcome) = closing(&entry.answer) {
-            if is_of_batch(entry, batch) {
-                return Some(outcome);
-            }
-        }
-        rest = older;
-    }
-    None
+    history.iter().rev().find_map(|entry| {
+        closing(&entry.answer).filter(|_| is_of_batch(entry, batch))
+    })
 }
 
 fn freezing(event: &Event) -> Option<bool>
-    ensures { result ≡ freezing (event_view event.now) }
+    ensures { result ≡ freezing (plain_event event.now) }
 {
     match event {
         Event::Freeze { .. } => Some(true),
@@ -126,20 +122,20 @@ fn freezing(event: &Event) -> Option<bool>
     }
 }
 
+// Whether the batch's last freeze, thaw or stop is a freeze.
+fn last_freezing(history: &[Entry], batch: Name) -> Option<bool>
+    ensures { result ≡ last_of (λ entry. freezing entry.event) (past_of_batch batch (plain_history history.now)) }
+{
+    history.iter().rev().find_map(|entry| {
+        freezing(&entry.event).filter(|_| is_of_batch(entry, batch))
+    })
+}
+
 /// Whether the batch is frozen.
 pub fn is_frozen(history: &[Entry], batch: Name) -> bool
-    ensures { result ≡ is_frozen_by (past_of_batch batch (history_view history.now)) }
+    ensures { result ≡ is_frozen_by (past_of_batch batch (plain_history history.now)) }
 {
-    let mut rest = history;
-    while let Some((entry, older)) = newest(rest) {
-        if let Some(frozen) = freezing(&entry.event) {
-            if is_of_batch(entry, batch) {
-                return frozen;
-            }
-        }
-        rest = older;
-    }
-    false
+    last_freezing(history, batch).unwrap_or(false)
 }
 
 fn taken(answer: &Answer) -> Option<LogEntry>
@@ -154,7 +150,7 @@ fn taken(answer: &Answer) -> Option<LogEntry>
 /// The batch's log, the oldest entry first.
 #[tactic(auto, using(crate::proofs::Logged::log_grows, crate::proofs::Logged::log_stays))]
 pub fn log_of(alloc: Global, history: &[Entry], batch: Name) -> Result<Vec<LogEntry>, AllocError>
-    ensures { IfOk result (λ log. log.items ≡ log_by (past_of_batch batch (history_view history.now))) }
+    ensures { IfOk result (λ log. log.items ≡ log_by (past_of_batch batch (plain_history history.now))) }
 {
     let mut log = Vec::new(alloc);
     for entry in history {
@@ -181,7 +177,7 @@ fn binds(binds: &[Bind], tag: Name) -> bool
 
 // The batch of the entry, where it is an accepted start on the module.
 fn takes(entry: &Entry, tag: Name) -> Option<Name>
-    ensures { result ≡ takes tag (entry_view entry.now) }
+    ensures { result ≡ takes tag (plain_entry entry.now) }
 {
     match &entry.event {
         Event::Start { batch, bind, .. } if entry.answer.is_accepted() && binds(bind, tag) => {
@@ -193,21 +189,14 @@ fn takes(entry: &Entry, tag: Name) -> Option<Name>
 
 // The batch of the last accepted start on the module.
 fn taker(history: &[Entry], tag: Name) -> Option<Name>
-    ensures { result ≡ last_of (takes tag) (history_view history.now) }
+    ensures { result ≡ last_of (takes tag) (plain_history history.now) }
 {
-    let mut rest = history;
-    while let Some((entry, older)) = newest(rest) {
-        if let Some(batch) = takes(entry, tag) {
-            return Some(batch);
-        }
-        rest = older;
-    }
-    None
+    history.iter().rev().find_map(|entry| takes(entry, tag))
 }
 
 /// The batch that holds the module: that of the last start on it, where that batch isn't closed.
 pub fn holder_of(history: &[Entry], tag: Name) -> Option<Name>
-    ensures { result ≡ holder_of (history_view history.now) tag }
+    ensures { result ≡ holder_of (plain_history history.now) tag }
 {
     let batch = taker(history, tag)?;
     match outcome_of(history, batch) {
@@ -217,22 +206,14 @@ pub fn holder_of(history: &[Entry], tag: Name) -> Option<Name>
 }
 
 fn is_start(entry: &Entry) -> bool
-    ensures { result ≡ is_start (entry_view entry.now) }
+    ensures { result ≡ is_start (plain_entry entry.now) }
 {
     matches!(entry.event, Event::Start { .. }) && entry.answer.is_accepted()
 }
 
 /// How many batches were started.
 pub fn start_count(history: &[Entry]) -> usize
-    ensures { result ≡ length (filter is_start (history_view history.now)) }
+    ensures { result ≡ length (filter is_start (plain_history history.now)) }
 {
-    let mut count = 0;
-    let mut rest = history;
-    while let Some((entry, older)) = newest(rest) {
-        if is_start(entry) {
-            count += 1;
-        }
-        rest = older;
-    }
-    count
+    history.iter().filter(|entry| is_start(entry)).count()
 }

@@ -1,6 +1,6 @@
 //! The lines that are to follow the entries of a history.
 ghost use Rattle.std.specs.Prelude.{◌≡◌, ◌≤◌, IfOk, length, map, suc};
-ghost use Rattle.pol_events.specs.Events.{history_view};
+ghost use Rattle.pol_events.specs.Events.{plain_history};
 ghost use Rattle.pol_record.specs.Gathered.{known_of, record_text};
 ghost use Rattle.pol_audit.specs.Verdict.{closing_lines};
 
@@ -30,7 +30,7 @@ fn batch_lines(
 #[tactic(auto, using(crate::proofs::ClosingLines::closing_is, crate::proofs::ClosingLines::closing_few))]
 pub fn closing_lines(alloc: Global, history: &[Entry]) -> Result<Vec<Vec<u8>>, AllocError>
     ensures lines { IfOk result (λ lines. map (λ line. line.items) lines.items
-        ≡ closing_lines (history_view history.now)) }
+        ≡ closing_lines (plain_history history.now)) }
     ensures few { IfOk result (λ lines. length lines.items ≤ suc (length history.now)) }
 {
     let gathered = gather(alloc, history)?;

@@ -1,13 +1,13 @@
 //! The next entry of a batch.
 ghost use Rattle.std.specs.Prelude.{◌≡◌, ◌∷◌, List, Bool, filter, IfOk};
-ghost use Rattle.chart_core.specs.Charts.{plan};
-ghost use Rattle.chart_core.specs.Trees.{StepPlan, step_plan};
+ghost use Rattle.chart_core.specs.Charts.{plain_chart};
+ghost use Rattle.chart_core.specs.Trees.{PlainStep, plain_step};
 ghost use Rattle.chart_core.specs.Order.{plans_seen};
 ghost use Rattle.chart_core.specs.declared.entry.LogEntry.{LogEntry};
 ghost use Rattle.chart_core.specs.Valid.{IsValid};
 ghost use Rattle.chart_cursor.specs.Logs.{has_broken, was_stopped, chart_entries, active};
 ghost use Rattle.chart_cursor.specs.NextEntry.{is_broken_state, broken_step, first_broken, stop_next, stop_step, run_next, next_by};
-ghost use Rattle.pol_events.specs.Events.{history_view};
+ghost use Rattle.pol_events.specs.Events.{plain_history};
 ghost use Rattle.pol_history.specs.Looking.{past, past_of_batch};
 ghost use Rattle.pol_history.specs.Batches.{is_frozen_by, log_by};
 ghost use Rattle.pol_history.specs.Following.{sights_by, next_of};
@@ -41,7 +41,7 @@ pub fn was_stopped(log: &[LogEntry]) -> bool
 /// Whether the step is active after the log.
 #[tactic(auto, unfolding(crate::specs::Starts::is_active_plan))]
 pub fn is_active_step(step: &Step, log: &[LogEntry]) -> bool
-    ensures { result ≡ is_active_plan log.now (step_plan step.now) }
+    ensures { result ≡ is_active_plan log.now (plain_step step.now) }
 {
     is_active(log, step.name)
 }
@@ -49,7 +49,7 @@ pub fn is_active_step(step: &Step, log: &[LogEntry]) -> bool
 /// The steps of the chart in chart order.
 pub fn chart_steps(alloc: Global, chart: &Chart) -> Result<Vec<&Step>, AllocError>
     ensures { IfOk result (λ steps. (log : List LogEntry)
-        → filter (is_active_plan log) (plans_seen steps.items) ≡ active (plan chart.now) log) }
+        → filter (is_active_plan log) (plans_seen steps.items) ≡ active (plain_chart chart.now) log) }
 {
     steps_in_order(alloc, chart)
 }
@@ -87,10 +87,10 @@ fn stop_step(step: Name, service: Name, tag: Name, sight: Sight) -> Next
 // An active step of a batch that is stopped, by what is seen of its service.
 #[tactic(auto, using(crate::proofs::Steps::role_or_itself))]
 fn stop_seen(seen: &Sights, step: &Step) -> Next
-    ensures { (broken : Bool) (others : List StepPlan)
+    ensures { (broken : Bool) (others : List PlainStep)
         → result ≡ stop_next
-        (sights_by seen.now.binds.now (λ tag. past tag (history_view seen.now.history.now)))
-        broken (step_plan step.now ∷ others) }
+        (sights_by seen.now.binds.now (λ tag. past tag (plain_history seen.now.history.now)))
+        broken (plain_step step.now ∷ others) }
 {
     let tag = seen.tag(step.role).unwrap_or(step.role);
     stop_step(
@@ -104,7 +104,7 @@ fn stop_seen(seen: &Sights, step: &Step) -> Next
 // A batch that is stopped: its first active step, and when there is none it is closed.
 fn stop_next(seen: &Sights, broken: bool, steps: &[&Step], log: &[LogEntry]) -> Next
     ensures { result ≡ stop_next
-        (sights_by seen.now.binds.now (λ tag. past tag (history_view seen.now.history.now)))
+        (sights_by seen.now.binds.now (λ tag. past tag (plain_history seen.now.history.now)))
         broken (filter (is_active_plan log.now) (plans_seen steps.now)) }
 {
     for step in steps {
@@ -126,7 +126,7 @@ fn is_broken_state(state: State) -> bool
 }
 
 fn broken_step(step: &Step, sight: Sight) -> Option<LogEntry>
-    ensures { result ≡ broken_step (step_plan step.now) sight }
+    ensures { result ≡ broken_step (plain_step step.now) sight }
 {
     match sight {
         Sight::Is(view) if is_broken_state(view.control.state) => Some(LogEntry::Broke {
@@ -140,7 +140,7 @@ fn broken_step(step: &Step, sight: Sight) -> Option<LogEntry>
 // The entry Broke of the first active step whose service is stopped or aborted.
 fn first_broken(seen: &Sights, steps: &[&Step], log: &[LogEntry]) -> Option<LogEntry>
     ensures { result ≡ first_broken
-        (sights_by seen.now.binds.now (λ tag. past tag (history_view seen.now.history.now)))
+        (sights_by seen.now.binds.now (λ tag. past tag (plain_history seen.now.history.now)))
         (filter (is_active_plan log.now) (plans_seen steps.now)) }
 {
     for step in steps {
@@ -171,9 +171,9 @@ fn next_by(
     log: &[LogEntry],
     seen: &Sights,
 ) -> Result<Next, AllocError>
-    requires { IsValid (plan chart.now) }
-    ensures { IfOk result (λ next. next ≡ next_by (plan chart.now) frozen log.now
-        (sights_by seen.now.binds.now (λ tag. past tag (history_view seen.now.history.now)))) }
+    requires { IsValid (plain_chart chart.now) }
+    ensures { IfOk result (λ next. next ≡ next_by (plain_chart chart.now) frozen log.now
+        (sights_by seen.now.binds.now (λ tag. past tag (plain_history seen.now.history.now)))) }
 {
     if frozen {
         return Ok(Next::Waiting(Why::Frozen));
@@ -198,11 +198,11 @@ fn next_of_start(
     start: Start,
     chart: &Chart,
 ) -> Result<Next, AllocError>
-    requires { IsValid (plan chart.now) }
-    ensures { IfOk result (λ next. next ≡ next_by (plan chart.now)
-        (is_frozen_by (past_of_batch batch (history_view history.now)))
-        (log_by (past_of_batch batch (history_view history.now)))
-        (sights_by start.entry.binds.now (λ tag. past tag (history_view history.now)))) }
+    requires { IsValid (plain_chart chart.now) }
+    ensures { IfOk result (λ next. next ≡ next_by (plain_chart chart.now)
+        (is_frozen_by (past_of_batch batch (plain_history history.now)))
+        (log_by (past_of_batch batch (plain_history history.now)))
+        (sights_by start.entry.binds.now (λ tag. past tag (plain_history history.now)))) }
 {
     let seen = Sights {
         history,
@@ -214,8 +214,8 @@ fn next_of_start(
 
 /// The next entry of the batch; None where it wasn't started.
 pub fn next_of(alloc: Global, history: &[Entry], batch: Name) -> Result<Option<Next>, AllocError>
-    requires { IsOrderly (history_view history.now) }
-    ensures { IfOk result (λ next. next ≡ next_of (history_view history.now) batch) }
+    requires { IsOrderly (plain_history history.now) }
+    ensures { IfOk result (λ next. next ≡ next_of (plain_history history.now) batch) }
 {
     let Some(start) = start_of(history, batch) else {
         return Ok(None);

@@ -1,6 +1,6 @@
 //! Judging a history: each of its answers against the one that the entries before it give.
 ghost use Rattle.std.specs.Prelude.{◌≡◌, ◌≤◌, IfOk, Some, None, length, map, if◌then◌else◌};
-ghost use Rattle.pol_events.specs.Events.{entry_view, event_view, history_view};
+ghost use Rattle.pol_events.specs.Events.{plain_entry, plain_event, plain_history};
 ghost use Rattle.pol_history.specs.Answers.{answer_of};
 ghost use Rattle.pol_history.specs.Runs.{IsOrderly};
 ghost use Rattle.pol_entries.specs.Same.{same_answer};
@@ -30,10 +30,11 @@ fn wrong_answer(
     history: &[Entry],
     entry: &Entry,
 ) -> Result<Option<Answer>, AllocError>
-    requires { IsOrderly (history_view history.now) }
+    requires { IsOrderly (plain_history history.now) }
     ensures { IfOk result (λ wrong. wrong
-        ≡ (if same_answer entry.now.answer (answer_of (history_view history.now) (event_view entry.now.event)) then None
-        else Some (answer_of (history_view history.now) (event_view entry.now.event)))) }
+        ≡ (if same_answer entry.now.answer (answer_of (plain_history history.now) (plain_event entry.now.event)) then
+        None
+        else Some (answer_of (plain_history history.now) (plain_event entry.now.event)))) }
 {
     let says = says(alloc, history, &entry.event)?;
     if same_answer(&entry.answer, &says) {
@@ -46,8 +47,8 @@ fn wrong_answer(
 #[tactic(auto, using(crate::proofs::Found::orderly_before))]
 fn first_wrong(alloc: Global, history: &[Entry]) -> Result<Judged, AllocError>
     requires few { length history.now ≤ MOST_JUDGED }
-    requires orderly { IsOrderly (history_view history.now) }
-    ensures { IfOk result (λ found. found ≡ judged (map entry_view history.now)) }
+    requires orderly { IsOrderly (plain_history history.now) }
+    ensures { IfOk result (λ found. found ≡ judged (map plain_entry history.now)) }
 {
     for (place, entry) in history.iter().enumerate() {
         if let Some(says) = wrong_answer(alloc, &history[..place], entry)? {
@@ -63,8 +64,8 @@ fn first_wrong(alloc: Global, history: &[Entry]) -> Result<Judged, AllocError>
 /// Judges a history, the oldest entry first: it is good exactly where each answer is the one that the entries before it
 /// give; else the first wrong answer is told by its place, with the right one.
 ///
-/// The history has at most 20,000 entries; the charts of its events are valid, and the binds of each start are at most 64
-/// and rise by role, as those of every line do.
+/// The history has at most 20,000 entries; the charts of its events are valid, and the binds of each start are at most
+/// 64 and rise by role, as those of every line do.
 ///
 /// # Errors
 ///
@@ -72,9 +73,9 @@ fn first_wrong(alloc: Global, history: &[Entry]) -> Result<Judged, AllocError>
 #[tactic(auto, using(crate::proofs::Found::judges))]
 pub fn judge(alloc: Global, history: &[Entry]) -> Result<Judged, AllocError>
     requires few { length history.now ≤ MOST_JUDGED }
-    requires orderly { IsOrderly (history_view history.now) }
-    ensures value { IfOk result (λ found. found ≡ judged (map entry_view history.now)) }
-    ensures judges { IfOk result (λ found. Judges (map entry_view history.now) found) }
+    requires orderly { IsOrderly (plain_history history.now) }
+    ensures value { IfOk result (λ found. found ≡ judged (map plain_entry history.now)) }
+    ensures judges { IfOk result (λ found. Judges (map plain_entry history.now) found) }
 {
     first_wrong(alloc, history)
 }

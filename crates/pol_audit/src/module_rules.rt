@@ -1,8 +1,8 @@
 //! The rules that a module's past decides: each tells whether it holds, and with which fields.
 ghost use Rattle.std.specs.Prelude.{◌≡◌, IfOk, map};
-ghost use Rattle.mtp_desc.specs.ServiceView.{service_view};
-ghost use Rattle.pol_events.specs.Events.{history_view};
-ghost use Rattle.pol_events.specs.Refusals.{forbidden, in_exchange, misfit, no_service, no_variable, not_an_edge, not_at_rest, service_not_at_rest, wrong_ticket};
+ghost use Rattle.mtp_desc.specs.PlainService.{plain_service};
+ghost use Rattle.pol_events.specs.Events.{plain_history};
+ghost use Rattle.pol_events.specs.Refusals.{forbidden, in_exchange, value_misfit, no_service, no_variable, not_an_edge, not_at_rest, service_not_at_rest, wrong_ticket};
 ghost use Rattle.pol_history.specs.Looking.{past};
 ghost use Rattle.pol_history.specs.Modules.{docking_by, ticket_of, description_by, control_by, view_by};
 ghost use Rattle.pol_history.specs.Batches.{holder_of};
@@ -22,7 +22,7 @@ use std::alloc::{AllocError, Global};
 /// The tag is there already.
 #[tactic(auto, using(crate::proofs::Ruled::taken_is))]
 pub fn tag_taken(history: &[Entry], tag: Name) -> Option<Rule>
-    ensures { result ≡ tag_taken (docking_by (past tag (history_view history.now))) }
+    ensures { result ≡ tag_taken (docking_by (past tag (plain_history history.now))) }
 {
     match docking_of(history, tag) {
         Docking::Absent => None,
@@ -34,7 +34,7 @@ pub fn tag_taken(history: &[Entry], tag: Name) -> Option<Rule>
 /// The tag isn't there.
 #[tactic(auto, using(crate::proofs::Ruled::no_module_is))]
 pub fn no_module(history: &[Entry], tag: Name) -> Option<Rule>
-    ensures { result ≡ no_module tag (docking_by (past tag (history_view history.now))) }
+    ensures { result ≡ no_module tag (docking_by (past tag (plain_history history.now))) }
 {
     match docking_of(history, tag) {
         Docking::Absent => Some(Rule::NoModule { tag }),
@@ -46,7 +46,7 @@ pub fn no_module(history: &[Entry], tag: Name) -> Option<Rule>
 /// The tag's module is away.
 #[tactic(auto, using(crate::proofs::Ruled::in_exchange_is))]
 pub fn in_exchange(history: &[Entry], tag: Name) -> Option<Rule>
-    ensures { result ≡ in_exchange tag (ticket_of (docking_by (past tag (history_view history.now)))) }
+    ensures { result ≡ in_exchange tag (ticket_of (docking_by (past tag (plain_history history.now)))) }
 {
     match docking_of(history, tag) {
         Docking::Absent => None,
@@ -58,7 +58,7 @@ pub fn in_exchange(history: &[Entry], tag: Name) -> Option<Rule>
 /// The tag's module isn't away.
 #[tactic(auto, using(crate::proofs::Ruled::not_in_exchange_is))]
 pub fn not_in_exchange(history: &[Entry], tag: Name) -> Option<Rule>
-    ensures { result ≡ not_in_exchange (docking_by (past tag (history_view history.now))) }
+    ensures { result ≡ not_in_exchange (docking_by (past tag (plain_history history.now))) }
 {
     match docking_of(history, tag) {
         Docking::Absent => None,
@@ -70,7 +70,7 @@ pub fn not_in_exchange(history: &[Entry], tag: Name) -> Option<Rule>
 /// The ticket isn't that of the exchange.
 #[tactic(auto, using(crate::proofs::Ruled::wrong_ticket_is))]
 pub fn wrong_ticket(history: &[Entry], tag: Name, ticket: u32) -> Option<Rule>
-    ensures { result ≡ wrong_ticket ticket (ticket_of (docking_by (past tag (history_view history.now)))) }
+    ensures { result ≡ wrong_ticket ticket (ticket_of (docking_by (past tag (plain_history history.now)))) }
 {
     match docking_of(history, tag) {
         Docking::Absent => None,
@@ -90,7 +90,7 @@ pub fn wrong_ticket(history: &[Entry], tag: Name, ticket: u32) -> Option<Rule>
 
 /// 64 tags are docked or away.
 pub fn plant_full(alloc: Global, history: &[Entry]) -> Result<Option<Rule>, AllocError>
-    ensures { IfOk result (λ rule. rule ≡ plant_full (history_view history.now)) }
+    ensures { IfOk result (λ rule. rule ≡ plant_full (plain_history history.now)) }
 {
     let tags = present_tags(alloc, history)?;
     if tags.len() >= MOST_MODULES {
@@ -102,7 +102,7 @@ pub fn plant_full(alloc: Global, history: &[Entry]) -> Result<Option<Rule>, Allo
 
 /// A batch holds the module.
 pub fn held(history: &[Entry], tag: Name) -> Option<Rule>
-    ensures { result ≡ by_holder held_by (holder_of (history_view history.now) tag) }
+    ensures { result ≡ by_holder held_by (holder_of (plain_history history.now) tag) }
 {
     let batch = holder_of(history, tag)?;
     Some(Rule::Held { batch })
@@ -110,7 +110,7 @@ pub fn held(history: &[Entry], tag: Name) -> Option<Rule>
 
 /// The module's description lacks the service.
 pub fn no_service(history: &[Entry], tag: Name, service: Name) -> Option<Rule>
-    ensures { result ≡ by_description (no_service service) (description_by (past tag (history_view history.now))) }
+    ensures { result ≡ by_description (no_service service) (description_by (past tag (plain_history history.now))) }
 {
     let description = description_of(history, tag)?;
     match description.service(service) {
@@ -121,7 +121,7 @@ pub fn no_service(history: &[Entry], tag: Name, service: Name) -> Option<Rule>
 
 /// The state may not follow the one that the service reported last.
 pub fn not_an_edge(history: &[Entry], tag: Name, service: Name, to: State) -> Option<Rule>
-    ensures { result ≡ not_an_edge to (control_by service (past tag (history_view history.now))) }
+    ensures { result ≡ not_an_edge to (control_by service (past tag (plain_history history.now))) }
 {
     let from = control_of(history, tag, service)?.state;
     if from == to || edge(from, to) {
@@ -133,7 +133,7 @@ pub fn not_an_edge(history: &[Entry], tag: Name, service: Name, to: State) -> Op
 
 /// The module's description lacks the variable.
 pub fn no_variable(history: &[Entry], tag: Name, name: Name) -> Option<Rule>
-    ensures { result ≡ by_description (no_variable name) (description_by (past tag (history_view history.now))) }
+    ensures { result ≡ by_description (no_variable name) (description_by (past tag (plain_history history.now))) }
 {
     let description = description_of(history, tag)?;
     match description.variable(name) {
@@ -144,7 +144,8 @@ pub fn no_variable(history: &[Entry], tag: Name, name: Name) -> Option<Rule>
 
 /// The value doesn't fit the variable.
 pub fn misfit(history: &[Entry], tag: Name, name: Name, value: &Value) -> Option<Rule>
-    ensures { result ≡ by_description (misfit name value.now) (description_by (past tag (history_view history.now))) }
+    ensures { result ≡ by_description (value_misfit name value.now)
+        (description_by (past tag (plain_history history.now))) }
 {
     let description = description_of(history, tag)?;
     let variable = description.variable(name)?;
@@ -156,7 +157,7 @@ pub fn misfit(history: &[Entry], tag: Name, name: Name, value: &Value) -> Option
 
 /// The service wasn't reported since its module was docked.
 pub fn not_reported(history: &[Entry], tag: Name, service: Name) -> Option<Rule>
-    ensures { result ≡ not_reported tag service (view_by service (past tag (history_view history.now))) }
+    ensures { result ≡ not_reported tag service (view_by service (past tag (plain_history history.now))) }
 {
     match view_of(history, tag, service) {
         Some(_) => None,
@@ -166,7 +167,7 @@ pub fn not_reported(history: &[Entry], tag: Name, service: Name) -> Option<Rule>
 
 /// The service is in another state than Idle.
 pub fn not_idle(history: &[Entry], tag: Name, service: Name) -> Option<Rule>
-    ensures { result ≡ not_idle tag service (view_by service (past tag (history_view history.now))) }
+    ensures { result ≡ not_idle tag service (view_by service (past tag (plain_history history.now))) }
 {
     match view_of(history, tag, service)?.control.state {
         State::Idle => None,
@@ -190,7 +191,7 @@ fn forbidden_by_view(view: &ServiceView, command: Command) -> Option<Rule>
 
 /// The operator may not send the command to the service.
 pub fn forbidden(history: &[Entry], tag: Name, service: Name, command: Command) -> Option<Rule>
-    ensures { result ≡ by_view (forbidden command) (view_by service (past tag (history_view history.now))) }
+    ensures { result ≡ by_view (forbidden command) (view_by service (past tag (plain_history history.now))) }
 {
     let view = view_of(history, tag, service)?;
     forbidden_by_view(&view, command)
@@ -198,7 +199,7 @@ pub fn forbidden(history: &[Entry], tag: Name, service: Name, command: Command) 
 
 // The service was reported in a state that isn't at rest.
 fn service_not_at_rest(history: &[Entry], tag: Name, service: Name) -> Option<Rule>
-    ensures { result ≡ service_not_at_rest service (control_by service (past tag (history_view history.now))) }
+    ensures { result ≡ service_not_at_rest service (control_by service (past tag (plain_history history.now))) }
 {
     let state = control_of(history, tag, service)?.state;
     if is_at_rest(state) {
@@ -210,8 +211,8 @@ fn service_not_at_rest(history: &[Entry], tag: Name, service: Name) -> Option<Ru
 
 // The first of the services that isn't at rest.
 fn first_not_at_rest(history: &[Entry], tag: Name, services: &[Service]) -> Option<Rule>
-    ensures { result ≡ not_at_rest (λ service. control_by service (past tag (history_view history.now)))
-        (map service_view services.now) }
+    ensures { result ≡ not_at_rest (λ service. control_by service (past tag (plain_history history.now)))
+        (map plain_service services.now) }
 {
     for service in services {
         if let Some(rule) = service_not_at_rest(history, tag, service.name) {
@@ -223,8 +224,8 @@ fn first_not_at_rest(history: &[Entry], tag: Name, services: &[Service]) -> Opti
 
 /// The module isn't at rest; the first service that isn't, in the description's order.
 pub fn not_at_rest(history: &[Entry], tag: Name) -> Option<Rule>
-    ensures { result ≡ by_description (module_not_at_rest (past tag (history_view history.now)))
-        (description_by (past tag (history_view history.now))) }
+    ensures { result ≡ by_description (module_not_at_rest (past tag (plain_history history.now)))
+        (description_by (past tag (plain_history history.now))) }
 {
     let description = description_of(history, tag)?;
     first_not_at_rest(history, tag, &description.services)

@@ -1,14 +1,14 @@
 //! Looking back at a module.
-ghost use Rattle.std.specs.Prelude.{◌≡◌, ◌≤◌, IfOk, length};
+ghost use Rattle.std.specs.Prelude.{◌≡◌, ◌≤◌, IfOk, None, if◌then◌else◌, length};
 ghost use Rattle.std.specs.Option.{option_map};
 ghost use Rattle.mtp_codes.specs.declared.limits.TheConstants.{LONGEST_HISTORY};
-ghost use Rattle.mtp_desc.specs.DescriptionView.{description_view};
-ghost use Rattle.pol_events.specs.Events.{entry_view, event_view, history_view};
-ghost use Rattle.pol_history.specs.Looking.{past, is_accepted};
-ghost use Rattle.pol_history.specs.Modules.{is_moving, docking_by, described, description_by, completes_by, reported, control_by, view_by, reported_value, value_by, next_ticket, tags_without, present_after, present_tags};
+ghost use Rattle.mtp_desc.specs.PlainDescription.{plain_description};
+ghost use Rattle.pol_events.specs.Events.{plain_entry, plain_event, plain_history};
+ghost use Rattle.pol_history.specs.Looking.{past, last_of, is_accepted, is_accepted_of};
+ghost use Rattle.pol_history.specs.Modules.{is_plug, is_begin, is_moving, begins_by, docking_by, described, description_by, completes_by, reported, control_by, view_by, reported_value, value_by, next_ticket, tags_without, present_after, present_tags};
 ghost use Rattle.pol_audit.specs.Dockings.{docking_left, docking_seen};
 
-use crate::entries::{is_of_module, newest};
+use crate::entries::is_of_module;
 use mtp_assembly::ServiceControl;
 use mtp_codes::{Name, Value};
 use mtp_desc::Description;
@@ -26,7 +26,7 @@ pub enum Docking {
 
 // The docking that an accepted event leaves, if it changes it.
 fn docking_left(entry: &Entry) -> Option<Docking>
-    ensures { result ≡ docking_left (entry_view entry.now) }
+    ensures { result ≡ docking_left (plain_entry entry.now) }
 {
     match (&entry.event, &entry.answer) {
         (Event::Plug { .. } | Event::ExchangeEnd { .. } | Event::ExchangeCancel { .. }, _) => {
@@ -41,25 +41,25 @@ fn docking_left(entry: &Entry) -> Option<Docking>
     }
 }
 
+// The docking that the module's last plug, unplug or exchange left.
+fn last_docking(history: &[Entry], tag: Name) -> Option<Docking>
+    ensures { result ≡ last_of docking_left (past tag (plain_history history.now)) }
+{
+    history.iter().rev().find_map(|entry| {
+        docking_left(entry).filter(|_| is_of_module(entry, tag))
+    })
+}
+
 /// Whether the tag is there, by its last plug, unplug or exchange.
 #[tactic(auto, using(crate::proofs::Docked::docking_is))]
 pub fn docking_of(history: &[Entry], tag: Name) -> Docking
-    ensures { result ≡ docking_seen (docking_by (past tag (history_view history.now))) }
+    ensures { result ≡ docking_seen (docking_by (past tag (plain_history history.now))) }
 {
-    let mut rest = history;
-    while let Some((entry, older)) = newest(rest) {
-        if let Some(docking) = docking_left(entry) {
-            if is_of_module(entry, tag) {
-                return docking;
-            }
-        }
-        rest = older;
-    }
-    Docking::Absent
+    last_docking(history, tag).unwrap_or(Docking::Absent)
 }
 
 fn described(event: &Event) -> Option<&Description>
-    ensures { option_map (λ description. description_view description.now) result ≡ described (event_view event.now) }
+    ensures { option_map (λ description. plain_description description.now) result ≡ described (plain_event event.now) }
 {
     match event {
         Event::Plug { desc, .. } => Some(desc),
@@ -68,26 +68,31 @@ fn described(event: &Event) -> Option<&Description>
     }
 }
 
+// The description that an accepted entry of the module brings.
+fn described_by(entry: &Entry, tag: Name) -> Option<&Description>
+    ensures { option_map (λ description. plain_description description.now) result ≡
+        (if is_accepted_of tag (plain_entry entry.now) then described (plain_event entry.now.event) else None) }
+{
+    match described(&entry.event) {
+        Some(description) if is_of_module(entry, tag) => Some(description),
+        _ => None,
+    }
+}
+
 /// The description of the tag: that of its last plug, or of the last end of an exchange.
 pub fn description_of(history: &[Entry], tag: Name) -> Option<&Description>
-    ensures { option_map (λ description. description_view description.now) result
-        ≡ description_by (past tag (history_view history.now)) }
+    ensures { option_map (λ description. plain_description description.now) result
+        ≡ description_by (past tag (plain_history history.now)) }
 {
-    let mut rest = history;
-    while let Some((entry, older)) = newest(rest) {
-        if let Some(description) = described(&entry.event) {
-            if is_of_module(entry, tag) {
-                return Some(description);
-            }
-        }
-        rest = older;
-    }
-    None
+    history
+        .iter()
+        .rev()
+        .find_map(|entry| described_by(entry, tag))
 }
 
 // Whether the event changes whether the module is docked.
 fn is_moving(event: &Event) -> bool
-    ensures { result ≡ is_moving (event_view event.now) }
+    ensures { result ≡ is_moving (plain_event event.now) }
 {
     matches!(
         event,
@@ -100,7 +105,7 @@ fn is_moving(event: &Event) -> bool
 }
 
 fn reported(event: &Event, service: Name) -> Option<ServiceControl>
-    ensures { result ≡ reported service (event_view event.now) }
+    ensures { result ≡ reported service (plain_event event.now) }
 {
     match event {
         Event::Report {
@@ -114,25 +119,18 @@ fn reported(event: &Event, service: Name) -> Option<ServiceControl>
 
 /// What the service reported last since its module was docked.
 pub fn control_of(history: &[Entry], tag: Name, service: Name) -> Option<ServiceControl>
-    ensures { result ≡ control_by service (past tag (history_view history.now)) }
+    ensures { result ≡ control_by service (past tag (plain_history history.now)) }
 {
-    let mut rest = history;
-    while let Some((entry, older)) = newest(rest) {
-        if is_of_module(entry, tag) {
-            if is_moving(&entry.event) {
-                return None;
-            }
-            if let Some(control) = reported(&entry.event, service) {
-                return Some(control);
-            }
-        }
-        rest = older;
-    }
-    None
+    history
+        .iter()
+        .rev()
+        .filter(|entry| is_of_module(entry, tag))
+        .take_while(|entry| !is_moving(&entry.event))
+        .find_map(|entry| reported(&entry.event, service))
 }
 
 fn reported_value(event: &Event, name: Name) -> Option<Value>
-    ensures { result ≡ reported_value name (event_view event.now) }
+    ensures { result ≡ reported_value name (plain_event event.now) }
 {
     match event {
         Event::Variable {
@@ -146,27 +144,20 @@ fn reported_value(event: &Event, name: Name) -> Option<Value>
 
 /// The value with which the variable was reported last since its module was docked.
 pub fn value_of(history: &[Entry], tag: Name, name: Name) -> Option<Value>
-    ensures { result ≡ value_by name (past tag (history_view history.now)) }
+    ensures { result ≡ value_by name (past tag (plain_history history.now)) }
 {
-    let mut rest = history;
-    while let Some((entry, older)) = newest(rest) {
-        if is_of_module(entry, tag) {
-            if is_moving(&entry.event) {
-                return None;
-            }
-            if let Some(value) = reported_value(&entry.event, name) {
-                return Some(value);
-            }
-        }
-        rest = older;
-    }
-    None
+    history
+        .iter()
+        .rev()
+        .filter(|entry| is_of_module(entry, tag))
+        .take_while(|entry| !is_moving(&entry.event))
+        .find_map(|entry| reported_value(&entry.event, name))
 }
 
 // Whether the procedure completes by itself, by the module's description.
 fn completes(description: Option<&Description>, service: Name, procedure: u16) -> bool
     ensures { result ≡ completes_by service procedure
-        (option_map (λ description. description_view description.now) description.entry) }
+        (option_map (λ description. plain_description description.now) description.entry) }
 {
     match description {
         Some(description) => description.self_completes(service, procedure),
@@ -177,7 +168,7 @@ fn completes(description: Option<&Description>, service: Name, procedure: u16) -
 /// What is seen of the service: what it reported last since its module was docked, and whether its procedure completes
 /// by itself.
 pub fn view_of(history: &[Entry], tag: Name, service: Name) -> Option<ServiceView>
-    ensures { result ≡ view_by service (past tag (history_view history.now)) }
+    ensures { result ≡ view_by service (past tag (plain_history history.now)) }
 {
     let control = control_of(history, tag, service)?;
     let description = description_of(history, tag);
@@ -187,22 +178,38 @@ pub fn view_of(history: &[Entry], tag: Name, service: Name) -> Option<ServiceVie
     })
 }
 
+fn is_plug(event: &Event) -> bool
+    ensures { result ≡ is_plug (plain_event event.now) }
+{
+    matches!(event, Event::Plug { .. })
+}
+
+fn is_begin(event: &Event) -> bool
+    ensures { result ≡ is_begin (plain_event event.now) }
+{
+    matches!(event, Event::ExchangeBegin { .. })
+}
+
+// How many exchanges were begun since the module's last plug.
+fn begin_count(history: &[Entry], tag: Name) -> usize
+    ensures counted { result ≡ begins_by (past tag (plain_history history.now)) }
+    ensures few { result ≤ length history.now }
+{
+    history
+        .iter()
+        .rev()
+        .filter(|entry| is_of_module(entry, tag))
+        .take_while(|entry| !is_plug(&entry.event))
+        .filter(|entry| is_begin(&entry.event))
+        .count()
+}
+
 /// The ticket of the tag's next exchange: one more than its exchanges since its last plug.
 pub fn next_ticket(history: &[Entry], tag: Name) -> u32
     requires { length history.now ≤ LONGEST_HISTORY }
-    ensures { result ≡ next_ticket (past tag (history_view history.now)) }
+    ensures { result ≡ next_ticket (past tag (plain_history history.now)) }
 {
-    let mut ticket = 1;
-    let mut rest = history;
-    while let Some((entry, older)) = newest(rest) {
-        match entry.event {
-            Event::Plug { .. } if is_of_module(entry, tag) => return ticket,
-            Event::ExchangeBegin { .. } if is_of_module(entry, tag) => ticket += 1,
-            _ => {}
-        }
-        rest = older;
-    }
-    ticket
+    1 + begin_count(history, tag) as u32
 }
 
 fn tags_without(alloc: Global, tag: Name, tags: &[Name]) -> Result<Vec<Name>, AllocError>
@@ -220,7 +227,7 @@ fn tags_without(alloc: Global, tag: Name, tags: &[Name]) -> Result<Vec<Name>, Al
 // The tags with that of a plug, without that of an unplug.
 fn tags_after(alloc: Global, tags: Vec<Name>, entry: &Entry) -> Result<Vec<Name>, AllocError>
     ensures { IfOk result
-        (λ after. after.items ≡ present_after (event_view entry.now.event) (is_accepted entry.now.answer) tags.items) }
+        (λ after. after.items ≡ present_after (plain_event entry.now.event) (is_accepted entry.now.answer) tags.items) }
 {
     match &entry.event {
         Event::Plug { tag, .. } if entry.answer.is_accepted() => {
@@ -235,7 +242,7 @@ fn tags_after(alloc: Global, tags: Vec<Name>, entry: &Entry) -> Result<Vec<Name>
 
 /// The tags that are docked or away, each once.
 pub fn present_tags(alloc: Global, history: &[Entry]) -> Result<Vec<Name>, AllocError>
-    ensures { IfOk result (λ tags. tags.items ≡ present_tags (history_view history.now)) }
+    ensures { IfOk result (λ tags. tags.items ≡ present_tags (plain_history history.now)) }
 {
     let mut tags = Vec::new(alloc);
     for entry in history {

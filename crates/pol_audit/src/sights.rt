@@ -36,11 +36,11 @@ pub struct Sights<'a> {
 }
 
 impl Seen for Sights<'_> {
-    ghost use Rattle.pol_events.specs.Events.{history_view};
+    ghost use Rattle.pol_events.specs.Events.{plain_history};
     ghost use Rattle.pol_history.specs.Looking.{past};
     ghost use Rattle.pol_history.specs.Following.{sights_by};
 
-    ghost sights = { λ seen. sights_by seen.binds.now (λ tag. past tag (history_view seen.history.now)) };
+    ghost sights = { λ seen. sights_by seen.binds.now (λ tag. past tag (plain_history seen.history.now)) };
 
     fn tag(&self, role: Name) -> Option<Name> {
         bound_tag(self.binds, role)

@@ -2,10 +2,10 @@
 ghost use Rattle.std.specs.Prelude.{◌≡◌, [], IfOk};
 ghost use Rattle.mtp_codes.specs.Names.{same_name};
 ghost use Rattle.mtp_codes.specs.Faults.{first_of};
-ghost use Rattle.chart_core.specs.Charts.{plan};
+ghost use Rattle.chart_core.specs.Charts.{plain_chart};
 ghost use Rattle.chart_core.specs.Roles.{role_names};
 ghost use Rattle.chart_core.specs.Order.{plans_seen};
-ghost use Rattle.pol_events.specs.Events.{history_view};
+ghost use Rattle.pol_events.specs.Events.{plain_history};
 ghost use Rattle.pol_events.specs.Bound.{bound_tag};
 ghost use Rattle.pol_history.specs.Looking.{past};
 ghost use Rattle.pol_history.specs.Modules.{description_by};
@@ -24,7 +24,8 @@ use std::alloc::{AllocError, Global};
 
 // The module can't play the role.
 fn not_covered(history: &[Entry], chart: &Chart, role: Name, tag: Name) -> Option<Rule>
-    ensures { result ≡ not_covered (plan chart.now) role (description_by (past tag (history_view history.now))) }
+    ensures { result ≡ not_covered (plain_chart chart.now) role
+        (description_by (past tag (plain_history history.now))) }
 {
     match covers(chart, role, description_of(history, tag)?) {
         Ok(()) => None,
@@ -39,7 +40,7 @@ fn is_of_role(step: &Step, role: Name) -> bool
 }
 
 fn unready(history: &[Entry], tag: Name, service: Name) -> Option<Rule>
-    ensures { result ≡ unready tag (past tag (history_view history.now)) service }
+    ensures { result ≡ unready tag (past tag (plain_history history.now)) service }
 {
     match not_reported(history, tag, service) {
         Some(rule) => Some(rule),
@@ -49,7 +50,7 @@ fn unready(history: &[Entry], tag: Name, service: Name) -> Option<Rule>
 
 // The first service of the role's steps that wasn't reported or isn't idle.
 fn first_unready(history: &[Entry], tag: Name, role: Name, steps: &[&Step]) -> Option<Rule>
-    ensures { result ≡ not_ready tag (past tag (history_view history.now)) (services_in role (plans_seen steps.now)) }
+    ensures { result ≡ not_ready tag (past tag (plain_history history.now)) (services_in role (plans_seen steps.now)) }
 {
     for step in steps {
         if !is_of_role(step, role) {
@@ -70,8 +71,8 @@ fn module_rule(
     role: Name,
     tag: Option<Name>,
 ) -> Option<Rule>
-    requires { plans_seen steps.now ≡ steps_of (plan chart.now) }
-    ensures { result ≡ module_rule (history_view history.now) (plan chart.now) role tag }
+    requires { plans_seen steps.now ≡ steps_of (plain_chart chart.now) }
+    ensures { result ≡ module_rule (plain_history history.now) (plain_chart chart.now) role tag }
 {
     let tag = tag?;
     first_of(&[
@@ -89,8 +90,9 @@ fn first_unfit(
     steps: &[&Step],
     roles: &[Role],
 ) -> Option<Rule>
-    requires { plans_seen steps.now ≡ steps_of (plan chart.now) }
-    ensures { result ≡ modules_unfit (history_view history.now) (plan chart.now) binds.now (names_in roles.now) }
+    requires { plans_seen steps.now ≡ steps_of (plain_chart chart.now) }
+    ensures { result ≡ modules_unfit (plain_history history.now) (plain_chart chart.now) binds.now
+        (names_in roles.now) }
 {
     for role in roles {
         if let Some(rule) = module_rule(
@@ -114,14 +116,15 @@ pub fn modules_unfit(
     binds: &[Bind],
 ) -> Result<Option<Rule>, AllocError>
     ensures { IfOk result (λ rule. rule
-        ≡ modules_unfit (history_view history.now) (plan chart.now) binds.now (role_names (plan chart.now))) }
+        ≡ modules_unfit (plain_history history.now) (plain_chart chart.now) binds.now
+        (role_names (plain_chart chart.now))) }
 {
     let steps = steps_in_order(alloc, chart)?;
     Ok(first_unfit(history, chart, binds, &steps, &chart.roles))
 }
 
 fn busy_role(history: &[Entry], tag: Option<Name>) -> Option<Rule>
-    ensures { result ≡ busy_role (history_view history.now) tag }
+    ensures { result ≡ busy_role (plain_history history.now) tag }
 {
     let tag = tag?;
     let batch = holder_of(history, tag)?;
@@ -130,7 +133,7 @@ fn busy_role(history: &[Entry], tag: Option<Name>) -> Option<Rule>
 
 /// The first module over these roles that is held.
 pub fn busy(history: &[Entry], binds: &[Bind], roles: &[Role]) -> Option<Rule>
-    ensures { result ≡ busy (history_view history.now) binds.now (names_in roles.now) }
+    ensures { result ≡ busy (plain_history history.now) binds.now (names_in roles.now) }
 {
     for role in roles {
         if let Some(rule) = busy_role(history, bound_tag(binds, role.role)) {

@@ -5,12 +5,12 @@ use Rattle.std.specs.Option.{option_or}
 use Rattle.std.proofs.Common.{refl, ap, sym, ◌∙◌}
 use Rattle.std.proofs.lemmas.List.Folds.{find-append}
 use Rattle.mtp_codes.specs.Names.{same_name}
-use Rattle.mtp_desc.specs.Plain.{DescriptionForm}
+use Rattle.mtp_desc.specs.Plain.{PlainDescription}
 use Rattle.chart_core.specs.Formulas.{Formula, Formulas, constant, all_of, any_of, not_of, test, no_formulas, more_formulas}
-use Rattle.chart_core.specs.Trees.{arm_conditions, StepPlan, Placed, Tree, Trees, Arms, leaf, seq, par, choice, loop, no_trees, more_trees, no_arms, more_arms, size, steps, all_steps, arm_steps}
-use Rattle.mtp_procs.specs.Tests.{TestPlan, tests_of, tests_of_all, finish_tests, tests_in, tests_in_all, tests_in_arms}
-use Rattle.mtp_procs.specs.Covers.{name_of_first, variable_of_first, is_misfit, is_misfit_of, is_refused_test}
-use Rattle.pol_bind.specs.Misfits.{is_misfit_for}
+use Rattle.chart_core.specs.Trees.{arm_conditions, PlainStep, Placed, Tree, Trees, Arms, leaf, seq, par, choice, loop, no_trees, more_trees, no_arms, more_arms, size, steps, all_steps, arm_steps}
+use Rattle.mtp_procs.specs.Tests.{PlainTest, tests_of, tests_of_all, finish_tests, tests_in, tests_in_all, tests_in_arms}
+use Rattle.mtp_procs.specs.Covers.{name_of_first, variable_of_first, is_test_misfit, is_test_misfit_of, is_test_refused}
+use Rattle.pol_bind.specs.TestMisfits.{is_test_misfit_for}
 use Rattle.pol_bind.specs.Walks.{variable_in, variable_among, variable_in_finish, variable_under, variable_under_all, variable_under_arms, first_name, first_name_among, first_name_in_arms}
 
 map_or : {X Y : Type 0} (part : X → Y) (one other : Option X)
@@ -25,16 +25,16 @@ found_append part property xs ys = ap (option_map part) (find-append property xs
     ∙ map_or part (find property xs) (find property ys)
 
 variable_append :
-    (property : TestPlan → Bool) (xs ys : List TestPlan)
+    (property : PlainTest → Bool) (xs ys : List PlainTest)
     → variable_of_first property (xs ++ ys) ≡ option_or (variable_of_first property xs) (variable_of_first property ys)
 variable_append property xs ys = found_append (λ test. test.variable) property xs ys
 
 name_append :
-    (property : StepPlan → Bool) (xs ys : List Placed)
+    (property : PlainStep → Bool) (xs ys : List Placed)
     → name_of_first property (xs ++ ys) ≡ option_or (name_of_first property xs) (name_of_first property ys)
 name_append property xs ys = found_append (λ each. each.step.name) (λ each. property each.step) xs ys
 
-one_name : (property : StepPlan → Bool) (step : StepPlan) (n : ℕ) (b : Bool)
+one_name : (property : PlainStep → Bool) (step : PlainStep) (n : ℕ) (b : Bool)
     → cond b (Some step.name) None ≡ option_map (λ (each : Placed). each.step.name)
     (cond b (Some (record { number = n; step = step })) None)
 one_name property step n true = refl
@@ -42,7 +42,7 @@ one_name property step n false = refl
 
 -- the walk finds the first step in chart order, whatever the number of the tree's first node
 mutual
-  pub first_is : (property : StepPlan → Bool) (each : Tree) (n : ℕ)
+  pub first_is : (property : PlainStep → Bool) (each : Tree) (n : ℕ)
       → first_name property each ≡ name_of_first property (steps each n)
   first_is property (leaf step) n = one_name property step n (property step)
   first_is property (seq each) n = first_among_is property each (n + 1)
@@ -50,7 +50,7 @@ mutual
   first_is property (choice each) n = first_in_arms_is property each (n + 1)
   first_is property (loop body until) n = first_is property body (n + 1)
 
-  pub first_among_is : (property : StepPlan → Bool) (each : Trees) (n : ℕ)
+  pub first_among_is : (property : PlainStep → Bool) (each : Trees) (n : ℕ)
       → first_name_among property each ≡ name_of_first property (all_steps each n)
   first_among_is property no_trees n = refl
   first_among_is property (more_trees each others) n =
@@ -62,7 +62,7 @@ mutual
             (n + size each),
       ) refl
 
-  pub first_in_arms_is : (property : StepPlan → Bool) (each : Arms) (n : ℕ)
+  pub first_in_arms_is : (property : PlainStep → Bool) (each : Arms) (n : ℕ)
       → first_name_in_arms property each ≡ name_of_first property (arm_steps each n)
   first_in_arms_is property no_arms n = refl
   first_in_arms_is property (more_arms when each others) n =
@@ -74,14 +74,14 @@ mutual
             (n + size each),
       ) refl
 
-one_variable : (each : TestPlan) (b : Bool) → cond b (Some each.variable) None
-    ≡ option_map (λ (test : TestPlan). test.variable) (cond b (Some each) None)
+one_variable : (each : PlainTest) (b : Bool) → cond b (Some each.variable) None
+    ≡ option_map (λ (test : PlainTest). test.variable) (cond b (Some each) None)
 one_variable each true = refl
 one_variable each false = refl
 
 -- the walk finds the first of a condition's tests
 mutual
-  test_is : (property : TestPlan → Bool) (each : Formula) → variable_in property each
+  test_is : (property : PlainTest → Bool) (each : Formula) → variable_in property each
       ≡ variable_of_first property (tests_of each)
   test_is property (constant value) = refl
   test_is property (all_of each) = test_among_is property each
@@ -91,7 +91,7 @@ mutual
       one_variable (record { role = role; variable = variable; value = value })
       (property (record { role = role; variable = variable; value = value }))
 
-  test_among_is : (property : TestPlan → Bool) (each : Formulas)
+  test_among_is : (property : PlainTest → Bool) (each : Formulas)
       → variable_among property each ≡ variable_of_first property (tests_of_all each)
   test_among_is property no_formulas = refl
   test_among_is property (more_formulas each others) =
@@ -102,14 +102,14 @@ mutual
             property others,
       ) refl
 
-test_in_finish_is : (property : TestPlan → Bool) (finish : Option Formula)
+test_in_finish_is : (property : PlainTest → Bool) (finish : Option Formula)
     → variable_in_finish property finish ≡ variable_of_first property (finish_tests finish)
 test_in_finish_is property None = refl
 test_in_finish_is property (Some condition) = test_is property condition
 
 -- the walk finds the first of a tree's tests
 mutual
-  pub test_under_is : (property : TestPlan → Bool) (each : Tree)
+  pub test_under_is : (property : PlainTest → Bool) (each : Tree)
       → variable_under property each ≡ variable_of_first property (tests_in each)
   test_under_is property (leaf step) = test_in_finish_is property step.finish
   test_under_is property (seq each) = test_under_all_is property each
@@ -129,7 +129,7 @@ mutual
             property body,
       ) refl
 
-  test_under_all_is : (property : TestPlan → Bool) (each : Trees)
+  test_under_all_is : (property : PlainTest → Bool) (each : Trees)
       → variable_under_all property each ≡ variable_of_first property (tests_in_all each)
   test_under_all_is property no_trees = refl
   test_under_all_is property (more_trees each others) =
@@ -140,7 +140,7 @@ mutual
             test_under_all_is property others,
       ) refl
 
-  test_under_arms_is : (property : TestPlan → Bool) (each : Arms)
+  test_under_arms_is : (property : PlainTest → Bool) (each : Arms)
       → variable_under_arms property each ≡ variable_of_first property (tests_in_arms each)
   test_under_arms_is property no_arms = refl
   test_under_arms_is property (more_arms when each others) =
@@ -157,7 +157,7 @@ found_is_any part property x true rest others same = refl
 found_is_any part property x false rest others same = same
 
 -- one is found exactly where some test has the property
-pub found_where_any : (property : TestPlan → Bool) (xs : List TestPlan)
+pub found_where_any : (property : PlainTest → Bool) (xs : List PlainTest)
     → is_some (variable_of_first property xs) ≡ list_any property xs
 found_where_any property [] = refl
 found_where_any property (x ∷ xs) =
@@ -177,16 +177,16 @@ rest_none false rest h = h
 
 -- where no test of the role is a misfit, none of one of its variables is
 none_of_variable :
-    (role variable : List ℕ) (description : DescriptionForm) (xs : List TestPlan)
-    → list_any (is_misfit_for role description) xs ≡ false → list_any
-    (is_misfit_of role variable description) xs ≡ false
+    (role variable : List ℕ) (description : PlainDescription) (xs : List PlainTest)
+    → list_any (is_test_misfit_for role description) xs ≡ false → list_any
+    (is_test_misfit_of role variable description) xs ≡ false
 none_of_variable role variable description [] none = refl
 none_of_variable role variable description (x ∷ xs) none =
-    none_more (same_name x.role role) (list_any (is_misfit_of role variable description) xs)
-    (same_name x.variable variable) (is_misfit description x)
-    (list_any (is_misfit_for role description) xs) none
-    ∙ none_of_variable role variable description xs (rest_none (is_misfit_for role description x)
-    (list_any (is_misfit_for role description) xs) none)
+    none_more (same_name x.role role) (list_any (is_test_misfit_of role variable description) xs)
+    (same_name x.variable variable) (is_test_misfit description x)
+    (list_any (is_test_misfit_for role description) xs) none
+    ∙ none_of_variable role variable description xs (rest_none (is_test_misfit_for role description x)
+    (list_any (is_test_misfit_for role description) xs) none)
 
 and_none : (one other : Bool) → other ≡ false → (one && other) ≡ false
 and_none true other h = h
@@ -199,13 +199,13 @@ none_found part property none (x ∷ xs) = rw (none x) (none_found part property
 
 -- where no test of the role is a misfit, no variable of it is refused
 pub none_refused :
-    (root : Tree) (role : List ℕ) (description : DescriptionForm)
-    → variable_of_first (is_misfit_for role description) (tests_in root) ≡ None
-    → variable_of_first (is_refused_test root role description) (tests_in root) ≡ None
+    (root : Tree) (role : List ℕ) (description : PlainDescription)
+    → variable_of_first (is_test_misfit_for role description) (tests_in root) ≡ None
+    → variable_of_first (is_test_refused root role description) (tests_in root) ≡ None
 none_refused root role description none =
-    let no_misfit = sym (found_where_any (is_misfit_for role description) (tests_in root)) ∙ ap is_some none in
-    none_found (λ test. test.variable) (is_refused_test root role description)
-    (λ test. and_none (same_name test.role role) (list_any (is_misfit_of role test.variable description)
+    let no_misfit = sym (found_where_any (is_test_misfit_for role description) (tests_in root)) ∙ ap is_some none in
+    none_found (λ test. test.variable) (is_test_refused root role description)
+    (λ test. and_none (same_name test.role role) (list_any (is_test_misfit_of role test.variable description)
     (tests_in root))
     (none_of_variable role test.variable description (tests_in root) no_misfit))
     (tests_in root)

@@ -13,28 +13,28 @@ use Rattle.pol_events.specs.declared.answer.Rule.TheVariants.{OneModuleTwice}
 use Rattle.pol_events.specs.declared.event.Bind.{Bind}
 
 -- it is the same how two ors are grouped
-or-assoc : (one other last : Bool) → (one || (other || last)) ≡ ((one || other) || last)
-or-assoc true other last = refl
-or-assoc false other last = refl
+or_assoc : (one other last : Bool) → (one || (other || last)) ≡ ((one || other) || last)
+or_assoc true other last = refl
+or_assoc false other last = refl
 
 -- or false is as before
-or-false : (one : Bool) → (one || false) ≡ one
-or-false true = refl
-or-false false = refl
+or_false : (one : Bool) → (one || false) ≡ one
+or_false true = refl
+or_false false = refl
 
 -- it is the same which of two comes first
-or-swap : (one other : Bool) → (one || (other || false)) ≡ (other || one)
-or-swap true true = refl
-or-swap true false = refl
-or-swap false true = refl
-or-swap false false = refl
+or_swap : (one other : Bool) → (one || (other || false)) ≡ (other || one)
+or_swap true true = refl
+or_swap true false = refl
+or_swap false true = refl
+or_swap false false = refl
 
 -- a tag is bound to one of two lists of roles
-before-append : (binds : List Bind) (front : List (List ℕ)) (role tag : List ℕ) →
+before_append : (binds : List Bind) (front : List (List ℕ)) (role tag : List ℕ) →
     is_bound_before binds (front ++ role ∷ []) tag
     ≡ (is_bound_before binds front tag || is_bound_before binds (role ∷ []) tag)
-before-append binds [] role tag = refl
-before-append binds (first ∷ front) role tag = go (bound_tag binds first) (before-append binds front role tag)
+before_append binds [] role tag = refl
+before_append binds (first ∷ front) role tag = go (bound_tag binds first) (before_append binds front role tag)
   where
     go : (found : Option (List ℕ)) → is_bound_before binds (front ++ role ∷ []) tag
         ≡ (is_bound_before binds front tag || is_bound_before binds (role ∷ []) tag) →
@@ -44,41 +44,41 @@ before-append binds (first ∷ front) role tag = go (bound_tag binds first) (bef
     go None rest = rest
     go (Some other) rest =
         ap (λ later. bytes_eq other tag || later) rest
-        ∙ or-assoc (bytes_eq other tag) (is_bound_before binds front tag) (is_bound_before binds (role ∷ []) tag)
+        ∙ or_assoc (bytes_eq other tag) (is_bound_before binds front tag) (is_bound_before binds (role ∷ []) tag)
 
 -- it is bound to one role
-before-one : (binds : List Bind) (earlier : List (List ℕ)) (role tag : List ℕ) →
+before_one : (binds : List Bind) (earlier : List (List ℕ)) (role tag : List ℕ) →
     (is_bound_before binds earlier tag || is_bound_before binds (role ∷ []) tag)
     ≡ is_bound_before binds (role ∷ earlier) tag
-before-one binds earlier role tag = go (bound_tag binds role)
+before_one binds earlier role tag = go (bound_tag binds role)
   where
     go : (found : Option (List ℕ)) →
         (is_bound_before binds earlier tag || is_among (cons_option found []) tag)
         ≡ is_among (cons_option found (filter_map (bound_tag binds) earlier)) tag
-    go None = or-false (is_bound_before binds earlier tag)
-    go (Some other) = or-swap (is_bound_before binds earlier tag) (bytes_eq other tag)
+    go None = or_false (is_bound_before binds earlier tag)
+    go (Some other) = or_swap (is_bound_before binds earlier tag) (bytes_eq other tag)
 
 -- a tag is bound twice whatever order the earlier roles have
-twice-as : (binds : List Bind) (front earlier : List (List ℕ)) →
+twice_as : (binds : List Bind) (front earlier : List (List ℕ)) →
     ((tag : List ℕ) → is_bound_before binds front tag ≡ is_bound_before binds earlier tag) →
     (found : Option (List ℕ)) → twice binds front found ≡ twice binds earlier found
-twice-as binds front earlier same None = refl
-twice-as binds front earlier same (Some tag) = ap (λ before. when before (OneModuleTwice tag)) (same tag)
+twice_as binds front earlier same None = refl
+twice_as binds front earlier same (Some tag) = ap (λ before. when before (OneModuleTwice tag)) (same tag)
 
 -- so the first such tag is the same
-twice-same : (binds : List Bind) (front earlier roles : List (List ℕ)) →
+twice_same : (binds : List Bind) (front earlier roles : List (List ℕ)) →
     ((tag : List ℕ) → is_bound_before binds front tag ≡ is_bound_before binds earlier tag) →
     twice_from binds front roles ≡ one_module_twice binds earlier roles
-twice-same binds front earlier [] same = refl
-twice-same binds front earlier (role ∷ roles) same =
+twice_same binds front earlier [] same = refl
+twice_same binds front earlier (role ∷ roles) same =
     ap (λ found. option_or found (twice_from binds (front ++ role ∷ []) roles))
-    (twice-as binds front earlier same (bound_tag binds role))
+    (twice_as binds front earlier same (bound_tag binds role))
     ∙ ap (option_or (twice binds earlier (bound_tag binds role)))
-    (twice-same binds (front ++ role ∷ []) (role ∷ earlier) roles
-    (λ tag. before-append binds front role tag ∙ ap (λ before. before || is_bound_before binds (role ∷ []) tag)
-    (same tag) ∙ before-one binds earlier role tag))
+    (twice_same binds (front ++ role ∷ []) (role ∷ earlier) roles
+    (λ tag. before_append binds front role tag ∙ ap (λ before. before || is_bound_before binds (role ∷ []) tag)
+    (same tag) ∙ before_one binds earlier role tag))
 
 -- as where no role is earlier
 pub twice_in_order : (binds : List Bind) (roles : List (List ℕ))
     → twice_from binds [] roles ≡ one_module_twice binds [] roles
-twice_in_order binds roles = twice-same binds [] [] roles (λ tag. refl)
+twice_in_order binds roles = twice_same binds [] [] roles (λ tag. refl)

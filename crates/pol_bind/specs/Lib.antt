@@ -1,3 +1,3 @@
 pub mod Walks
-pub mod Misfits
+pub mod TestMisfits
 pub mod Roles

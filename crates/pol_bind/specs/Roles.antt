@@ -1,7 +1,7 @@
 -- Roles of a chart as code has them, and the rule on a module that is bound twice in the order in which code finds it.
 use Rattle.std.specs.Prelude.{ℕ, List, [], ◌∷◌, ◌++◌, map, Option, None}
 use Rattle.std.specs.Option.{option_or}
-use Rattle.chart_core.specs.Roles.{role_plan}
+use Rattle.chart_core.specs.Roles.{plain_role}
 use Rattle.chart_core.specs.declared.role.Role.{Role}
 use Rattle.pol_events.specs.BindRules.{twice}
 use Rattle.pol_events.specs.Bound.{bound_tag}
@@ -10,7 +10,7 @@ use Rattle.pol_events.specs.declared.event.Bind.{Bind}
 
 -- the names of these roles
 abbrev pub names_in : List Role → List (List ℕ)
-names_in roles = map (λ role. role.role) (map role_plan roles)
+names_in roles = map (λ role. role.role) (map plain_role roles)
 
 -- the first tag in the order of the roles that an earlier role has, the earlier roles in their order
 abbrev pub twice_from : List Bind → List (List ℕ) → List (List ℕ) → Option Rule

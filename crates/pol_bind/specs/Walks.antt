@@ -2,31 +2,31 @@
 use Rattle.std.specs.Prelude.{ℕ, List, Bool, Option, Some, None, if◌then◌else◌}
 use Rattle.std.specs.Option.{option_or}
 use Rattle.chart_core.specs.Formulas.{Formula, Formulas, constant, all_of, any_of, not_of, test, no_formulas, more_formulas}
-use Rattle.chart_core.specs.Trees.{StepPlan, Tree, Trees, Arms, leaf, seq, par, choice, loop, no_trees, more_trees, no_arms, more_arms, arm_conditions}
-use Rattle.mtp_procs.specs.Tests.{TestPlan}
+use Rattle.chart_core.specs.Trees.{PlainStep, Tree, Trees, Arms, leaf, seq, par, choice, loop, no_trees, more_trees, no_arms, more_arms, arm_conditions}
+use Rattle.mtp_procs.specs.Tests.{PlainTest}
 
 -- the name of the first step of the tree with this property
 abbrev mutual
-  pub first_name : (StepPlan → Bool) → Tree → Option (List ℕ)
+  pub first_name : (PlainStep → Bool) → Tree → Option (List ℕ)
   first_name property (leaf step) = if property step then Some step.name else None
   first_name property (seq each) = first_name_among property each
   first_name property (par each) = first_name_among property each
   first_name property (choice each) = first_name_in_arms property each
   first_name property (loop body until) = first_name property body
 
-  pub first_name_among : (StepPlan → Bool) → Trees → Option (List ℕ)
+  pub first_name_among : (PlainStep → Bool) → Trees → Option (List ℕ)
   first_name_among property no_trees = None
   first_name_among property (more_trees each others) = option_or (first_name property each)
       (first_name_among property others)
 
-  pub first_name_in_arms : (StepPlan → Bool) → Arms → Option (List ℕ)
+  pub first_name_in_arms : (PlainStep → Bool) → Arms → Option (List ℕ)
   first_name_in_arms property no_arms = None
   first_name_in_arms property (more_arms when each others) =
       option_or (first_name property each) (first_name_in_arms property others)
 
 -- the variable of the first test of the condition with this property
 abbrev mutual
-  pub variable_in : (TestPlan → Bool) → Formula → Option (List ℕ)
+  pub variable_in : (PlainTest → Bool) → Formula → Option (List ℕ)
   variable_in property (constant value) = None
   variable_in property (all_of each) = variable_among property each
   variable_in property (any_of each) = variable_among property each
@@ -34,19 +34,19 @@ abbrev mutual
   variable_in property (test role variable op value) =
       if property (record { role = role; variable = variable; value = value }) then Some variable else None
 
-  pub variable_among : (TestPlan → Bool) → Formulas → Option (List ℕ)
+  pub variable_among : (PlainTest → Bool) → Formulas → Option (List ℕ)
   variable_among property no_formulas = None
   variable_among property (more_formulas each others) = option_or (variable_in property each)
       (variable_among property others)
 
 -- the variable of the first test of a step's finish with this property
-abbrev pub variable_in_finish : (TestPlan → Bool) → Option Formula → Option (List ℕ)
+abbrev pub variable_in_finish : (PlainTest → Bool) → Option Formula → Option (List ℕ)
 variable_in_finish property None = None
 variable_in_finish property (Some condition) = variable_in property condition
 
 -- the variable of the first test of the tree with this property
 abbrev mutual
-  pub variable_under : (TestPlan → Bool) → Tree → Option (List ℕ)
+  pub variable_under : (PlainTest → Bool) → Tree → Option (List ℕ)
   variable_under property (leaf step) = variable_in_finish property step.finish
   variable_under property (seq each) = variable_under_all property each
   variable_under property (par each) = variable_under_all property each
@@ -54,12 +54,12 @@ abbrev mutual
       option_or (variable_among property (arm_conditions each)) (variable_under_arms property each)
   variable_under property (loop body until) = option_or (variable_in property until) (variable_under property body)
 
-  pub variable_under_all : (TestPlan → Bool) → Trees → Option (List ℕ)
+  pub variable_under_all : (PlainTest → Bool) → Trees → Option (List ℕ)
   variable_under_all property no_trees = None
   variable_under_all property (more_trees each others) =
       option_or (variable_under property each) (variable_under_all property others)
 
-  pub variable_under_arms : (TestPlan → Bool) → Arms → Option (List ℕ)
+  pub variable_under_arms : (PlainTest → Bool) → Arms → Option (List ℕ)
   variable_under_arms property no_arms = None
   variable_under_arms property (more_arms when each others) =
       option_or (variable_under property each) (variable_under_arms property others)

@@ -5,9 +5,9 @@ ghost use Rattle.std.specs.Str.{bytes_eq};
 ghost use Rattle.semver.specs.Identifiers.{parts_of};
 ghost use Rattle.semver.specs.Parse.{req_of};
 ghost use Rattle.mtp_codes.specs.Faults.{done_unless};
-ghost use Rattle.mtp_desc.specs.DescriptionView.{description_view};
-ghost use Rattle.chart_core.specs.Charts.{plan};
-ghost use Rattle.chart_core.specs.Roles.{role_plan};
+ghost use Rattle.mtp_desc.specs.PlainDescription.{plain_description};
+ghost use Rattle.chart_core.specs.Charts.{plain_chart};
+ghost use Rattle.chart_core.specs.Roles.{plain_role};
 ghost use Rattle.mtp_procs.specs.Covers.{cover_fault, meets, missing_by, role_fault, role_named};
 ghost use Rattle.pol_events.specs.Refusals.{cover_rule};
 
@@ -26,7 +26,7 @@ fn find_role(roles: &[Role], name: Name) -> Option<&Role>
 }
 
 fn role_of(chart: &Chart, name: Name) -> Option<&Role>
-    ensures { option_map (λ role. role_plan role.now) result ≡ role_named name (plan chart.now) }
+    ensures { option_map (λ role. plain_role role.now) result ≡ role_named name (plain_chart chart.now) }
 {
     find_role(&chart.roles, name)
 }
@@ -39,7 +39,7 @@ fn is_met(role: &Role, version: &Version) -> bool
 }
 
 fn check_role(role: &Role, description: &Description) -> Result<(), CoverFault>
-    ensures { result ≡ done_unless (role_fault (description_view description.now) (Some (role_plan role.now))) }
+    ensures { result ≡ done_unless (role_fault (plain_description description.now) (Some (plain_role role.now))) }
 {
     if role.type_name != description.type_name {
         return Err(CoverFault::WrongType);
@@ -52,7 +52,7 @@ fn check_role(role: &Role, description: &Description) -> Result<(), CoverFault>
 
 // The first fault of the description for the role of the chart; a chart that hasn't the role asks for no type.
 fn check_cover(chart: &Chart, role: Name, description: &Description) -> Result<(), CoverFault>
-    ensures { result ≡ done_unless (cover_fault (plan chart.now) role (description_view description.now)) }
+    ensures { result ≡ done_unless (cover_fault (plain_chart chart.now) role (plain_description description.now)) }
 {
     let Some(wanted) = role_of(chart, role) else {
         return Err(CoverFault::WrongType);
@@ -95,7 +95,7 @@ fn missing_by(role: Name, fault: CoverFault) -> Name
 /// round. Takes no memory. Where all fits, its time grows with the chart's tests; else at most with their square.
 pub fn covers(chart: &Chart, role: Name, description: &Description) -> Result<(), Rule>
     ensures { result ≡ done_unless
-        (option_map (cover_rule role) (cover_fault (plan chart.now) role (description_view description.now))) }
+        (option_map (cover_rule role) (cover_fault (plain_chart chart.now) role (plain_description description.now))) }
 {
     match check_cover(chart, role, description) {
         Ok(()) => Ok(()),
@@ -107,7 +107,7 @@ pub fn covers(chart: &Chart, role: Name, description: &Description) -> Result<()
 /// the version is wrong, else the step or the variable that `covers` names; None exactly where `covers` answers Ok.
 pub fn held_back_by(chart: &Chart, role: Name, description: &Description) -> Option<Name>
     ensures { result ≡ option_map (missing_by role)
-        (cover_fault (plan chart.now) role (description_view description.now)) }
+        (cover_fault (plain_chart chart.now) role (plain_description description.now)) }
 {
     match check_cover(chart, role, description) {
         Ok(()) => None,

@@ -1,8 +1,8 @@
 //! The first test of a chart with a property.
 
 ghost use Rattle.std.specs.Prelude.{◌≡◌};
-ghost use Rattle.chart_core.specs.Formulas.{formula, formulas};
-ghost use Rattle.chart_core.specs.Trees.{arm_conditions, arms, finish_plan, tree, trees};
+ghost use Rattle.chart_core.specs.Formulas.{plain_condition, formulas};
+ghost use Rattle.chart_core.specs.Trees.{arm_conditions, arms, plain_finish, plain_node, trees};
 ghost use Rattle.mtp_procs.specs.Covers.{variable_of_first};
 ghost use Rattle.mtp_procs.specs.Tests.{tests_in};
 ghost use Rattle.pol_bind.specs.Walks.{variable_among, variable_in, variable_in_finish, variable_under, variable_under_all, variable_under_arms};
@@ -13,9 +13,9 @@ use mtp_codes::{Name, Reading};
 /// A property of tests.
 pub trait Picks {
     ghost use Rattle.std.specs.Prelude.{◌≡◌, Bool};
-    ghost use Rattle.mtp_procs.specs.Tests.{TestPlan};
+    ghost use Rattle.mtp_procs.specs.Tests.{PlainTest};
 
-    ghost property: { Self → TestPlan → Bool };
+    ghost property: { Self → PlainTest → Bool };
 
     /// Whether a test of this variable of the role against this value has the property.
     fn picks(&self, role: Name, variable: Name, value: Reading) -> bool
@@ -24,7 +24,7 @@ pub trait Picks {
 
 #[cycle(first)]
 fn first_in<P: Picks>(condition: &Condition, wanted: &P) -> Option<Name>
-    ensures { result ≡ variable_in (P.property wanted.now) (formula condition.now) }
+    ensures { result ≡ variable_in (P.property wanted.now) (plain_condition condition.now) }
 {
     match condition {
         Condition::Const(_) => None,
@@ -59,7 +59,7 @@ fn first_among<P: Picks>(conditions: &[Condition], wanted: &P) -> Option<Name>
 }
 
 fn first_in_finish<P: Picks>(finish: &Option<Condition>, wanted: &P) -> Option<Name>
-    ensures { result ≡ variable_in_finish (P.property wanted.now) (finish_plan finish.now) }
+    ensures { result ≡ variable_in_finish (P.property wanted.now) (plain_finish finish.now) }
 {
     match finish {
         Some(condition) => first_in(condition, wanted),
@@ -80,7 +80,7 @@ fn first_of_choice<P: Picks>(each: &[Arm], wanted: &P) -> Option<Name>
 
 #[cycle(walk)]
 fn first_below<P: Picks>(node: &Node, wanted: &P) -> Option<Name>
-    ensures { result ≡ variable_under (P.property wanted.now) (tree node.now) }
+    ensures { result ≡ variable_under (P.property wanted.now) (plain_node node.now) }
 {
     match node {
         Node::Step(step) => first_in_finish(&step.finish, wanted),
@@ -124,7 +124,7 @@ fn first_in_arms<P: Picks>(each: &[Arm], wanted: &P) -> Option<Name>
 /// The variable of the first test of the tree, in chart order, that has the property. Walks the tree once.
 #[tactic(auto, using(crate::proofs::Firsts::test_under_is))]
 pub fn first_test<P: Picks>(root: &Node, wanted: &P) -> Option<Name>
-    ensures { result ≡ variable_of_first (P.property wanted.now) (tests_in (tree root.now)) }
+    ensures { result ≡ variable_of_first (P.property wanted.now) (tests_in (plain_node root.now)) }
 {
     first_below(root, wanted)
 }

@@ -1,8 +1,8 @@
 //! The first step of a role that a module can't do.
 
 ghost use Rattle.std.specs.Prelude.{◌≡◌};
-ghost use Rattle.mtp_desc.specs.DescriptionView.{description_view};
-ghost use Rattle.chart_core.specs.Trees.{arms, step_plan, steps, tree, trees};
+ghost use Rattle.mtp_desc.specs.PlainDescription.{plain_description};
+ghost use Rattle.chart_core.specs.Trees.{arms, plain_step, steps, plain_node, trees};
 ghost use Rattle.mtp_procs.specs.Covers.{is_refused, is_refused_step, name_of_first};
 ghost use Rattle.pol_bind.specs.Walks.{first_name, first_name_among, first_name_in_arms};
 
@@ -13,7 +13,7 @@ use mtp_procs::{StepDemand, check_step};
 
 // Whether the module can't do what the step demands.
 fn is_refused(step: &Step, description: &Description) -> bool
-    ensures { result ≡ is_refused (description_view description.now) (step_plan step.now) }
+    ensures { result ≡ is_refused (plain_description description.now) (plain_step step.now) }
 {
     let demand = StepDemand {
         service: step.service,
@@ -29,7 +29,7 @@ fn is_refused(step: &Step, description: &Description) -> bool
 
 #[cycle(walk)]
 fn walk(node: &Node, role: Name, description: &Description) -> Option<Name>
-    ensures { result ≡ first_name (is_refused_step role (description_view description.now)) (tree node.now) }
+    ensures { result ≡ first_name (is_refused_step role (plain_description description.now)) (plain_node node.now) }
 {
     match node {
         Node::Step(step) => {
@@ -48,7 +48,7 @@ fn walk(node: &Node, role: Name, description: &Description) -> Option<Name>
 
 #[cycle(walk)]
 fn walk_among(kids: &[Node], role: Name, description: &Description) -> Option<Name>
-    ensures { result ≡ first_name_among (is_refused_step role (description_view description.now)) (trees kids.now) }
+    ensures { result ≡ first_name_among (is_refused_step role (plain_description description.now)) (trees kids.now) }
 {
     for kid in kids {
         if let Some(name) = walk(kid, role, description) {
@@ -60,7 +60,7 @@ fn walk_among(kids: &[Node], role: Name, description: &Description) -> Option<Na
 
 #[cycle(walk)]
 fn walk_arms(each: &[Arm], role: Name, description: &Description) -> Option<Name>
-    ensures { result ≡ first_name_in_arms (is_refused_step role (description_view description.now)) (arms each.now) }
+    ensures { result ≡ first_name_in_arms (is_refused_step role (plain_description description.now)) (arms each.now) }
 {
     for arm in each {
         if let Some(name) = walk(&arm.body, role, description) {
@@ -73,8 +73,8 @@ fn walk_arms(each: &[Arm], role: Name, description: &Description) -> Option<Name
 /// The name of the first step of the role in chart order that the module can't do. Walks the chart once.
 #[tactic(auto, using(crate::proofs::Firsts::first_is))]
 pub fn refused_step(root: &Node, role: Name, description: &Description) -> Option<Name>
-    ensures { result ≡ name_of_first (is_refused_step role (description_view description.now))
-        (steps (tree root.now) 0) }
+    ensures { result ≡ name_of_first (is_refused_step role (plain_description description.now))
+        (steps (plain_node root.now) 0) }
 {
     walk(root, role, description)
 }

@@ -1,12 +1,12 @@
 //! The first variable of a role that doesn't fit a chart's tests.
 
 ghost use Rattle.std.specs.Prelude.{◌≡◌};
-ghost use Rattle.mtp_desc.specs.DescriptionView.{description_view};
+ghost use Rattle.mtp_desc.specs.PlainDescription.{plain_description};
 ghost use Rattle.mtp_desc.specs.Lookup.{variable_named};
-ghost use Rattle.chart_core.specs.Trees.{tree};
-ghost use Rattle.mtp_procs.specs.Covers.{can_be_compared, is_misfit_of, is_refused_test, is_unfit, variable_of_first};
+ghost use Rattle.chart_core.specs.Trees.{plain_node};
+ghost use Rattle.mtp_procs.specs.Covers.{can_be_compared, is_test_misfit_of, is_test_refused, is_variable_misfit, variable_of_first};
 ghost use Rattle.mtp_procs.specs.Tests.{tests_in};
-ghost use Rattle.pol_bind.specs.Misfits.{is_misfit_for};
+ghost use Rattle.pol_bind.specs.TestMisfits.{is_test_misfit_for};
 
 use crate::picks::{Picks, first_test};
 use chart_core::Node;
@@ -28,7 +28,7 @@ fn can_be_compared(kind: ViewKind, value: Reading) -> bool
 
 // Whether the module has no variable of this name that can be compared with the value.
 fn is_unfit(description: &Description, variable: Name, value: Reading) -> bool
-    ensures { result ≡ is_unfit value (variable_named variable (description_view description.now)) }
+    ensures { result ≡ is_variable_misfit value (variable_named variable (plain_description description.now)) }
 {
     match description.variable(variable) {
         Some(variable) => !can_be_compared(variable.kind, value),
@@ -44,7 +44,7 @@ struct Misfits<'a> {
 }
 
 impl<'a> Picks for Misfits<'a> {
-    ghost property = { λ wanted test. is_misfit_for wanted.role (description_view wanted.description.now) test };
+    ghost property = { λ wanted test. is_test_misfit_for wanted.role (plain_description wanted.description.now) test };
 
     fn picks(&self, role: Name, variable: Name, value: Reading) -> bool {
         role == self.role && is_unfit(self.description, variable, value)
@@ -60,7 +60,8 @@ struct MisfitsOf<'a> {
 }
 
 impl<'a> Picks for MisfitsOf<'a> {
-    ghost property = { λ wanted test. is_misfit_of wanted.role wanted.variable (description_view wanted.description.now) test };
+    ghost property = { λ wanted test. is_test_misfit_of wanted.role wanted.variable
+        (plain_description wanted.description.now) test };
 
     fn picks(&self, role: Name, variable: Name, value: Reading) -> bool {
         role == self.role
@@ -79,7 +80,7 @@ struct Refused<'a> {
 
 impl<'a> Picks for Refused<'a> {
     ghost property = { λ wanted test.
-        is_refused_test (tree wanted.root.now) wanted.role (description_view wanted.description.now) test };
+        is_test_refused (plain_node wanted.root.now) wanted.role (plain_description wanted.description.now) test };
 
     #[tactic(auto, using(crate::proofs::Firsts::found_where_any))]
     fn picks(&self, role: Name, variable: Name, value: Reading) -> bool {
@@ -96,8 +97,9 @@ impl<'a> Picks for Refused<'a> {
 /// the chart once where every test fits, else once more for each test before the one that it finds.
 #[tactic(auto, using(crate::proofs::Firsts::none_refused))]
 pub fn refused_variable(root: &Node, role: Name, description: &Description) -> Option<Name>
-    ensures { result ≡ variable_of_first (is_refused_test (tree root.now) role (description_view description.now))
-        (tests_in (tree root.now)) }
+    ensures { result ≡ variable_of_first
+        (is_test_refused (plain_node root.now) role (plain_description description.now))
+        (tests_in (plain_node root.now)) }
 {
     let misfits = Misfits { role, description };
     let refused = Refused {

@@ -11,25 +11,25 @@ use Rattle.atomic_table.proofs.Lists.{at_set, at_snoc, at_longer, set_again, set
 use Rattle.pol_board.specs.declared.rule.Remembered.{Remembered}
 use Rattle.pol_board.specs.Words.{IsWord, AreOlder, number_of}
 use Rattle.pol_board.specs.Rules.{IsBoard, KeepsRule, IsLoad, IsStore, JoinsKeepTheRule, remembers, newer_of, spent}
-use Rattle.pol_board.proofs.Older.{older-same, older-read, older-written, older-joined, found-after}
+use Rattle.pol_board.proofs.Older.{older_same, older_read, older_written, older_joined, found_after}
 
 -- what was written over an item is found at its place
-set-there : {A : Type 0} (items : List A) (place : ℕ) (item new : A) → get_elem? items place ≡ some item
+set_there : {A : Type 0} (items : List A) (place : ℕ) (item new : A) → get_elem? items place ≡ some item
     → get_elem? (set items place new) place ≡ some new
-set-there [] place item new there = absurd (some-ne-none item (sym there))
-set-there (first ∷ items) zero item new there = refl
-set-there (first ∷ items) (suc place) item new there = set-there items place item new there
+set_there [] place item new there = absurd (some-ne-none item (sym there))
+set_there (first ∷ items) zero item new there = refl
+set_there (first ∷ items) (suc place) item new there = set_there items place item new there
 
 -- what seat 0 remembers are the words
-remembers-words : (words : List ℕ) (seats : List Remembered) (seat : Remembered)
+remembers_words : (words : List ℕ) (seats : List Remembered) (seat : Remembered)
     → IsBoard words seats → get_elem? seats 0 ≡ some seat → seat ≡ remembers words
-remembers-words words seats seat board there = some-injective seat (remembers words) (sym there ∙ board.first)
+remembers_words words seats seat board there = some-injective seat (remembers words) (sym there ∙ board.first)
 
 -- a new seat that remembers what seat 0 does
 pub splits : (words : List ℕ) (seats : List Remembered) (seat : Remembered)
     → IsBoard words seats → get_elem? seats 0 ≡ some seat → IsBoard words (set seats 0 seat ++ seat ∷ [])
 splits words seats seat board there =
-    let is : seat ≡ remembers words = remembers-words words seats seat board there in
+    let is : seat ≡ remembers words = remembers_words words seats seat board there in
     let Kept : List Remembered → Type 0 = λ all. IsBoard words (all ++ seat ∷ []) in
     subst Kept (sym (set_again seats 0 seat there)) record {
       coded = board.coded;
@@ -38,15 +38,15 @@ splits words seats seat board there =
           ⊎_elim (λ old. board.others number found old lives)
           (λ new.
           let Older : Remembered → Type 0 = λ one. AreOlder one.words words in
-          subst Older (sym is ∙ new) (older-same words)) (at_snoc seats seat found number at);
+          subst Older (sym is ∙ new) (older_same words)) (at_snoc seats seat found number at);
     }
 
 -- a load, by any seat that isn't spent
-load-kept : (words : List ℕ) (seats : List Remembered) (number : ℕ) (seat : Remembered) (place : ℕ)
+load_kept : (words : List ℕ) (seats : List Remembered) (number : ℕ) (seat : Remembered) (place : ℕ)
     → IsBoard words seats → get_elem? seats number ≡ some seat → seat.spent ≡ false
     → IsBoard (slice_set words place (slice_index words place))
     (set seats number (remembers (slice_set seat.words place (slice_index words place))))
-load-kept words seats number seat place board there lives =
+load_kept words seats number seat place board there lives =
     let new : Remembered = remembers (slice_set seat.words place (slice_index words place)) in
     let same : slice_set words place (slice_index words place) ≡ words = set-get_or words place 0 in
     let Kept : List ℕ → Type 0 = λ now. IsBoard now (set seats number new) in
@@ -55,13 +55,13 @@ load-kept words seats number seat place board there lives =
       first =
           ⊎_elim
           (λ told.
-          let zero-is : number ≡ 0 = told.1 in
+          let zero_is : number ≡ 0 = told.1 in
           let First : ℕ → Type 0 = λ at. get_elem? seats at ≡ some seat
           → get_elem? (set seats at new) 0 ≡ some (remembers words) in
-          subst First (sym zero-is)
-          (λ there-first.
-          let is : seat ≡ remembers words = remembers-words words seats seat board there-first in
-          set-there seats 0 seat new there-first
+          subst First (sym zero_is)
+          (λ there_first.
+          let is : seat ≡ remembers words = remembers_words words seats seat board there_first in
+          set_there seats 0 seat new there_first
           ∙ ap (λ (one : Remembered). some (remembers (slice_set one.words place (slice_index words place)))) is
           ∙ ap (λ (now : List ℕ). some (remembers now)) same) there)
           (λ told. set_else seats number 0 new (λ is. told.1 (sym is)) ∙ board.first) (eqb_tells number 0);
@@ -69,7 +69,7 @@ load-kept words seats number seat place board there lives =
           ⊎_elim
           (λ told.
           let Older : Remembered → Type 0 = λ one. AreOlder one.words words in
-          subst Older told.1 (older-read seat.words words place (board.others number seat there lives)))
+          subst Older told.1 (older_read seat.words words place (board.others number seat there lives)))
           (λ told. board.others other found told.1 alive) (at_set seats number other new found at);
     }
 
@@ -80,31 +80,31 @@ loads slots number place me lives board kept homes there fits = (
   remembers (slice_set me.0.words place (slice_index board.words place)),
   keeps,
   tt,
-  load-kept board.words board.views number me.0 place kept there lives,
+  load_kept board.words board.views number me.0 place kept there lives,
   ((λ _. ((kept.others number me.0 there lives).1 place, kept.coded place, refl)), refl),
 )
 
 -- a store by seat 0, of a word with a higher number
-store-kept : (words : List ℕ) (seats : List Remembered) (seat : Remembered) (place word : ℕ)
+store_kept : (words : List ℕ) (seats : List Remembered) (seat : Remembered) (place word : ℕ)
     → IsBoard words seats → get_elem? seats 0 ≡ some seat → IsWord word
     → number_of (slice_index seat.words place) < number_of word
     → IsBoard (slice_set words place word) (set seats 0 (remembers (slice_set seat.words place word)))
-store-kept words seats seat place word board there coded less =
-    let is : seat ≡ remembers words = remembers-words words seats seat board there in
+store_kept words seats seat place word board there coded less =
+    let is : seat ≡ remembers words = remembers_words words seats seat board there in
     let Less : Remembered → Type 0 = λ one. number_of (slice_index one.words place) < number_of word in
     let new : Remembered = remembers (slice_set seat.words place word) in
-    let new-is : new ≡ remembers (slice_set words place word) =
+    let new_is : new ≡ remembers (slice_set words place word) =
     ap (λ (one : Remembered). remembers (slice_set one.words place word)) is in
     record {
       coded = λ at. ⊎_elim (λ told. subst IsWord (sym told.2) coded) (λ same. subst IsWord (sym same) (board.coded at))
-          (found-after words place at word);
-      first = set-there seats 0 seat new there ∙ ap some new-is;
+          (found_after words place at word);
+      first = set_there seats 0 seat new there ∙ ap some new_is;
       others = λ other found at alive.
           ⊎_elim
           (λ told.
           let Older : Remembered → Type 0 = λ one. AreOlder one.words (slice_set words place word) in
-          subst Older (sym new-is ∙ told.1) (older-same (slice_set words place word)))
-          (λ told. older-written found.words words place word (board.others other found told.1 alive)
+          subst Older (sym new_is ∙ told.1) (older_same (slice_set words place word)))
+          (λ told. older_written found.words words place word (board.others other found told.1 alive)
           (subst Less is less))
           (at_set seats 0 other new found at);
     }
@@ -117,25 +117,25 @@ stores slots place word me coded less board kept homes there fits = (
   remembers (slice_set me.0.words place word),
   keeps,
   tt,
-  store-kept board.words board.views me.0 place word kept there coded less,
+  store_kept board.words board.views me.0 place word kept there coded less,
   (refl, refl),
 )
 
 -- two readers' seats become one
 pub joins : JoinsKeepTheRule
-joins number other seat second apart-first apart-second lives second-lives board kept there differ there-second =
+joins number other seat second apart_first apart_second lives second_lives board kept there differ there_second =
     let both : Remembered = newer_of seat second in
     let stood : get_elem? board.views other ≡ some second = sym (set_else board.views number other both differ)
-    ∙ there-second in
+    ∙ there_second in
     let older : AreOlder both.words board.words =
-    older-joined seat.words second.words board.words (kept.others number seat there lives)
-    (kept.others other second stood second-lives) in
+    older_joined seat.words second.words board.words (kept.others number seat there lives)
+    (kept.others other second stood second_lives) in
     record {
       coded = kept.coded;
       first =
-          set_else (set board.views number both) other 0 spent (λ is. apart-second (sym is))
-          ∙ set_else board.views number 0 both (λ is. apart-first (sym is)) ∙ kept.first;
-      others = λ at found where-found alive.
+          set_else (set board.views number both) other 0 spent (λ is. apart_second (sym is))
+          ∙ set_else board.views number 0 both (λ is. apart_first (sym is)) ∙ kept.first;
+      others = λ at found where_found alive.
           ⊎_elim
           (λ told. absurd (true≢false (ap (λ (one : Remembered). one.spent) told.1 ∙ alive)))
           (λ told.
@@ -143,5 +143,5 @@ joins number other seat second apart-first apart-second lives second-lives board
           (λ joined. let Older : Remembered → Type 0 = λ one. AreOlder one.words board.words in
           subst Older joined.1 older)
           (λ apart. kept.others at found apart.1 alive) (at_set board.views number at both found told.1))
-          (at_set (set board.views number both) other at spent found where-found);
+          (at_set (set board.views number both) other at spent found where_found);
     }

@@ -12,64 +12,64 @@ use Rattle.mtp_codes.specs.Codes.{state_codes, state_of}
 use Rattle.pol_board.specs.Words.{code_of, word_of, number_of, state_at, IsWord, IsOlder, AreOlder, newer, newer_words}
 
 -- a code leaves the number alone
-pub code-small : (state : Option State) → code_of state < 262144
-code-small None = omega arith
-code-small (Some Stopped) = omega arith
-code-small (Some Starting) = omega arith
-code-small (Some Idle) = omega arith
-code-small (Some Paused) = omega arith
-code-small (Some Execute) = omega arith
-code-small (Some Stopping) = omega arith
-code-small (Some Aborting) = omega arith
-code-small (Some Aborted) = omega arith
-code-small (Some Holding) = omega arith
-code-small (Some Held) = omega arith
-code-small (Some Unholding) = omega arith
-code-small (Some Pausing) = omega arith
-code-small (Some Resuming) = omega arith
-code-small (Some Resetting) = omega arith
-code-small (Some Completing) = omega arith
-code-small (Some Completed) = omega arith
+pub code_small : (state : Option State) → code_of state < 262144
+code_small None = omega arith
+code_small (Some Stopped) = omega arith
+code_small (Some Starting) = omega arith
+code_small (Some Idle) = omega arith
+code_small (Some Paused) = omega arith
+code_small (Some Execute) = omega arith
+code_small (Some Stopping) = omega arith
+code_small (Some Aborting) = omega arith
+code_small (Some Aborted) = omega arith
+code_small (Some Holding) = omega arith
+code_small (Some Held) = omega arith
+code_small (Some Unholding) = omega arith
+code_small (Some Pausing) = omega arith
+code_small (Some Resuming) = omega arith
+code_small (Some Resetting) = omega arith
+code_small (Some Completing) = omega arith
+code_small (Some Completed) = omega arith
 
 -- a word says the number that it was made of
-pub number-said : (number : ℕ) (state : Option State) → number_of (word_of number state) ≡ number
-number-said number state = div-mul-add number 262144 (code_of state) (code-small state)
+pub number_said : (number : ℕ) (state : Option State) → number_of (word_of number state) ≡ number
+number_said number state = div-mul-add number 262144 (code_of state) (code_small state)
 
 -- a code says the state that it was made of
-code-said : (state : Option State) → state_of (code_of state) state_codes ≡ state
-code-said None = refl
-code-said (Some Stopped) = refl
-code-said (Some Starting) = refl
-code-said (Some Idle) = refl
-code-said (Some Paused) = refl
-code-said (Some Execute) = refl
-code-said (Some Stopping) = refl
-code-said (Some Aborting) = refl
-code-said (Some Aborted) = refl
-code-said (Some Holding) = refl
-code-said (Some Held) = refl
-code-said (Some Unholding) = refl
-code-said (Some Pausing) = refl
-code-said (Some Resuming) = refl
-code-said (Some Resetting) = refl
-code-said (Some Completing) = refl
-code-said (Some Completed) = refl
+code_said : (state : Option State) → state_of (code_of state) state_codes ≡ state
+code_said None = refl
+code_said (Some Stopped) = refl
+code_said (Some Starting) = refl
+code_said (Some Idle) = refl
+code_said (Some Paused) = refl
+code_said (Some Execute) = refl
+code_said (Some Stopping) = refl
+code_said (Some Aborting) = refl
+code_said (Some Aborted) = refl
+code_said (Some Holding) = refl
+code_said (Some Held) = refl
+code_said (Some Unholding) = refl
+code_said (Some Pausing) = refl
+code_said (Some Resuming) = refl
+code_said (Some Resetting) = refl
+code_said (Some Completing) = refl
+code_said (Some Completed) = refl
 
 -- a word that says some number and state is made of the two that it says
-pub word-again : (word : ℕ) → IsWord word → word_of (number_of word) (state_at word) ≡ word
-word-again word (number, state, is) =
-    let said-state : state_at word ≡ state =
+pub word_again : (word : ℕ) → IsWord word → word_of (number_of word) (state_at word) ≡ word
+word_again word (number, state, is) =
+    let said_state : state_at word ≡ state =
     ap state_at is ∙ ap (λ code. state_of code state_codes) (mod-mul-add number 262144 (code_of state)
-    (code-small state))
-    ∙ code-said state in
-    ap (λ of. word_of of (state_at word)) (ap number_of is ∙ number-said number state)
-    ∙ ap (word_of number) said-state ∙ sym is
+    (code_small state))
+    ∙ code_said state in
+    ap (λ of. word_of of (state_at word)) (ap number_of is ∙ number_said number state)
+    ∙ ap (word_of number) said_state ∙ sym is
 
 -- after a write at one place a read finds what was written there, and elsewhere what stood there
-pub found-after : (words : List ℕ) (written place word : ℕ)
+pub found_after : (words : List ℕ) (written place word : ℕ)
     → ((place ≡ written) × (written < length words) × (slice_index (slice_set words written word) place ≡ word))
     ⊎ (slice_index (slice_set words written word) place ≡ slice_index words place)
-found-after words written place word =
+found_after words written place word =
     ⊎_elim
     (λ told.
     let same : place ≡ written = told.1 in
@@ -87,76 +87,76 @@ found-after words written place word =
     (λ told. inr (get_or-set_other words written place word 0 told.1)) (eqb_tells place written)
 
 -- words are no newer than themselves
-pub older-same : (words : List ℕ) → AreOlder words words
-older-same words = (refl, λ place. inl refl)
+pub older_same : (words : List ℕ) → AreOlder words words
+older_same words = (refl, λ place. inl refl)
 
 -- one place is remembered as it is now
-pub older-read : (old words : List ℕ) (read : ℕ) → AreOlder old words
+pub older_read : (old words : List ℕ) (read : ℕ) → AreOlder old words
     → AreOlder (slice_set old read (slice_index words read)) words
-older-read old words read older = (
+older_read old words read older = (
   length-set old read (slice_index words read) ∙ older.0,
   λ place.
       ⊎_elim (λ told. inl (told.2 ∙ ap (λ at. slice_index words at) (sym told.0)))
       (λ same. let Older : ℕ → Type 0 = λ word. IsOlder word (slice_index words place) in
       subst Older (sym same) (older.1 place))
-      (found-after old read place (slice_index words read)),
+      (found_after old read place (slice_index words read)),
 )
 
 -- what is older than a word is older than each word with a higher number
-older-than : (old word next : ℕ) → IsOlder old word → number_of word < number_of next → IsOlder old next
-older-than old word next older less =
+older_than : (old word next : ℕ) → IsOlder old word → number_of word < number_of next → IsOlder old next
+older_than old word next older less =
     ⊎_elim (λ same. let Less : ℕ → Type 0 = λ of. number_of of < number_of next in inr (subst Less (sym same) less))
     (λ lower. inr (omega (arith, lower, less))) older
 
 -- one place got a word with a higher number
-pub older-written : (old words : List ℕ) (written next : ℕ)
+pub older_written : (old words : List ℕ) (written next : ℕ)
     → AreOlder old words → number_of (slice_index words written) < number_of next
     → AreOlder old (slice_set words written next)
-older-written old words written next older less = (
+older_written old words written next older less = (
   older.0 ∙ sym (length-set words written next),
   λ place.
       let Older : ℕ → Type 0 = λ word. IsOlder (slice_index old place) word in
       ⊎_elim
       (λ told.
       let Less : ℕ → Type 0 = λ at. number_of (slice_index words at) < number_of next in
-      subst Older (sym told.2) (older-than (slice_index old place) (slice_index words place) next (older.1 place)
+      subst Older (sym told.2) (older_than (slice_index old place) (slice_index words place) next (older.1 place)
       (subst Less (sym told.0) less)))
-      (λ same. subst Older (sym same) (older.1 place)) (found-after words written place next),
+      (λ same. subst Older (sym same) (older.1 place)) (found_after words written place next),
 )
 
 -- of two words that are older than a third, so is the newer
-older-newer : (word other now : ℕ) → IsOlder word now → IsOlder other now → IsOlder (newer word other) now
-older-newer word other now first second =
+older_newer : (word other now : ℕ) → IsOlder word now → IsOlder other now → IsOlder (newer word other) now
+older_newer word other now first second =
     elim (nat_lt (number_of word) (number_of other)) as (λ lower. IsOlder (if lower then other else word) now) [
       | true ↦ second
       | false ↦ first
     ]
 
 -- place by place
-older-places : (words others now : List ℕ)
+older_places : (words others now : List ℕ)
     → ((place : ℕ) → IsOlder (slice_index words place) (slice_index now place))
     → ((place : ℕ) → IsOlder (slice_index others place) (slice_index now place))
     → length words ≡ length others → (place : ℕ) → IsOlder (slice_index (newer_words words others) place)
     (slice_index now place)
-older-places [] others now first second same place = first place
-older-places (word ∷ words) [] now first second same place = first place
-older-places (word ∷ words) (other ∷ others) [] first second same zero = older-newer word other 0 (first 0) (second 0)
-older-places (word ∷ words) (other ∷ others) [] first second same (suc place) =
-    older-places words others [] (λ at. first (suc at)) (λ at. second (suc at)) (omega (arith, same)) place
-older-places (word ∷ words) (other ∷ others) (at ∷ now) first second same zero =
-    older-newer word other at (first 0) (second 0)
-older-places (word ∷ words) (other ∷ others) (at ∷ now) first second same (suc place) =
-    older-places words others now (λ at. first (suc at)) (λ at. second (suc at)) (omega (arith, same)) place
+older_places [] others now first second same place = first place
+older_places (word ∷ words) [] now first second same place = first place
+older_places (word ∷ words) (other ∷ others) [] first second same zero = older_newer word other 0 (first 0) (second 0)
+older_places (word ∷ words) (other ∷ others) [] first second same (suc place) =
+    older_places words others [] (λ at. first (suc at)) (λ at. second (suc at)) (omega (arith, same)) place
+older_places (word ∷ words) (other ∷ others) (at ∷ now) first second same zero =
+    older_newer word other at (first 0) (second 0)
+older_places (word ∷ words) (other ∷ others) (at ∷ now) first second same (suc place) =
+    older_places words others now (λ at. first (suc at)) (λ at. second (suc at)) (omega (arith, same)) place
 
 -- the newer of two lists of words is as long as the first
-length-newer : (words others : List ℕ) → length words ≡ length others → length (newer_words words others) ≡ length words
-length-newer [] others same = refl
-length-newer (word ∷ words) [] same = refl
-length-newer (word ∷ words) (other ∷ others) same = ap suc (length-newer words others (omega (arith, same)))
+length_newer : (words others : List ℕ) → length words ≡ length others → length (newer_words words others) ≡ length words
+length_newer [] others same = refl
+length_newer (word ∷ words) [] same = refl
+length_newer (word ∷ words) (other ∷ others) same = ap suc (length_newer words others (omega (arith, same)))
 
 -- what two lists of older words say together is older too
-pub older-joined : (words others now : List ℕ) → AreOlder words now → AreOlder others now
+pub older_joined : (words others now : List ℕ) → AreOlder words now → AreOlder others now
     → AreOlder (newer_words words others) now
-older-joined words others now first second =
+older_joined words others now first second =
     let same : length words ≡ length others = first.0 ∙ sym second.0 in
-    (length-newer words others same ∙ first.0, older-places words others now first.1 second.1 same)
+    (length_newer words others same ∙ first.0, older_places words others now first.1 second.1 same)

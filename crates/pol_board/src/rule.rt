@@ -1,4 +1,5 @@
-//! The rule of the board: what holds of its words and of all that its seats remember, and the kinds of step that keep it.
+//! The rule of the board: what holds of its words and of all that its seats remember, and the kinds of step that keep
+//! it.
 use atomic_table::{Play, Split, TableRule};
 
 /// What a seat remembers of the words: each as it saw it last or was told of it. A seat that was joined to another is
@@ -10,7 +11,8 @@ pub struct Remembered {
     pub words: [u64; 0],
 }
 
-/// The publisher, seat 0, remembers the words as they are; each other seat remembers each word as it is or an older one.
+/// The publisher, seat 0, remembers the words as they are; each other seat remembers each word as it is or an older
+/// one.
 pub struct BoardRule;
 
 impl TableRule<u8, Remembered, u64> for BoardRule {

@@ -5,7 +5,7 @@ use Rattle.std.proofs.lemmas.List.{length-reverse}
 use Rattle.std.specs.List.{AllByRecursion, fold, list_all}
 use Rattle.std.specs.Prelude.{filter, Option, None, Some, nat_lt}
 use Rattle.serde_json.specs.Written.{compact_text}
-use Rattle.pol_events.specs.Events.{EntryForm}
+use Rattle.pol_events.specs.Events.{PlainEntry}
 use Rattle.pol_events.specs.Lines.{is_blank_byte}
 use Rattle.pol_events.specs.Orderly.{is_orderly}
 use Rattle.pol_history.specs.Looking.{History}
@@ -20,7 +20,7 @@ use Rattle.pol_audit.specs.Truth.{GoodIsTrue, spelled}
 use Rattle.pol_audit.specs.Verdict.{entries_of, verdict_of}
 use Rattle.pol_audit.proofs.Orderly.{all_turned}
 use Rattle.pol_audit.proofs.Reading.{read_to_verdict}
-use Rattle.pol_conduct.specs.Sound.{HistoriesAreSound, EntriesAreRight}
+use Rattle.pol_safety.specs.Sound.{HistoriesAreSound, EntriesAreRight}
 use Rattle.pol_removal.specs.Removal.{RemovalOfEvents}
 use Rattle.pol_site.specs.Texts.{is_filled}
 use Rattle.pol_cli.specs.Audits.{AuditTheorem, after_audited, audit_of, audit_work, audited, events_of, line_read, lines_read}
@@ -61,16 +61,16 @@ no_verdict_written held found = none_written held (verdict_text found) (some_ver
 
 -- ---- all lines
 
-no-replies : (read : Read) (parts : List (List ℕ)) → replies audit_work read parts ≡ []
-no-replies read [] = refl
-no-replies read (piece ∷ parts) = no-replies (after_audited read (line_of piece)) parts
+no_replies : (read : Read) (parts : List (List ℕ)) → replies audit_work read parts ≡ []
+no_replies read [] = refl
+no_replies read (piece ∷ parts) = no_replies (after_audited read (line_of piece)) parts
 
 -- what is kept of all lines is what is kept of those that aren't blank
-kept-of-filled : (read : Read) (parts : List (List ℕ)) →
+kept_of_filled : (read : Read) (parts : List (List ℕ)) →
     after_all audit_work read parts ≡ fold after_line read (map line_read (filter is_filled (map line_of parts)))
 unfolding after_audited
-kept-of-filled read [] = refl
-kept-of-filled read (piece ∷ parts) = by_line (is_filled (line_of piece)) (λ later. kept-of-filled later parts)
+kept_of_filled read [] = refl
+kept_of_filled read (piece ∷ parts) = by_line (is_filled (line_of piece)) (λ later. kept_of_filled later parts)
   where
     by_line : (filled : Bool) → ((later : Read) → after_all audit_work later parts
         ≡ fold after_line later (map line_read (filter is_filled (map line_of parts)))) →
@@ -80,27 +80,27 @@ kept-of-filled read (piece ∷ parts) = by_line (is_filled (line_of piece)) (λ 
     by_line true rest = rest (after_line read (line_read (line_of piece)))
     by_line false rest = rest read
 
-closed-with : (bytes : List ℕ) → verdict_after (after_all audit_work nothing_read (pieces bytes)) ≡ audit_of bytes
-closed-with bytes = ap verdict_after (kept-of-filled nothing_read (pieces bytes)) ∙ read_to_verdict (lines_read bytes)
+closed_with : (bytes : List ℕ) → verdict_after (after_all audit_work nothing_read (pieces bytes)) ≡ audit_of bytes
+closed_with bytes = ap verdict_after (kept_of_filled nothing_read (pieces bytes)) ∙ read_to_verdict (lines_read bytes)
 
 -- the output of an audit that has read nothing is the line of the verdict
 pub audit_output : output_by audit_work nothing_read ≡ audited
 audit_output =
     λ i. record {
-      of_lines = λ bytes. no-replies nothing_read (pieces bytes) i;
-      of_input = λ bytes. no-replies nothing_read (pieces bytes) i ++ verdict_text (closed-with bytes i);
+      of_lines = λ bytes. no_replies nothing_read (pieces bytes) i;
+      of_input = λ bytes. no_replies nothing_read (pieces bytes) i ++ verdict_text (closed_with bytes i);
     }
 
 -- ---- what follows from a good verdict
 
 -- the events of orderly entries are orderly, in whichever order they stand
-each-orderly : (entries : List EntryForm) → IsOrderly entries → AreOrderly (map (λ entry. entry.event) entries)
-each-orderly [] orderly = tt
-each-orderly (entry ∷ entries) orderly = (orderly.0, each-orderly entries orderly.1)
+each_orderly : (entries : List PlainEntry) → IsOrderly entries → AreOrderly (map (λ entry. entry.event) entries)
+each_orderly [] orderly = tt
+each_orderly (entry ∷ entries) orderly = (orderly.0, each_orderly entries orderly.1)
 
-events-orderly : (history : History) → IsOrderly history → AreOrderly (events_of history)
-events-orderly history orderly =
-    each-orderly (reverse history) (all_turned (λ entry. is_orderly entry.event ≡ true) history orderly)
+events_orderly : (history : History) → IsOrderly history → AreOrderly (events_of history)
+events_orderly history orderly =
+    each_orderly (reverse history) (all_turned (λ entry. is_orderly entry.event ≡ true) history orderly)
 
 -- where the verdict is good, what holds of all legal histories of orderly events holds of the history
 pub audit_theorem : HistoriesAreSound → EntriesAreRight → RemovalOfEvents → GoodIsTrue → (bytes : List ℕ) →
@@ -115,7 +115,7 @@ audit_theorem sound right removal good bytes count is =
             (legal_before later (entry ∷ earlier) (subst IsLegal (sym cut) true_history.legal))
             (orderly_before later (entry ∷ earlier) (subst IsOrderly (sym cut) true_history.orderly)).1;
         removal = λ tags. removal tags (events_of (spelled (lines_read bytes)))
-            (events-orderly (spelled (lines_read bytes)) true_history.orderly);
+            (events_orderly (spelled (lines_read bytes)) true_history.orderly);
       },
       length-reverse (entries_of (lines_read bytes)) ∙ true_history.counted,
     )

@@ -12,8 +12,8 @@ use Rattle.pol_cli.specs.Moments.{Leaves}
 use Rattle.pol_cli.specs.Statuses.{status_of}
 use Rattle.pol_cli.specs.Tasks.{TaskEnds, demonstrated, no_input}
 use Rattle.pol_cli.specs.Written.{WritesPart}
-use Rattle.pol_words.specs.declared.SerialTask.{SerialTask}
-use Rattle.pol_words.specs.declared.SerialTask.TheVariants.{Replay, Demo, Audit}
+use Rattle.pol_arguments.specs.declared.SerialTask.{SerialTask}
+use Rattle.pol_arguments.specs.declared.SerialTask.TheVariants.{Replay, Demo, Audit}
 use Rattle.pol_demo.specs.Summary.{demo_output}
 use Rattle.std.specs.Io.KnownBytes.{Appends}
 use Rattle.pol_cli.specs.declared.job_fault.JobFault.{JobFault}
@@ -28,21 +28,21 @@ neither one other no_one no_other (inl is) = absurd (no_one is)
 neither one other no_one no_other (inr is) = absurd (no_other is)
 
 -- a fact of all bytes holds of those that are told
-if-told : (P : List ℕ → Type 0) (told : Option (List ℕ)) → ((bytes : List ℕ) → P bytes) → IfSome told P
-if-told P None every = tt
-if-told P (Some bytes) every = every bytes
+if_told : (P : List ℕ → Type 0) (told : Option (List ℕ)) → ((bytes : List ℕ) → P bytes) → IfSome told P
+if_told P None every = tt
+if_told P (Some bytes) every = every bytes
 
 -- good, or no memory: what is asked of a call in which nothing failed
-good-completes : (source source' sink sink' : Edge) → Completes source source' sink sink' status.Good
-good-completes source source' sink sink' unread unwritten = if-told _ source.bytes (λ bytes fits. inl refl)
+good_completes : (source source' sink sink' : Edge) → Completes source source' sink sink' status.Good
+good_completes source source' sink sink' unread unwritten = if_told _ source.bytes (λ bytes fits. inl refl)
 
-memory-completes : (source source' sink sink' : Edge) → Completes source source' sink sink' status.OutOfMemory
-memory-completes source source' sink sink' unread unwritten = if-told _ source.bytes (λ bytes fits. inr refl)
+memory_completes : (source source' sink sink' : Edge) → Completes source source' sink sink' status.OutOfMemory
+memory_completes source source' sink sink' unread unwritten = if_told _ source.bytes (λ bytes fits. inr refl)
 
 -- an input that has too much doesn't fit
-much-completes : (source source' sink sink' : Edge) → IsTooMuch source.bytes →
+much_completes : (source source' sink sink' : Edge) → IsTooMuch source.bytes →
     Completes source source' sink sink' status.TooMuchInput
-much-completes source source' sink sink' much unread unwritten = too_long source.bytes much
+much_completes source source' sink sink' much unread unwritten = too_long source.bytes much
   where
     too_long : (told : Option (List ℕ)) → IsTooMuch told →
         IfSome told (λ bytes. length bytes ≤ LONGEST_INPUT → (status.TooMuchInput ≡ status.Good) ⊎
@@ -67,11 +67,11 @@ bad_words_ends output source sink = record {
 }
 
 -- there was no memory, and a part was written
-memory-ends : (output : Output) (source source' sink sink' : Edge) →
+memory_ends : (output : Output) (source source' sink sink' : Edge) →
     Between (LeavesPart output sink.bytes sink'.bytes) source.bytes source'.bytes →
     source'.faults ≡ source.faults → sink'.faults ≡ sink.faults →
     Ends output source source' sink sink' status.OutOfMemory
-memory-ends output source source' sink sink' leaves read wrote = record {
+memory_ends output source source' sink sink' leaves read wrote = record {
   good = λ is. cc;
   taken = λ is. cc;
   taken_and_more = λ is. cc;
@@ -82,14 +82,14 @@ memory-ends output source source' sink sink' leaves read wrote = record {
   written_well = λ is. wrote;
   too_much = λ is. cc;
   fits = λ is. cc;
-  complete = λ no_words. memory-completes source source' sink sink';
+  complete = λ no_words. memory_completes source source' sink sink';
 }
 
 -- there was no memory to begin
 pub no_memory_ends : (output : Output) → output.of_lines [] ≡ [] → (source sink : Edge) →
     Ends output source source sink sink status.OutOfMemory
 no_memory_ends output none source sink =
-    memory-ends output source source sink sink (nothing_leaves output none sink.bytes source.bytes) refl refl
+    memory_ends output source source sink sink (nothing_leaves output none sink.bytes source.bytes) refl refl
 
 -- what is known of the lines is known of the job
 pub work_ends : (output : Output) (source source' sink sink' : Edge) (result : Result (Unit {0}) JobFault) →
@@ -109,7 +109,7 @@ work_ends output source source' sink sink' (Ok value) writes leaves fits much re
   written_well = λ is. wrote.done;
   too_much = λ is. cc;
   fits = λ is. fits;
-  complete = λ no_words. good-completes source source' sink sink';
+  complete = λ no_words. good_completes source source' sink sink';
 }
 work_ends output source source' sink sink' (Err Read) writes leaves fits much read wrote = record {
   good = λ is. cc;
@@ -138,7 +138,7 @@ work_ends output source source' sink sink' (Err Write) writes leaves fits much r
   complete = λ no_words unread unwritten. absurd (unwritten (wrote.failed refl));
 }
 work_ends output source source' sink sink' (Err Memory) writes leaves fits much read wrote =
-    memory-ends output source source' sink sink' leaves (read.other (λ same. cc)) (wrote.other (λ same. cc))
+    memory_ends output source source' sink sink' leaves (read.other (λ same. cc)) (wrote.other (λ same. cc))
 work_ends output source source' sink sink' (Err TooMuch) writes leaves fits much read wrote = record {
   good = λ is. cc;
   taken = λ is. cc;
@@ -150,22 +150,23 @@ work_ends output source source' sink sink' (Err TooMuch) writes leaves fits much
   written_well = λ is. wrote.other (λ same. cc);
   too_much = λ is. much refl;
   fits = λ is. cc;
-  complete = λ no_words. much-completes source source' sink sink' (much refl);
+  complete = λ no_words. much_completes source source' sink sink' (much refl);
 }
 
 -- a part of the line of a demo was written
-part-leaves : (seed : ℕ) (held held' : Option (List ℕ)) (fault : JobFault) → WritesPart held held' (demo_output seed) →
+demo_part_leaves : (seed : ℕ) (held held' : Option (List ℕ)) (fault : JobFault)
+    → WritesPart held held' (demo_output seed) →
     (fault ≢ Read) × (fault ≢ TooMuch) →
     Between (Leaves (demonstrated seed) fault held held') (Some []) (Some [])
-part-leaves seed held held' fault part only =
+demo_part_leaves seed held held' fault part only =
     part_leaves (demonstrated seed) fault held held' (Some []) (Some []) only.0 only.1
     (inr (record { read = refl; some = part.some; proper = λ _. part.proper }))
 
 -- a fault of the sink, or want of memory, is none of the source
-no-cause : (result : Result (Unit {0}) JobFault) → IfErr result (λ fault. (fault ≢ Read) × (fault ≢ TooMuch)) →
+no_cause : (result : Result (Unit {0}) JobFault) → IfErr result (λ fault. (fault ≢ Read) × (fault ≢ TooMuch)) →
     HasCauseOf Read 0 0 result
-no-cause (Ok done) only = record { later = omega arith; failed = tt; done = refl; other = tt }
-no-cause (Err fault) only = record {
+no_cause (Ok done) only = record { later = omega arith; failed = tt; done = refl; other = tt }
+no_cause (Err fault) only = record {
   later = omega arith;
   failed = λ is. absurd (only.0 is);
   done = tt;
@@ -180,11 +181,11 @@ pub demo_ends : (seed : ℕ) (sink sink' : Edge) (result : Result (Unit {0}) Job
     Ends (demonstrated seed) no_input no_input sink sink' (status_of result)
 demo_ends seed sink sink' (Ok done) writes part only wrote =
     work_ends (demonstrated seed) no_input no_input sink sink' (Ok done) (record { read = refl; written = writes }) tt
-    (omega arith) tt (no-cause (Ok done) tt) wrote
+    (omega arith) tt (no_cause (Ok done) tt) wrote
 demo_ends seed sink sink' (Err fault) writes part only wrote =
     work_ends (demonstrated seed) no_input no_input sink sink' (Err fault) tt
-    (part-leaves seed sink.bytes sink'.bytes fault part only) tt (λ is. absurd (only.1 is))
-    (no-cause (Err fault) only) wrote
+    (demo_part_leaves seed sink.bytes sink'.bytes fault part only) tt (λ is. absurd (only.1 is))
+    (no_cause (Err fault) only) wrote
 
 -- there was no memory to begin a task
 pub unbegun_ends : (task : SerialTask) (source sink : Edge) → TaskEnds task source source sink sink status.OutOfMemory

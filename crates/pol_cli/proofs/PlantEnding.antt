@@ -2,7 +2,7 @@
 use Rattle.std.proofs.Common.{ℕ, ◌≡◌, ◌≤◌, List, [], ap, refl, sym, subst, inl, inr, arith, length}
 use Rattle.std.specs.Prelude.{Option, Some, None, Result, Ok, Err, IfErr, IfSome, OnOk, ◌⊎◌, ◌≢◌}
 use Rattle.std.specs.Io.KnownBytes.{Keeps}
-use Rattle.mtp_json.specs.Reading.{Reading}
+use Rattle.mtp_json.specs.ReadResult.{ReadResult}
 use Rattle.mtp_json.specs.declared.fault.FaultKind.{FaultKind}
 use Rattle.mtp_json.specs.declared.fault.JsonFault.{JsonFault}
 use Rattle.mtp_json.specs.declared.path.PathPart.{PathPart}
@@ -10,8 +10,8 @@ use Rattle.pol_io.specs.Causes.{HasCauseOf, Rose}
 use Rattle.pol_io.specs.Edge.{Edge}
 use Rattle.pol_io.specs.Known.{Between}
 use Rattle.pol_io.specs.declared.limits.TheConstants.{LONGEST_INPUT}
-use Rattle.pol_io.proofs.Known.{Keeps-refl}
-use Rattle.pol_site.specs.Sites.{SiteForm}
+use Rattle.pol_io.proofs.Known.{Keeps_refl}
+use Rattle.pol_site.specs.Sites.{PlainSite}
 use Rattle.pol_site.specs.Texts.{site_of}
 use Rattle.pol_cli.specs.Ends.{Fits, IsTooMuch}
 use Rattle.pol_cli.specs.SiteRuns.{IsDue, LeavesRun, PlantEnds, PutsPart, PutsRun, WritesRunPart}
@@ -29,36 +29,36 @@ Completes source source' sink sink' ended =
     → IfSome source.bytes (λ bytes. length bytes ≤ LONGEST_INPUT → IsDue (site_of bytes) ended)
 
 -- want of memory is always allowed
-memory-due : (said : Reading SiteForm) → IsDue said status.OutOfMemory
-memory-due (Ok site) = inr refl
-memory-due (Err fault) = inr refl
+memory_due : (said : ReadResult PlainSite) → IsDue said status.OutOfMemory
+memory_due (Ok site) = inr refl
+memory_due (Err fault) = inr refl
 
 -- the status is due where it is by what the text was read to say
-due-said : (begin left : Option (List ℕ)) (said : Reading SiteForm) (ended : Status) →
+due_said : (begin left : Option (List ℕ)) (said : ReadResult PlainSite) (ended : Status) →
     Between (Says said) begin left → IsDue said ended →
     IfSome begin (λ bytes. length bytes ≤ LONGEST_INPUT → IsDue (site_of bytes) ended)
-due-said None left said ended says due = tt
-due-said (Some bytes) None said ended says due = absurd says
-due-said (Some bytes) (Some left) said ended says due = λ fits. subst (λ said. IsDue said ended) (sym says.text) due
+due_said None left said ended says due = tt
+due_said (Some bytes) None said ended says due = absurd says
+due_said (Some bytes) (Some left) said ended says due = λ fits. subst (λ said. IsDue said ended) (sym says.text) due
 
 -- an input that has too much doesn't fit
-much-due : (begin : Option (List ℕ)) (ended : Status) → IsTooMuch begin →
+much_due : (begin : Option (List ℕ)) (ended : Status) → IsTooMuch begin →
     IfSome begin (λ bytes. length bytes ≤ LONGEST_INPUT → IsDue (site_of bytes) ended)
-much-due None ended much = tt
-much-due (Some bytes) ended much = λ fits. absurd (omega arith)
+much_due None ended much = tt
+much_due (Some bytes) ended much = λ fits. absurd (omega arith)
 
 -- whatever the text says, there may have been no memory
-unread-due : (begin : Option (List ℕ)) →
+unread_due : (begin : Option (List ℕ)) →
     IfSome begin (λ bytes. length bytes ≤ LONGEST_INPUT → IsDue (site_of bytes) status.OutOfMemory)
-unread-due None = tt
-unread-due (Some bytes) = λ fits. memory-due (site_of bytes)
+unread_due None = tt
+unread_due (Some bytes) = λ fits. memory_due (site_of bytes)
 
 -- there was no memory to begin
 pub unbegun_plant : (source sink : Edge) → PlantEnds source source sink sink status.OutOfMemory
 unbegun_plant source sink = record {
   good = λ is. cc;
   part = λ is. cc;
-  memory = λ is. inl (Keeps-refl sink.bytes);
+  memory = λ is. inl (Keeps_refl sink.bytes);
   bad_site = λ path fault is. cc;
   read_fault = λ is. cc;
   read_well = λ is. refl;
@@ -66,7 +66,7 @@ unbegun_plant source sink = record {
   written_well = λ is. refl;
   too_much = λ is. cc;
   fits = λ unfailed some. absurd (some refl);
-  complete = λ unread unwritten. unread-due source.bytes;
+  complete = λ unread unwritten. unread_due source.bytes;
 }
 
 -- the input was not read to its end
@@ -91,7 +91,7 @@ unread_ends source source' sink Write much read only = absurd (only refl)
 unread_ends source source' sink Memory much read only = record {
   good = λ is. cc;
   part = λ is. cc;
-  memory = λ is. inl (Keeps-refl sink.bytes);
+  memory = λ is. inl (Keeps_refl sink.bytes);
   bad_site = λ path fault is. cc;
   read_fault = λ is. cc;
   read_well = λ is. read.other (λ same. cc);
@@ -99,7 +99,7 @@ unread_ends source source' sink Memory much read only = record {
   written_well = λ is. refl;
   too_much = λ is. cc;
   fits = λ unfailed some. absurd (some refl);
-  complete = λ unread unwritten. unread-due source.bytes;
+  complete = λ unread unwritten. unread_due source.bytes;
 }
 unread_ends source source' sink TooMuch much read only = record {
   good = λ is. cc;
@@ -112,17 +112,17 @@ unread_ends source source' sink TooMuch much read only = record {
   written_well = λ is. refl;
   too_much = λ is. much refl;
   fits = λ unfailed some few. absurd (few refl);
-  complete = λ unread unwritten. much-due source.bytes status.TooMuchInput (much refl);
+  complete = λ unread unwritten. much_due source.bytes status.TooMuchInput (much refl);
 }
 
 -- the path and the fault that a status tells
-abbrev path-in : Status → List PathPart
-path-in (status.BadSite path fault) = path
-path-in _ = []
+abbrev path_in : Status → List PathPart
+path_in (status.BadSite path fault) = path
+path_in _ = []
 
-abbrev kind-in : FaultKind → Status → FaultKind
-kind-in other (status.BadSite path fault) = fault
-kind-in other _ = other
+abbrev kind_in : FaultKind → Status → FaultKind
+kind_in other (status.BadSite path fault) = fault
+kind_in other _ = other
 
 -- the input is at fault
 pub faulty_ends : (source source' sink : Edge) (fault : JsonFault) →
@@ -135,7 +135,7 @@ faulty_ends source source' sink fault says fits read = record {
   memory = λ is. cc;
   bad_site = λ path kind is.
       let whole : fault ≡ record { kind = kind; path = path } =
-      (λ i. record { kind = ap (kind-in fault.kind) is i; path = ap path-in is i }) in
+      (λ i. record { kind = ap (kind_in fault.kind) is i; path = ap path_in is i }) in
       subst (λ told. Between (Says (Err told)) source.bytes source'.bytes) whole says;
   read_fault = λ is. cc;
   read_well = λ is. read;
@@ -144,11 +144,11 @@ faulty_ends source source' sink fault says fits read = record {
   too_much = λ is. cc;
   fits = λ unfailed some few. fits;
   complete = λ unread unwritten.
-      due-said source.bytes source'.bytes (Err fault) (status.BadSite fault.path fault.kind) says (inl refl);
+      due_said source.bytes source'.bytes (Err fault) (status.BadSite fault.path fault.kind) says (inl refl);
 }
 
 -- the input says a site, and this came of its run
-pub run_ends : (site : SiteForm) (source source' sink sink' : Edge) (result : Result (Unit {0}) JobFault) →
+pub run_ends : (site : PlainSite) (source source' sink sink' : Edge) (result : Result (Unit {0}) JobFault) →
     Between (Says (Ok site)) source.bytes source'.bytes →
     Fits source.bytes → source'.faults ≡ source.faults →
     OnOk result (PutsRun site sink.bytes sink'.bytes) →
@@ -165,7 +165,7 @@ run_ends site source source' sink sink' (Ok done) says fits read puts leaves wro
   written_well = λ is. wrote.done;
   too_much = λ is. cc;
   fits = λ unfailed some few. fits;
-  complete = λ unread unwritten. due-said source.bytes source'.bytes (Ok site) status.Good says (inl refl);
+  complete = λ unread unwritten. due_said source.bytes source'.bytes (Ok site) status.Good says (inl refl);
 }
 run_ends site source source' sink sink' (Err Read) says fits read puts leaves wrote = absurd leaves
 run_ends site source source' sink sink' (Err TooMuch) says fits read puts leaves wrote = absurd leaves
@@ -193,7 +193,7 @@ run_ends site source source' sink sink' (Err Memory) says fits read puts leaves 
   written_well = λ is. wrote.other (λ same. cc);
   too_much = λ is. cc;
   fits = λ unfailed some few. fits;
-  complete = λ unread unwritten. unread-due source.bytes;
+  complete = λ unread unwritten. unread_due source.bytes;
 }
   where
     some_or_none : Keeps sink.bytes sink'.bytes ⊎ PutsPart site sink.bytes sink'.bytes →

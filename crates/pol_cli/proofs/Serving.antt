@@ -6,13 +6,13 @@ use Rattle.std.specs.Io.KnownBytes.{Appends, IsAtEnd}
 use Rattle.pol_io.specs.Faults.{Stops}
 use Rattle.pol_io.specs.Known.{Between, Counts, joined}
 use Rattle.pol_io.specs.Pieces.{pieces, line_of, is_whole, has_no_feed, IsFirstLine, Passes, PassesMore}
-use Rattle.pol_io.specs.Reading.{ahead}
+use Rattle.pol_io.specs.LinesState.{ahead}
 use Rattle.pol_io.specs.declared.limits.TheConstants.{LONGEST_INPUT}
 use Rattle.pol_io.specs.declared.lines.IoFault.{IoFault}
 use Rattle.pol_io.specs.declared.lines.IoFault.TheVariants as io_fault
 use Rattle.pol_io.proofs.FirstLines.{done_none, done_next, done_whole, pieces_next}
-use Rattle.pol_io.proofs.Known.{Appends-trans, Appends-none, Keeps-refl, between_both, between_trans, between_weaker, counts_kept, counts_trans}
-use Rattle.pol_io.proofs.Pieces.{pieces-append, whole-append}
+use Rattle.pol_io.proofs.Known.{Appends_trans, Appends_none, Keeps_refl, between_both, between_trans, between_weaker, counts_kept, counts_trans}
+use Rattle.pol_io.proofs.Pieces.{pieces_append, whole_append}
 use Rattle.pol_cli.specs.Ends.{Fits, IsTooMuch, LeavesPart, Takes, Writes, WritesLess, WritesTaken, WritesTakenPart}
 use Rattle.pol_cli.specs.LineWork.{LineWork, Output, replies, after_all, output_by}
 use Rattle.pol_cli.specs.Moments.{Moment, Moves, IsFresh, IsNext, IsServed, Leaves, Replied, Replies, Served, fault_of}
@@ -24,10 +24,10 @@ use Rattle.pol_cli.proofs.Written.{nothing_written, some_behind, some_of_more}
 -- ---- bytes that are taken
 
 -- of some bytes and those left the former are taken: whole lines, and then a part of a line
-takes-front : (bytes left : List ℕ) → Takes (bytes ++ left) left
-takes-front [] left = record { whole = []; part = []; cut = refl; whole_lines = refl; no_feed = refl }
-takes-front (byte ∷ bytes) left =
-    let rest = takes-front bytes left in
+takes_front : (bytes left : List ℕ) → Takes (bytes ++ left) left
+takes_front [] left = record { whole = []; part = []; cut = refl; whole_lines = refl; no_feed = refl }
+takes_front (byte ∷ bytes) left =
+    let rest = takes_front bytes left in
     one_more rest.whole rest.part rest.cut rest.whole_lines rest.no_feed (byte == 10) refl
   where
     one_more : (whole part : List ℕ) → bytes ++ left ≡ whole ++ part ++ left → IsTrue (is_whole whole) →
@@ -59,9 +59,9 @@ takes-front (byte ∷ bytes) left =
         }
 
 -- where a byte more than an input may have was taken, as many as it may have stand before the last
-full-length : (bytes taken left : List ℕ) (last : ℕ) → bytes ≡ taken ++ (last ∷ left) → Counts 0 268435457 bytes left →
+full_length : (bytes taken left : List ℕ) (last : ℕ) → bytes ≡ taken ++ (last ∷ left) → Counts 0 268435457 bytes left →
     length taken ≡ LONGEST_INPUT
-full-length bytes taken left last cut counted = let sum = ap length cut ∙ length-append taken (last ∷ left) in
+full_length bytes taken left last cut counted = let sum = ap length cut ∙ length-append taken (last ∷ left) in
     omega (arith, sum, counted)
 
 -- ---- moments
@@ -69,7 +69,7 @@ full-length bytes taken left last cut counted = let sum = ap length cut ∙ leng
 -- nothing moved yet
 pub moves_none : {State : Type 0} (first : Moment State) → IsFresh first.lines → Moves first first
 moves_none first fresh = record {
-  counted = counts_kept first.left first.left first.lines.taken (Keeps-refl first.left);
+  counted = counts_kept first.left first.left first.lines.taken (Keeps_refl first.left);
   limit = rw fresh.taken (omega arith);
   spent = λ ended. fresh.waiting;
   at_end = λ ended early. early ended;
@@ -113,11 +113,11 @@ fits_in_limit first last fresh moves ended =
         omega arith
 
 -- one byte more was counted than an input may have
-much-counted : {State : Type 0} (first now : Moment State) (left : Option (List ℕ)) → IsFresh first.lines →
+much_counted : {State : Type 0} (first now : Moment State) (left : Option (List ℕ)) → IsFresh first.lines →
     Moves first now →
     Stops now.lines.taken (ahead now.lines now.left) now.left left io_fault.TooMuch →
     Between (Counts 0 268435457) first.left left
-much-counted first now left fresh moves stops =
+much_counted first now left fresh moves stops =
     counts_trans first.left now.left left 0 now.lines.taken 268435457 (rw fresh.taken at moves.counted)
     (rw (stops.too_much refl).0 at stops.counted)
 
@@ -128,7 +128,7 @@ pub too_much_counted : {State : Type 0} (first now : Moment State) (left : Optio
     IsTooMuch first.left
 too_much_counted first now left io_fault.Read fresh moves stops is = cc
 too_much_counted first now left io_fault.TooMuch fresh moves stops is = over first.left left
-    (much-counted first now left fresh moves stops)
+    (much_counted first now left fresh moves stops)
   where
     over : (start left : Option (List ℕ)) → Between (Counts 0 268435457) start left → IsTooMuch start
     over None left counted = tt
@@ -159,20 +159,20 @@ nothing_leaves output none held (Some bytes) = inl (record {
 
 module _ {State : Type 0} (work : LineWork State) where
   -- the replies to some lines and to more of them
-  replies-append : (state : State) (done more : List (List ℕ)) →
+  replies_append : (state : State) (done more : List (List ℕ)) →
       replies work state (done ++ more) ≡ replies work state done ++ replies work (after_all work state done) more
-  replies-append state [] more = refl
-  replies-append state (piece ∷ done) more =
-      ap (λ text. work.reply state (line_of piece) ++ text) (replies-append
+  replies_append state [] more = refl
+  replies_append state (piece ∷ done) more =
+      ap (λ text. work.reply state (line_of piece) ++ text) (replies_append
       (work.after state (line_of piece)) done more)
       ∙ sym (append_assoc (work.reply state (line_of piece)) (replies work (work.after state (line_of piece)) done)
       (replies work (after_all work (work.after state (line_of piece)) done) more))
 
   -- what the job knows after them
-  after-append : (state : State) (done more : List (List ℕ)) →
+  after_append : (state : State) (done more : List (List ℕ)) →
       after_all work state (done ++ more) ≡ after_all work (after_all work state done) more
-  after-append state [] more = refl
-  after-append state (piece ∷ done) more = after-append (work.after state (line_of piece)) done more
+  after_append state [] more = refl
+  after_append state (piece ∷ done) more = after_append (work.after state (line_of piece)) done more
 
 -- ---- a job that knew this at first
 
@@ -186,24 +186,24 @@ module _ {State : Type 0} (work : LineWork State) (start : State) where
   known done = after_all work start (pieces done)
 
   -- one more line
-  replied-next : (done piece : List ℕ) → pieces (done ++ piece) ≡ pieces done ++ piece ∷ [] →
+  replied_next : (done piece : List ℕ) → pieces (done ++ piece) ≡ pieces done ++ piece ∷ [] →
       replied (done ++ piece) ≡ replied done ++ work.reply (known done) (line_of piece)
-  replied-next done piece are =
-      ap (replies work start) are ∙ replies-append work start (pieces done) (piece ∷ [])
+  replied_next done piece are =
+      ap (replies work start) are ∙ replies_append work start (pieces done) (piece ∷ [])
       ∙ ap (λ text. replied done ++ text) (append-nil (work.reply (known done) (line_of piece)))
 
-  known-next : (done piece : List ℕ) → pieces (done ++ piece) ≡ pieces done ++ piece ∷ [] →
+  known_next : (done piece : List ℕ) → pieces (done ++ piece) ≡ pieces done ++ piece ∷ [] →
       known (done ++ piece) ≡ work.after (known done) (line_of piece)
-  known-next done piece are = ap (after_all work start) are ∙ after-append work start (pieces done) (piece ∷ [])
+  known_next done piece are = ap (after_all work start) are ∙ after_append work start (pieces done) (piece ∷ [])
 
   -- the reply to one more line
-  reply-next : (done piece : List ℕ) (state : State) (line : List ℕ) →
+  reply_next : (done piece : List ℕ) (state : State) (line : List ℕ) →
       pieces (done ++ piece) ≡ pieces done ++ piece ∷ [] →
       state ≡ known done → line ≡ line_of piece → replied done ++ work.reply state line ≡ replied (done ++ piece)
-  reply-next done piece state line are state_is line_is =
+  reply_next done piece state line are state_is line_is =
       ap (λ text. replied done ++ text) (ap (λ state. work.reply state line) state_is
       ∙ ap (work.reply (known done)) line_is)
-      ∙ sym (replied-next done piece are)
+      ∙ sym (replied_next done piece are)
 
   -- what closes the output is left out where it is shorter
   closes : (bytes more : List ℕ) → length (replied bytes) < length (replied bytes ++ work.closing (known bytes)) →
@@ -238,23 +238,23 @@ module _ {State : Type 0} (work : LineWork State) (start : State) where
       (Writes (output_by work start).of_input held held') begin left
       (λ bytes rest done. record {
         read = done.read;
-        written = Appends-trans held between held' (replied bytes) (work.closing (known bytes)) done.written
+        written = Appends_trans held between held' (replied bytes) (work.closing (known bytes)) done.written
             (rw done.state_is at appended);
       }) all
   ended_well (Err fault) held between held' begin left state all appended = tt
 
   -- or a part of it
-  end-broken : (held between held' begin left : Option (List ℕ)) (state : State) →
+  end_broken : (held between held' begin left : Option (List ℕ)) (state : State) →
       Between (Replied work start state held between) begin left →
       WritesPart between held' (work.closing state) → Between (LeavesPart (output_by work start) held held') begin left
-  end-broken held between held' begin left state all part =
+  end_broken held between held' begin left state all part =
       between_weaker (Replied work start state held between) (LeavesPart (output_by work start) held held') begin left
       (λ bytes rest done. inr (record {
         read = done.read;
         some = record {
           written = replied bytes ++ part.some.written;
           more = part.some.more;
-          appended = Appends-trans held between held' (replied bytes) part.some.written done.written part.some.appended;
+          appended = Appends_trans held between held' (replied bytes) part.some.written done.written part.some.appended;
           front = append_assoc (replied bytes) part.some.written part.some.more
               ∙ ap (λ text. replied bytes ++ text) (part.some.front ∙ ap work.closing done.state_is);
         };
@@ -271,7 +271,7 @@ module _ {State : Type 0} (work : LineWork State) (start : State) where
   end_stopped (Ok value) held between held' begin left state all part only = tt
   end_stopped (Err fault) held between held' begin left state all part only =
       part_leaves (output_by work start) fault held held' begin left only.0 only.1
-      (end-broken held between held' begin left state all part)
+      (end_broken held between held' begin left state all part)
 
   -- there was no memory to begin
   pub nothing_done : (fault : JobFault) (held begin : Option (List ℕ)) → fault ≡ Memory →
@@ -295,25 +295,25 @@ module _ {State : Type 0} (work : LineWork State) (first : Moment State) where
         done = [];
         so_far = done_none first.lines.ended bytes fresh.unended;
         state_is = refl;
-        appended = Appends-none held held (Keeps-refl held);
+        appended = Appends_none held held (Keeps_refl held);
       })
 
   -- the next line was replied to
-  served-next : (now next : Moment State) (held between held' : Option (List ℕ)) (bytes text rest line : List ℕ) →
+  served_next : (now next : Moment State) (held between held' : Option (List ℕ)) (bytes text rest line : List ℕ) →
       Served work first now held between bytes text → IsFirstLine next.lines.ended line text rest →
       Appends between held' (work.reply now.state line) → next.state ≡ work.after now.state line →
       Served work first next held held' bytes rest
-  served-next now next held between held' bytes text rest line served one appended after =
+  served_next now next held between held' bytes text rest line served one appended after =
       let are = pieces_next now.lines.ended next.lines.ended bytes served.done text line rest served.so_far one in
       record {
         done = served.done ++ one.piece;
         so_far = done_next now.lines.ended next.lines.ended bytes served.done text line rest served.so_far one;
         state_is = after ∙ (ap (λ state. work.after state line) served.state_is
             ∙ (ap (work.after (known work first.state served.done)) one.line_is
-            ∙ sym (known-next work first.state served.done one.piece are)));
-        appended = rw (← reply-next work first.state served.done one.piece now.state line are served.state_is
+            ∙ sym (known_next work first.state served.done one.piece are)));
+        appended = rw (← reply_next work first.state served.done one.piece now.state line are served.state_is
             one.line_is)
-            (Appends-trans held between held' (replied work first.state served.done)
+            (Appends_trans held between held' (replied work first.state served.done)
             (work.reply now.state line) served.appended appended);
       }
 
@@ -336,7 +336,7 @@ module _ {State : Type 0} (work : LineWork State) (first : Moment State) where
       known_bytes (Some bytes) (Some text) None made served replied ok appended = absurd replied
       known_bytes (Some bytes) (Some text) (Some rest) (Err error) served replied ok appended = cc
       known_bytes (Some bytes) (Some text) (Some rest) (Ok reply) served replied ok appended =
-          served-next now next held between held' bytes text rest replied.0 served replied.1
+          served_next now next held between held' bytes text rest replied.0 served replied.1
           (rw (← replied.2) appended) replied.3
 
   -- the input was read to its end
@@ -367,11 +367,11 @@ module _ {State : Type 0} (work : LineWork State) (first : Moment State) where
           }
 
   -- where the end was seen, a part of the output was written
-  stop-at_end : (now : Moment State) (held between held' : Option (List ℕ)) (bytes text line left : List ℕ) →
+  stop_at_end : (now : Moment State) (held between held' : Option (List ℕ)) (bytes text line left : List ℕ) →
       Served work first now held between bytes text → IsFirstLine true line text [] →
       WritesSome between held' (work.reply now.state line) →
       left ≡ [] → WritesLess (output_by work first.state) held held' bytes left
-  stop-at_end now held between held' bytes text line left served one some none =
+  stop_at_end now held between held' bytes text line left served one some none =
       let are = pieces_next now.lines.ended true bytes served.done text line [] served.so_far one in
       let all : bytes ≡ served.done ++ one.piece = served.so_far.cut
       ∙ ap (λ rest. served.done ++ rest) (one.cut ∙ append-nil one.piece) in
@@ -379,35 +379,35 @@ module _ {State : Type 0} (work : LineWork State) (first : Moment State) where
       (some_behind held between held' (replied work first.state served.done) (work.reply now.state line)
       (replied work first.state bytes)
       served.appended some
-      (reply-next work first.state served.done one.piece now.state line are served.state_is one.line_is
+      (reply_next work first.state served.done one.piece now.state line are served.state_is one.line_is
       ∙ ap (replied work first.state) (sym all)))
 
   -- where it wasn't, a front part of the replies to the lines whose line feed was taken
-  stop-within : (now : Moment State) (held between held' : Option (List ℕ)) (bytes text line waiting left : List ℕ) →
+  stop_within : (now : Moment State) (held between held' : Option (List ℕ)) (bytes text line waiting left : List ℕ) →
       Served work first now held between bytes text → IsFirstLine false line text (waiting ++ left) →
       WritesSome between held' (work.reply now.state line) →
       WritesTakenPart (output_by work first.state).of_lines held held' bytes left
-  stop-within now held between held' bytes text line waiting left served one some =
+  stop_within now held between held' bytes text line waiting left served one some =
       let are = pieces_next now.lines.ended false bytes served.done text line (waiting ++ left) served.so_far one in
       let next = done_next now.lines.ended false bytes served.done text line (waiting ++ left) served.so_far one in
       let lines = served.done ++ one.piece in
       let whole = done_whole bytes lines (waiting ++ left) false next refl in
-      let rest = takes-front waiting left in
+      let rest = takes_front waiting left in
       let later = replies work (known work first.state lines) (pieces rest.whole) in
       let front = some_behind held between held' (replied work first.state served.done) (work.reply now.state line)
       (replied work first.state lines)
-      served.appended some (reply-next work first.state served.done one.piece now.state line are served.state_is
+      served.appended some (reply_next work first.state served.done one.piece now.state line are served.state_is
       one.line_is) in
       record {
         takes = record {
           whole = lines ++ rest.whole;
           part = rest.part;
           cut = next.cut ∙ (ap (λ tail. lines ++ tail) rest.cut ∙ parts lines rest.whole rest.part left);
-          whole_lines = whole-append lines rest.whole whole rest.whole_lines;
+          whole_lines = whole_append lines rest.whole whole rest.whole_lines;
           no_feed = rest.no_feed;
         };
-        some = rw (ap (replies work first.state) (pieces-append lines rest.whole whole)
-            ∙ replies-append work first.state (pieces lines) (pieces rest.whole))
+        some = rw (ap (replies work first.state) (pieces_append lines rest.whole whole)
+            ∙ replies_append work first.state (pieces lines) (pieces rest.whole))
             (some_of_more held held' (replied work first.state lines) later front);
       }
     where
@@ -439,18 +439,18 @@ module _ {State : Type 0} (work : LineWork State) (first : Moment State) where
       known_bytes ended (Some bytes) None waiting left served replied counted spent at_end = absurd served
       known_bytes ended (Some bytes) (Some text) waiting None served replied counted spent at_end = absurd counted
       known_bytes true (Some bytes) (Some text) waiting (Some left) served replied counted spent at_end =
-          inr (stop-at_end now held between held' bytes text replied.0 left served (rw (spent refl) at replied.1)
+          inr (stop_at_end now held between held' bytes text replied.0 left served (rw (spent refl) at replied.1)
           (some (work.reply now.state replied.0) replied.2) (at_end refl))
       known_bytes false (Some bytes) (Some text) waiting (Some left) served replied counted spent at_end =
-          inl (stop-within now held between held' bytes text replied.0 waiting left served replied.1
+          inl (stop_within now held between held' bytes text replied.0 waiting left served replied.1
           (some (work.reply now.state replied.0) replied.2))
 
   -- the source failed, or gave too much, in the middle of a line
-  taken-exactly : (now : Moment State) (held held' : Option (List ℕ)) (bytes text left : List ℕ) →
+  taken_exactly : (now : Moment State) (held held' : Option (List ℕ)) (bytes text left : List ℕ) →
       Served work first now held held' bytes text →
       now.lines.ended ≡ false → Passes text left →
       WritesTaken (output_by work first.state).of_lines held held' bytes left
-  taken-exactly now held held' bytes text left served unended passes = record {
+  taken_exactly now held held' bytes text left served unended passes = record {
     takes = record {
       whole = served.done;
       part = passes.part;
@@ -470,7 +470,7 @@ module _ {State : Type 0} (work : LineWork State) (first : Moment State) where
   stopped_read now held held' left io_fault.Read fresh served moves unended stops =
       between_trans (Served work first now held held') Passes (Leaves (output_by work first.state) Read held held')
       first.left (ahead now.lines now.left) left
-      (λ bytes text after here passes. taken-exactly now held held' bytes text after here unended passes) served
+      (λ bytes text after here passes. taken_exactly now held held' bytes text after here unended passes) served
       (stops.read refl).1
   stopped_read now held held' left io_fault.TooMuch fresh served moves unended stops =
       let taken = between_trans (Served work first now held held') PassesMore
@@ -478,7 +478,7 @@ module _ {State : Type 0} (work : LineWork State) (first : Moment State) where
       first.left (ahead now.lines now.left) left
       (λ bytes text after here passes. (
         passes.last,
-        taken-exactly now held held' bytes text
+        taken_exactly now held held' bytes text
             (passes.last ∷ after) here unended passes.passes,
       ))
       served (stops.too_much refl).1 in
@@ -488,5 +488,5 @@ module _ {State : Type 0} (work : LineWork State) (first : Moment State) where
       (λ bytes after more counted. record {
         last = more.0;
         taken = more.1;
-        full = full-length bytes (more.1.takes.whole ++ more.1.takes.part) after more.0 more.1.takes.cut counted;
-      }) taken (much-counted first now left fresh moves stops)
+        full = full_length bytes (more.1.takes.whole ++ more.1.takes.part) after more.0 more.1.takes.cut counted;
+      }) taken (much_counted first now left fresh moves stops)

@@ -3,7 +3,7 @@ use Rattle.std.proofs.Common.{◌≡◌, ℕ, List, [], ◌∷◌, Bool, true, f
 use Rattle.std.proofs.lemmas.Bool.{lt-ltb}
 use Rattle.std.specs.List.{list_all}
 use Rattle.std.specs.Prelude.{Err, Ok, Option, filter, map, if◌then◌else◌}
-use Rattle.mtp_json.specs.Reading.{Reading, here}
+use Rattle.mtp_json.specs.ReadResult.{ReadResult, here}
 use Rattle.mtp_json.specs.declared.fault.FaultKind.TheVariants.{TooLong, Unknown}
 use Rattle.mtp_json.specs.declared.fault.JsonFault.{JsonFault}
 use Rattle.pol_events.specs.Lines.{is_blank_byte}
@@ -11,7 +11,7 @@ use Rattle.pol_io.specs.Known.{Between}
 use Rattle.pol_io.specs.Pieces.{pieces, line_of}
 use Rattle.pol_io.specs.declared.limits.TheConstants.{LONGEST_LINE}
 use Rattle.pol_io.proofs.Known.{between_weaker}
-use Rattle.pol_site.specs.Sites.{SiteForm}
+use Rattle.pol_site.specs.Sites.{PlainSite}
 use Rattle.pol_site.specs.Texts.{is_filled, site_among, site_of, site_on}
 use Rattle.pol_cli.specs.LineWork.{IsShort, IsTooLong, after_all}
 use Rattle.pol_cli.specs.Moments.{Replied}
@@ -21,7 +21,7 @@ use Rattle.pol_cli.proofs.Spoken.{in_limit}
 -- ---- one line
 
 -- a short line says what is read on it
-pub says_short : (line : List ℕ) (said : Reading SiteForm) → IsShort line → site_on line ≡ said →
+pub says_short : (line : List ℕ) (said : ReadResult PlainSite) → IsShort line → site_on line ≡ said →
     one said ≡ one (line_says line)
 unfolding line_says
 says_short line said short is = rw (in_limit line short, is) refl
@@ -53,10 +53,10 @@ after_too_long so_far next line long is = rw (lt-ltb LONGEST_LINE (length line) 
 -- ---- all lines
 
 -- of more lines than one nothing else is told
-more-stays : (parts : List (List ℕ)) → after_all site_work more parts ≡ more
+more_stays : (parts : List (List ℕ)) → after_all site_work more parts ≡ more
 unfolding after_line
-more-stays [] = refl
-more-stays (piece ∷ parts) = by_line (is_filled (line_of piece)) (more-stays parts)
+more_stays [] = refl
+more_stays (piece ∷ parts) = by_line (is_filled (line_of piece)) (more_stays parts)
   where
     by_line : (filled : Bool) → after_all site_work more parts ≡ more →
         after_all site_work (if filled then more else more) parts ≡ more
@@ -64,43 +64,43 @@ more-stays (piece ∷ parts) = by_line (is_filled (line_of piece)) (more-stays p
     by_line false rest = rest
 
 -- one line was told, and others come
-one-told : (line : List ℕ) (parts : List (List ℕ)) →
+one_told : (line : List ℕ) (parts : List (List ℕ)) →
     told (after_all site_work (one (line_says line)) parts)
     ≡ site_among (line ∷ filter is_filled (map line_of parts))
 unfolding after_line line_says
-one-told line [] = refl
-one-told line (piece ∷ parts) = by_line (is_filled (line_of piece)) (one-told line parts)
+one_told line [] = refl
+one_told line (piece ∷ parts) = by_line (is_filled (line_of piece)) (one_told line parts)
   where
     by_line : (filled : Bool) → told (after_all site_work (one (line_says line)) parts)
         ≡ site_among (line ∷ filter is_filled (map line_of parts)) →
         told (after_all site_work (if filled then more else one (line_says line)) parts)
         ≡ site_among (line ∷ (if filled then line_of piece ∷ filter is_filled (map line_of parts)
         else filter is_filled (map line_of parts)))
-    by_line true rest = ap told (more-stays parts)
+    by_line true rest = ap told (more_stays parts)
     by_line false rest = rest
 
 -- none was told, and others come
-none-told : (parts : List (List ℕ)) →
+none_told : (parts : List (List ℕ)) →
     told (after_all site_work none_yet parts) ≡ site_among (filter is_filled (map line_of parts))
 unfolding after_line
-none-told [] = refl
-none-told (piece ∷ parts) = by_line (is_filled (line_of piece)) (none-told parts)
+none_told [] = refl
+none_told (piece ∷ parts) = by_line (is_filled (line_of piece)) (none_told parts)
   where
     by_line : (filled : Bool) →
         told (after_all site_work none_yet parts) ≡ site_among (filter is_filled (map line_of parts)) →
         told (after_all site_work (if filled then one (line_says (line_of piece)) else none_yet) parts)
         ≡ site_among (if filled then line_of piece ∷ filter is_filled (map line_of parts)
         else filter is_filled (map line_of parts))
-    by_line true rest = one-told (line_of piece) parts
+    by_line true rest = one_told (line_of piece) parts
     by_line false rest = rest
 
 -- what is told of all lines is what the text says
 pub text_told : (bytes : List ℕ) → site_of bytes ≡ told (after_all site_work none_yet (pieces bytes))
 unfolding site_of
-text_told bytes = sym (none-told (pieces bytes))
+text_told bytes = sym (none_told (pieces bytes))
 
 -- so it is of an input whose lines were all read
-pub text_says : (now : Told) (held held' begin left : Option (List ℕ)) (said : Reading SiteForm) →
+pub text_says : (now : Told) (held held' begin left : Option (List ℕ)) (said : ReadResult PlainSite) →
     Between (Replied site_work none_yet now held held') begin left → said ≡ told now → Between (Says said) begin left
 text_says now held held' begin left said replied is =
     between_weaker (Replied site_work none_yet now held held') (Says said) begin left

@@ -1,6 +1,6 @@
 -- The audit of a history: the lines of an input, what is kept of them, the output, and what a good verdict says.
 use Rattle.std.specs.Prelude.{ℕ, ◌≡◌, List, [], ◌∷◌, ◌++◌, length, map, reverse, Some, None, if◌then◌else◌}
-use Rattle.pol_events.specs.Events.{EntryForm, EventForm}
+use Rattle.pol_events.specs.Events.{PlainEntry, PlainEvent}
 use Rattle.pol_history.specs.Looking.{History}
 use Rattle.pol_history.specs.Runs.{run_of}
 use Rattle.pol_record.specs.Verdicts.{verdict_text}
@@ -9,7 +9,7 @@ use Rattle.pol_record.specs.declared.verdicts.Verdict.TheVariants as verdict
 use Rattle.pol_audit.specs.Reading.{Read, after_line, nothing_read, verdict_after}
 use Rattle.pol_audit.specs.Truth.{spelled}
 use Rattle.pol_audit.specs.Verdict.{Line, verdict_of}
-use Rattle.pol_conduct.specs.Sound.{IsRight, IsSound}
+use Rattle.pol_safety.specs.Sound.{IsRight, IsSound}
 use Rattle.pol_removal.specs.Removal.{entries_without}
 use Rattle.pol_site.specs.Texts.{filled_lines, is_filled, is_long}
 use Rattle.pol_cli.specs.LineWork.{LineWork, Output}
@@ -50,14 +50,14 @@ audit_work =
 -- ---- what a good verdict says
 
 -- the events of a history, the oldest first
-abbrev pub events_of : History → List EventForm
+abbrev pub events_of : History → List PlainEvent
 events_of history = map (λ entry. entry.event) (reverse history)
 
 -- At each time the history was sound, each entry of it is right, and taking out the events that concern some modules
 -- takes out just their entries.
 pub record IsTrueRecord (history : History) : Type 0 where
   pub sound : (later earlier : History) → later ++ earlier ≡ history → IsSound earlier
-  pub right : (later earlier : History) (entry : EntryForm) → later ++ entry ∷ earlier ≡ history →
+  pub right : (later earlier : History) (entry : PlainEntry) → later ++ entry ∷ earlier ≡ history →
       IsRight earlier entry
   pub removal : (tags : List (List ℕ)) →
       run_of (map (λ entry. entry.event) (entries_without tags (events_of history)))

@@ -1,12 +1,12 @@
 -- What holds of the history that an input leaves: the journal theorem.
 use Rattle.std.specs.Prelude.{ℕ, ◌≡◌, ◌<◌, List, ◌∷◌, ◌++◌, length}
-use Rattle.pol_events.specs.Events.{EntryForm}
+use Rattle.pol_events.specs.Events.{PlainEntry}
 use Rattle.pol_history.specs.Looking.{History}
 use Rattle.pol_record.specs.Lines.{answers_of, history_of, output_of}
 use Rattle.pol_history.specs.Paths.{ReportsArePaths}
-use Rattle.pol_conduct.specs.Charts.{LogsFollowCharts}
-use Rattle.pol_conduct.specs.Permitted.{CommandsArePermitted}
-use Rattle.pol_conduct.specs.Sound.{EntriesAreRight, HistoriesAreSound, IsRight, IsSound}
+use Rattle.pol_safety.specs.Charts.{LogsFollowCharts}
+use Rattle.pol_safety.specs.Permitted.{CommandsArePermitted}
+use Rattle.pol_safety.specs.Sound.{EntriesAreRight, HistoriesAreSound, IsRight, IsSound}
 use Rattle.pol_removal.specs.Removal.{without, output_without}
 
 -- while the input was answered, the history was this at some time
@@ -17,7 +17,7 @@ Was bytes history = (later : History) × (later ++ history ≡ history_of bytes)
 -- taking out the lines of some modules takes out just their output lines, and the output goes on behind the answers.
 pub record JournalTheorem (bytes : List ℕ) : Type 0 where
   pub sound : (history : History) → Was bytes history → IsSound history
-  pub right : (history : History) (entry : EntryForm) → Was bytes (entry ∷ history) → IsRight history entry
+  pub right : (history : History) (entry : PlainEntry) → Was bytes (entry ∷ history) → IsRight history entry
   pub removal : (tags : List (List ℕ)) → output_of (without tags bytes) ≡ output_without tags bytes
   pub longer : length (answers_of bytes) < length (output_of bytes)
 

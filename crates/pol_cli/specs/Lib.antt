@@ -3,7 +3,7 @@ pub mod Written
 pub mod Ends
 pub mod Journal
 pub mod Statuses
-pub mod Sayings
+pub mod Meanings
 pub mod Replay
 pub mod Tasks
 pub mod BatchLines

@@ -4,7 +4,7 @@ use Rattle.std.specs.declared.alloc.AllocError.{AllocError}
 use Rattle.std.specs.declared.alloc.Global.{Global}
 use Rattle.std.specs.Io.KnownBytes.{Appends, IsAtEnd}
 use Rattle.pol_io.specs.Known.{Between, Counts}
-use Rattle.pol_io.specs.Reading.{Reading, ahead, given}
+use Rattle.pol_io.specs.LinesState.{LinesState, ahead, given}
 use Rattle.pol_io.specs.Pieces.{pieces, IsFirstLine, IsDone}
 use Rattle.pol_io.specs.declared.limits.TheConstants.{LONGEST_INPUT}
 use Rattle.pol_io.specs.declared.lines.IoFault.{IoFault}
@@ -17,15 +17,15 @@ use Rattle.pol_cli.specs.declared.job_fault.JobFault.TheVariants.{Read, Write, M
 -- a job between two lines: what it knows, how far the lines are read, and what the source has left
 pub record Moment (State : Type 0) : Type 0 where
   pub state : State
-  pub lines : Reading
+  pub lines : LinesState
   pub left : Option (List ℕ)
 
 -- these three together
-abbrev pub moment : {State : Type 0} → State → Reading → Option (List ℕ) → Moment State
+abbrev pub moment : {State : Type 0} → State → LinesState → Option (List ℕ) → Moment State
 moment state lines left = record { state = state; lines = lines; left = left }
 
 -- nothing was read yet
-pub record IsFresh (lines : Reading) : Type 0 where
+pub record IsFresh (lines : LinesState) : Type 0 where
   pub waiting : lines.waiting ≡ []
   pub taken : lines.taken ≡ 0
   pub unended : lines.ended ≡ false

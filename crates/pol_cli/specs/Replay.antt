@@ -1,21 +1,21 @@
 -- The replay of a journal: its plant, its work and its output.
-use Rattle.pol_events.specs.Events.{history_view}
+use Rattle.pol_events.specs.Events.{plain_history}
 use Rattle.pol_history.specs.Looking.{History}
-use Rattle.pol_record.specs.Lines.{saying_of, answers_of, output_of, closing_text}
+use Rattle.pol_record.specs.Lines.{meaning_of, answers_of, output_of, closing_text}
 use Rattle.pol_core.specs.Plants.{PlainPlant}
 use Rattle.pol_cli.specs.LineWork.{LineWork, Output}
-use Rattle.pol_cli.specs.Sayings.{reply_text, after_saying}
+use Rattle.pol_cli.specs.Meanings.{reply_text, after_meaning}
 
 -- the history of a plant, by what contracts see of it
 abbrev pub plant_history : PlainPlant → History
-plant_history plant = history_view plant.entries
+plant_history plant = plain_history plant.entries
 
 -- what a replay does with each line, and at the end
 abbrev pub replay_work : LineWork History
 replay_work =
     record {
-      reply = λ history line. reply_text history (saying_of line);
-      after = λ history line. after_saying history (saying_of line);
+      reply = λ history line. reply_text history (meaning_of line);
+      after = λ history line. after_meaning history (meaning_of line);
       closing = closing_text;
     }
 

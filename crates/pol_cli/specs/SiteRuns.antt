@@ -2,14 +2,14 @@
 use Rattle.std.specs.Prelude.{ℕ, ◌≡◌, ◌≢◌, ◌≤◌, ◌++◌, ◌⊎◌, List, length, reverse, Option, IfSome, Ok, Err}
 use Rattle.std.specs.List.{AllByRecursion, flat_map}
 use Rattle.std.specs.Io.KnownBytes.{Appends, Keeps}
-use Rattle.mtp_json.specs.Reading.{Reading}
+use Rattle.mtp_json.specs.ReadResult.{ReadResult}
 use Rattle.mtp_json.specs.declared.fault.FaultKind.{FaultKind}
 use Rattle.mtp_json.specs.declared.path.PathPart.{PathPart}
 use Rattle.pol_io.specs.Causes.{Rose}
 use Rattle.pol_io.specs.Edge.{Edge}
 use Rattle.pol_io.specs.Known.{Between}
 use Rattle.pol_io.specs.declared.limits.TheConstants.{LONGEST_INPUT}
-use Rattle.pol_events.specs.Events.{EntryForm, entry_view}
+use Rattle.pol_events.specs.Events.{PlainEntry, plain_entry}
 use Rattle.pol_events.specs.declared.event.Entry.{Entry}
 use Rattle.pol_history.specs.Looking.{History}
 use Rattle.pol_history.specs.Runs.{IsLegal, IsOrderly}
@@ -18,7 +18,7 @@ use Rattle.pol_record.specs.Texts.{IsReadBack, entry_line_text}
 use Rattle.pol_site.specs.Commanded.{IsCommanded}
 use Rattle.pol_site.specs.Following.{FollowsSite}
 use Rattle.pol_site.specs.Settled.{IsSettled}
-use Rattle.pol_site.specs.Sites.{SiteForm}
+use Rattle.pol_site.specs.Sites.{PlainSite}
 use Rattle.pol_site.specs.Texts.{site_of}
 use Rattle.pol_cli.specs.Ends.{Fits, IsTooMuch}
 use Rattle.pol_cli.specs.SiteTexts.{Says}
@@ -32,7 +32,7 @@ use Rattle.pol_cli.specs.declared.status.Status.TheVariants.{Good, BadWords, Rea
 
 -- the history is one that a run of the site leaves: each answer is the defined one, each entry is one that the site
 -- allows, each change has its command, and no actor has anything left to do, or the history is full
-pub record IsRunOf (site : SiteForm) (history : History) : Type 0 where
+pub record IsRunOf (site : PlainSite) (history : History) : Type 0 where
   pub legal : IsLegal history
   pub orderly : IsOrderly history
   pub follows : FollowsSite site history
@@ -41,7 +41,7 @@ pub record IsRunOf (site : SiteForm) (history : History) : Type 0 where
 
 -- the lines of these entries
 abbrev pub entry_lines : List Entry → List ℕ
-entry_lines entries = flat_map (λ entry. entry_line_text (entry_view entry)) entries
+entry_lines entries = flat_map (λ entry. entry_line_text (plain_entry entry)) entries
 
 -- the lines of the entries of a history, the oldest first
 abbrev pub entries_text : History → List ℕ
@@ -52,24 +52,24 @@ abbrev pub run_text : History → List ℕ
 run_text history = entries_text history ++ closing_text history
 
 -- each of these entries' events is read back from what is written of it
-abbrev pub AreReadBack : List EntryForm → Type 0
+abbrev pub AreReadBack : List PlainEntry → Type 0
 AreReadBack entries = AllByRecursion IsReadBack entries
 
 -- all that a run of the site is to write was written, and the events of its entries are read back from it
-pub record PutsRun (site : SiteForm) (held held' : Option (List ℕ)) : Type 0 where
+pub record PutsRun (site : PlainSite) (held held' : Option (List ℕ)) : Type 0 where
   pub history : History
   pub is_run : IsRunOf site history
   pub written : Appends held held' (run_text history)
   pub read_back : AreReadBack history
 
 -- a proper front part of it was
-pub record PutsPart (site : SiteForm) (held held' : Option (List ℕ)) : Type 0 where
+pub record PutsPart (site : PlainSite) (held held' : Option (List ℕ)) : Type 0 where
   pub history : History
   pub is_run : IsRunOf site history
   pub part : WritesPart held held' (run_text history)
 
 -- what was written where a fault ended the run, or the writing of it
-abbrev pub LeavesRun : SiteForm → Option (List ℕ) → Option (List ℕ) → JobFault → Type 0
+abbrev pub LeavesRun : PlainSite → Option (List ℕ) → Option (List ℕ) → JobFault → Type 0
 LeavesRun site held held' Read = ⊥
 LeavesRun site held held' Write = PutsPart site held held'
 LeavesRun site held held' Memory = Keeps held held' ⊎ PutsPart site held held'
@@ -77,13 +77,13 @@ LeavesRun site held held' TooMuch = ⊥
 
 -- the input was read to its end and says a site, and all of a run of it was written
 pub record WritesRun (begin left held held' : Option (List ℕ)) : Type 0 where
-  pub site : SiteForm
+  pub site : PlainSite
   pub says : Between (Says (Ok site)) begin left
   pub puts : PutsRun site held held'
 
 -- or a proper front part
 pub record WritesRunPart (begin left held held' : Option (List ℕ)) : Type 0 where
-  pub site : SiteForm
+  pub site : PlainSite
   pub says : Between (Says (Ok site)) begin left
   pub puts : PutsPart site held held'
 
@@ -104,9 +104,9 @@ abbrev pub TellsOfSite : Status → Type 0
 TellsOfSite (BadSite path fault) = Unit {0}
 TellsOfSite _ = ⊥
 
--- the status where nothing failed, by what the text says: a site is run to its end, and a fault is told, unless there was
--- no memory
-abbrev pub IsDue : Reading SiteForm → Status → Type 0
+-- the status where nothing failed, by what the text says: a site is run to its end, and a fault is told, unless there
+-- was no memory
+abbrev pub IsDue : ReadResult PlainSite → Status → Type 0
 IsDue (Ok site) status = (status ≡ Good) ⊎ (status ≡ OutOfMemory)
 IsDue (Err fault) status = (status ≡ BadSite fault.path fault.kind) ⊎ (status ≡ OutOfMemory)
 

@@ -1,8 +1,8 @@
 -- How a task ended.
 use Rattle.std.specs.Prelude.{ℕ, [], Some}
 use Rattle.pol_io.specs.Edge.{Edge}
-use Rattle.pol_words.specs.declared.SerialTask.{SerialTask}
-use Rattle.pol_words.specs.declared.SerialTask.TheVariants.{Replay, Demo, Audit}
+use Rattle.pol_arguments.specs.declared.SerialTask.{SerialTask}
+use Rattle.pol_arguments.specs.declared.SerialTask.TheVariants.{Replay, Demo, Audit}
 use Rattle.pol_demo.specs.Summary.{demo_output}
 use Rattle.pol_cli.specs.Audits.{audited}
 use Rattle.pol_cli.specs.Ends.{Ends, edge}

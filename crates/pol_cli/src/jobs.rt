@@ -9,9 +9,9 @@ ghost use Rattle.pol_cli.specs.Tasks.{TaskEnds};
 mod auditing;
 mod closing;
 mod demo;
+mod meaning;
 mod plant;
 mod replay;
-mod saying;
 mod site_text;
 
 use crate::journal::{audits_are_sound, journals_are_sound};
@@ -20,8 +20,8 @@ use crate::status::Status;
 use auditing::audit;
 use demo::demonstrate;
 pub use plant::live;
+use pol_arguments::SerialTask;
 use pol_io::{Sink, Source};
-use pol_words::SerialTask;
 use replay::Replay;
 use std::alloc::Global;
 

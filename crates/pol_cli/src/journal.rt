@@ -4,9 +4,9 @@ ghost use Rattle.pol_cli.specs.Audits.{AuditTheorem};
 ghost use Rattle.pol_cli.specs.Journal.{JournalTheorem, Laws};
 
 use pol_audit::good_verdicts_are_true;
-use pol_conduct::{commands_are_permitted, histories_are_sound, logs_follow_charts};
 use pol_history::reports_are_paths;
 use pol_removal::{removal_of_events, removal_of_lines};
+use pol_safety::{commands_are_permitted, histories_are_sound, logs_follow_charts};
 
 /// Whatever the input, the journal theorem holds of it; and so do the laws of all legal histories.
 pub fn journals_are_sound()

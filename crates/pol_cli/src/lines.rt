@@ -3,7 +3,7 @@ ghost use Rattle.std.specs.Prelude.{◌≡◌, ◌≢◌, ℕ, List, false, IsTr
 ghost use Rattle.std.specs.Io.KnownBytes.{Appends};
 ghost use Rattle.pol_io.specs.Known.{Between};
 ghost use Rattle.pol_io.specs.Faults.{Stops};
-ghost use Rattle.pol_io.specs.Reading.{ahead};
+ghost use Rattle.pol_io.specs.LinesState.{ahead};
 ghost use Rattle.pol_io.specs.Causes.{HasCauseOf};
 ghost use Rattle.pol_cli.specs.LineWork.{output_by};
 ghost use Rattle.pol_cli.specs.Written.{WritesSome};

@@ -1,9 +1,9 @@
 //! From words to a status: what the program does.
 ghost use Rattle.std.specs.Prelude.{◌≡◌, ◌≢◌, ◌⊎◌, ℕ, List};
-ghost use Rattle.pol_words.specs.Words.{Means, texts_of};
-ghost use Rattle.pol_words.specs.declared.LiveTask.{LiveTask};
-ghost use Rattle.pol_words.specs.declared.SerialTask.{SerialTask};
-ghost use Rattle.pol_words.specs.declared.Task.{Task};
+ghost use Rattle.pol_arguments.specs.Words.{Means, texts_of};
+ghost use Rattle.pol_arguments.specs.declared.LiveTask.{LiveTask};
+ghost use Rattle.pol_arguments.specs.declared.SerialTask.{SerialTask};
+ghost use Rattle.pol_arguments.specs.declared.Task.{Task};
 ghost use Rattle.pol_cli.specs.Audits.{AuditTheorem};
 ghost use Rattle.pol_cli.specs.Ends.{edge};
 ghost use Rattle.pol_cli.specs.Journal.{JournalTheorem, Laws};
@@ -13,9 +13,9 @@ ghost use Rattle.pol_cli.specs.Tasks.{TaskEnds};
 use crate::jobs::{live, serve};
 use crate::journal::{audits_are_sound, journals_are_sound};
 use crate::status::Status;
+use pol_arguments::{Task, WordFault, read_words};
 use pol_io::{Clock, Sink, Source};
 use pol_live::Gate;
-use pol_words::{Task, WordFault, read_words};
 use std::alloc::Global;
 use std::sync::Wait;
 use std::thread::Threads;

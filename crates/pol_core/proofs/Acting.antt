@@ -3,8 +3,8 @@ use Rattle.std.proofs.Common.{◌≡◌, ℕ, List, [], Option, Some, None, refl
 use Rattle.std.specs.Prelude.{option_map, option_and_then}
 use Rattle.std.specs.Map.{lookup}
 use Rattle.std.specs.Str.{bytes_eq}
-use Rattle.chart_core.specs.Charts.{plan}
-use Rattle.chart_core.specs.Trees.{StepPlan}
+use Rattle.chart_core.specs.Charts.{plain_chart}
+use Rattle.chart_core.specs.Trees.{PlainStep}
 use Rattle.chart_core.specs.declared.entry.LogEntry.{LogEntry}
 use Rattle.chart_cursor.specs.Logs.{active}
 use Rattle.pol_events.specs.Bound.{step_on}
@@ -14,59 +14,59 @@ use Rattle.pol_history.specs.Batches.{Started, chart_by, log_by}
 use Rattle.pol_history.specs.Looking.{History, past_of_batch, recipes}
 use Rattle.pol_history.specs.Rules.{active_step_on, active_step}
 use Rattle.pol_slots.specs.declared.slot.Slot.{Slot}
-use Rattle.pol_table.specs.Berths as tables
-use Rattle.pol_table.specs.Berths.{Berths}
+use Rattle.pol_table.specs.Rows as tables
+use Rattle.pol_table.specs.Rows.{Rows}
 use Rattle.pol_runs.specs.Logs.{Follows}
 use Rattle.pol_runs.specs.Runs.{PlainRun}
 use Rattle.pol_core.specs.Batches.{RunKeeps, IsRun, RunsMirror}
 use Rattle.pol_core.specs.Seats.{SeatsMirror}
-use Rattle.pol_core.proofs.Unfit.{holder-same}
+use Rattle.pol_core.proofs.Unfit.{holder_same}
 
 -- a module that no batch holds
-pub no-holder-acts : (history : History) (tag : List ℕ) (berths : Berths Slot) → SeatsMirror berths history →
-    tables.holder_of tag berths ≡ None → None ≡ active_step history tag
-no-holder-acts history tag berths mirror is =
+pub no_holder_acts : (history : History) (tag : List ℕ) (rows : Rows Slot) → SeatsMirror rows history →
+    tables.holder_of tag rows ≡ None → None ≡ active_step history tag
+no_holder_acts history tag rows mirror is =
     sym (ap (option_and_then (λ batch. active_step_on (recipes history) tag batch (past_of_batch batch history)))
-    (sym (holder-same berths history tag mirror) ∙ is))
+    (sym (holder_same rows history tag mirror) ∙ is))
 
 -- the holder's past decides
-held-acts : (history : History) (tag batch : List ℕ) (berths : Berths Slot) → SeatsMirror berths history →
-    tables.holder_of tag berths ≡ Some batch →
+held_acts : (history : History) (tag batch : List ℕ) (rows : Rows Slot) → SeatsMirror rows history →
+    tables.holder_of tag rows ≡ Some batch →
     active_step history tag ≡ active_step_on (recipes history) tag batch (past_of_batch batch history)
-held-acts history tag batch berths mirror is =
+held_acts history tag batch rows mirror is =
     ap (option_and_then (λ batch. active_step_on (recipes history) tag batch (past_of_batch batch history)))
-    (sym (holder-same berths history tag mirror) ∙ is)
+    (sym (holder_same rows history tag mirror) ∙ is)
 
 -- a holder without a run
-pub no-run-acts : (history : History) (tag batch : List ℕ) (berths : Berths Slot)
-    (runs : List (List ℕ × PlainRun)) → SeatsMirror berths history → RunsMirror runs history →
-    tables.holder_of tag berths ≡ Some batch → lookup (bytes_eq batch) runs ≡ None → None ≡ active_step history tag
-no-run-acts history tag batch berths runs mirror batches is gone =
+pub no_run_acts : (history : History) (tag batch : List ℕ) (rows : Rows Slot)
+    (runs : List (List ℕ × PlainRun)) → SeatsMirror rows history → RunsMirror runs history →
+    tables.holder_of tag rows ≡ Some batch → lookup (bytes_eq batch) runs ≡ None → None ≡ active_step history tag
+no_run_acts history tag batch rows runs mirror batches is gone =
     let none : past_of_batch batch history ≡ [] =
     subst (λ found. IsRun batch found (past_of_batch batch history) (recipes history)) gone (batches batch) in
-    sym (held-acts history tag batch berths mirror is ∙ ap (active_step_on (recipes history) tag batch) none)
+    sym (held_acts history tag batch rows mirror is ∙ ap (active_step_on (recipes history) tag batch) none)
 
 -- the rule names the step
-mapped : (batch : List ℕ) (found : Option StepPlan) →
+mapped : (batch : List ℕ) (found : Option PlainStep) →
     option_map (λ step. ActiveStep batch step.name) found ≡ option_map (ActiveStep batch)
     (option_map (λ step. step.name) found)
 mapped batch None = refl
 mapped batch (Some step) = refl
 
 -- the first active step of the holder's run on the module
-pub run-acts : (history : History) (tag batch : List ℕ) (berths : Berths Slot) (runs : List (List ℕ × PlainRun))
+pub run_acts : (history : History) (tag batch : List ℕ) (rows : Rows Slot) (runs : List (List ℕ × PlainRun))
     (run : PlainRun) (step : Option (List ℕ)) →
-    SeatsMirror berths history → RunsMirror runs history → tables.holder_of tag berths ≡ Some batch →
+    SeatsMirror rows history → RunsMirror runs history → tables.holder_of tag rows ≡ Some batch →
     lookup (bytes_eq batch) runs ≡ Some run →
     ((log : List LogEntry) → Follows run log → step ≡ option_map (λ step. step.name)
-    (step_on run.binds tag (active (plan run.chart) log))) →
+    (step_on run.binds tag (active (plain_chart run.chart) log))) →
     option_map (ActiveStep batch) step ≡ active_step history tag
-run-acts history tag batch berths runs run step mirror batches is found says =
+run_acts history tag batch rows runs run step mirror batches is found says =
     let keeps : RunKeeps batch run (past_of_batch batch history) (recipes history)
     = subst (λ found. IsRun batch found (past_of_batch batch history) (recipes history)) found (batches batch) in
     ap (option_map (ActiveStep batch)) (says (log_by (past_of_batch batch history)) keeps.follows)
-    ∙ sym (mapped batch (step_on run.binds tag (active (plan run.chart) (log_by (past_of_batch batch history)))))
-    ∙ sym (held-acts history tag batch berths mirror is
+    ∙ sym (mapped batch (step_on run.binds tag (active (plain_chart run.chart) (log_by (past_of_batch batch history)))))
+    ∙ sym (held_acts history tag batch rows mirror is
     ∙ ap (λ found. option_and_then (by_chart found) found) keeps.started
     ∙ ap (option_and_then (λ chart. option_map (λ step. ActiveStep batch step.name)
     (step_on run.binds tag (active chart (log_by (past_of_batch batch history)))))) keeps.charted)

@@ -5,10 +5,10 @@ use Rattle.std.specs.Map.{lookup}
 use Rattle.std.specs.Option.{option_map}
 use Rattle.std.specs.Str.{bytes_eq}
 use Rattle.mtp_codes.specs.declared.cover.CoverFault.{CoverFault}
-use Rattle.mtp_desc.specs.Plain.{DescriptionForm}
+use Rattle.mtp_desc.specs.Plain.{PlainDescription}
 use Rattle.mtp_procs.specs.Covers.{cover_fault, missing_by}
-use Rattle.chart_core.specs.Charts.{plan}
-use Rattle.chart_core.specs.Roles.{ChartPlan}
+use Rattle.chart_core.specs.Charts.{plain_chart}
+use Rattle.chart_core.specs.Roles.{PlainChart}
 use Rattle.pol_events.specs.Bound.{bound_role}
 use Rattle.pol_events.specs.Events.{exchange_end}
 use Rattle.pol_events.specs.declared.answer.Answer.TheVariants.{Done}
@@ -19,107 +19,110 @@ use Rattle.pol_history.specs.Looking.{History, past, past_of_batch, recipes}
 use Rattle.pol_history.specs.Modules.{dockings_by}
 use Rattle.pol_history.specs.Rules.{uncovered_by, held_back}
 use Rattle.pol_history.proofs.Accepted.{paired}
-use Rattle.pol_history.proofs.Names.{same-true}
+use Rattle.pol_history.proofs.Names.{same_true}
 use Rattle.pol_slots.specs.Slots.{slot_ticket, slot_begins, IsDocked}
 use Rattle.pol_slots.specs.declared.slot.Slot.{Slot}
-use Rattle.pol_table.specs.Berths as tables
-use Rattle.pol_table.specs.Berths.{Berth, Berths, look, part_of, with_part}
+use Rattle.pol_table.specs.Rows as tables
+use Rattle.pol_table.specs.Rows.{Row, Rows, look, part_of}
 use Rattle.pol_runs.specs.Runs.{PlainRun}
 use Rattle.pol_core.specs.Batches.{RunKeeps, IsRun, RunsMirror}
 use Rattle.pol_core.specs.Exchanges.{StaysAway}
 use Rattle.pol_core.specs.Seats.{SlotKeeps, IsTaken, IsSeated, SeatsMirror, IsCounted}
-use Rattle.pol_core.proofs.Counting.{counted-part}
-use Rattle.pol_core.proofs.Keeping.{unchanged-keeps}
-use Rattle.pol_core.proofs.Seating.{part-changes}
-use Rattle.pol_core.proofs.Telling.{has-berth, seated-slot}
-use Rattle.pol_core.proofs.Unfit.{holder-same}
+use Rattle.pol_core.proofs.Counting.{counted_part}
+use Rattle.pol_core.proofs.Keeping.{unchanged_keeps}
+use Rattle.pol_core.proofs.Seating.{part_changes}
+use Rattle.pol_core.proofs.Telling.{has_row, seated_slot}
+use Rattle.pol_core.proofs.Unfit.{holder_same}
+
+-- where the module was away and no exchange was begun since, it was docked once more
+pub docked_once_more : (begins again dockings : ℕ) → again ≡ begins → begins + 1 ≡ dockings + 1
+    → again + 1 ≡ suc dockings + 0
+docked_once_more begins again dockings same away = omega (arith, same, away)
 
 -- the slot keeps the past that ends in the end of the exchange
-pub end-keeps : (tag : List ℕ) (ticket : ℕ) (description : DescriptionForm) (old new : Slot)
+pub end_keeps : (tag : List ℕ) (ticket : ℕ) (description : PlainDescription) (old new : Slot)
     (past : History) (at : ℕ) → slot_ticket old ≡ Some ticket →
     IsDocked old new description → SlotKeeps tag old past →
     SlotKeeps tag new (paired (exchange_end at tag ticket description) Done ∷ past)
-end-keeps tag ticket description old new past at away docks keeps =
+end_keeps tag ticket description old new past at away docks keeps =
     record {
       tag_is = docks.tag ∙ keeps.tag_is;
       is_there = λ is. cc;
       ticket = docks.docked;
       description = ap Some (sym docks.description);
       begins = docks.begins ∙ keeps.begins;
-      dockings = counts (slot_begins old) (slot_begins new) (dockings_by past) docks.begins
+      dockings = docked_once_more (slot_begins old) (slot_begins new) (dockings_by past) docks.begins
           (keeps.dockings ∙ ap (λ ticket. dockings_by past + (if is_some ticket then 1 else 0)) away)
           ∙ ap (λ ticket. suc (dockings_by past) + (if is_some ticket then 1 else 0)) (sym docks.docked);
       controls = docks.unreported.controls;
       values = docks.unreported.values;
     }
-  where
-    counts : (b c d : ℕ) → c ≡ b → b + 1 ≡ d + 1 → c + 1 ≡ suc d + 0
-    counts b c d is was = omega (arith, is, was)
 
 -- for want of memory nothing that is mirrored changes
-pub stays-mirrored : (history : History) (tag : List ℕ) (slot : Slot) (old new : Berths Slot) →
+pub stays_mirrored : (history : History) (tag : List ℕ) (slot : Slot) (old new : Rows Slot) →
     part_of tag old ≡ Some slot → StaysAway tag slot old new →
     SeatsMirror old history → SeatsMirror new history
-stays-mirrored history tag slot old new found stays mirror other =
-    let has = has-berth tag old slot found in
-    let keeps = seated-slot history tag old slot mirror found in
-    let after = unchanged-keeps tag slot stays.after (past tag history) stays.same.same_module
+stays_mirrored history tag slot old new found stays mirror other =
+    let has = has_row tag old slot found in
+    let keeps = seated_slot history tag old slot mirror found in
+    let after = unchanged_keeps tag slot stays.after (past tag history) stays.same.same_module
     stays.same.controls stays.same.values keeps in
-    let taken : IsTaken tag has.berth (past tag history) (holder_of history tag)
+    let taken : IsTaken tag has.row (past tag history) (holder_of history tag)
     = subst (λ found. IsSeated tag found (past tag history) (holder_of history tag)) has.found (mirror tag) in
     subst (λ found. IsSeated other found (past other history) (holder_of history other))
-    (sym (ap (look other) stays.table ∙ part-changes tag has.berth old stays.after has.found other))
-    (go has.berth after taken.held_by (bytes_eq tag other) refl)
+    (sym (ap (look other) stays.table ∙ part_changes tag has.row old stays.after has.found other))
+    (go has.row after taken.held_by (bytes_eq tag other) refl)
   where
-    go : (berth : Berth Slot) → SlotKeeps tag stays.after (past tag history) →
-        berth.holder ≡ holder_of history tag → (same : Bool) → bytes_eq tag other ≡ same →
-        IsSeated other (cond same (Some (record berth { part = stays.after })) (look other old))
+    go : (row : Row Slot) → SlotKeeps tag stays.after (past tag history) →
+        row.holder ≡ holder_of history tag → (same : Bool) → bytes_eq tag other ≡ same →
+        IsSeated other (cond same (Some (record row { part = stays.after })) (look other old))
         (past other history) (holder_of history other)
-    go berth after held false apart = mirror other
-    go berth after held true same =
-        subst (λ other. IsSeated other (Some (record berth { part = stays.after })) (past other history)
-        (holder_of history other)) (same-true tag other same)
+    go row after held false apart = mirror other
+    go row after held true same =
+        subst (λ other. IsSeated other (Some (record row { part = stays.after })) (past other history)
+        (holder_of history other)) (same_true tag other same)
         (record { slot_keeps = after; held_by = held })
 
 -- nor does a count
-pub stays-counted : (history : History) (tag : List ℕ) (slot : Slot) (old new : Berths Slot) →
+pub stays_counted : (history : History) (tag : List ℕ) (slot : Slot) (old new : Rows Slot) →
     StaysAway tag slot old new → IsCounted old history → IsCounted new history
-stays-counted history tag slot old new stays counted =
-    subst (λ berths. IsCounted berths history) (sym stays.table) (counted-part history tag stays.after old counted)
+stays_counted history tag slot old new stays counted =
+    subst (λ rows. IsCounted rows history) (sym stays.table) (counted_part history tag stays.after old counted)
 
 -- ---- HeldBack
 
 -- the rule names what is missing
-mapped-held : (batch role : List ℕ) (found : Option CoverFault) →
+mapped_held : (batch role : List ℕ) (found : Option CoverFault) →
     option_map (λ fault. HeldBack batch (missing_by role fault)) found
     ≡ option_map (HeldBack batch) (option_map (missing_by role) found)
-mapped-held batch role None = refl
-mapped-held batch role (Some fault) = refl
+mapped_held batch role None = refl
+mapped_held batch role (Some fault) = refl
 
 -- for the role that the tag plays, if it plays one
-then-held : (batch : List ℕ) (chart : ChartPlan) (description : DescriptionForm) (role : Option (List ℕ)) →
+then_held : (batch : List ℕ) (chart : PlainChart) (description : PlainDescription) (role : Option (List ℕ)) →
     option_and_then (λ role. option_map (λ fault. HeldBack batch (missing_by role fault))
     (cover_fault chart role description)) role
     ≡ option_map (HeldBack batch) (option_and_then (λ role. option_map (missing_by role)
     (cover_fault chart role description)) role)
-then-held batch chart description None = refl
-then-held batch chart description (Some role) = mapped-held batch role (cover_fault chart role description)
+then_held batch chart description None = refl
+then_held batch chart description (Some role) = mapped_held batch role (cover_fault chart role description)
 
 -- what the holder's run lacks is what the rule names
-pub run-holds-back : (history : History) (tag batch : List ℕ) (description : DescriptionForm)
-    (berths : Berths Slot) (runs : List (List ℕ × PlainRun)) (run : PlainRun)
-    (missing : Option (List ℕ)) → SeatsMirror berths history → RunsMirror runs history →
-    tables.holder_of tag berths ≡ Some batch → lookup (bytes_eq batch) runs ≡ Some run →
-    missing ≡ option_and_then (λ role. option_map (missing_by role) (cover_fault (plan run.chart) role description))
+pub run_holds_back : (history : History) (tag batch : List ℕ) (description : PlainDescription)
+    (rows : Rows Slot) (runs : List (List ℕ × PlainRun)) (run : PlainRun)
+    (missing : Option (List ℕ)) → SeatsMirror rows history → RunsMirror runs history →
+    tables.holder_of tag rows ≡ Some batch → lookup (bytes_eq batch) runs ≡ Some run →
+    missing ≡ option_and_then
+    (λ role. option_map (missing_by role) (cover_fault (plain_chart run.chart) role description))
     (bound_role run.binds tag) →
     option_map (HeldBack batch) missing ≡ held_back history tag description
-run-holds-back history tag batch description berths runs run missing mirror batches is found says =
+run_holds_back history tag batch description rows runs run missing mirror batches is found says =
     let keeps : RunKeeps batch run (past_of_batch batch history) (recipes history)
     = subst (λ found. IsRun batch found (past_of_batch batch history) (recipes history)) found (batches batch) in
     ap (option_map (HeldBack batch)) says
-    ∙ sym (then-held batch (plan run.chart) description (bound_role run.binds tag))
+    ∙ sym (then_held batch (plain_chart run.chart) description (bound_role run.binds tag))
     ∙ sym (ap (option_and_then (λ batch. uncovered_by (recipes history) tag description batch
-    (past_of_batch batch history))) (sym (holder-same berths history tag mirror) ∙ is)
+    (past_of_batch batch history))) (sym (holder_same rows history tag mirror) ∙ is)
     ∙ ap (λ found. option_and_then (by_chart found) found) keeps.started
     ∙ ap (option_and_then
     (λ chart. option_and_then (λ role. option_map (λ fault. HeldBack batch (missing_by role fault))

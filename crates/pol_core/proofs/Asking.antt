@@ -5,7 +5,7 @@ use Rattle.mtp_codes.specs.Faults.{unless}
 use Rattle.mtp_codes.specs.declared.command.Command.{Command}
 use Rattle.mtp_modes.specs.declared.view.ServiceView.{ServiceView}
 use Rattle.chart_core.specs.declared.entry.LogEntry.TheVariants.{Asked}
-use Rattle.pol_events.specs.Events.{EventForm, desk}
+use Rattle.pol_events.specs.Events.{PlainEvent, desk}
 use Rattle.pol_events.specs.Refusals.{in_exchange, no_service, forbidden}
 use Rattle.pol_events.specs.declared.answer.Answer.{Answer}
 use Rattle.pol_events.specs.declared.answer.Answer.TheVariants.{Did}
@@ -16,16 +16,16 @@ use Rattle.pol_history.specs.Looking.{History, is_accepted, past}
 use Rattle.pol_history.specs.Modules.{docking_by, ticket_of, control_by, seen_with}
 use Rattle.pol_history.specs.Rules.{not_reported}
 use Rattle.pol_history.specs.Runs.{entry_of}
-use Rattle.pol_history.proofs.Accepted.{paired, with-room}
+use Rattle.pol_history.proofs.Accepted.{paired, with_room}
 use Rattle.pol_slots.specs.Sights as sights
 use Rattle.pol_slots.specs.Slots.{slot_tag, slot_ticket, slot_description}
 use Rattle.pol_slots.specs.declared.slot.Slot.{Slot}
-use Rattle.pol_table.specs.Berths.{Berths, part_of}
+use Rattle.pol_table.specs.Rows.{Rows, part_of}
 use Rattle.pol_core.specs.Seats.{SlotKeeps, SeatsMirror, IsCounted, AnswersModule, asked_answer, asked_by, slot_asked}
-use Rattle.pol_core.proofs.Counting.{counted-same}
-use Rattle.pol_core.proofs.Judging.{there-is}
-use Rattle.pol_core.proofs.Plugging.{refused-answered}
-use Rattle.pol_core.proofs.Telling.{seated-slot, seats-unmoved}
+use Rattle.pol_core.proofs.Counting.{counted_same}
+use Rattle.pol_core.proofs.Judging.{there_is}
+use Rattle.pol_core.proofs.Plugging.{refused_answered}
+use Rattle.pol_core.proofs.Telling.{seated_slot, seats_unmoved}
 
 -- the view of the service, and whether a command may go to it
 viewed : (tag service : List ℕ) (command : Command) (view : Option ServiceView) →
@@ -51,11 +51,11 @@ asked tag service command None (Some rule) view = refl
 asked tag service command None None view = viewed tag service command view
 
 -- what the slot answers is what the rules say
-pub desk-judged : (history : History) (at : ℕ) (tag service : List ℕ) (command : Command) (slot : Slot) →
+pub desk_judged : (history : History) (at : ℕ) (tag service : List ℕ) (command : Command) (slot : Slot) →
     is_full history ≡ false →
     SlotKeeps tag slot (past tag history) →
     asked_answer (slot_asked slot tag service command) ≡ answer_of history (desk at tag service command)
-desk-judged history at tag service command slot room keeps =
+desk_judged history at tag service command slot room keeps =
     ap (λ control. asked_answer (asked_by tag service command (sights.view_unless
     (option_or (in_exchange (slot_tag slot) (slot_ticket slot)) (no_service service (slot_description slot)))
     (NotReported (slot_tag slot) service) (option_map (seen_with service (Some (slot_description slot))) control))))
@@ -64,8 +64,8 @@ desk-judged history at tag service command slot room keeps =
     (asked tag service command (in_exchange tag (ticket_of (docking_by past')))
     (no_service service (slot_description slot))
     (option_map (seen_with service (Some (slot_description slot))) (control_by service past'))
-    ∙ sym (with-room history (desk at tag service command) room
-    ∙ rw (there-is tag (docking_by past') keeps.is_there)
+    ∙ sym (with_room history (desk at tag service command) room
+    ∙ rw (there_is tag (docking_by past') keeps.is_there)
     (ap (λ description. first_rule (in_exchange tag (ticket_of (docking_by past')) ∷ option_and_then
     (no_service service) description
     ∷ not_reported tag service (option_map (seen_with service description) (control_by service past'))
@@ -78,10 +78,10 @@ desk-judged history at tag service command slot room keeps =
 -- ---- the table stays
 
 -- an accepted command changes nothing that the slot keeps
-asked-keeps : (tag other service : List ℕ) (command : Command) (slot : Slot) (past : History)
+asked_keeps : (tag other service : List ℕ) (command : Command) (slot : Slot) (past : History)
     (at : ℕ) (answer : Answer) → SlotKeeps tag slot past →
     SlotKeeps tag slot (paired (desk at other service command) answer ∷ past)
-asked-keeps tag other service command slot past at answer keeps =
+asked_keeps tag other service command slot past at answer keeps =
     record {
       tag_is = keeps.tag_is;
       is_there = keeps.is_there;
@@ -94,28 +94,28 @@ asked-keeps tag other service command slot past at answer keeps =
     }
 
 -- a command that goes to the service, or a rule
-pub desk-answered : (history : History) (at : ℕ) (tag service : List ℕ) (command : Command)
-    (slot : Slot) (berths : Berths Slot) (answer : Answer) →
-    is_full history ≡ false → SeatsMirror berths history → IsCounted berths history → part_of tag berths ≡ Some slot →
+pub desk_answered : (history : History) (at : ℕ) (tag service : List ℕ) (command : Command)
+    (slot : Slot) (rows : Rows Slot) (answer : Answer) →
+    is_full history ≡ false → SeatsMirror rows history → IsCounted rows history → part_of tag rows ≡ Some slot →
     answer ≡ asked_answer (slot_asked slot tag service command) →
-    AnswersModule history (desk at tag service command) answer berths
-desk-answered history at tag service command slot berths answer room seats counted found is =
-    let event : EventForm = desk at tag service command in
-    let keeps = seated-slot history tag berths slot seats found in
-    let same : answer ≡ answer_of history event = is ∙ desk-judged history at tag service command slot room keeps in
+    AnswersModule history (desk at tag service command) answer rows
+desk_answered history at tag service command slot rows answer room seats counted found is =
+    let event : PlainEvent = desk at tag service command in
+    let keeps = seated_slot history tag rows slot seats found in
+    let same : answer ≡ answer_of history event = is ∙ desk_judged history at tag service command slot room keeps in
     go (is_accepted answer) refl same
   where
     go : (accepted : Bool) → is_accepted answer ≡ accepted → answer ≡ answer_of history (desk at tag service command) →
-        AnswersModule history (desk at tag service command) answer berths
-    go false refused same = refused-answered history (desk at tag service command) answer berths
+        AnswersModule history (desk at tag service command) answer rows
+    go false refused same = refused_answered history (desk at tag service command) answer rows
         same refused seats counted
     go true accepted same =
-        let event : EventForm = desk at tag service command in
+        let event : PlainEvent = desk at tag service command in
         record {
           answer_is = same;
-          seats = seats-unmoved history (entry_of history event) tag slot berths refl (ap is_accepted (sym same)
+          seats = seats_unmoved history (entry_of history event) tag slot rows refl (ap is_accepted (sym same)
               ∙ accepted) found
-              (λ keeps. asked-keeps tag tag service command slot (past tag history) at
+              (λ keeps. asked_keeps tag tag service command slot (past tag history) at
               (answer_of history event) keeps) seats;
-          counted = counted-same history (entry_of history event) berths refl counted;
+          counted = counted_same history (entry_of history event) rows refl counted;
         }

@@ -5,7 +5,7 @@ use Rattle.std.proofs.Math.Path.{fun_ext}
 use Rattle.std.specs.Option.{option_or, option_and_then}
 use Rattle.mtp_codes.specs.Faults.{first_of}
 use Rattle.mtp_codes.specs.declared.limits.TheConstants.{LONGEST_HISTORY}
-use Rattle.pol_events.specs.Events.{EventForm, EntryForm, exchange_begin}
+use Rattle.pol_events.specs.Events.{PlainEvent, PlainEntry, exchange_begin}
 use Rattle.pol_events.specs.Refusals.{in_exchange, not_at_rest}
 use Rattle.pol_events.specs.declared.answer.Answer.TheVariants.{Ticket, Refused}
 use Rattle.pol_events.specs.declared.answer.Rule.{Rule}
@@ -15,33 +15,33 @@ use Rattle.pol_history.specs.Modules.{docking_by, ticket_of, description_by, beg
 use Rattle.pol_history.specs.Rules.{active_step, module_not_at_rest}
 use Rattle.pol_history.specs.Runs.{entry_of}
 use Rattle.pol_history.proofs.Accepted.{paired}
-use Rattle.pol_history.proofs.Filters.{length-filter}
-use Rattle.pol_history.proofs.Pasts.{past-own}
+use Rattle.pol_history.proofs.Filters.{length_filter}
+use Rattle.pol_history.proofs.Pasts.{past_own}
 use Rattle.pol_slots.specs.Slots.{slot_ticket, slot_description, slot_begins, last_control}
 use Rattle.pol_slots.specs.declared.slot.Slot.{Slot}
-use Rattle.pol_table.specs.Berths.{Berths, part_of, with_part}
+use Rattle.pol_table.specs.Rows.{Rows, part_of, with_part}
 use Rattle.pol_core.specs.Exchanges.{GoesAway, SendsAway, HaveBegunFew}
 use Rattle.pol_core.specs.Seats.{SlotKeeps, SeatsMirror, IsCounted, AnswersModule}
-use Rattle.pol_core.proofs.Counting.{counted-part, counted-same}
-use Rattle.pol_core.proofs.Judging.{there-is, ruled}
-use Rattle.pol_core.proofs.Plugging.{refused-answered}
-use Rattle.pol_core.proofs.Telling.{seated-slot, slot-changes}
+use Rattle.pol_core.proofs.Counting.{counted_part, counted_same}
+use Rattle.pol_core.proofs.Judging.{there_is, ruled}
+use Rattle.pol_core.proofs.Plugging.{refused_answered}
+use Rattle.pol_core.proofs.Telling.{seated_slot, slot_changes}
 
 -- nothing follows the last rule
-last-or : (rule : Option Rule) → option_or rule None ≡ rule
-last-or None = refl
-last-or (Some rule) = refl
+last_or : (rule : Option Rule) → option_or rule None ≡ rule
+last_or None = refl
+last_or (Some rule) = refl
 
 -- the rules against the begin of an exchange, by the slot
-pub begin-rules : (history : History) (at : ℕ) (tag : List ℕ) (slot : Slot) → SlotKeeps tag slot (past tag history) →
+pub begin_rules : (history : History) (at : ℕ) (tag : List ℕ) (slot : Slot) → SlotKeeps tag slot (past tag history) →
     first_of (rules history (exchange_begin at tag))
     ≡ option_or (in_exchange tag (slot_ticket slot)) (option_or (active_step history tag)
     (not_at_rest (last_control slot) (slot_description slot).services))
-begin-rules history at tag slot keeps =
+begin_rules history at tag slot keeps =
     ap (λ gone. option_or gone (option_or (in_exchange tag (ticket_of (docking_by past')))
     (option_or (active_step history tag)
     (option_or (option_and_then (module_not_at_rest past') (description_by past')) None))))
-    (there-is tag (docking_by past') keeps.is_there)
+    (there_is tag (docking_by past') keeps.is_there)
     ∙ ap (λ ticket. option_or (in_exchange tag ticket) (option_or (active_step history tag)
     (option_or (option_and_then (module_not_at_rest past') (description_by past')) None))) (sym keeps.ticket)
     ∙ ap (λ description. option_or (in_exchange tag (slot_ticket slot)) (option_or (active_step history tag)
@@ -49,16 +49,16 @@ begin-rules history at tag slot keeps =
     ∙ ap (λ last. option_or (in_exchange tag (slot_ticket slot)) (option_or (active_step history tag)
     (option_or (not_at_rest last (slot_description slot).services) None))) (sym (fun_ext keeps.controls))
     ∙ ap (λ rule. option_or (in_exchange tag (slot_ticket slot)) (option_or (active_step history tag) rule))
-    (last-or (not_at_rest (last_control slot) (slot_description slot).services))
+    (last_or (not_at_rest (last_control slot) (slot_description slot).services))
   where
     past' : History
     past' = past tag history
 
 -- the slot keeps the past that ends in the begin of the exchange
-away-keeps : (tag : List ℕ) (ticket : ℕ) (old new : Slot) (past : History) (at : ℕ) → slot_ticket old ≡ None →
+away_keeps : (tag : List ℕ) (ticket : ℕ) (old new : Slot) (past : History) (at : ℕ) → slot_ticket old ≡ None →
     GoesAway ticket old new → SlotKeeps tag old past →
     SlotKeeps tag new (paired (exchange_begin at tag) (Ticket ticket) ∷ past)
-away-keeps tag ticket old new past at docked' goes keeps =
+away_keeps tag ticket old new past at docked' goes keeps =
     record {
       tag_is = goes.tag ∙ keeps.tag_is;
       is_there = λ is. cc;
@@ -79,49 +79,49 @@ away-keeps tag ticket old new past at docked' goes keeps =
     counts b c d is was = omega (arith, is, was)
 
 -- the module goes away
-pub begin-answered : (history : History) (at : ℕ) (tag : List ℕ) (ticket : ℕ) (slot : Slot)
-    (old new : Berths Slot) → SeatsMirror old history → IsCounted old history →
+pub begin_answered : (history : History) (at : ℕ) (tag : List ℕ) (ticket : ℕ) (slot : Slot)
+    (old new : Rows Slot) → SeatsMirror old history → IsCounted old history →
     is_full history ≡ false → part_of tag old ≡ Some slot → slot_ticket slot ≡ None →
     first_of (rules history (exchange_begin at tag)) ≡ None →
     SendsAway tag ticket slot old new → AnswersModule history (exchange_begin at tag) (Ticket ticket) new
-begin-answered history at tag ticket slot old new seats counted room found docked' none sends =
-    let keeps = seated-slot history tag old slot seats found in
+begin_answered history at tag ticket slot old new seats counted room found docked' none sends =
+    let keeps = seated_slot history tag old slot seats found in
     let answer : answer_of history (exchange_begin at tag) ≡ Ticket ticket
     = ruled history (exchange_begin at tag) None room none
     ∙ ap Ticket (next (slot_begins slot) (begins_by (past tag history)) keeps.begins ∙ sym sends.goes.answer) in
-    let event : EventForm = exchange_begin at tag in
+    let event : PlainEvent = exchange_begin at tag in
     let seats' : SeatsMirror (with_part tag old sends.after) (entry_of history event ∷ history)
-    = slot-changes history event tag old slot sends.after refl seats found
+    = slot_changes history event tag old slot sends.after refl seats found
     (subst (SlotKeeps tag sends.after)
-    (sym (past-own history (entry_of history event) tag refl (ap is_accepted answer)))
+    (sym (past_own history (entry_of history event) tag refl (ap is_accepted answer)))
     (subst (λ answer. SlotKeeps tag sends.after (paired event answer ∷ past tag history)) (sym answer)
-    (away-keeps tag ticket slot sends.after (past tag history) at docked' sends.goes keeps))) in
+    (away_keeps tag ticket slot sends.after (past tag history) at docked' sends.goes keeps))) in
     record {
       answer_is = sym answer;
-      seats = subst (λ berths. SeatsMirror berths (entry_of history event ∷ history)) (sym sends.table) seats';
-      counted = subst (λ berths. IsCounted berths (entry_of history event ∷ history)) (sym sends.table)
-          (counted-same history (entry_of history event) (with_part tag old sends.after) refl
-          (counted-part history tag sends.after old counted));
+      seats = subst (λ rows. SeatsMirror rows (entry_of history event ∷ history)) (sym sends.table) seats';
+      counted = subst (λ rows. IsCounted rows (entry_of history event ∷ history)) (sym sends.table)
+          (counted_same history (entry_of history event) (with_part tag old sends.after) refl
+          (counted_part history tag sends.after old counted));
     }
   where
     next : (b n : ℕ) → b ≡ n → suc n ≡ b + 1
     next b n is = omega (arith, is)
 
 -- a rule is against it
-pub begin-refused : (history : History) (at : ℕ) (tag : List ℕ) (berths : Berths Slot) (rule : Rule) →
-    is_full history ≡ false → SeatsMirror berths history →
-    IsCounted berths history → first_of (rules history (exchange_begin at tag)) ≡ Some rule →
-    AnswersModule history (exchange_begin at tag) (Refused rule) berths
-begin-refused history at tag berths rule room seats counted is =
-    refused-answered history (exchange_begin at tag) (Refused rule) berths
+pub begin_refused : (history : History) (at : ℕ) (tag : List ℕ) (rows : Rows Slot) (rule : Rule) →
+    is_full history ≡ false → SeatsMirror rows history →
+    IsCounted rows history → first_of (rules history (exchange_begin at tag)) ≡ Some rule →
+    AnswersModule history (exchange_begin at tag) (Refused rule) rows
+begin_refused history at tag rows rule room seats counted is =
+    refused_answered history (exchange_begin at tag) (Refused rule) rows
     (sym (ruled history (exchange_begin at tag) (Some rule) room is)) refl seats counted
 
 -- ---- few exchanges
 
 -- at most as many entries since one of them
-since-few : (test : EntryForm → Bool) (past : History) → length (since test past) ≤ length past
-since-few test [] = omega arith
-since-few test (entry ∷ past) = go (test entry) (since-few test past)
+since_few : (test : PlainEntry → Bool) (past : History) → length (since test past) ≤ length past
+since_few test [] = omega arith
+since_few test (entry ∷ past) = go (test entry) (since_few test past)
   where
     go : (here : Bool) → length (since test past) ≤ length past →
         length (cond here (entry ∷ []) (entry ∷ since test past)) ≤ length (entry ∷ past)
@@ -129,14 +129,14 @@ since-few test (entry ∷ past) = go (test entry) (since-few test past)
     go false rest = omega (arith, rest)
 
 -- a slot has begun at most as many exchanges as the history has entries
-pub begun-few : (berths : Berths Slot) (history : History) → SeatsMirror berths history
+pub begun_few : (rows : Rows Slot) (history : History) → SeatsMirror rows history
     → length history ≤ LONGEST_HISTORY →
-    HaveBegunFew berths
-begun-few berths history seats few tag slot found =
-    let keeps = seated-slot history tag berths slot seats found in
+    HaveBegunFew rows
+begun_few rows history seats few tag slot found =
+    let keeps = seated_slot history tag rows slot seats found in
     let same : slot_begins slot ≡ begins_by (past tag history) = keeps.begins in
     let one : begins_by (past tag history) ≤ length (since (λ entry. is_plug entry.event) (past tag history))
-    = length-filter (λ entry. is_begin entry.event) (since (λ entry. is_plug entry.event) (past tag history)) in
-    let two = since-few (λ entry. is_plug entry.event) (past tag history) in
-    let three : length (past tag history) ≤ length history = length-filter (is_accepted_of tag) history in
+    = length_filter (λ entry. is_begin entry.event) (since (λ entry. is_plug entry.event) (past tag history)) in
+    let two = since_few (λ entry. is_plug entry.event) (past tag history) in
+    let three : length (past tag history) ≤ length history = length_filter (is_accepted_of tag) history in
     omega (arith, same, one, two, three, few)

@@ -5,23 +5,23 @@ use Rattle.std.specs.Result.{result_err}
 use Rattle.mtp_codes.specs.Faults.{done_unless}
 
 -- an error tells the fault
-pub err-is : {E : Type 0} (fault : Option E) (rule : E) → ◌≡◌ {A = Result ⊤ E} (done_unless fault) (Err rule) →
+pub err_is : {E : Type 0} (fault : Option E) (rule : E) → ◌≡◌ {A = Result ⊤ E} (done_unless fault) (Err rule) →
     fault ≡ Some rule
-err-is None rule is = cc
-err-is (Some other) rule is = let same : other ≡ rule = cc in ap Some same
+err_is None rule is = cc
+err_is (Some other) rule is = let same : other ≡ rule = cc in ap Some same
 
 -- success tells that there is none
-pub ok-none : {E : Type 0} (fault : Option E) (done : ⊤) → ◌≡◌ {A = Result ⊤ E} (done_unless fault) (Ok done) →
+pub ok_none : {E : Type 0} (fault : Option E) (done : ⊤) → ◌≡◌ {A = Result ⊤ E} (done_unless fault) (Ok done) →
     fault ≡ None
-ok-none None done is = refl
-ok-none (Some other) done is = cc
+ok_none None done is = refl
+ok_none (Some other) done is = cc
 
 -- the fault that may be told
-pub err-of : {E : Type 0} (fault : Option E) → result_err {T = ⊤} (done_unless fault) ≡ fault
-err-of None = refl
-err-of (Some fault) = refl
+pub err_of : {E : Type 0} (fault : Option E) → result_err {T = ⊤} (done_unless fault) ≡ fault
+err_of None = refl
+err_of (Some fault) = refl
 
 -- it is nothing, where it is not something
-pub none-left : {A : Type 0} (found : Option A) → ((x : A) → found ≡ Some x → ⊥) → found ≡ None
-none-left None other = refl
-none-left (Some x) other = absurd (other x refl)
+pub none_left : {A : Type 0} (found : Option A) → ((x : A) → found ≡ Some x → ⊥) → found ≡ None
+none_left None other = refl
+none_left (Some x) other = absurd (other x refl)

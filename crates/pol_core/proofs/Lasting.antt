@@ -5,11 +5,11 @@ use Rattle.std.specs.Map.{lookup}
 use Rattle.std.specs.Option.{option_or}
 use Rattle.std.specs.Str.{bytes_eq}
 use Rattle.mtp_codes.specs.Faults.{when, done_unless}
-use Rattle.chart_core.specs.Charts.{plan}
+use Rattle.chart_core.specs.Charts.{plain_chart}
 use Rattle.chart_core.specs.declared.entry.LogEntry.TheVariants.{StopAsked}
 use Rattle.chart_core.specs.declared.next.Outcome.{Outcome}
 use Rattle.chart_cursor.specs.Logs.{has_broken, was_stopped}
-use Rattle.pol_events.specs.Events.{EventForm, EntryForm, freeze, thaw, stop_batch}
+use Rattle.pol_events.specs.Events.{PlainEvent, PlainEntry, freeze, thaw, stop_batch}
 use Rattle.pol_events.specs.declared.answer.Answer.{Answer}
 use Rattle.pol_events.specs.declared.answer.Answer.TheVariants.{Done, Did, Refused}
 use Rattle.pol_events.specs.declared.answer.Rule.{Rule}
@@ -21,57 +21,57 @@ use Rattle.pol_history.specs.Modules.{present_tags}
 use Rattle.pol_history.specs.Refused.{ChangesNothing}
 use Rattle.pol_history.specs.Rules.{no_batch, batch_closed, already_frozen, not_frozen}
 use Rattle.pol_history.specs.Runs.{entry_of}
-use Rattle.pol_history.proofs.Accepted.{paired, with-room}
-use Rattle.pol_history.proofs.Names.{same-true}
-use Rattle.pol_history.proofs.Pasts.{log-grows}
-use Rattle.pol_history.proofs.Refused.{refused-nothing}
+use Rattle.pol_history.proofs.Accepted.{paired, with_room}
+use Rattle.pol_history.proofs.Names.{same_true}
+use Rattle.pol_history.proofs.Pasts.{log_grows}
+use Rattle.pol_history.proofs.Refused.{refused_nothing}
 use Rattle.pol_slots.specs.declared.slot.Slot.{Slot}
-use Rattle.pol_table.specs.Berths.{Berths, look}
+use Rattle.pol_table.specs.Rows.{Rows, look}
 use Rattle.pol_runs.specs.Logs.{Follows}
 use Rattle.pol_runs.specs.Runs.{PlainRun}
 use Rattle.pol_core.specs.Batches.{RunKeeps, IsRun, RunsMirror, ChangesRun, Stops, StopsOne, IsOpenRun, not_open, freed_if, AnswersBatch}
 use Rattle.pol_core.specs.Seats.{SeatsMirror, IsCounted, done_or_refused}
-use Rattle.pol_core.proofs.Closing.{seats-freed}
-use Rattle.pol_core.proofs.Counting.{counted-same}
+use Rattle.pol_core.proofs.Closing.{seats_freed}
+use Rattle.pol_core.proofs.Counting.{counted_same}
 use Rattle.pol_core.proofs.Judging.{refuse}
-use Rattle.pol_core.proofs.Seating.{seats-refused}
-use Rattle.pol_core.proofs.Stepping.{run-keeps, runs-changed}
+use Rattle.pol_core.proofs.Seating.{seats_refused}
+use Rattle.pol_core.proofs.Stepping.{run_keeps, runs_changed}
 
 -- ---- refused events
 
 -- the runs keep a history with a refused event
-pub runs-refused : (history : History) (entry : EntryForm) (runs : List (List ℕ × PlainRun)) →
+pub runs_refused : (history : History) (entry : PlainEntry) (runs : List (List ℕ × PlainRun)) →
     ChangesNothing entry history → RunsMirror runs history →
     RunsMirror runs (entry ∷ history)
-runs-refused history entry runs nothing mirror batch =
+runs_refused history entry runs nothing mirror batch =
     subst (IsRun batch (lookup (bytes_eq batch) runs) (past_of_batch batch (entry ∷ history))) (sym nothing.recipes)
     (subst (λ past. IsRun batch (lookup (bytes_eq batch) runs) past (recipes history))
     (sym (nothing.batch_pasts batch)) (mirror batch))
 
 -- so do all tables
-pub batch-refused : (history : History) (event : EventForm) (answer : Answer) (modules : Berths Slot)
+pub batch_refused : (history : History) (event : PlainEvent) (answer : Answer) (modules : Rows Slot)
     (runs : List (List ℕ × PlainRun)) →
     answer ≡ answer_of history event → is_accepted answer ≡ false → SeatsMirror modules history →
     IsCounted modules history → RunsMirror runs history →
     AnswersBatch history event answer modules runs
-batch-refused history event answer modules runs is refused seats counted batches =
-    let entry : EntryForm = entry_of history event in
-    let nothing = refused-nothing entry history (ap is_accepted (sym is) ∙ refused) in
+batch_refused history event answer modules runs is refused seats counted batches =
+    let entry : PlainEntry = entry_of history event in
+    let nothing = refused_nothing entry history (ap is_accepted (sym is) ∙ refused) in
     record {
       answer_is = is;
-      seats = seats-refused history entry modules nothing seats;
-      counted = counted-same history entry modules nothing.present counted;
-      batches = runs-refused history entry runs nothing batches;
+      seats = seats_refused history entry modules nothing seats;
+      counted = counted_same history entry modules nothing.present counted;
+      batches = runs_refused history entry runs nothing batches;
     }
 
 -- the first two rules of a batch, by its run
-batch-rules : (batch : List ℕ) (found : Option PlainRun) (past recipes : History) (rest : List (Option Rule))
+batch_rules : (batch : List ℕ) (found : Option PlainRun) (past recipes : History) (rest : List (Option Rule))
     (answer : Answer) → IsRun batch found past recipes →
     first_rule (no_batch (start_by past) ∷ batch_closed past ∷ rest) answer
     ≡ refuse (not_open found) (first_rule rest answer)
-batch-rules batch None past recipes rest answer is =
+batch_rules batch None past recipes rest answer is =
     ap (λ past. first_rule (no_batch (start_by past) ∷ batch_closed past ∷ rest) answer) is
-batch-rules batch (Some run) past recipes rest answer keeps =
+batch_rules batch (Some run) past recipes rest answer keeps =
     ap (λ found. first_rule (no_batch found ∷ batch_closed past ∷ rest) answer) keeps.started
     ∙ ap (λ outcome. first_rule (when (is_some outcome) BatchClosed ∷ rest) answer) (sym keeps.outcome_is)
     ∙ go run.outcome
@@ -82,60 +82,60 @@ batch-rules batch (Some run) past recipes rest answer keeps =
     go (Some closed) = refl
 
 -- the event has the two rules first, and then these
-abbrev pub BatchRules : History → EventForm → List ℕ → List (Option Rule) → Type 0
+abbrev pub BatchRules : History → PlainEvent → List ℕ → List (Option Rule) → Type 0
 BatchRules history event batch rest =
     rules history event ≡ no_batch (start_by (past_of_batch batch history)) ∷ batch_closed
     (past_of_batch batch history) ∷ rest
 
 -- the answer to an event of a batch, by its run
-batch-answer : (history : History) (event : EventForm) (batch : List ℕ) (rest : List (Option Rule))
+batch_answer : (history : History) (event : PlainEvent) (batch : List ℕ) (rest : List (Option Rule))
     (runs : List (List ℕ × PlainRun)) →
     BatchRules history event batch rest → is_full history ≡ false → RunsMirror runs history →
     answer_of history event ≡ refuse (not_open (lookup (bytes_eq batch) runs))
     (first_rule rest (otherwise history event))
-batch-answer history event batch rest runs same room batches =
-    with-room history event room
+batch_answer history event batch rest runs same room batches =
+    with_room history event room
     ∙ ap (λ rules. first_rule rules (otherwise history event)) same
-    ∙ batch-rules batch (lookup (bytes_eq batch) runs) (past_of_batch batch history) (recipes history) rest
+    ∙ batch_rules batch (lookup (bytes_eq batch) runs) (past_of_batch batch history) (recipes history) rest
     (otherwise history event) (batches batch)
 
 -- a batch that isn't open
-pub not-open-answered : (history : History) (event : EventForm) (batch : List ℕ) (rest : List (Option Rule))
-    (rule : Rule) (modules : Berths Slot)
+pub not_open_answered : (history : History) (event : PlainEvent) (batch : List ℕ) (rest : List (Option Rule))
+    (rule : Rule) (modules : Rows Slot)
     (runs : List (List ℕ × PlainRun)) → BatchRules history event batch rest → is_full history ≡ false →
     SeatsMirror modules history → IsCounted modules history →
     RunsMirror runs history → not_open (lookup (bytes_eq batch) runs) ≡ Some rule →
     AnswersBatch history event (Refused rule) modules runs
-not-open-answered history event batch rest rule modules runs same room seats counted batches is =
-    batch-refused history event (Refused rule) modules runs
-    (sym (batch-answer history event batch rest runs same room batches
+not_open_answered history event batch rest rule modules runs same room seats counted batches is =
+    batch_refused history event (Refused rule) modules runs
+    (sym (batch_answer history event batch rest runs same room batches
     ∙ ap (λ rule. refuse rule (first_rule rest (otherwise history event))) is))
     refl seats counted batches
 
 -- an open batch meets neither rule
-pub open-answer : (history : History) (event : EventForm) (batch : List ℕ) (rest : List (Option Rule))
+pub open_answer : (history : History) (event : PlainEvent) (batch : List ℕ) (rest : List (Option Rule))
     (run : PlainRun) (runs : List (List ℕ × PlainRun)) →
     BatchRules history event batch rest → is_full history ≡ false → RunsMirror runs history → IsOpenRun batch run runs →
     answer_of history event ≡ first_rule rest (otherwise history event)
-open-answer history event batch rest run runs same room batches open' =
-    batch-answer history event batch rest runs same room batches
+open_answer history event batch rest run runs same room batches open' =
+    batch_answer history event batch rest runs same room batches
     ∙ ap (λ found. refuse (not_open found) (first_rule rest (otherwise history event))) open'.found
     ∙ ap (λ outcome. refuse (when (is_some outcome) BatchClosed) (first_rule rest (otherwise history event)))
     open'.is_open
 
 -- looking back, the batch isn't closed
-pub open-outcome : (history : History) (batch : List ℕ) (run : PlainRun) (runs : List (List ℕ × PlainRun)) →
+pub open_outcome : (history : History) (batch : List ℕ) (run : PlainRun) (runs : List (List ℕ × PlainRun)) →
     RunsMirror runs history → IsOpenRun batch run runs →
     outcome_of history batch ≡ None
-open-outcome history batch run runs batches open' =
-    let keeps = run-keeps history batch runs run batches open'.found in
+open_outcome history batch run runs batches open' =
+    let keeps = run_keeps history batch runs run batches open'.found in
     sym keeps.outcome_is ∙ open'.is_open
 
 -- ---- a run that goes on
 
 -- an accepted event that doesn't close its batch changes one run, and no module
-pub batch-stays : (history : History) (event : EventForm) (batch : List ℕ) (answer : Answer)
-    (after : PlainRun) (modules : Berths Slot)
+pub batch_stays : (history : History) (event : PlainEvent) (batch : List ℕ) (answer : Answer)
+    (after : PlainRun) (modules : Rows Slot)
     (runs new : List (List ℕ × PlainRun)) → subject event ≡ of_batch batch → starting event ≡ None →
     present_tags (entry_of history event ∷ history) ≡ present_tags history → answer ≡ answer_of history event →
     is_accepted answer ≡ true →
@@ -143,25 +143,25 @@ pub batch-stays : (history : History) (event : EventForm) (batch : List ℕ) (an
     RunKeeps batch after (paired event answer ∷ past_of_batch batch history) (recipes history) →
     SeatsMirror modules history → IsCounted modules history → RunsMirror runs history →
     AnswersBatch history event answer modules new
-batch-stays history event batch answer after modules runs new is unstarted present same accepted
+batch_stays history event batch answer after modules runs new is unstarted present same accepted
     unclosed open' changes keeps seats counted batches =
-    let entry : EntryForm = paired event answer in
+    let entry : PlainEntry = paired event answer in
     record {
       answer_is = same;
       seats = subst (λ answer. SeatsMirror modules (paired event answer ∷ history)) same
-          (seats-freed history entry batch modules modules is unstarted accepted open'
+          (seats_freed history entry batch modules modules is unstarted accepted open'
           (λ tag. ap (λ closes. freed_if closes batch (look tag modules)) (sym unclosed)) seats);
-      counted = counted-same history (entry_of history event) modules present counted;
+      counted = counted_same history (entry_of history event) modules present counted;
       batches = subst (λ answer. RunsMirror new (paired event answer ∷ history)) same
-          (runs-changed history entry batch after runs new is accepted changes keeps batches);
+          (runs_changed history entry batch after runs new is accepted changes keeps batches);
     }
 
 -- a run in the place of another, of the same past
-runs-replaced : (history : History) (batch : List ℕ) (after : PlainRun) (old new : List (List ℕ × PlainRun)) →
+runs_replaced : (history : History) (batch : List ℕ) (after : PlainRun) (old new : List (List ℕ × PlainRun)) →
     ChangesRun batch after old new →
     RunKeeps batch after (past_of_batch batch history) (recipes history) → RunsMirror old history →
     RunsMirror new history
-runs-replaced history batch after old new changes keeps mirror other =
+runs_replaced history batch after old new changes keeps mirror other =
     subst (λ found. IsRun other found (past_of_batch other history) (recipes history)) (sym (changes other))
     (go (bytes_eq batch other) refl)
   where
@@ -169,17 +169,17 @@ runs-replaced history batch after old new changes keeps mirror other =
         IsRun other (cond same (Some after) (lookup (bytes_eq other) old)) (past_of_batch other history)
         (recipes history)
     go true same = subst (λ other. RunKeeps other after (past_of_batch other history) (recipes history))
-        (same-true batch other same) keeps
+        (same_true batch other same) keeps
     go false apart = mirror other
 
 -- ---- a freeze begins or ends
 
 -- the run with this freeze keeps a past that says so
-frozen-keeps : (batch : List ℕ) (run : PlainRun) (past recipes after : History) (to : Bool) →
+frozen_keeps : (batch : List ℕ) (run : PlainRun) (past recipes after : History) (to : Bool) →
     start_by after ≡ start_by past → log_by after ≡ log_by past →
     outcome_by after ≡ outcome_by past → to ≡ is_frozen_by after → RunKeeps batch run past recipes →
     RunKeeps batch (record run { frozen = to }) after recipes
-frozen-keeps batch run past recipes after to starts logs outcomes frozen keeps =
+frozen_keeps batch run past recipes after to starts logs outcomes frozen keeps =
     let follows : Follows run (log_by after) = subst (Follows run) (sym logs) keeps.follows in
     record {
       batch_is = keeps.batch_is;
@@ -197,8 +197,8 @@ frozen-keeps batch run past recipes after to starts logs outcomes frozen keeps =
     }
 
 -- an event that begins or ends a freeze is refused where that is so already, and else done
-freeze-set : (history : History) (event : EventForm) (batch : List ℕ) (to refuses : Bool) (rule : Rule)
-    (run : PlainRun) (modules : Berths Slot)
+freeze_set : (history : History) (event : PlainEvent) (batch : List ℕ) (to refuses : Bool) (rule : Rule)
+    (run : PlainRun) (modules : Rows Slot)
     (runs new : List (List ℕ × PlainRun)) → subject event ≡ of_batch batch → starting event ≡ None →
     freezing event ≡ Some to →
     present_tags (entry_of history event ∷ history) ≡ present_tags history →
@@ -207,49 +207,49 @@ freeze-set : (history : History) (event : EventForm) (batch : List ℕ) (to refu
     ChangesRun batch (record run { frozen = to }) runs new →
     SeatsMirror modules history → IsCounted modules history → RunsMirror runs history →
     AnswersBatch history event (done_or_refused (done_unless (when refuses rule))) modules new
-freeze-set history event batch to true rule run modules runs new is unstarted freezes present
+freeze_set history event batch to true rule run modules runs new is unstarted freezes present
     same already open' changes seats counted batches =
-    let keeps = run-keeps history batch runs run batches open'.found in
-    batch-refused history event (Refused rule) modules new (sym same) refl seats counted
-    (runs-replaced history batch (record run { frozen = to }) runs new changes
-    (frozen-keeps batch run (past_of_batch batch history) (recipes history)
+    let keeps = run_keeps history batch runs run batches open'.found in
+    batch_refused history event (Refused rule) modules new (sym same) refl seats counted
+    (runs_replaced history batch (record run { frozen = to }) runs new changes
+    (frozen_keeps batch run (past_of_batch batch history) (recipes history)
     (past_of_batch batch history) to refl refl refl (already refl ∙ keeps.frozen_is) keeps) batches)
-freeze-set history event batch to false rule run modules runs new is unstarted freezes present
+freeze_set history event batch to false rule run modules runs new is unstarted freezes present
     same already open' changes seats counted batches =
-    let keeps = run-keeps history batch runs run batches open'.found in
+    let keeps = run_keeps history batch runs run batches open'.found in
     let past' = past_of_batch batch history in
-    batch-stays history event batch Done (record run { frozen = to }) modules runs new is unstarted present
+    batch_stays history event batch Done (record run { frozen = to }) modules runs new is unstarted present
     (sym same) refl refl
-    (open-outcome history batch run runs batches open') changes
-    (frozen-keeps batch run past' (recipes history) (paired event Done ∷ past') to
+    (open_outcome history batch run runs batches open') changes
+    (frozen_keeps batch run past' (recipes history) (paired event Done ∷ past') to
     (ap (λ starts. option_or starts (start_by past')) unstarted) refl refl
-    (ap (λ frozen. unwrap_or (option_or frozen (last_of (λ (entry : EntryForm). freezing entry.event) past')) false)
+    (ap (λ frozen. unwrap_or (option_or frozen (last_of (λ (entry : PlainEntry). freezing entry.event) past')) false)
     (sym freezes)) keeps) seats counted batches
 
 -- a batch is frozen
-pub freeze-answered : (history : History) (at : ℕ) (batch : List ℕ) (run : PlainRun) (modules : Berths Slot)
+pub freeze_answered : (history : History) (at : ℕ) (batch : List ℕ) (run : PlainRun) (modules : Rows Slot)
     (runs new : List (List ℕ × PlainRun)) →
     is_full history ≡ false → IsOpenRun batch run runs → ChangesRun batch (record run { frozen = true }) runs new →
     SeatsMirror modules history → IsCounted modules history → RunsMirror runs history →
     AnswersBatch history (freeze at batch) (done_or_refused (done_unless (when run.frozen AlreadyFrozen))) modules new
-freeze-answered history at batch run modules runs new room open' changes seats counted batches =
-    let keeps = run-keeps history batch runs run batches open'.found in
-    freeze-set history (freeze at batch) batch true run.frozen AlreadyFrozen run modules runs new refl refl refl refl
-    (open-answer history (freeze at batch) batch (already_frozen (past_of_batch batch history) ∷ [])
+freeze_answered history at batch run modules runs new room open' changes seats counted batches =
+    let keeps = run_keeps history batch runs run batches open'.found in
+    freeze_set history (freeze at batch) batch true run.frozen AlreadyFrozen run modules runs new refl refl refl refl
+    (open_answer history (freeze at batch) batch (already_frozen (past_of_batch batch history) ∷ [])
     run runs refl room batches open'
     ∙ ap (λ frozen. first_rule (when frozen AlreadyFrozen ∷ []) Done) (sym keeps.frozen_is))
     sym open' changes seats counted batches
 
 -- a frozen batch goes on
-pub thaw-answered : (history : History) (at : ℕ) (batch : List ℕ) (run : PlainRun) (modules : Berths Slot)
+pub thaw_answered : (history : History) (at : ℕ) (batch : List ℕ) (run : PlainRun) (modules : Rows Slot)
     (runs new : List (List ℕ × PlainRun)) →
     is_full history ≡ false → IsOpenRun batch run runs → ChangesRun batch (record run { frozen = false }) runs new →
     SeatsMirror modules history → IsCounted modules history → RunsMirror runs history →
     AnswersBatch history (thaw at batch) (done_or_refused (done_unless (when (not run.frozen) NotFrozen))) modules new
-thaw-answered history at batch run modules runs new room open' changes seats counted batches =
-    let keeps = run-keeps history batch runs run batches open'.found in
-    freeze-set history (thaw at batch) batch false (not run.frozen) NotFrozen run modules runs new refl refl refl refl
-    (open-answer history (thaw at batch) batch (not_frozen (past_of_batch batch history) ∷ [])
+thaw_answered history at batch run modules runs new room open' changes seats counted batches =
+    let keeps = run_keeps history batch runs run batches open'.found in
+    freeze_set history (thaw at batch) batch false (not run.frozen) NotFrozen run modules runs new refl refl refl refl
+    (open_answer history (thaw at batch) batch (not_frozen (past_of_batch batch history) ∷ [])
     run runs refl room batches open'
     ∙ ap (λ frozen. first_rule (when (not frozen) NotFrozen ∷ []) Done) (sym keeps.frozen_is))
     (already run.frozen) open' changes seats counted batches
@@ -261,22 +261,22 @@ thaw-answered history at batch run modules runs new room open' changes seats cou
 -- ---- a stop
 
 -- the answer, where the stop is new or not
-stop-told : (is_new is_old : Bool) → is_new ≡ not is_old → (if is_new then Did StopAsked else Done)
+stop_told : (is_new is_old : Bool) → is_new ≡ not is_old → (if is_new then Did StopAsked else Done)
     ≡ (if is_old then Done else Did StopAsked)
-stop-told is_new true is = ap (λ new. if new then Did StopAsked else Done) is
-stop-told is_new false is = ap (λ new. if new then Did StopAsked else Done) is
+stop_told is_new true is = ap (λ new. if new then Did StopAsked else Done) is
+stop_told is_new false is = ap (λ new. if new then Did StopAsked else Done) is
 
 -- the run keeps the past that ends in the stop
-stopped-keeps : (batch : List ℕ) (at : ℕ) (is_new : Bool) (run after : PlainRun) (past recipes : History) →
+stopped_keeps : (batch : List ℕ) (at : ℕ) (is_new : Bool) (run after : PlainRun) (past recipes : History) →
     Stops is_new run after → RunKeeps batch run past recipes →
     RunKeeps batch after (paired (stop_batch at batch) (if is_new then Did StopAsked else Done) ∷ past) recipes
-stopped-keeps batch at is_new run after past recipes stops keeps =
+stopped_keeps batch at is_new run after past recipes stops keeps =
     record {
       batch_is = stops.same_batch.batch ∙ keeps.batch_is;
       recipe = keeps.recipe;
       started = keeps.started ∙ ap (λ binds. Some (record { recipe = keeps.recipe; binds = binds }))
           (sym stops.same_batch.binds);
-      charted = keeps.charted ∙ ap (λ chart. Some (plan chart)) (sym stops.same_batch.chart);
+      charted = keeps.charted ∙ ap (λ chart. Some (plain_chart chart)) (sym stops.same_batch.chart);
       follows = follows is_new (stops.log (log_by past) keeps.follows);
       frozen_is = stops.frozen_is;
       outcome_is = stops.outcome_is ∙ keeps.outcome_is ∙ unclosed is_new;
@@ -284,7 +284,7 @@ stopped-keeps batch at is_new run after past recipes stops keeps =
   where
     follows : (is_new : Bool) → Follows after (if is_new then log_by past ++ StopAsked ∷ [] else log_by past) →
         Follows after (log_by (paired (stop_batch at batch) (if is_new then Did StopAsked else Done) ∷ past))
-    follows true follows' = subst (Follows after) (sym (log-grows past (stop_batch at batch) StopAsked)) follows'
+    follows true follows' = subst (Follows after) (sym (log_grows past (stop_batch at batch) StopAsked)) follows'
     follows false follows' = follows'
 
     unclosed : (is_new : Bool) → outcome_by past ≡ outcome_by
@@ -293,21 +293,21 @@ stopped-keeps batch at is_new run after past recipes stops keeps =
     unclosed false = refl
 
 -- a batch is to be stopped
-pub stop-answered : (history : History) (at : ℕ) (batch : List ℕ) (is_new : Bool) (run : PlainRun)
-    (modules : Berths Slot) (runs new : List (List ℕ × PlainRun)) →
+pub stop_answered : (history : History) (at : ℕ) (batch : List ℕ) (is_new : Bool) (run : PlainRun)
+    (modules : Rows Slot) (runs new : List (List ℕ × PlainRun)) →
     is_full history ≡ false → IsOpenRun batch run runs → StopsOne batch is_new run runs new →
     SeatsMirror modules history → IsCounted modules history → RunsMirror runs history →
     AnswersBatch history (stop_batch at batch) (if is_new then Did StopAsked else Done) modules new
-stop-answered history at batch is_new run modules runs new room open' stops seats counted batches =
-    let keeps = run-keeps history batch runs run batches open'.found in
+stop_answered history at batch is_new run modules runs new room open' stops seats counted batches =
+    let keeps = run_keeps history batch runs run batches open'.found in
     let past' = past_of_batch batch history in
-    batch-stays history (stop_batch at batch) batch (if is_new then Did StopAsked else Done)
+    batch_stays history (stop_batch at batch) batch (if is_new then Did StopAsked else Done)
     stops.after modules runs new refl refl refl
-    (stop-told is_new (has_broken (log_by past') || was_stopped (log_by past'))
+    (stop_told is_new (has_broken (log_by past') || was_stopped (log_by past'))
     (stops.stops.asked (log_by past') keeps.follows)
-    ∙ sym (open-answer history (stop_batch at batch) batch [] run runs refl room batches open'))
-    (accepted is_new) (unclosed is_new) (open-outcome history batch run runs batches open') stops.runs
-    (stopped-keeps batch at is_new run stops.after past' (recipes history) stops.stops keeps) seats counted batches
+    ∙ sym (open_answer history (stop_batch at batch) batch [] run runs refl room batches open'))
+    (accepted is_new) (unclosed is_new) (open_outcome history batch run runs batches open') stops.runs
+    (stopped_keeps batch at is_new run stops.after past' (recipes history) stops.stops keeps) seats counted batches
   where
     accepted : (is_new : Bool) → is_accepted (if is_new then Did StopAsked else Done) ≡ true
     accepted true = refl

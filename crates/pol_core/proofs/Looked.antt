@@ -5,10 +5,10 @@ use Rattle.std.specs.Map.{lookup}
 use Rattle.std.specs.Option.{option_or}
 use Rattle.std.specs.Str.{bytes_eq}
 use Rattle.mtp_codes.specs.Faults.{when, done_unless, first_of}
-use Rattle.chart_core.specs.Charts.{plan}
+use Rattle.chart_core.specs.Charts.{plain_chart}
 use Rattle.chart_core.specs.declared.next.Next.{Next}
 use Rattle.chart_core.specs.declared.next.Outcome.{Outcome}
-use Rattle.pol_events.specs.Events.{EventForm}
+use Rattle.pol_events.specs.Events.{PlainEvent}
 use Rattle.pol_events.specs.declared.answer.Rule.{Rule}
 use Rattle.pol_events.specs.declared.answer.Rule.TheVariants.{BatchClosed, HistoryFull}
 use Rattle.pol_history.specs.Answers.{rules, otherwise, first_rule, answer_of, is_full}
@@ -17,34 +17,34 @@ use Rattle.pol_history.specs.Following.{next_of, next_of_started}
 use Rattle.pol_history.specs.Looking as looking
 use Rattle.pol_history.specs.Looking.{History, past_of_batch, recipes}
 use Rattle.pol_slots.specs.declared.slot.Slot.{Slot}
-use Rattle.pol_table.specs.Berths.{Berths}
+use Rattle.pol_table.specs.Rows.{Rows}
 use Rattle.pol_runs.specs.Runs.{PlainRun}
 use Rattle.pol_core.specs.Batches.{IsRun, RunsMirror, ComesNext, IsOpenRun, not_open}
 use Rattle.pol_core.specs.Calls.{open_next, refusal, refused_first, settings_named, settings_of}
 use Rattle.pol_core.specs.Seats.{SeatsMirror}
 use Rattle.pol_core.specs.Seen.{table_sights}
-use Rattle.pol_core.proofs.Judging.{refuse, refused-first}
-use Rattle.pol_core.proofs.Lasting.{open-outcome}
-use Rattle.pol_core.proofs.Stepping.{run-keeps, next-of-is}
+use Rattle.pol_core.proofs.Judging.{refuse, refused_first_is}
+use Rattle.pol_core.proofs.Lasting.{open_outcome}
+use Rattle.pol_core.proofs.Stepping.{run_keeps, next_of_is}
 
 -- ---- what comes next
 
 -- an open batch has a next entry
-pub open-comes : (history : History) (batch : List ℕ) (berths : Berths Slot) (run : PlainRun)
+pub open_comes : (history : History) (batch : List ℕ) (rows : Rows Slot) (run : PlainRun)
     (runs : List (List ℕ × PlainRun)) (next : Next) →
-    SeatsMirror berths history → RunsMirror runs history → IsOpenRun batch run runs →
-    ComesNext (table_sights berths run.binds) next run →
+    SeatsMirror rows history → RunsMirror runs history → IsOpenRun batch run runs →
+    ComesNext (table_sights rows run.binds) next run →
     Some next ≡ open_next history batch
-open-comes history batch berths run runs next seats batches open' comes =
+open_comes history batch rows run runs next seats batches open' comes =
     sym (ap (λ outcome. if is_none outcome then next_of history batch else None)
-    (open-outcome history batch run runs batches open')
-    ∙ next-of-is history batch berths run next seats (run-keeps history batch runs run batches open'.found) comes)
+    (open_outcome history batch run runs batches open')
+    ∙ next_of_is history batch rows run next seats (run_keeps history batch runs run batches open'.found) comes)
 
 -- a batch that isn't open has none
-pub not-open-none : (history : History) (batch : List ℕ) (rule : Rule) (runs : List (List ℕ × PlainRun)) →
+pub not_open_none : (history : History) (batch : List ℕ) (rule : Rule) (runs : List (List ℕ × PlainRun)) →
     RunsMirror runs history →
     not_open (lookup (bytes_eq batch) runs) ≡ Some rule → None ≡ open_next history batch
-not-open-none history batch rule runs mirror is = go (lookup (bytes_eq batch) runs) (mirror batch) is
+not_open_none history batch rule runs mirror is = go (lookup (bytes_eq batch) runs) (mirror batch) is
   where
     begins : Option Started → Option Next
     begins found = option_and_then (next_of_started (recipes history) (past_of_batch batch history)
@@ -67,19 +67,20 @@ not-open-none history batch rule runs mirror is = go (lookup (bytes_eq batch) ru
 -- ---- the settings of a step
 
 -- a started batch has its chart's steps
-pub run-settings : (history : History) (batch name : List ℕ) (run : PlainRun) (runs : List (List ℕ × PlainRun)) →
+pub run_settings : (history : History) (batch name : List ℕ) (run : PlainRun) (runs : List (List ℕ × PlainRun)) →
     RunsMirror runs history →
-    lookup (bytes_eq batch) runs ≡ Some run → settings_named name (plan run.chart) ≡ settings_of history batch name
-run-settings history batch name run runs mirror found =
-    let keeps = run-keeps history batch runs run mirror found in
+    lookup (bytes_eq batch) runs ≡ Some run
+    → settings_named name (plain_chart run.chart) ≡ settings_of history batch name
+run_settings history batch name run runs mirror found =
+    let keeps = run_keeps history batch runs run mirror found in
     sym (ap (λ started. option_and_then (settings_named name) (chart_by (recipes history) started)) keeps.started
     ∙ ap (option_and_then (settings_named name)) keeps.charted)
 
 -- a batch that isn't started has none
-pub no-run-settings : (history : History) (batch name : List ℕ) (runs : List (List ℕ × PlainRun)) →
+pub no_run_settings : (history : History) (batch name : List ℕ) (runs : List (List ℕ × PlainRun)) →
     RunsMirror runs history →
     lookup (bytes_eq batch) runs ≡ None → None ≡ settings_of history batch name
-no-run-settings history batch name runs mirror none = go (lookup (bytes_eq batch) runs) (mirror batch) none
+no_run_settings history batch name runs mirror none = go (lookup (bytes_eq batch) runs) (mirror batch) none
   where
     go : (found : Option PlainRun) → IsRun batch found (past_of_batch batch history) (recipes history) →
         found ≡ None → None ≡ settings_of history batch name
@@ -90,13 +91,13 @@ no-run-settings history batch name runs mirror none = go (lookup (bytes_eq batch
 -- ---- the rule that an event would be refused by
 
 -- the fullness of the history, or the first of the event's rules
-pub refused-by : (history : History) (event : EventForm) (rule : Option Rule) → rule ≡ first_of (rules history event) →
+pub refused_by : (history : History) (event : PlainEvent) (rule : Option Rule) → rule ≡ first_of (rules history event) →
     refusal (otherwise history event) ≡ Ok tt → refused_first (length history) rule ≡ refusal (answer_of history event)
-refused-by history event rule is accepted =
+refused_by history event rule is accepted =
     go (is_full history) rule
     ∙ ap (λ rule. refusal (first_rule (when (is_full history) HistoryFull ∷ [])
     (refuse rule (otherwise history event)))) is
-    ∙ back (is_full history) (first-is (rules history event))
+    ∙ back (is_full history) (first_is (rules history event))
   where
     go : (full : Bool) (rule : Option Rule) → done_unless (option_or (when full HistoryFull) rule)
         ≡ refusal (first_rule (when full HistoryFull ∷ []) (refuse rule (otherwise history event)))
@@ -104,9 +105,9 @@ refused-by history event rule is accepted =
     go false None = sym accepted
     go false (Some rule) = refl
 
-    first-is : (rules : List (Option Rule)) → refuse (first_of rules) (otherwise history event)
+    first_is : (rules : List (Option Rule)) → refuse (first_of rules) (otherwise history event)
         ≡ first_rule rules (otherwise history event)
-    first-is rules = sym (refused-first rules (otherwise history event))
+    first_is rules = sym (refused_first_is rules (otherwise history event))
 
     back : (full : Bool) → refuse (first_of (rules history event)) (otherwise history event)
         ≡ first_rule (rules history event) (otherwise history event) →

@@ -4,8 +4,8 @@ use Rattle.std.specs.Prelude.{nat_le}
 use Rattle.mtp_codes.specs.Faults.{when}
 use Rattle.mtp_codes.specs.Names.{is_among}
 use Rattle.mtp_codes.specs.declared.limits.TheConstants.{MOST_MODULES}
-use Rattle.mtp_desc.specs.Plain.{DescriptionForm}
-use Rattle.pol_events.specs.Events.{EventForm, EntryForm, plug}
+use Rattle.mtp_desc.specs.Plain.{PlainDescription}
+use Rattle.pol_events.specs.Events.{PlainEvent, PlainEntry, plug}
 use Rattle.pol_events.specs.declared.answer.Answer.{Answer}
 use Rattle.pol_events.specs.declared.answer.Answer.TheVariants.{Done, Refused}
 use Rattle.pol_events.specs.declared.answer.Rule.TheVariants.{TagTaken, PlantFull}
@@ -15,22 +15,22 @@ use Rattle.pol_history.specs.Looking.{History, is_accepted, past}
 use Rattle.pol_history.specs.Modules.{Docking, absent, docked, away, docking_by}
 use Rattle.pol_history.specs.Rules.{tag_taken, plant_full}
 use Rattle.pol_history.specs.Runs.{entry_of}
-use Rattle.pol_history.proofs.Accepted.{paired, with-room}
-use Rattle.pol_history.proofs.Pasts.{past-own}
-use Rattle.pol_history.proofs.Refused.{refused-nothing}
+use Rattle.pol_history.proofs.Accepted.{paired, with_room}
+use Rattle.pol_history.proofs.Pasts.{past_own}
+use Rattle.pol_history.proofs.Refused.{refused_nothing}
 use Rattle.pol_slots.specs.Slots.{slot_tag, slot_ticket, slot_description, slot_begins, IsUnreported}
 use Rattle.pol_slots.specs.declared.slot.Slot.{Slot}
-use Rattle.pol_table.specs.Berths.{Berth, Berths, look}
+use Rattle.pol_table.specs.Rows.{Row, Rows, look}
 use Rattle.pol_core.specs.Seats.{SlotKeeps, IsTaken, IsEmpty, IsSeated, SeatsMirror, IsCounted, AnswersModule}
-use Rattle.pol_core.proofs.Counting.{counted-more}
-use Rattle.pol_core.proofs.Seating.{Changes, seat-changes, seats-refused}
+use Rattle.pol_core.proofs.Counting.{counted_more}
+use Rattle.pol_core.proofs.Seating.{Changes, seat_changes, seats_refused}
 
 -- a new slot keeps the past that ends in its plug
-pub plug-keeps : (tag other : List ℕ) (slot : Slot) (past : History) (at : ℕ) (description : DescriptionForm)
+pub plug_keeps : (tag other : List ℕ) (slot : Slot) (past : History) (at : ℕ) (description : PlainDescription)
     (answer : Answer) → slot_tag slot ≡ tag →
     slot_description slot ≡ description → slot_begins slot ≡ 0 → slot_ticket slot ≡ None → IsUnreported slot →
     SlotKeeps tag slot (paired (plug at other description) answer ∷ past)
-plug-keeps tag other slot past at description answer tag_is description_is begins ticket unreported =
+plug_keeps tag other slot past at description answer tag_is description_is begins ticket unreported =
     record {
       tag_is = tag_is;
       is_there = λ is. cc;
@@ -43,20 +43,20 @@ plug-keeps tag other slot past at description answer tag_is description_is begin
     }
 
 -- a tag that is there is taken
-taken-docking : (docking : Docking) → (docking ≡ absent → ⊥) → tag_taken docking ≡ Some TagTaken
-taken-docking absent there = absurd (there refl)
-taken-docking (docked count) there = refl
-taken-docking (away ticket) there = refl
+taken_docking : (docking : Docking) → (docking ≡ absent → ⊥) → tag_taken docking ≡ Some TagTaken
+taken_docking absent there = absurd (there refl)
+taken_docking (docked count) there = refl
+taken_docking (away ticket) there = refl
 
 -- a refused event of a module
-pub refused-answered : (history : History) (event : EventForm) (answer : Answer) (berths : Berths Slot) →
+pub refused_answered : (history : History) (event : PlainEvent) (answer : Answer) (rows : Rows Slot) →
     answer ≡ answer_of history event → is_accepted answer ≡ false →
-    SeatsMirror berths history → IsCounted berths history → AnswersModule history event answer berths
-refused-answered history event answer berths is refused seats counted =
-    let nothing = refused-nothing (entry_of history event) history (ap is_accepted (sym is) ∙ refused) in
+    SeatsMirror rows history → IsCounted rows history → AnswersModule history event answer rows
+refused_answered history event answer rows is refused seats counted =
+    let nothing = refused_nothing (entry_of history event) history (ap is_accepted (sym is) ∙ refused) in
     record {
       answer_is = is;
-      seats = seats-refused history (entry_of history event) berths nothing seats;
+      seats = seats_refused history (entry_of history event) rows nothing seats;
       counted = record {
         members = λ tag. ap (λ tags. is_among tags tag) nothing.present ∙ counted.members tag;
         once = rw nothing.present counted.once;
@@ -65,53 +65,53 @@ refused-answered history event answer berths is refused seats counted =
     }
 
 -- a tag that is there is refused
-pub tag-taken : (history : History) (at : ℕ) (tag : List ℕ) (description : DescriptionForm)
-    (berths : Berths Slot) (found : Option (Berth Slot)) → look tag berths ≡ found →
-    is_some found ≡ true → SeatsMirror berths history → is_full history ≡ false →
+pub tag_taken_is : (history : History) (at : ℕ) (tag : List ℕ) (description : PlainDescription)
+    (rows : Rows Slot) (found : Option (Row Slot)) → look tag rows ≡ found →
+    is_some found ≡ true → SeatsMirror rows history → is_full history ≡ false →
     Refused TagTaken ≡ answer_of history (plug at tag description)
-tag-taken history at tag description berths None is some seats room = cc
-tag-taken history at tag description berths (Some berth) is some seats room =
-    let taken : IsTaken tag berth (past tag history) (holder_of history tag) =
+tag_taken_is history at tag description rows None is some seats room = cc
+tag_taken_is history at tag description rows (Some row) is some seats room =
+    let taken : IsTaken tag row (past tag history) (holder_of history tag) =
     subst (λ found. IsSeated tag found (past tag history) (holder_of history tag)) is (seats tag) in
-    sym (with-room history (plug at tag description) room
+    sym (with_room history (plug at tag description) room
     ∙ ap (λ rule. first_rule (rule ∷ plant_full history ∷ []) Done)
-    (taken-docking (docking_by (past tag history)) taken.slot_keeps.is_there))
+    (taken_docking (docking_by (past tag history)) taken.slot_keeps.is_there))
 
 -- a new tag is refused where the plant is full, and else done
-pub new-tag : (history : History) (at : ℕ) (tag : List ℕ) (description : DescriptionForm) (berths : Berths Slot) →
-    look tag berths ≡ None → SeatsMirror berths history →
-    IsCounted berths history → is_full history ≡ false →
+pub new_tag : (history : History) (at : ℕ) (tag : List ℕ) (description : PlainDescription) (rows : Rows Slot) →
+    look tag rows ≡ None → SeatsMirror rows history →
+    IsCounted rows history → is_full history ≡ false →
     answer_of history (plug at tag description) ≡ first_rule
-    (when (nat_le MOST_MODULES (length berths)) PlantFull ∷ []) Done
-new-tag history at tag description berths is seats counted room =
+    (when (nat_le MOST_MODULES (length rows)) PlantFull ∷ []) Done
+new_tag history at tag description rows is seats counted room =
     let empty : IsEmpty (past tag history) (holder_of history tag) =
     subst (λ found. IsSeated tag found (past tag history) (holder_of history tag)) is (seats tag) in
-    with-room history (plug at tag description) room
+    with_room history (plug at tag description) room
     ∙ ap (λ docking. first_rule (tag_taken docking ∷ plant_full history ∷ []) Done) empty.is_absent
     ∙ ap (λ n. first_rule (when (nat_le MOST_MODULES n) PlantFull ∷ []) Done) (sym counted.count)
 
--- a new tag gets a berth
-pub plug-answered : (history : History) (at : ℕ) (tag : List ℕ) (description : DescriptionForm)
-    (slot : Slot) (old new : Berths Slot) → look tag old ≡ None →
+-- a new tag gets a row
+pub plug_answered : (history : History) (at : ℕ) (tag : List ℕ) (description : PlainDescription)
+    (slot : Slot) (old new : Rows Slot) → look tag old ≡ None →
     nat_le MOST_MODULES (length old) ≡ false → SlotKeeps tag slot
     (paired (plug at tag description) Done ∷ past tag history) →
     Changes tag (Some (record { part = slot; holder = None })) old new → length new ≡ length old + 1 →
     SeatsMirror old history → IsCounted old history → is_full history ≡ false →
     AnswersModule history (plug at tag description) Done new
-plug-answered history at tag description slot old new is few keeps changes more seats counted room =
-    let answer = new-tag history at tag description old is seats counted room
+plug_answered history at tag description slot old new is few keeps changes more seats counted room =
+    let answer = new_tag history at tag description old is seats counted room
     ∙ ap (λ full. first_rule (when full PlantFull ∷ []) Done) few in
     let empty : IsEmpty (past tag history) (holder_of history tag) =
     subst (λ found. IsSeated tag found (past tag history) (holder_of history tag)) is (seats tag) in
-    let entry : EntryForm = paired (plug at tag description) Done in
+    let entry : PlainEntry = paired (plug at tag description) Done in
     record {
       answer_is = sym answer;
       seats = subst (λ answer. SeatsMirror new (paired (plug at tag description) answer ∷ history)) (sym answer)
-          (seat-changes history entry tag (Some (record { part = slot; holder = None })) old new refl changes
+          (seat_changes history entry tag (Some (record { part = slot; holder = None })) old new refl changes
           (record {
-            slot_keeps = subst (SlotKeeps tag slot) (sym (past-own history entry tag refl refl)) keeps;
+            slot_keeps = subst (SlotKeeps tag slot) (sym (past_own history entry tag refl refl)) keeps;
             held_by = sym empty.free;
           }) seats);
       counted = subst (λ answer. IsCounted new (paired (plug at tag description) answer ∷ history)) (sym answer)
-          (counted-more history entry tag (record { part = slot; holder = None }) old new is refl changes more counted);
+          (counted_more history entry tag (record { part = slot; holder = None }) old new is refl changes more counted);
     }

@@ -5,11 +5,11 @@ use Rattle.std.specs.Map.{lookup}
 use Rattle.std.specs.Option.{option_or, option_map}
 use Rattle.std.specs.Str.{bytes_eq}
 use Rattle.mtp_codes.specs.Faults.{when}
-use Rattle.chart_core.specs.Charts.{plan}
+use Rattle.chart_core.specs.Charts.{plain_chart}
 use Rattle.chart_core.specs.declared.next.Next.{Next}
 use Rattle.chart_core.specs.declared.next.Next.TheVariants as next
 use Rattle.chart_cursor.specs.NextEntry.{next_by}
-use Rattle.pol_events.specs.Events.{EntryForm, advance}
+use Rattle.pol_events.specs.Events.{PlainEntry, advance}
 use Rattle.pol_events.specs.declared.answer.Rule.TheVariants.{BatchClosed}
 use Rattle.pol_history.specs.Answers.{advanced, first_rule, answer_of, is_full}
 use Rattle.pol_history.specs.Batches.{Started, closing, outcome_by, is_frozen_by, log_by}
@@ -17,39 +17,41 @@ use Rattle.pol_history.specs.Following.{sights_by, next_of_started, next_of}
 use Rattle.pol_history.specs.Looking.{History, of_batch, subject, is_accepted, past, past_of_batch, recipes}
 use Rattle.pol_history.specs.Rules.{no_batch, batch_closed}
 use Rattle.pol_history.specs.Runs.{entry_of}
-use Rattle.pol_history.proofs.Accepted.{paired, with-room}
-use Rattle.pol_history.proofs.Names.{same-true}
-use Rattle.pol_history.proofs.Pasts.{log-grows, batch-recipes-same, batch-past-apart, batch-past-own}
+use Rattle.pol_history.proofs.Accepted.{paired, with_room}
+use Rattle.pol_history.proofs.Names.{same_true}
+use Rattle.pol_history.proofs.Pasts.{log_grows, batch_recipes_same, batch_past_apart, batch_past_own}
 use Rattle.pol_slots.specs.declared.slot.Slot.{Slot}
-use Rattle.pol_table.specs.Berths.{Berths, look}
+use Rattle.pol_table.specs.Rows.{Rows, look}
 use Rattle.pol_runs.specs.Logs.{Follows, closing_in, log_after}
 use Rattle.pol_runs.specs.Runs.{PlainRun}
 use Rattle.pol_core.specs.Batches.{RunKeeps, IsRun, RunsMirror, ComesNext, Settles, SettlesOne, IsOpenRun, AnswersBatch, freed_if}
 use Rattle.pol_core.specs.Seats.{SeatsMirror, IsCounted}
 use Rattle.pol_core.specs.Seen.{table_sights}
-use Rattle.pol_core.proofs.Closing.{seats-freed}
-use Rattle.pol_core.proofs.Counting.{counted-same, counted-freed}
-use Rattle.pol_core.proofs.Sights.{sights-same}
+use Rattle.pol_core.proofs.Closing.{seats_freed}
+use Rattle.pol_core.proofs.Counting.{counted_same, counted_freed}
+use Rattle.pol_core.proofs.Sights.{sights_same}
 
 -- the run of a batch keeps its past
-pub run-keeps : (history : History) (batch : List ℕ) (runs : List (List ℕ × PlainRun)) (run : PlainRun) →
+pub run_keeps : (history : History) (batch : List ℕ) (runs : List (List ℕ × PlainRun)) (run : PlainRun) →
     RunsMirror runs history →
     lookup (bytes_eq batch) runs ≡ Some run → RunKeeps batch run (past_of_batch batch history) (recipes history)
-run-keeps history batch runs run mirror found =
+run_keeps history batch runs run mirror found =
     subst (λ found. IsRun batch found (past_of_batch batch history) (recipes history)) found (mirror batch)
 
 -- what comes next is the defined next entry
-pub next-of-is : (history : History) (batch : List ℕ) (berths : Berths Slot) (run : PlainRun) (next : Next) →
-    SeatsMirror berths history →
+pub next_of_is : (history : History) (batch : List ℕ) (rows : Rows Slot) (run : PlainRun) (next : Next) →
+    SeatsMirror rows history →
     RunKeeps batch run (past_of_batch batch history) (recipes history) →
-    ComesNext (table_sights berths run.binds) next run → next_of history batch ≡ Some next
-next-of-is history batch berths run next mirror keeps comes =
+    ComesNext (table_sights rows run.binds) next run → next_of history batch ≡ Some next
+next_of_is history batch rows run next mirror keeps comes =
     let past' = past_of_batch batch history in
-    let same : next ≡ next_by (plan run.chart) (is_frozen_by past') (log_by past')
+    let same : next ≡ next_by (plain_chart run.chart) (is_frozen_by past') (log_by past')
     (sights_by run.binds (λ tag. past tag history))
     = comes (log_by past') keeps.follows
-    ∙ ap (λ seen. next_by (plan run.chart) run.frozen (log_by past') seen) (sights-same berths history run.binds mirror)
-    ∙ ap (λ frozen. next_by (plan run.chart) frozen (log_by past') (sights_by run.binds (λ tag. past tag history)))
+    ∙ ap (λ seen. next_by (plain_chart run.chart) run.frozen (log_by past') seen)
+    (sights_same rows history run.binds mirror)
+    ∙ ap (λ frozen. next_by (plain_chart run.chart) frozen (log_by past')
+    (sights_by run.binds (λ tag. past tag history)))
     keeps.frozen_is in
     ap begins keeps.started
     ∙ ap (option_map (λ chart. next_by chart (is_frozen_by past') (log_by past')
@@ -61,66 +63,66 @@ next-of-is history batch berths run next mirror keeps comes =
         (λ tag. past tag history)) found
 
 -- so it is the answer to an advance
-next-is : (history : History) (at : ℕ) (batch : List ℕ) (berths : Berths Slot) (run : PlainRun) (next : Next) →
-    is_full history ≡ false → SeatsMirror berths history →
+next_is : (history : History) (at : ℕ) (batch : List ℕ) (rows : Rows Slot) (run : PlainRun) (next : Next) →
+    is_full history ≡ false → SeatsMirror rows history →
     RunKeeps batch run (past_of_batch batch history) (recipes history) → run.outcome ≡ None →
-    ComesNext (table_sights berths run.binds) next run →
+    ComesNext (table_sights rows run.binds) next run →
     answer_of history (advance at batch) ≡ advanced (Some next)
-next-is history at batch berths run next room mirror keeps open' comes =
+next_is history at batch rows run next room mirror keeps open' comes =
     let past' = past_of_batch batch history in
-    with-room history (advance at batch) room
+    with_room history (advance at batch) room
     ∙ ap (λ found. first_rule (no_batch found ∷ batch_closed past' ∷ []) (advanced (next_of history batch)))
     keeps.started
     ∙ ap (λ outcome. first_rule (when (is_some outcome) BatchClosed ∷ []) (advanced (next_of history batch)))
     (sym keeps.outcome_is ∙ open')
-    ∙ ap advanced (next-of-is history batch berths run next mirror keeps comes)
+    ∙ ap advanced (next_of_is history batch rows run next mirror keeps comes)
 
 -- the log after the answer
-log-is : (past : History) (at : ℕ) (batch : List ℕ) (next : Next) →
+log_is : (past : History) (at : ℕ) (batch : List ℕ) (next : Next) →
     log_by (paired (advance at batch) (advanced (Some next)) ∷ past) ≡ log_after next (log_by past)
-log-is past at batch (next.Did entry) = log-grows past (advance at batch) entry
-log-is past at batch (next.Waiting obstacle) = refl
-log-is past at batch (next.Closed outcome) = refl
+log_is past at batch (next.Did entry) = log_grows past (advance at batch) entry
+log_is past at batch (next.Waiting obstacle) = refl
+log_is past at batch (next.Closed outcome) = refl
 
 -- the outcome with which the answer closes the batch
-closing-is : (next : Next) → closing (advanced (Some next)) ≡ closing_in next
-closing-is (next.Did entry) = refl
-closing-is (next.Waiting obstacle) = refl
-closing-is (next.Closed outcome) = refl
+closing_is : (next : Next) → closing (advanced (Some next)) ≡ closing_in next
+closing_is (next.Did entry) = refl
+closing_is (next.Waiting obstacle) = refl
+closing_is (next.Closed outcome) = refl
 
 -- no advance of an open batch is refused
-accepted-is : (next : Next) → is_accepted (advanced (Some next)) ≡ true
-accepted-is (next.Did entry) = refl
-accepted-is (next.Waiting obstacle) = refl
-accepted-is (next.Closed outcome) = refl
+accepted_is : (next : Next) → is_accepted (advanced (Some next)) ≡ true
+accepted_is (next.Did entry) = refl
+accepted_is (next.Waiting obstacle) = refl
+accepted_is (next.Closed outcome) = refl
 
 -- the run that has settled keeps the past with the answer
-settled-keeps : (past recipes : History) (at : ℕ) (batch : List ℕ) (run after : PlainRun) (next : Next) →
+settled_keeps : (past recipes : History) (at : ℕ) (batch : List ℕ) (run after : PlainRun) (next : Next) →
     Settles next run after → RunKeeps batch run past recipes →
     RunKeeps batch after (paired (advance at batch) (advanced (Some next)) ∷ past) recipes
-settled-keeps past recipes at batch run after next settles keeps =
+settled_keeps past recipes at batch run after next settles keeps =
     record {
       batch_is = settles.same_batch.batch ∙ keeps.batch_is;
       recipe = keeps.recipe;
       started = keeps.started ∙ ap (λ binds. Some (record { recipe = keeps.recipe; binds = binds }))
           (sym settles.same_batch.binds);
-      charted = keeps.charted ∙ ap (λ chart. Some (plan chart)) (sym settles.same_batch.chart);
-      follows = subst (Follows after) (sym (log-is past at batch next)) (settles.log (log_by past) keeps.follows);
+      charted = keeps.charted ∙ ap (λ chart. Some (plain_chart chart)) (sym settles.same_batch.chart);
+      follows = subst (Follows after) (sym (log_is past at batch next)) (settles.log (log_by past) keeps.follows);
       frozen_is = settles.frozen_is ∙ keeps.frozen_is;
       outcome_is = settles.outcome_is ∙ ap (option_or (closing_in next)) keeps.outcome_is
-          ∙ ap (λ closes. option_or closes (outcome_by past)) (sym (closing-is next));
+          ∙ ap (λ closes. option_or closes (outcome_by past)) (sym (closing_is next));
     }
 
 -- one run changes
-pub runs-changed : (history : History) (entry : EntryForm) (batch : List ℕ) (after : PlainRun)
+pub runs_changed : (history : History) (entry : PlainEntry) (batch : List ℕ) (after : PlainRun)
     (old new : List (List ℕ × PlainRun)) → subject entry.event ≡ of_batch batch →
     is_accepted entry.answer ≡ true → ((other : List ℕ) → lookup (bytes_eq other) new
     ≡ cond (bytes_eq batch other) (Some after) (lookup (bytes_eq other) old)) →
     RunKeeps batch after (entry ∷ past_of_batch batch history) (recipes history) → RunsMirror old history →
     RunsMirror new (entry ∷ history)
-runs-changed history entry batch after old new is accepted looks keeps mirror other =
+runs_changed history entry batch after old new is accepted looks keeps mirror other =
     subst (IsRun other (lookup (bytes_eq other) new) (past_of_batch other (entry ∷ history)))
-    (sym (batch-recipes-same history entry batch is))
+    (sym (batch_recipes_same history entry batch is))
     (subst (λ found. IsRun other found (past_of_batch other (entry ∷ history)) (recipes history))
     (sym (looks other)) (go (bytes_eq batch other) refl))
   where
@@ -129,37 +131,37 @@ runs-changed history entry batch after old new is accepted looks keeps mirror ot
         (recipes history)
     go true same =
         subst (λ other. RunKeeps other after (past_of_batch other (entry ∷ history)) (recipes history))
-        (same-true batch other same)
+        (same_true batch other same)
         (subst (λ past. RunKeeps batch after past (recipes history))
-        (sym (batch-past-own history entry batch is accepted)) keeps)
+        (sym (batch_past_own history entry batch is accepted)) keeps)
     go false apart =
         subst (λ past. IsRun other (lookup (bytes_eq other) old) past (recipes history))
-        (sym (batch-past-apart history entry batch other is apart)) (mirror other)
+        (sym (batch_past_apart history entry batch other is apart)) (mirror other)
 
 -- a batch that is advanced
-pub advance-answered : (history : History) (at : ℕ) (batch : List ℕ) (run : PlainRun) (next : Next)
-    (berths freed : Berths Slot) (runs after : List (List ℕ × PlainRun)) →
-    SeatsMirror berths history → IsCounted berths history → RunsMirror runs history → is_full history ≡ false →
+pub advance_answered : (history : History) (at : ℕ) (batch : List ℕ) (run : PlainRun) (next : Next)
+    (rows freed : Rows Slot) (runs after : List (List ℕ × PlainRun)) →
+    SeatsMirror rows history → IsCounted rows history → RunsMirror runs history → is_full history ≡ false →
     IsOpenRun batch run runs →
-    ComesNext (table_sights berths run.binds) next run → SettlesOne batch next run runs after →
-    ((tag : List ℕ) → look tag freed ≡ freed_if (closing_in next) batch (look tag berths)) →
-    length freed ≡ length berths →
+    ComesNext (table_sights rows run.binds) next run → SettlesOne batch next run runs after →
+    ((tag : List ℕ) → look tag freed ≡ freed_if (closing_in next) batch (look tag rows)) →
+    length freed ≡ length rows →
     AnswersBatch history (advance at batch) (advanced (Some next)) freed after
-advance-answered history at batch run next berths freed runs after seats counted mirror room
-    open' comes settles looks same-length =
-    let keeps = run-keeps history batch runs run mirror open'.found in
-    let same = next-is history at batch berths run next room seats keeps open'.is_open comes in
-    let entry : EntryForm = paired (advance at batch) (advanced (Some next)) in
+advance_answered history at batch run next rows freed runs after seats counted mirror room
+    open' comes settles looks same_length =
+    let keeps = run_keeps history batch runs run mirror open'.found in
+    let same = next_is history at batch rows run next room seats keeps open'.is_open comes in
+    let entry : PlainEntry = paired (advance at batch) (advanced (Some next)) in
     record {
       answer_is = sym same;
       seats = subst (λ answer. SeatsMirror freed (paired (advance at batch) answer ∷ history)) (sym same)
-          (seats-freed history entry batch berths freed refl refl (accepted-is next) (sym keeps.outcome_is
+          (seats_freed history entry batch rows freed refl refl (accepted_is next) (sym keeps.outcome_is
           ∙ open'.is_open)
-          (λ tag. looks tag ∙ ap (λ closes. freed_if closes batch (look tag berths)) (sym (closing-is next))) seats);
-      counted = counted-same history (entry_of history (advance at batch)) freed refl
-          (counted-freed history (closing_in next) batch berths freed looks same-length counted);
+          (λ tag. looks tag ∙ ap (λ closes. freed_if closes batch (look tag rows)) (sym (closing_is next))) seats);
+      counted = counted_same history (entry_of history (advance at batch)) freed refl
+          (counted_freed history (closing_in next) batch rows freed looks same_length counted);
       batches = subst (λ answer. RunsMirror after (paired (advance at batch) answer ∷ history)) (sym same)
-          (runs-changed history entry batch settles.after runs after refl (accepted-is next) settles.runs
-          (settled-keeps (past_of_batch batch history) (recipes history) at batch run settles.after
+          (runs_changed history entry batch settles.after runs after refl (accepted_is next) settles.runs
+          (settled_keeps (past_of_batch batch history) (recipes history) at batch run settles.after
           next settles.settles keeps) mirror);
     }

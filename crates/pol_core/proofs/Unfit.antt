@@ -6,8 +6,8 @@ use Rattle.mtp_codes.specs.Faults.{first_of}
 use Rattle.mtp_codes.specs.Names.{same_name}
 use Rattle.mtp_modes.specs.declared.view.ServiceView.{ServiceView}
 use Rattle.mtp_procs.specs.Covers.{cover_fault}
-use Rattle.chart_core.specs.Roles.{ChartPlan, role_names}
-use Rattle.chart_core.specs.Trees.{StepPlan, Placed, steps}
+use Rattle.chart_core.specs.Roles.{PlainChart, role_names}
+use Rattle.chart_core.specs.Trees.{PlainStep, Placed, steps}
 use Rattle.pol_events.specs.Bound.{bound_tag}
 use Rattle.pol_events.specs.Refusals.{in_exchange, cover_rule}
 use Rattle.pol_events.specs.declared.answer.Rule.{Rule}
@@ -20,46 +20,46 @@ use Rattle.pol_history.specs.Rules.{no_module, not_covered, not_reported, not_id
 use Rattle.pol_slots.specs.Sights.{slot_sight}
 use Rattle.pol_slots.specs.Slots.{slot_ticket, slot_description}
 use Rattle.pol_slots.specs.declared.slot.Slot.{Slot}
-use Rattle.pol_table.specs.Berths as tables
-use Rattle.pol_table.specs.Berths.{Berth, Berths, look}
+use Rattle.pol_table.specs.Rows as tables
+use Rattle.pol_table.specs.Rows.{Row, Rows, look}
 use Rattle.pol_core.specs.Judging.{sight_unready, step_unready, slot_rule, part_rule, role_rule, table_unfit, tag_busy, table_busy, bind_rule}
 use Rattle.pol_core.specs.Seats.{SlotKeeps, IsSeated, SeatsMirror}
 use Rattle.pol_core.specs.Walks.{first_said}
-use Rattle.pol_core.proofs.Judging.{there-is}
-use Rattle.pol_core.proofs.Sights.{slot-sight}
-use Rattle.pol_core.proofs.Walked.{or-none-right, said, said-is}
+use Rattle.pol_core.proofs.Judging.{there_is}
+use Rattle.pol_core.proofs.Sights.{slot_sight_is}
+use Rattle.pol_core.proofs.Walked.{or_none_right, said, said_is}
 
 -- ---- the services of a role
 
 -- what is seen of a service of a docked module
-docked-sight : (tag service : List ℕ) (docking : Docking) (view : Option ServiceView) → (docking ≡ absent → ⊥) →
+docked_sight : (tag service : List ℕ) (docking : Docking) (view : Option ServiceView) → (docking ≡ absent → ⊥) →
     ticket_of docking ≡ None →
     sight_unready tag service (sight_in docking view) ≡ option_or (not_reported tag service view)
     (not_idle tag service view)
-docked-sight tag service absent view there docked' = absurd (there refl)
-docked-sight tag service (docked count) None there docked' = refl
-docked-sight tag service (docked count) (Some view) there docked' = refl
-docked-sight tag service (away ticket) view there docked' = cc
+docked_sight tag service absent view there docked' = absurd (there refl)
+docked_sight tag service (docked count) None there docked' = refl
+docked_sight tag service (docked count) (Some view) there docked' = refl
+docked_sight tag service (away ticket) view there docked' = cc
 
 -- a service is unready by its slot exactly as by its past
-service-same : (tag service : List ℕ) (slot : Slot) (past : History) → SlotKeeps tag slot past →
+service_same : (tag service : List ℕ) (slot : Slot) (past : History) → SlotKeeps tag slot past →
     slot_ticket slot ≡ None →
     sight_unready tag service (slot_sight slot service) ≡ unready tag past service
-service-same tag service slot past keeps docked' =
-    ap (sight_unready tag service) (slot-sight tag service slot past keeps)
-    ∙ docked-sight tag service (docking_by past) (view_by service past) keeps.is_there (sym keeps.ticket ∙ docked')
+service_same tag service slot past keeps docked' =
+    ap (sight_unready tag service) (slot_sight_is tag service slot past keeps)
+    ∙ docked_sight tag service (docking_by past) (view_by service past) keeps.is_there (sym keeps.ticket ∙ docked')
 
 -- so are the services of a role
-services-same : (tag role : List ℕ) (slot : Slot) (past : History) →
+services_same : (tag role : List ℕ) (slot : Slot) (past : History) →
     ((service : List ℕ) → sight_unready tag service (slot_sight slot service) ≡ unready tag past service) →
     (placed : List Placed) → said (step_unready slot tag role) placed
     ≡ not_ready tag past (map (λ step. step.service) (filter (λ step. same_name step.role role)
     (map (λ placed. placed.step) placed)))
-services-same tag role slot past same [] = refl
-services-same tag role slot past same (each ∷ placed) =
-    go (same_name each.step.role role) (services-same tag role slot past same placed)
+services_same tag role slot past same [] = refl
+services_same tag role slot past same (each ∷ placed) =
+    go (same_name each.step.role role) (services_same tag role slot past same placed)
   where
-    rest : List StepPlan
+    rest : List PlainStep
     rest = filter (λ step. same_name step.role role) (map (λ placed. placed.step) placed)
 
     go : (own : Bool) → said (step_unready slot tag role) placed
@@ -75,9 +75,9 @@ services-same tag role slot past same (each ∷ placed) =
 -- ---- the rules of a module
 
 -- a slot meets the rules that its module's past meets
-slot-rule-same : (chart : ChartPlan) (role tag : List ℕ) (slot : Slot) (past : History) → SlotKeeps tag slot past →
+slot_rule_same : (chart : PlainChart) (role tag : List ℕ) (slot : Slot) (past : History) → SlotKeeps tag slot past →
     slot_rule chart role tag slot ≡ first_of (module_rules chart role tag past)
-slot-rule-same chart role tag slot past keeps = go (slot_ticket slot) refl
+slot_rule_same chart role tag slot past keeps = go (slot_ticket slot) refl
   where
     others : Option Rule
     others = option_or (not_covered chart role (description_by past))
@@ -86,7 +86,7 @@ slot-rule-same chart role tag slot past keeps = go (slot_ticket slot) refl
     looked : first_of (module_rules chart role tag past) ≡ option_or (in_exchange tag (slot_ticket slot)) others
     looked =
         ap (λ rule. option_or rule (option_or (in_exchange tag (ticket_of (docking_by past))) others))
-        (there-is tag (docking_by past) keeps.is_there)
+        (there_is tag (docking_by past) keeps.is_there)
         ∙ ap (λ ticket. option_or (in_exchange tag ticket) others) (sym keeps.ticket)
 
     mine : Option Rule
@@ -101,82 +101,82 @@ slot-rule-same chart role tag slot past keeps = go (slot_ticket slot) refl
     go None is =
         ap (λ ticket. option_or (in_exchange tag ticket) mine) is
         ∙ ap (option_or (option_map (cover_rule role) (cover_fault chart role (slot_description slot))))
-        (said-is (step_unready slot tag role) chart.root 0
-        ∙ services-same tag role slot past (λ service. service-same tag service slot past keeps is) (steps chart.root 0)
-        ∙ sym (or-none-right (not_ready tag past (services_of chart role))))
+        (said_is (step_unready slot tag role) chart.root 0
+        ∙ services_same tag role slot past (λ service. service_same tag service slot past keeps is) (steps chart.root 0)
+        ∙ sym (or_none_right (not_ready tag past (services_of chart role))))
         ∙ ap (λ description. option_or (not_covered chart role description)
         (option_or (not_ready tag past (services_of chart role)) None)) (sym keeps.description)
         ∙ sym (looked ∙ ap (λ ticket. option_or (in_exchange tag ticket) others) is)
 
 -- so does a tag, whether it has a slot or not
-part-same : (chart : ChartPlan) (role tag : List ℕ) (found : Option (Berth Slot)) (past : History)
+part_same : (chart : PlainChart) (role tag : List ℕ) (found : Option (Row Slot)) (past : History)
     (holder : Option (List ℕ)) → IsSeated tag found past holder →
-    part_rule chart role tag (option_map (λ berth. berth.part) found) ≡ first_of (module_rules chart role tag past)
-part-same chart role tag None past holder seated =
+    part_rule chart role tag (option_map (λ row. row.part) found) ≡ first_of (module_rules chart role tag past)
+part_same chart role tag None past holder seated =
     sym (ap (λ docking. option_or (no_module tag docking)
     (option_or (in_exchange tag (ticket_of (docking_by past)))
     (option_or (not_covered chart role (description_by past))
     (option_or (not_ready tag past (services_of chart role)) None)))) seated.is_absent)
-part-same chart role tag (Some berth) past holder seated =
-    slot-rule-same chart role tag berth.part past seated.slot_keeps
+part_same chart role tag (Some row) past holder seated =
+    slot_rule_same chart role tag row.part past seated.slot_keeps
 
 -- so does a role, whether it has a tag or not
-role-same : (berths : Berths Slot) (history : History) (chart : ChartPlan) (role : List ℕ) →
-    SeatsMirror berths history → (tag : Option (List ℕ)) →
-    role_rule berths chart role tag ≡ module_rule history chart role tag
-role-same berths history chart role mirror None = refl
-role-same berths history chart role mirror (Some tag) =
-    part-same chart role tag (look tag berths) (past tag history) (holder_of history tag) (mirror tag)
+role_same : (rows : Rows Slot) (history : History) (chart : PlainChart) (role : List ℕ) →
+    SeatsMirror rows history → (tag : Option (List ℕ)) →
+    role_rule rows chart role tag ≡ module_rule history chart role tag
+role_same rows history chart role mirror None = refl
+role_same rows history chart role mirror (Some tag) =
+    part_same chart role tag (look tag rows) (past tag history) (holder_of history tag) (mirror tag)
 
 -- two rules that say the same of each say the same of a list
-first-same : {X : Type 0} (f g : X → Option Rule) → ((x : X) → f x ≡ g x) → (xs : List X) →
+first_same : {X : Type 0} (f g : X → Option Rule) → ((x : X) → f x ≡ g x) → (xs : List X) →
     first_of (map f xs) ≡ first_of (map g xs)
-first-same f g same [] = refl
-first-same f g same (x ∷ xs) =
-    ap (λ found. option_or found (first_of (map f xs))) (same x) ∙ ap (option_or (g x)) (first-same f g same xs)
+first_same f g same [] = refl
+first_same f g same (x ∷ xs) =
+    ap (λ found. option_or found (first_of (map f xs))) (same x) ∙ ap (option_or (g x)) (first_same f g same xs)
 
 -- so do all roles
-unfit-same : (berths : Berths Slot) (history : History) (chart : ChartPlan) (binds : List Bind)
-    (roles : List (List ℕ)) → SeatsMirror berths history →
-    table_unfit berths chart binds roles ≡ modules_unfit history chart binds roles
-unfit-same berths history chart binds roles mirror =
-    first-same (λ role. role_rule berths chart role (bound_tag binds role))
+unfit_same : (rows : Rows Slot) (history : History) (chart : PlainChart) (binds : List Bind)
+    (roles : List (List ℕ)) → SeatsMirror rows history →
+    table_unfit rows chart binds roles ≡ modules_unfit history chart binds roles
+unfit_same rows history chart binds roles mirror =
+    first_same (λ role. role_rule rows chart role (bound_tag binds role))
     (λ role. module_rule history chart role (bound_tag binds role))
-    (λ role. role-same berths history chart role mirror (bound_tag binds role)) roles
+    (λ role. role_same rows history chart role mirror (bound_tag binds role)) roles
 
 -- ---- who holds a module
 
--- a berth is held by the holder
-held-seated : (tag : List ℕ) (found : Option (Berth Slot)) (past : History) (holder : Option (List ℕ)) →
+-- a row is held by the holder
+held_seated : (tag : List ℕ) (found : Option (Row Slot)) (past : History) (holder : Option (List ℕ)) →
     IsSeated tag found past holder →
-    option_and_then (λ berth. berth.holder) found ≡ holder
-held-seated tag None past holder seated = sym seated.free
-held-seated tag (Some berth) past holder seated = seated.held_by
+    option_and_then (λ row. row.holder) found ≡ holder
+held_seated tag None past holder seated = sym seated.free
+held_seated tag (Some row) past holder seated = seated.held_by
 
 -- the holder by the table is the holder
-pub holder-same : (berths : Berths Slot) (history : History) (tag : List ℕ) → SeatsMirror berths history →
-    tables.holder_of tag berths ≡ holder_of history tag
-holder-same berths history tag mirror =
-    held-seated tag (look tag berths) (past tag history) (holder_of history tag) (mirror tag)
+pub holder_same : (rows : Rows Slot) (history : History) (tag : List ℕ) → SeatsMirror rows history →
+    tables.holder_of tag rows ≡ holder_of history tag
+holder_same rows history tag mirror =
+    held_seated tag (look tag rows) (past tag history) (holder_of history tag) (mirror tag)
 
 -- a role is busy by the table exactly where it is
-busy-one : (berths : Berths Slot) (history : History) → SeatsMirror berths history → (tag : Option (List ℕ)) →
-    tag_busy berths tag ≡ busy_role history tag
-busy-one berths history mirror None = refl
-busy-one berths history mirror (Some tag) = ap (busy_module tag) (holder-same berths history tag mirror)
+busy_one : (rows : Rows Slot) (history : History) → SeatsMirror rows history → (tag : Option (List ℕ)) →
+    tag_busy rows tag ≡ busy_role history tag
+busy_one rows history mirror None = refl
+busy_one rows history mirror (Some tag) = ap (busy_module tag) (holder_same rows history tag mirror)
 
 -- so are all roles
-busy-same : (berths : Berths Slot) (history : History) (binds : List Bind) (roles : List (List ℕ)) →
-    SeatsMirror berths history →
-    table_busy berths binds roles ≡ busy history binds roles
-busy-same berths history binds roles mirror =
-    first-same (λ role. tag_busy berths (bound_tag binds role)) (λ role. busy_role history (bound_tag binds role))
-    (λ role. busy-one berths history mirror (bound_tag binds role)) roles
+busy_same : (rows : Rows Slot) (history : History) (binds : List Bind) (roles : List (List ℕ)) →
+    SeatsMirror rows history →
+    table_busy rows binds roles ≡ busy history binds roles
+busy_same rows history binds roles mirror =
+    first_same (λ role. tag_busy rows (bound_tag binds role)) (λ role. busy_role history (bound_tag binds role))
+    (λ role. busy_one rows history mirror (bound_tag binds role)) roles
 
 -- ---- all together
 
 -- the rules of the binds and modules of a start, as they are defined
-abbrev pub defined_rule : History → ChartPlan → List Bind → Option Rule
+abbrev pub defined_rule : History → PlainChart → List Bind → Option Rule
 defined_rule history chart binds =
     option_or (role_unbound binds (role_names chart))
     (option_or (role_unknown binds (role_names chart))
@@ -184,15 +184,15 @@ defined_rule history chart binds =
     (option_or (modules_unfit history chart binds (role_names chart)) (busy history binds (role_names chart)))))
 
 -- what the tables say of them is what looking back says
-pub bind-rule-same : (berths : Berths Slot) (history : History) (chart : ChartPlan) (binds : List Bind) →
-    SeatsMirror berths history →
-    bind_rule berths chart binds ≡ defined_rule history chart binds
-bind-rule-same berths history chart binds mirror =
+pub bind_rule_same : (rows : Rows Slot) (history : History) (chart : PlainChart) (binds : List Bind) →
+    SeatsMirror rows history →
+    bind_rule rows chart binds ≡ defined_rule history chart binds
+bind_rule_same rows history chart binds mirror =
     ap (λ found. option_or (role_unbound binds (role_names chart)) (option_or (role_unknown binds (role_names chart))
     (option_or (one_module_twice binds [] (role_names chart))
-    (option_or found (table_busy berths binds (role_names chart))))))
-    (unfit-same berths history chart binds (role_names chart) mirror)
+    (option_or found (table_busy rows binds (role_names chart))))))
+    (unfit_same rows history chart binds (role_names chart) mirror)
     ∙ ap (λ found. option_or (role_unbound binds (role_names chart)) (option_or (role_unknown binds (role_names chart))
     (option_or (one_module_twice binds [] (role_names chart))
     (option_or (modules_unfit history chart binds (role_names chart)) found))))
-    (busy-same berths history binds (role_names chart) mirror)
+    (busy_same rows history binds (role_names chart) mirror)

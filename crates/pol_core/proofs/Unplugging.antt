@@ -3,7 +3,7 @@ use Rattle.std.proofs.Common.{◌≡◌, ℕ, suc, ◌+◌, Bool, true, false, c
 use Rattle.std.specs.Prelude.{◌||◌, if◌then◌else◌, is_ok, option_and_then}
 use Rattle.std.specs.Str.{bytes_eq}
 use Rattle.mtp_codes.specs.Names.{is_among}
-use Rattle.pol_events.specs.Events.{EntryForm, unplug}
+use Rattle.pol_events.specs.Events.{PlainEntry, unplug}
 use Rattle.pol_events.specs.Refusals.{in_exchange}
 use Rattle.pol_events.specs.declared.answer.Answer.TheVariants.{Done, Refused}
 use Rattle.pol_events.specs.declared.answer.Rule.{Rule}
@@ -12,36 +12,36 @@ use Rattle.pol_history.specs.Answers.{first_rule, answer_of, is_full}
 use Rattle.pol_history.specs.Batches.{holder_of}
 use Rattle.pol_history.specs.Looking.{History, past}
 use Rattle.pol_history.specs.Modules.{docking_by, ticket_of, present_tags, tags_without}
-use Rattle.pol_history.proofs.Accepted.{paired, with-room}
-use Rattle.pol_history.proofs.Names.{same-true}
-use Rattle.pol_history.proofs.Pasts.{past-own}
+use Rattle.pol_history.proofs.Accepted.{paired, with_room}
+use Rattle.pol_history.proofs.Names.{same_true}
+use Rattle.pol_history.proofs.Pasts.{past_own}
 use Rattle.pol_slots.specs.Slots.{slot_ticket}
 use Rattle.pol_slots.specs.declared.slot.Slot.{Slot}
 use Rattle.pol_table.specs.Answers.{parting_from, leaving}
 use Rattle.pol_table.specs.Reasons.{parting}
-use Rattle.pol_table.specs.Berths as tables
-use Rattle.pol_table.specs.Berths.{Berth, Berths, look, part_of}
+use Rattle.pol_table.specs.Rows as tables
+use Rattle.pol_table.specs.Rows.{Row, Rows, look, part_of}
 use Rattle.pol_core.specs.Seats.{IsTaken, IsSeated, SeatsMirror, AreOnce, IsCounted, AnswersModule}
-use Rattle.pol_core.proofs.Judging.{there-is, refuse}
-use Rattle.pol_core.proofs.Plugging.{refused-answered}
-use Rattle.pol_core.proofs.Seating.{Changes, seat-changes}
-use Rattle.pol_core.proofs.Telling.{has-berth}
+use Rattle.pol_core.proofs.Judging.{there_is, refuse}
+use Rattle.pol_core.proofs.Plugging.{refused_answered}
+use Rattle.pol_core.proofs.Seating.{Changes, seat_changes}
+use Rattle.pol_core.proofs.Telling.{has_row}
 
 -- ---- a tag taken out of others
 
 -- another tag is among the rest as before, and this one isn't
-among-without : (tag other : List ℕ) (tags : List (List ℕ)) → is_among (tags_without tag tags) other
+among_without : (tag other : List ℕ) (tags : List (List ℕ)) → is_among (tags_without tag tags) other
     ≡ (if bytes_eq tag other then false else is_among tags other)
-among-without tag other [] = none (bytes_eq tag other)
+among_without tag other [] = none (bytes_eq tag other)
   where
     none : (same : Bool) → false ≡ (if same then false else false)
     none true = refl
     none false = refl
-among-without tag other (first ∷ tags) =
-    go (bytes_eq first tag) refl (bytes_eq tag other) refl (among-without tag other tags)
+among_without tag other (first ∷ tags) =
+    go (bytes_eq first tag) refl (bytes_eq tag other) refl (among_without tag other tags)
   where
     apart : bytes_eq first tag ≡ false → bytes_eq tag other ≡ true → bytes_eq first other ≡ false
-    apart away same = subst (λ name. bytes_eq first name ≡ false) (same-true tag other same) away
+    apart away same = subst (λ name. bytes_eq first name ≡ false) (same_true tag other same) away
 
     go : (here : Bool) → bytes_eq first tag ≡ here → (same : Bool) → bytes_eq tag other ≡ same →
         is_among (tags_without tag tags) other ≡ (if bytes_eq tag other then false else is_among tags other) →
@@ -53,37 +53,37 @@ among-without tag other (first ∷ tags) =
     go true here false away rest =
         rw (here, away) (rest
         ∙ rw away (ap (λ name. name || is_among tags other)
-        (sym (subst (λ name. bytes_eq name other ≡ false) (sym (same-true first tag here)) away))))
+        (sym (subst (λ name. bytes_eq name other ≡ false) (sym (same_true first tag here)) away))))
     go false here false away rest = rw (here, away) (ap (λ among. bytes_eq first other || among) (rest ∙ rw away refl))
 
 -- a tag that isn't among others isn't among fewer of them
-out-of-fewer : (tag other : List ℕ) (tags : List (List ℕ)) → is_among tags other ≡ false →
+out_of_fewer : (tag other : List ℕ) (tags : List (List ℕ)) → is_among tags other ≡ false →
     is_among (tags_without tag tags) other ≡ false
-out-of-fewer tag other tags out = among-without tag other tags ∙ go (bytes_eq tag other)
+out_of_fewer tag other tags out = among_without tag other tags ∙ go (bytes_eq tag other)
   where
     go : (same : Bool) → (if same then false else is_among tags other) ≡ false
     go true = refl
     go false = out
 
 -- no tag is there twice without one
-once-without : (tag : List ℕ) (tags : List (List ℕ)) → AreOnce tags → AreOnce (tags_without tag tags)
-once-without tag [] once = tt
-once-without tag (first ∷ tags) once = go (bytes_eq first tag) (once-without tag tags once.1)
+once_without : (tag : List ℕ) (tags : List (List ℕ)) → AreOnce tags → AreOnce (tags_without tag tags)
+once_without tag [] once = tt
+once_without tag (first ∷ tags) once = go (bytes_eq first tag) (once_without tag tags once.1)
   where
     go : (here : Bool) → AreOnce (tags_without tag tags) →
         AreOnce (cond (not here) (first ∷ tags_without tag tags) (tags_without tag tags))
     go true rest = rest
-    go false rest = (out-of-fewer tag first tags once.0, rest)
+    go false rest = (out_of_fewer tag first tags once.0, rest)
 
 -- without a tag that is among them, there is one less
-length-without : (tag : List ℕ) (tags : List (List ℕ)) → AreOnce tags → is_among tags tag ≡ true →
+length_without : (tag : List ℕ) (tags : List (List ℕ)) → AreOnce tags → is_among tags tag ≡ true →
     length (tags_without tag tags) + 1 ≡ length tags
-length-without tag [] once among = cc
-length-without tag (first ∷ tags) once among = go (bytes_eq first tag) refl among (length-without tag tags once.1)
+length_without tag [] once among = cc
+length_without tag (first ∷ tags) once among = go (bytes_eq first tag) refl among (length_without tag tags once.1)
   where
-    all-stay : (others : List (List ℕ)) → is_among others tag ≡ false → tags_without tag others ≡ others
-    all-stay [] out = refl
-    all-stay (other ∷ others) out = stays (bytes_eq other tag) refl out (all-stay others)
+    all_stay : (others : List (List ℕ)) → is_among others tag ≡ false → tags_without tag others ≡ others
+    all_stay [] out = refl
+    all_stay (other ∷ others) out = stays (bytes_eq other tag) refl out (all_stay others)
       where
         stays : (same : Bool) → bytes_eq other tag ≡ same → bytes_eq other tag || is_among others tag ≡ false →
             (is_among others tag ≡ false → tags_without tag others ≡ others) →
@@ -93,42 +93,42 @@ length-without tag (first ∷ tags) once among = go (bytes_eq first tag) refl am
         stays false is out rest =
             rw is (ap (λ more. other ∷ more) (rest (ap (λ same. same || is_among others tag) (sym is) ∙ out)))
 
-    plus-one : (n : ℕ) → n + 1 ≡ suc n
-    plus-one n = omega arith
+    plus_one : (n : ℕ) → n + 1 ≡ suc n
+    plus_one n = omega arith
 
     go : (here : Bool) → bytes_eq first tag ≡ here → bytes_eq first tag || is_among tags tag ≡ true →
         (is_among tags tag ≡ true → length (tags_without tag tags) + 1 ≡ length tags) →
         length (cond (not (bytes_eq first tag)) (first ∷ tags_without tag tags) (tags_without tag tags)) + 1
         ≡ length (first ∷ tags)
     go true here among rest =
-        rw here (ap (λ others. length others + 1) (all-stay tags
-        (subst (λ name. is_among tags name ≡ false) (same-true first tag here) once.0)) ∙ plus-one (length tags))
+        rw here (ap (λ others. length others + 1) (all_stay tags
+        (subst (λ name. is_among tags name ≡ false) (same_true first tag here) once.0)) ∙ plus_one (length tags))
     go false here among rest =
         let shorter : length (tags_without tag tags) + 1 ≡ length tags =
         rest (ap (λ same. same || is_among tags tag) (sym here) ∙ among) in
-        rw here (ap (λ n. n + 1) (sym (plus-one (length (tags_without tag tags)))) ∙ ap (λ n. n + 1) shorter
-        ∙ plus-one (length tags))
+        rw here (ap (λ n. n + 1) (sym (plus_one (length (tags_without tag tags)))) ∙ ap (λ n. n + 1) shorter
+        ∙ plus_one (length tags))
 
 -- one module less
-counted-less : (history : History) (entry : EntryForm) (tag : List ℕ) (berth : Berth Slot) (old new : Berths Slot) →
-    look tag old ≡ Some berth →
+counted_less : (history : History) (entry : PlainEntry) (tag : List ℕ) (row : Row Slot) (old new : Rows Slot) →
+    look tag old ≡ Some row →
     present_tags (entry ∷ history) ≡ tags_without tag (present_tags history) → Changes tag None old new →
     length new + 1 ≡ length old →
     IsCounted old history → IsCounted new (entry ∷ history)
-counted-less history entry tag berth old new found present changes less counted =
+counted_less history entry tag row old new found present changes less counted =
     record {
       members = λ other.
-          ap (λ tags. is_among tags other) present ∙ among-without tag other (present_tags history)
+          ap (λ tags. is_among tags other) present ∙ among_without tag other (present_tags history)
           ∙ ap (λ among. if bytes_eq tag other then false else among) (counted.members other)
           ∙ go (bytes_eq tag other) (look other old) ∙ ap is_some (sym (changes other));
-      once = rw present (once-without tag (present_tags history) counted.once);
+      once = rw present (once_without tag (present_tags history) counted.once);
       count = same (length new) (length (tags_without tag (present_tags history)))
-          (less ∙ counted.count ∙ sym (length-without tag (present_tags history) counted.once (counted.members tag
+          (less ∙ counted.count ∙ sym (length_without tag (present_tags history) counted.once (counted.members tag
           ∙ ap is_some found)))
           ∙ ap length (sym present);
     }
   where
-    go : (here : Bool) (found : Option (Berth Slot)) → (if here then false else is_some found)
+    go : (here : Bool) (found : Option (Row Slot)) → (if here then false else is_some found)
         ≡ is_some (cond here None found)
     go true found = refl
     go false found = refl
@@ -139,112 +139,112 @@ counted-less history entry tag berth old new found present changes less counted 
 -- ---- the answer
 
 -- the rules after the first
-rows : (a b : Option Rule) → first_rule (a ∷ b ∷ []) Done ≡ refuse a (refuse b Done)
-rows (Some x) b = refl
-rows None (Some x) = refl
-rows None None = refl
+first_of_two : (a b : Option Rule) → first_rule (a ∷ b ∷ []) Done ≡ refuse a (refuse b Done)
+first_of_two (Some x) b = refl
+first_of_two None (Some x) = refl
+first_of_two None None = refl
 
--- the answer by the berth
-unplug-answer : (history : History) (at : ℕ) (tag : List ℕ) (berth : Berth Slot) → is_full history ≡ false →
-    IsTaken tag berth (past tag history) (holder_of history tag) →
-    answer_of history (unplug at tag) ≡ refuse (in_exchange tag (slot_ticket berth.part))
-    (refuse (option_and_then (λ batch. Some (Held batch)) berth.holder) Done)
-unplug-answer history at tag berth room taken =
-    with-room history (unplug at tag) room
+-- the answer by the row
+unplug_answer : (history : History) (at : ℕ) (tag : List ℕ) (row : Row Slot) → is_full history ≡ false →
+    IsTaken tag row (past tag history) (holder_of history tag) →
+    answer_of history (unplug at tag) ≡ refuse (in_exchange tag (slot_ticket row.part))
+    (refuse (option_and_then (λ batch. Some (Held batch)) row.holder) Done)
+unplug_answer history at tag row room taken =
+    with_room history (unplug at tag) room
     ∙ ap (λ gone. first_rule (gone ∷ in_exchange tag (ticket_of (docking_by (past tag history)))
     ∷ option_and_then (λ batch. Some (Held batch)) (holder_of history tag) ∷ []) Done)
-    (there-is tag (docking_by (past tag history)) taken.slot_keeps.is_there)
-    ∙ rows (in_exchange tag (ticket_of (docking_by (past tag history))))
+    (there_is tag (docking_by (past tag history)) taken.slot_keeps.is_there)
+    ∙ first_of_two (in_exchange tag (ticket_of (docking_by (past tag history))))
     (option_and_then (λ batch. Some (Held batch)) (holder_of history tag))
     ∙ ap (λ ticket. refuse (in_exchange tag ticket)
     (refuse (option_and_then (λ batch. Some (Held batch)) (holder_of history tag)) Done)) (sym taken.slot_keeps.ticket)
-    ∙ ap (λ holder. refuse (in_exchange tag (slot_ticket berth.part))
+    ∙ ap (λ holder. refuse (in_exchange tag (slot_ticket row.part))
     (refuse (option_and_then (λ batch. Some (Held batch)) holder) Done)) (sym taken.held_by)
 
--- the berth of a part, and what it keeps
-seated-berth : (history : History) (tag : List ℕ) (berths : Berths Slot) (berth : Berth Slot) →
-    SeatsMirror berths history → look tag berths ≡ Some berth →
-    IsTaken tag berth (past tag history) (holder_of history tag)
-seated-berth history tag berths berth seats found =
+-- the row of a part, and what it keeps
+seated_row : (history : History) (tag : List ℕ) (rows : Rows Slot) (row : Row Slot) →
+    SeatsMirror rows history → look tag rows ≡ Some row →
+    IsTaken tag row (past tag history) (holder_of history tag)
+seated_row history tag rows row seats found =
     subst (λ found. IsSeated tag found (past tag history) (holder_of history tag)) found (seats tag)
 
 -- a module that is away stays
-pub unplug-away : (history : History) (at : ℕ) (tag : List ℕ) (slot : Slot) (ticket : ℕ) (berths : Berths Slot) →
+pub unplug_away : (history : History) (at : ℕ) (tag : List ℕ) (slot : Slot) (ticket : ℕ) (rows : Rows Slot) →
     is_full history ≡ false →
-    SeatsMirror berths history → IsCounted berths history → part_of tag berths ≡ Some slot →
+    SeatsMirror rows history → IsCounted rows history → part_of tag rows ≡ Some slot →
     slot_ticket slot ≡ Some ticket →
-    AnswersModule history (unplug at tag) (Refused (InExchange tag ticket)) berths
-unplug-away history at tag slot ticket berths room seats counted found away =
-    let has = has-berth tag berths slot found in
-    refused-answered history (unplug at tag) (Refused (InExchange tag ticket)) berths
-    (sym (unplug-answer history at tag has.berth room (seated-berth history tag berths has.berth seats has.found)
+    AnswersModule history (unplug at tag) (Refused (InExchange tag ticket)) rows
+unplug_away history at tag slot ticket rows room seats counted found away =
+    let has = has_row tag rows slot found in
+    refused_answered history (unplug at tag) (Refused (InExchange tag ticket)) rows
+    (sym (unplug_answer history at tag has.row room (seated_row history tag rows has.row seats has.found)
     ∙ ap (λ ticket. refuse (in_exchange tag ticket)
-    (refuse (option_and_then (λ batch. Some (Held batch)) has.berth.holder) Done))
+    (refuse (option_and_then (λ batch. Some (Held batch)) has.row.holder) Done))
     (ap (λ slot. slot_ticket slot) has.part_is ∙ away)))
     refl seats counted
 
 -- a module that is held stays
-pub unplug-held : (history : History) (at : ℕ) (tag : List ℕ) (slot : Slot) (batch : List ℕ)
-    (berths : Berths Slot) → is_full history ≡ false →
-    SeatsMirror berths history → IsCounted berths history → part_of tag berths ≡ Some slot → slot_ticket slot ≡ None →
-    tables.holder_of tag berths ≡ Some batch → AnswersModule history (unplug at tag) (Refused (Held batch)) berths
-unplug-held history at tag slot batch berths room seats counted found docked' is =
-    let has = has-berth tag berths slot found in
-    let held : has.berth.holder ≡ Some batch = ap (option_and_then (λ (berth : Berth Slot). berth.holder))
+pub unplug_held : (history : History) (at : ℕ) (tag : List ℕ) (slot : Slot) (batch : List ℕ)
+    (rows : Rows Slot) → is_full history ≡ false →
+    SeatsMirror rows history → IsCounted rows history → part_of tag rows ≡ Some slot → slot_ticket slot ≡ None →
+    tables.holder_of tag rows ≡ Some batch → AnswersModule history (unplug at tag) (Refused (Held batch)) rows
+unplug_held history at tag slot batch rows room seats counted found docked' is =
+    let has = has_row tag rows slot found in
+    let held : has.row.holder ≡ Some batch = ap (option_and_then (λ (row : Row Slot). row.holder))
     (sym has.found) ∙ is in
-    refused-answered history (unplug at tag) (Refused (Held batch)) berths
-    (sym (unplug-answer history at tag has.berth room (seated-berth history tag berths has.berth seats has.found)
+    refused_answered history (unplug at tag) (Refused (Held batch)) rows
+    (sym (unplug_answer history at tag has.row room (seated_row history tag rows has.row seats has.found)
     ∙ ap (λ ticket. refuse (in_exchange tag ticket)
-    (refuse (option_and_then (λ batch. Some (Held batch)) has.berth.holder) Done))
+    (refuse (option_and_then (λ batch. Some (Held batch)) has.row.holder) Done))
     (ap (λ slot. slot_ticket slot) has.part_is ∙ docked')
     ∙ ap (λ holder. refuse (option_and_then (λ batch. Some (Held batch)) holder) Done) held))
     refl seats counted
 
 -- a part that no batch holds leaves
-leaves : {T : Type 0} (tag : List ℕ) (berths : Berths T) (found : Option (Berth T)) → is_some found ≡ true →
-    option_and_then (λ (berth : Berth T). berth.holder) found ≡ None → is_ok (parting_from found) ≡ true
-leaves tag berths None there free = cc
-leaves {T} tag berths (Some berth) there free = go berth.holder free
+leaves : {T : Type 0} (tag : List ℕ) (rows : Rows T) (found : Option (Row T)) → is_some found ≡ true →
+    option_and_then (λ (row : Row T). row.holder) found ≡ None → is_ok (parting_from found) ≡ true
+leaves tag rows None there free = cc
+leaves {T} tag rows (Some row) there free = go row.holder free
   where
-    go : (holder : Option (List ℕ)) → holder ≡ None → is_ok (parting berth.part holder) ≡ true
+    go : (holder : Option (List ℕ)) → holder ≡ None → is_ok (parting row.part holder) ≡ true
     go None free = refl
     go (Some batch) free = cc
 
 -- a module that no batch holds can leave
-pub free-leaves : (tag : List ℕ) (slot : Slot) (berths : Berths Slot) → part_of tag berths ≡ Some slot →
-    tables.holder_of tag berths ≡ None →
-    is_ok (leaving tag berths) ≡ true
-free-leaves tag slot berths found free =
-    let has = has-berth tag berths slot found in
-    leaves tag berths (look tag berths) (ap is_some has.found) free
+pub free_leaves : (tag : List ℕ) (slot : Slot) (rows : Rows Slot) → part_of tag rows ≡ Some slot →
+    tables.holder_of tag rows ≡ None →
+    is_ok (leaving tag rows) ≡ true
+free_leaves tag slot rows found free =
+    let has = has_row tag rows slot found in
+    leaves tag rows (look tag rows) (ap is_some has.found) free
 
 -- a module leaves
-pub unplug-answered : (history : History) (at : ℕ) (tag : List ℕ) (slot : Slot) (old new : Berths Slot) →
+pub unplug_answered : (history : History) (at : ℕ) (tag : List ℕ) (slot : Slot) (old new : Rows Slot) →
     is_full history ≡ false →
     SeatsMirror old history → IsCounted old history → part_of tag old ≡ Some slot → slot_ticket slot ≡ None →
     tables.holder_of tag old ≡ None →
     Changes tag None old new → length new + 1 ≡ length old → AnswersModule history (unplug at tag) Done new
-unplug-answered history at tag slot old new room seats counted found docked' is changes less =
-    let has = has-berth tag old slot found in
-    let taken = seated-berth history tag old has.berth seats has.found in
-    let free : has.berth.holder ≡ None = ap (option_and_then (λ (berth : Berth Slot). berth.holder)) (sym has.found)
+unplug_answered history at tag slot old new room seats counted found docked' is changes less =
+    let has = has_row tag old slot found in
+    let taken = seated_row history tag old has.row seats has.found in
+    let free : has.row.holder ≡ None = ap (option_and_then (λ (row : Row Slot). row.holder)) (sym has.found)
     ∙ is in
     let answer : answer_of history (unplug at tag) ≡ Done
-    = unplug-answer history at tag has.berth room taken
+    = unplug_answer history at tag has.row room taken
     ∙ ap (λ ticket. refuse (in_exchange tag ticket)
-    (refuse (option_and_then (λ batch. Some (Held batch)) has.berth.holder) Done))
+    (refuse (option_and_then (λ batch. Some (Held batch)) has.row.holder) Done))
     (ap (λ slot. slot_ticket slot) has.part_is ∙ docked')
     ∙ ap (λ holder. refuse (option_and_then (λ batch. Some (Held batch)) holder) Done) free in
-    let entry : EntryForm = paired (unplug at tag) Done in
+    let entry : PlainEntry = paired (unplug at tag) Done in
     record {
       answer_is = sym answer;
       seats = subst (λ answer. SeatsMirror new (paired (unplug at tag) answer ∷ history)) (sym answer)
-          (seat-changes history entry tag None old new refl changes
+          (seat_changes history entry tag None old new refl changes
           (record {
-            is_absent = ap docking_by (past-own history entry tag refl refl);
+            is_absent = ap docking_by (past_own history entry tag refl refl);
             free = sym taken.held_by
                 ∙ free;
           }) seats);
       counted = subst (λ answer. IsCounted new (paired (unplug at tag) answer ∷ history)) (sym answer)
-          (counted-less history entry tag has.berth old new has.found refl changes less counted);
+          (counted_less history entry tag has.row old new has.found refl changes less counted);
     }

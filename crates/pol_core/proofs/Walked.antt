@@ -4,19 +4,19 @@ use Rattle.std.specs.Prelude.{option_map, find, if◌then◌else◌}
 use Rattle.std.specs.Option.{option_or}
 use Rattle.std.specs.Str.{bytes_eq}
 use Rattle.mtp_codes.specs.Faults.{first_of}
-use Rattle.chart_core.specs.Trees.{StepPlan, Placed, Tree, Trees, Arms, leaf, seq, par, choice, loop, no_trees, more_trees, no_arms, more_arms, size, steps, all_steps, arm_steps}
+use Rattle.chart_core.specs.Trees.{PlainStep, Placed, Tree, Trees, Arms, leaf, seq, par, choice, loop, no_trees, more_trees, no_arms, more_arms, size, steps, all_steps, arm_steps}
 use Rattle.pol_core.specs.Walks.{first_said, first_said_among, first_said_in_arms, settings_if}
 
 -- nothing after what is found
-pub or-none-right : {A : Type 0} (found : Option A) → option_or found None ≡ found
-or-none-right None = refl
-or-none-right (Some x) = refl
+pub or_none_right : {A : Type 0} (found : Option A) → option_or found None ≡ found
+or_none_right None = refl
+or_none_right (Some x) = refl
 
 -- the first of two lists
-first-append : {X A : Type 0} (f : X → Option A) (xs ys : List X) → first_of (map f (xs ++ ys))
+first_append : {X A : Type 0} (f : X → Option A) (xs ys : List X) → first_of (map f (xs ++ ys))
     ≡ option_or (first_of (map f xs)) (first_of (map f ys))
-first-append f [] ys = refl
-first-append {X} {A} f (x ∷ xs) ys = go (f x) (first-append f xs ys)
+first_append f [] ys = refl
+first_append {X} {A} f (x ∷ xs) ys = go (f x) (first_append f xs ys)
   where
     go : (found : Option A) → first_of (map f (xs ++ ys)) ≡ option_or (first_of (map f xs)) (first_of (map f ys)) →
         option_or found (first_of (map f (xs ++ ys))) ≡ option_or (option_or found (first_of (map f xs)))
@@ -25,46 +25,46 @@ first-append {X} {A} f (x ∷ xs) ys = go (f x) (first-append f xs ys)
     go (Some y) rest = refl
 
 -- what these placed steps say first
-abbrev pub said : {A : Type 0} → (StepPlan → Option A) → List Placed → Option A
+abbrev pub said : {A : Type 0} → (PlainStep → Option A) → List Placed → Option A
 said says placed = first_of (map (λ (each : Placed). says each.step) placed)
 
 -- what the steps of two lists say first
-said-append : {A : Type 0} (says : StepPlan → Option A) (xs ys : List Placed) →
+said_append : {A : Type 0} (says : PlainStep → Option A) (xs ys : List Placed) →
     said says (xs ++ ys) ≡ option_or (said says xs) (said says ys)
-said-append says xs ys = first-append (λ each. says each.step) xs ys
+said_append says xs ys = first_append (λ each. says each.step) xs ys
 
 mutual
   -- the walk finds what the steps say first
-  pub said-is : {A : Type 0} (says : StepPlan → Option A) (each : Tree) (n : ℕ) →
+  pub said_is : {A : Type 0} (says : PlainStep → Option A) (each : Tree) (n : ℕ) →
       first_said says each ≡ said says (steps each n)
-  said-is says (leaf step) n = sym (or-none-right (says step))
-  said-is says (seq each) n = said-among-is says each (n + 1)
-  said-is says (par each) n = said-among-is says each (n + 1)
-  said-is says (choice each) n = said-in-arms-is says each (n + 1)
-  said-is says (loop body until) n = said-is says body (n + 1)
+  said_is says (leaf step) n = sym (or_none_right (says step))
+  said_is says (seq each) n = said_among_is says each (n + 1)
+  said_is says (par each) n = said_among_is says each (n + 1)
+  said_is says (choice each) n = said_in_arms_is says each (n + 1)
+  said_is says (loop body until) n = said_is says body (n + 1)
 
-  said-among-is : {A : Type 0} (says : StepPlan → Option A) (each : Trees) (n : ℕ) →
+  said_among_is : {A : Type 0} (says : PlainStep → Option A) (each : Trees) (n : ℕ) →
       first_said_among says each ≡ said says (all_steps each n)
-  said-among-is says no_trees n = refl
-  said-among-is says (more_trees each others) n =
-      ap (λ found. option_or found (first_said_among says others)) (said-is says each n)
-      ∙ ap (option_or (said says (steps each n))) (said-among-is says others (n + size each))
-      ∙ sym (said-append says (steps each n) (all_steps others (n + size each)))
+  said_among_is says no_trees n = refl
+  said_among_is says (more_trees each others) n =
+      ap (λ found. option_or found (first_said_among says others)) (said_is says each n)
+      ∙ ap (option_or (said says (steps each n))) (said_among_is says others (n + size each))
+      ∙ sym (said_append says (steps each n) (all_steps others (n + size each)))
 
-  said-in-arms-is : {A : Type 0} (says : StepPlan → Option A) (each : Arms) (n : ℕ) →
+  said_in_arms_is : {A : Type 0} (says : PlainStep → Option A) (each : Arms) (n : ℕ) →
       first_said_in_arms says each ≡ said says (arm_steps each n)
-  said-in-arms-is says no_arms n = refl
-  said-in-arms-is says (more_arms condition each others) n =
-      ap (λ found. option_or found (first_said_in_arms says others)) (said-is says each n)
-      ∙ ap (option_or (said says (steps each n))) (said-in-arms-is says others (n + size each))
-      ∙ sym (said-append says (steps each n) (arm_steps others (n + size each)))
+  said_in_arms_is says no_arms n = refl
+  said_in_arms_is says (more_arms condition each others) n =
+      ap (λ found. option_or found (first_said_in_arms says others)) (said_is says each n)
+      ∙ ap (option_or (said says (steps each n))) (said_in_arms_is says others (n + size each))
+      ∙ sym (said_append says (steps each n) (arm_steps others (n + size each)))
 
 -- the first settings under a name are those of the step of that name
-named-settings : (name : List ℕ) (placed : List Placed) →
+named_settings : (name : List ℕ) (placed : List Placed) →
     said (settings_if name) placed ≡ option_map (λ placed. placed.step.settings)
     (find (λ placed. bytes_eq placed.step.name name) placed)
-named-settings name [] = refl
-named-settings name (each ∷ placed) = go (bytes_eq each.step.name name) (named-settings name placed)
+named_settings name [] = refl
+named_settings name (each ∷ placed) = go (bytes_eq each.step.name name) (named_settings name placed)
   where
     go : (same : Bool) → said (settings_if name) placed ≡ option_map (λ placed. placed.step.settings)
         (find (λ placed. bytes_eq placed.step.name name) placed) →
@@ -75,7 +75,7 @@ named-settings name (each ∷ placed) = go (bytes_eq each.step.name name) (named
     go false later = later
 
 -- so does the walk find them
-pub settings-found : (name : List ℕ) (root : Tree) →
+pub settings_found : (name : List ℕ) (root : Tree) →
     first_said (settings_if name) root ≡ option_map (λ placed. placed.step.settings)
     (find (λ placed. bytes_eq placed.step.name name) (steps root 0))
-settings-found name root = said-is (settings_if name) root 0 ∙ named-settings name (steps root 0)
+settings_found name root = said_is (settings_if name) root 0 ∙ named_settings name (steps root 0)

@@ -4,7 +4,7 @@ use Rattle.std.specs.Map.{lookup}
 use Rattle.std.specs.Option.{option_or, option_map}
 use Rattle.std.specs.Str.{bytes_eq}
 use Rattle.mtp_codes.specs.Faults.{when}
-use Rattle.chart_core.specs.Charts.{plan}
+use Rattle.chart_core.specs.Charts.{plain_chart}
 use Rattle.chart_core.specs.declared.entry.LogEntry.{LogEntry}
 use Rattle.chart_core.specs.declared.entry.LogEntry.TheVariants.{StopAsked}
 use Rattle.chart_core.specs.declared.next.Next.{Next}
@@ -12,7 +12,7 @@ use Rattle.chart_core.specs.declared.next.Outcome.{Outcome}
 use Rattle.chart_cursor.specs.Logs.{has_broken, was_stopped}
 use Rattle.chart_cursor.specs.NextEntry.{next_by}
 use Rattle.chart_cursor.specs.Sights.{Sights}
-use Rattle.pol_events.specs.Events.{EventForm}
+use Rattle.pol_events.specs.Events.{PlainEvent}
 use Rattle.pol_events.specs.declared.answer.Answer.{Answer}
 use Rattle.pol_events.specs.declared.answer.Rule.{Rule}
 use Rattle.pol_events.specs.declared.answer.Rule.TheVariants.{NoBatch, BatchClosed}
@@ -21,7 +21,7 @@ use Rattle.pol_history.specs.Batches.{start_by, chart_named, outcome_by, is_froz
 use Rattle.pol_history.specs.Looking.{History, past_of_batch, recipes}
 use Rattle.pol_history.specs.Runs.{entry_of}
 use Rattle.pol_slots.specs.declared.slot.Slot.{Slot}
-use Rattle.pol_table.specs.Berths.{Berth, Berths, freed_from}
+use Rattle.pol_table.specs.Rows.{Row, Rows, freed_from}
 use Rattle.pol_runs.specs.Logs.{Follows, closing_in, log_after}
 use Rattle.pol_runs.specs.Runs.{PlainRun, SameBatch}
 use Rattle.pol_core.specs.Seats.{SeatsMirror, IsCounted}
@@ -31,7 +31,7 @@ pub record RunKeeps (batch : List ℕ) (run : PlainRun) (past recipes : History)
   pub batch_is : run.batch ≡ batch
   pub recipe : List ℕ
   pub started : start_by past ≡ Some (record { recipe = recipe; binds = run.binds })
-  pub charted : chart_named recipe recipes ≡ Some (plan run.chart)
+  pub charted : chart_named recipe recipes ≡ Some (plain_chart run.chart)
   pub follows : Follows run (log_by past)
   pub frozen_is : run.frozen ≡ is_frozen_by past
   pub outcome_is : run.outcome ≡ outcome_by past
@@ -46,10 +46,10 @@ abbrev pub RunsMirror : List (List ℕ × PlainRun) → History → Type 0
 RunsMirror runs history =
     (batch : List ℕ) → IsRun batch (lookup (bytes_eq batch) runs) (past_of_batch batch history) (recipes history)
 
--- a berth, freed from the batch where that is closed
-abbrev pub freed_if : {T : Type 0} → Option Outcome → List ℕ → Option (Berth T) → Option (Berth T)
-freed_if None batch berth = berth
-freed_if (Some outcome) batch berth = option_map (freed_from batch) berth
+-- a row, freed from the batch where that is closed
+abbrev pub freed_if : {T : Type 0} → Option Outcome → List ℕ → Option (Row T) → Option (Row T)
+freed_if None batch row = row
+freed_if (Some outcome) batch row = option_map (freed_from batch) row
 
 -- one run is this one afterwards, and no other has changed
 abbrev pub ChangesRun : List ℕ → PlainRun → List (List ℕ × PlainRun) → List (List ℕ × PlainRun) → Type 0
@@ -88,7 +88,8 @@ pub record StopsOne (batch : List ℕ) (is_new : Bool) (run : PlainRun)
 
 -- it is what comes next, whatever log the run stands for
 abbrev pub ComesNext : Sights → Next → PlainRun → Type 0
-ComesNext seen next run = (log : List LogEntry) → Follows run log → next ≡ next_by (plan run.chart) run.frozen log seen
+ComesNext seen next run = (log : List LogEntry) → Follows run log
+    → next ≡ next_by (plain_chart run.chart) run.frozen log seen
 
 -- the rule that an event of a batch meets first: it has no run, or its run is closed
 abbrev pub not_open : Option PlainRun → Option Rule
@@ -101,7 +102,7 @@ pub record IsOpenRun (batch : List ℕ) (run : PlainRun) (runs : List (List ℕ 
   pub is_open : run.outcome ≡ None
 
 -- the answer to an event of a batch is the defined one, and the tables keep the history with it
-pub record AnswersBatch (history : History) (event : EventForm) (answer : Answer) (modules : Berths Slot)
+pub record AnswersBatch (history : History) (event : PlainEvent) (answer : Answer) (modules : Rows Slot)
     (runs : List (List ℕ × PlainRun)) : Type 0 where
   pub answer_is : answer ≡ answer_of history event
   pub seats : SeatsMirror modules (entry_of history event ∷ history)

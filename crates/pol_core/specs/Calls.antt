@@ -5,7 +5,7 @@ use Rattle.std.specs.Str.{bytes_eq}
 use Rattle.mtp_codes.specs.Faults.{when, done_unless}
 use Rattle.mtp_codes.specs.declared.value.Setting.{Setting}
 use Rattle.mtp_codes.specs.declared.limits.TheConstants.{LONGEST_HISTORY}
-use Rattle.chart_core.specs.Roles.{ChartPlan}
+use Rattle.chart_core.specs.Roles.{PlainChart}
 use Rattle.chart_core.specs.Trees.{steps}
 use Rattle.chart_core.specs.declared.next.Next.{Next}
 use Rattle.pol_events.specs.declared.answer.Answer.{Answer}
@@ -33,7 +33,7 @@ abbrev pub refused_first : ℕ → Option Rule → Result ⊤ Rule
 refused_first count rule = done_unless (option_or (when (nat_le LONGEST_HISTORY count) HistoryFull) rule)
 
 -- the settings of the chart's step of this name
-abbrev pub settings_named : List ℕ → ChartPlan → Option (List Setting)
+abbrev pub settings_named : List ℕ → PlainChart → Option (List Setting)
 settings_named name chart =
     option_map (λ placed. placed.step.settings) (find (λ placed. bytes_eq placed.step.name name) (steps chart.root 0))
 

@@ -6,7 +6,7 @@ use Rattle.mtp_codes.specs.declared.command.Command.TheVariants as command
 use Rattle.mtp_codes.specs.declared.mode.Speaker.TheVariants.{Recipe, Operator}
 use Rattle.chart_core.specs.declared.entry.LogEntry.{LogEntry}
 use Rattle.chart_core.specs.declared.entry.LogEntry.TheVariants.{Start, Finish, Reset, Stop, Asked}
-use Rattle.pol_events.specs.Events.{EventForm, EntryForm, advance}
+use Rattle.pol_events.specs.Events.{PlainEvent, PlainEntry, advance}
 use Rattle.pol_events.specs.declared.answer.Answer.{Answer}
 use Rattle.pol_events.specs.declared.answer.Answer.TheVariants.{Did}
 use Rattle.pol_core.specs.declared.commands.Sent.{Sent}
@@ -39,7 +39,7 @@ entry_command batch (Asked tag service command) = Some (tag, by_operator batch s
 entry_command batch _ = None
 
 -- the batch that an event advances
-abbrev pub batch_in : EventForm → Option (List ℕ)
+abbrev pub batch_in : PlainEvent → Option (List ℕ)
 batch_in (advance at batch) = Some batch
 batch_in _ = None
 
@@ -54,7 +54,7 @@ answer_command tag batch (Did entry) = for_tag tag (entry_command batch entry)
 answer_command tag batch _ = None
 
 -- the command that an entry of a history sends to the module
-abbrev pub sent_to : List ℕ → EntryForm → Option Sent
+abbrev pub sent_to : List ℕ → PlainEntry → Option Sent
 sent_to tag entry = answer_command tag (batch_in entry.event) entry.answer
 
 -- a command that was found at a place, with the place after it; or what is found later
@@ -64,6 +64,6 @@ found_at place None later = later
 
 -- the first command to the module among these entries, the oldest first, the first of which stands at the place; with
 -- the place after it, or else the place after all
-abbrev pub next_sent : List ℕ → ℕ → List EntryForm → Option Sent × ℕ
+abbrev pub next_sent : List ℕ → ℕ → List PlainEntry → Option Sent × ℕ
 next_sent tag place [] = (None, place)
 next_sent tag place (entry ∷ later) = found_at place (sent_to tag entry) (next_sent tag (place + 1) later)

@@ -1,12 +1,12 @@
 -- The exchange of a module for another.
 use Rattle.std.specs.Prelude.{ℕ, ◌≡◌, ◌+◌, ◌<◌, List, Option, Some, None}
-use Rattle.mtp_desc.specs.Plain.{DescriptionForm}
+use Rattle.mtp_desc.specs.Plain.{PlainDescription}
 use Rattle.pol_events.specs.Refusals.{wrong_ticket}
 use Rattle.pol_events.specs.declared.answer.Rule.{Rule}
 use Rattle.pol_events.specs.declared.answer.Rule.TheVariants.{NotInExchange}
 use Rattle.pol_slots.specs.Slots.{slot_tag, slot_ticket, slot_description, slot_begins, IsUnreported, IsDocked, IsUnchanged}
 use Rattle.pol_slots.specs.declared.slot.Slot.{Slot}
-use Rattle.pol_table.specs.Berths.{Berths, part_of, with_part}
+use Rattle.pol_table.specs.Rows.{Rows, part_of, with_part}
 
 -- the rule that the end or the cancel of an exchange meets first, by the ticket under which the module is away: it is
 -- not away, or the given ticket is another
@@ -15,9 +15,9 @@ ticket_rule given None = Some NotInExchange
 ticket_rule given (Some kept) = wrong_ticket given (Some kept)
 
 -- a module is docked under the tag
-pub record IsDockedAt (tag : List ℕ) (berths : Berths Slot) : Type 0 where
+pub record IsDockedAt (tag : List ℕ) (rows : Rows Slot) : Type 0 where
   pub slot : Slot
-  pub found : part_of tag berths ≡ Some slot
+  pub found : part_of tag rows ≡ Some slot
   pub docked : slot_ticket slot ≡ None
 
 -- the slot after its module went away under the ticket
@@ -30,24 +30,24 @@ pub record GoesAway (ticket : ℕ) (old new : Slot) : Type 0 where
   pub unreported : IsUnreported new
 
 -- the table then
-pub record SendsAway (tag : List ℕ) (ticket : ℕ) (slot : Slot) (old new : Berths Slot) : Type 0 where
+pub record SendsAway (tag : List ℕ) (ticket : ℕ) (slot : Slot) (old new : Rows Slot) : Type 0 where
   pub after : Slot
   pub goes : GoesAway ticket slot after
   pub table : new ≡ with_part tag old after
 
 -- each module has begun fewer exchanges than a ticket can count
-abbrev pub HaveBegunFew : Berths Slot → Type 0
-HaveBegunFew berths = (tag : List ℕ) (slot : Slot) → part_of tag berths ≡ Some slot → slot_begins slot < 4294967295
+abbrev pub HaveBegunFew : Rows Slot → Type 0
+HaveBegunFew rows = (tag : List ℕ) (slot : Slot) → part_of tag rows ≡ Some slot → slot_begins slot < 4294967295
 
 -- another module docks in place of the one that is away
-pub record DocksAgain (tag : List ℕ) (description : DescriptionForm) (slot : Slot)
-    (old new : Berths Slot) : Type 0 where
+pub record DocksAgain (tag : List ℕ) (description : PlainDescription) (slot : Slot)
+    (old new : Rows Slot) : Type 0 where
   pub after : Slot
   pub docks : IsDocked slot after description
   pub table : new ≡ with_part tag old after
 
 -- nothing that contracts see of the slot has changed
-pub record StaysAway (tag : List ℕ) (slot : Slot) (old new : Berths Slot) : Type 0 where
+pub record StaysAway (tag : List ℕ) (slot : Slot) (old new : Rows Slot) : Type 0 where
   pub after : Slot
   pub same : IsUnchanged slot after
   pub table : new ≡ with_part tag old after

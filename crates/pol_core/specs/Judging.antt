@@ -8,8 +8,8 @@ use Rattle.mtp_codes.specs.Names.{same_name}
 use Rattle.mtp_codes.specs.declared.limits.TheConstants.{MOST_BATCHES}
 use Rattle.mtp_machine.specs.States.{is_idle}
 use Rattle.mtp_procs.specs.Covers.{cover_fault}
-use Rattle.chart_core.specs.Roles.{ChartPlan, role_names}
-use Rattle.chart_core.specs.Trees.{StepPlan}
+use Rattle.chart_core.specs.Roles.{PlainChart, role_names}
+use Rattle.chart_core.specs.Trees.{PlainStep}
 use Rattle.chart_cursor.specs.declared.sight.Sight.{Sight}
 use Rattle.chart_cursor.specs.declared.sight.Sight.TheVariants as sight
 use Rattle.pol_events.specs.Bound.{bound_tag}
@@ -21,7 +21,7 @@ use Rattle.pol_history.specs.Rules.{busy_module, one_module_twice, role_unbound,
 use Rattle.pol_slots.specs.Sights.{slot_sight}
 use Rattle.pol_slots.specs.Slots.{slot_ticket, slot_description}
 use Rattle.pol_slots.specs.declared.slot.Slot.{Slot}
-use Rattle.pol_table.specs.Berths.{Berths, part_of, holder_of}
+use Rattle.pol_table.specs.Rows.{Rows, part_of, holder_of}
 use Rattle.pol_runs.specs.Runs.{PlainRun}
 use Rattle.pol_core.specs.Walks.{first_said}
 
@@ -33,48 +33,48 @@ sight_unready tag service (sight.Is view) =
     when (not (is_idle view.control.state)) (NotIdle tag service view.control.state)
 
 -- the service of a step of the role is so
-abbrev pub step_unready : Slot → List ℕ → List ℕ → StepPlan → Option Rule
+abbrev pub step_unready : Slot → List ℕ → List ℕ → PlainStep → Option Rule
 step_unready slot tag role step =
     if same_name step.role role then sight_unready tag step.service (slot_sight slot step.service) else None
 
 -- what is wrong with a slot for a role
-abbrev pub slot_rule : ChartPlan → List ℕ → List ℕ → Slot → Option Rule
+abbrev pub slot_rule : PlainChart → List ℕ → List ℕ → Slot → Option Rule
 slot_rule chart role tag slot =
     option_or (in_exchange tag (slot_ticket slot))
     (option_or (option_map (cover_rule role) (cover_fault chart role (slot_description slot)))
     (first_said (step_unready slot tag role) chart.root))
 
 -- or there is no module
-abbrev pub part_rule : ChartPlan → List ℕ → List ℕ → Option Slot → Option Rule
+abbrev pub part_rule : PlainChart → List ℕ → List ℕ → Option Slot → Option Rule
 part_rule chart role tag None = Some (NoModule tag)
 part_rule chart role tag (Some slot) = slot_rule chart role tag slot
 
 -- what is wrong with the module of a role, if it has one
-abbrev pub role_rule : Berths Slot → ChartPlan → List ℕ → Option (List ℕ) → Option Rule
-role_rule berths chart role tag = option_and_then (λ tag. part_rule chart role tag (part_of tag berths)) tag
+abbrev pub role_rule : Rows Slot → PlainChart → List ℕ → Option (List ℕ) → Option Rule
+role_rule rows chart role tag = option_and_then (λ tag. part_rule chart role tag (part_of tag rows)) tag
 
 -- the first of these over the roles
-abbrev pub table_unfit : Berths Slot → ChartPlan → List Bind → List (List ℕ) → Option Rule
-table_unfit berths chart binds roles = first_of (map (λ role. role_rule berths chart role (bound_tag binds role)) roles)
+abbrev pub table_unfit : Rows Slot → PlainChart → List Bind → List (List ℕ) → Option Rule
+table_unfit rows chart binds roles = first_of (map (λ role. role_rule rows chart role (bound_tag binds role)) roles)
 
 -- the module of a role is held
-abbrev pub tag_busy : Berths Slot → Option (List ℕ) → Option Rule
-tag_busy berths tag = option_and_then (λ tag. busy_module tag (holder_of tag berths)) tag
+abbrev pub tag_busy : Rows Slot → Option (List ℕ) → Option Rule
+tag_busy rows tag = option_and_then (λ tag. busy_module tag (holder_of tag rows)) tag
 
 -- the first of these over the roles
-abbrev pub table_busy : Berths Slot → List Bind → List (List ℕ) → Option Rule
-table_busy berths binds roles = first_of (map (λ role. tag_busy berths (bound_tag binds role)) roles)
+abbrev pub table_busy : Rows Slot → List Bind → List (List ℕ) → Option Rule
+table_busy rows binds roles = first_of (map (λ role. tag_busy rows (bound_tag binds role)) roles)
 
 -- all rules of the binds and the modules in their order
-abbrev pub bind_rule : Berths Slot → ChartPlan → List Bind → Option Rule
-bind_rule berths chart binds =
+abbrev pub bind_rule : Rows Slot → PlainChart → List Bind → Option Rule
+bind_rule rows chart binds =
     option_or (role_unbound binds (role_names chart))
     (option_or (role_unknown binds (role_names chart))
     (option_or (one_module_twice binds [] (role_names chart))
-    (option_or (table_unfit berths chart binds (role_names chart)) (table_busy berths binds (role_names chart)))))
+    (option_or (table_unfit rows chart binds (role_names chart)) (table_busy rows binds (role_names chart)))))
 
 -- all that the tables say against a start of a recipe with this chart
-abbrev pub chart_rule : Berths Slot → List (List ℕ × PlainRun) → List ℕ → List Bind → ChartPlan → Option Rule
-chart_rule berths runs batch binds chart =
+abbrev pub chart_rule : Rows Slot → List (List ℕ × PlainRun) → List ℕ → List Bind → PlainChart → Option Rule
+chart_rule rows runs batch binds chart =
     option_or (when (is_some (lookup (bytes_eq batch) runs)) BatchKnown)
-    (option_or (bind_rule berths chart binds) (when (nat_le MOST_BATCHES (length runs)) BatchesFull))
+    (option_or (bind_rule rows chart binds) (when (nat_le MOST_BATCHES (length runs)) BatchesFull))

@@ -1,6 +1,6 @@
 -- What contracts see of a plant.
 use Rattle.std.specs.Prelude.{ℕ, Bool, true, false, List}
-use Rattle.pol_events.specs.Events.{EventForm, plug, recipe, start, exchange_end, history_view}
+use Rattle.pol_events.specs.Events.{PlainEvent, plug, recipe, start, exchange_end, plain_history}
 use Rattle.pol_events.specs.declared.event.Entry.{Entry}
 use Rattle.pol_history.specs.Looking.{History}
 
@@ -11,10 +11,10 @@ pub record PlainPlant : Type 0 where
 
 -- the history of a plant, the newest entry first
 abbrev pub plant_history : PlainPlant → History
-plant_history plant = history_view plant.entries
+plant_history plant = plain_history plant.entries
 
 -- the event is of a kind that takes no memory where the history has room: all but these four
-abbrev pub is_spared : EventForm → Bool
+abbrev pub is_spared : PlainEvent → Bool
 is_spared (plug at tag description) = false
 is_spared (recipe at name chart) = false
 is_spared (start at batch name binds) = false

@@ -4,11 +4,11 @@ use Rattle.std.specs.Map.{lookup}
 use Rattle.std.specs.Option.{option_map}
 use Rattle.std.specs.Str.{bytes_eq}
 use Rattle.std.specs.declared.sync.Arc.{Arc}
-use Rattle.chart_core.specs.Charts.{plan}
-use Rattle.chart_core.specs.Roles.{ChartPlan}
+use Rattle.chart_core.specs.Charts.{plain_chart}
+use Rattle.chart_core.specs.Roles.{PlainChart}
 use Rattle.chart_core.specs.Valid.{IsValid}
 use Rattle.chart_core.specs.declared.chart.Chart.{Chart}
-use Rattle.pol_events.specs.Events.{EventForm}
+use Rattle.pol_events.specs.Events.{PlainEvent}
 use Rattle.pol_events.specs.declared.answer.Answer.{Answer}
 use Rattle.pol_history.specs.Answers.{answer_of}
 use Rattle.pol_history.specs.Batches.{chart_named}
@@ -18,19 +18,20 @@ use Rattle.pol_history.specs.Runs.{entry_of}
 -- each chart is valid
 abbrev pub AreValid : {Z : Type 0} → List (List ℕ × Arc Chart Z) → Type 0
 AreValid {Z} known =
-    (name : List ℕ) (chart : Arc Chart Z) → lookup (bytes_eq name) known ≡ Some chart → IsValid (plan chart.value)
+    (name : List ℕ) (chart : Arc Chart Z) → lookup (bytes_eq name) known ≡ Some chart
+    → IsValid (plain_chart chart.value)
 
 -- each name has the chart that the accepted recipes bring, and there are as many
 pub record RecipesMirror {Z : Type 0} (known : List (List ℕ × Arc Chart Z)) (history : History) : Type 0 where
-  pub named : (name : List ℕ) → option_map (λ (chart : Arc Chart Z). plan chart.value)
+  pub named : (name : List ℕ) → option_map (λ (chart : Arc Chart Z). plain_chart chart.value)
       (lookup (bytes_eq name) known) ≡ chart_named name (recipes history)
   pub valid : AreValid known
   pub count : length known ≡ length (recipes history)
 
 -- the answer to a recipe is the defined one, the recipes keep the history with it, and none changes
-pub record AnswersRecipe {Z : Type 0} (history : History) (event : EventForm) (answer : Answer)
+pub record AnswersRecipe {Z : Type 0} (history : History) (event : PlainEvent) (answer : Answer)
     (known : List (List ℕ × Arc Chart Z)) : Type 0 where
   pub answer_is : answer ≡ answer_of history event
   pub known_is : RecipesMirror known (entry_of history event ∷ history)
-  pub names : (name : List ℕ) (chart : ChartPlan) → chart_named name (recipes history) ≡ Some chart
+  pub names : (name : List ℕ) (chart : PlainChart) → chart_named name (recipes history) ≡ Some chart
       → chart_named name (recipes (entry_of history event ∷ history)) ≡ Some chart

@@ -4,7 +4,7 @@ use Rattle.mtp_codes.specs.Names.{is_among}
 use Rattle.mtp_codes.specs.declared.command.Command.{Command}
 use Rattle.mtp_modes.specs.declared.view.ServiceView.{ServiceView}
 use Rattle.chart_core.specs.declared.entry.LogEntry.{LogEntry}
-use Rattle.pol_events.specs.Events.{EventForm}
+use Rattle.pol_events.specs.Events.{PlainEvent}
 use Rattle.pol_events.specs.declared.answer.Answer.{Answer}
 use Rattle.pol_events.specs.declared.answer.Answer.TheVariants.{Done, Did, Refused}
 use Rattle.pol_events.specs.declared.answer.Rule.{Rule}
@@ -17,7 +17,7 @@ use Rattle.pol_desk.specs.Desk.{desk_answer}
 use Rattle.pol_slots.specs.Sights.{reported_view}
 use Rattle.pol_slots.specs.Slots.{slot_tag, slot_ticket, slot_description, slot_begins, last_control, last_value}
 use Rattle.pol_slots.specs.declared.slot.Slot.{Slot}
-use Rattle.pol_table.specs.Berths.{Berth, Berths, look}
+use Rattle.pol_table.specs.Rows.{Row, Rows, look}
 
 -- the slot keeps what its module's past gives
 pub record SlotKeeps (tag : List ℕ) (slot : Slot) (past : History) : Type 0 where
@@ -30,24 +30,24 @@ pub record SlotKeeps (tag : List ℕ) (slot : Slot) (past : History) : Type 0 wh
   pub controls : (service : List ℕ) → last_control slot service ≡ control_by service past
   pub values : (name : List ℕ) → last_value slot name ≡ value_by name past
 
--- a tag without a berth is absent and not held
+-- a tag without a row is absent and not held
 pub record IsEmpty (past : History) (holder : Option (List ℕ)) : Type 0 where
   pub is_absent : docking_by past ≡ absent
   pub free : holder ≡ None
 
--- a berth keeps the module's past, and who holds it
-pub record IsTaken (tag : List ℕ) (berth : Berth Slot) (past : History) (holder : Option (List ℕ)) : Type 0 where
-  pub slot_keeps : SlotKeeps tag berth.part past
-  pub held_by : berth.holder ≡ holder
+-- a row keeps the module's past, and who holds it
+pub record IsTaken (tag : List ℕ) (row : Row Slot) (past : History) (holder : Option (List ℕ)) : Type 0 where
+  pub slot_keeps : SlotKeeps tag row.part past
+  pub held_by : row.holder ≡ holder
 
 -- what a tag has in the table is what looking back gives
-abbrev pub IsSeated : List ℕ → Option (Berth Slot) → History → Option (List ℕ) → Type 0
+abbrev pub IsSeated : List ℕ → Option (Row Slot) → History → Option (List ℕ) → Type 0
 IsSeated tag None past holder = IsEmpty past holder
-IsSeated tag (Some berth) past holder = IsTaken tag berth past holder
+IsSeated tag (Some row) past holder = IsTaken tag row past holder
 
 -- each tag has so
-abbrev pub SeatsMirror : Berths Slot → History → Type 0
-SeatsMirror berths history = (tag : List ℕ) → IsSeated tag (look tag berths) (past tag history) (holder_of history tag)
+abbrev pub SeatsMirror : Rows Slot → History → Type 0
+SeatsMirror rows history = (tag : List ℕ) → IsSeated tag (look tag rows) (past tag history) (holder_of history tag)
 
 -- done, unless a rule refuses it
 abbrev pub done_or_refused : Result ⊤ Rule → Answer
@@ -74,13 +74,13 @@ AreOnce [] = Unit {0}
 AreOnce (tag ∷ tags) = (is_among tags tag ≡ false) × AreOnce tags
 
 -- the tags in the table are those that are docked or away, and there are as many
-pub record IsCounted (berths : Berths Slot) (history : History) : Type 0 where
-  pub members : (tag : List ℕ) → is_among (present_tags history) tag ≡ is_some (look tag berths)
+pub record IsCounted (rows : Rows Slot) (history : History) : Type 0 where
+  pub members : (tag : List ℕ) → is_among (present_tags history) tag ≡ is_some (look tag rows)
   pub once : AreOnce (present_tags history)
-  pub count : length berths ≡ length (present_tags history)
+  pub count : length rows ≡ length (present_tags history)
 
 -- the answer to an event of a module is the defined one, and the table keeps the history with it
-pub record AnswersModule (history : History) (event : EventForm) (answer : Answer) (berths : Berths Slot) : Type 0 where
+pub record AnswersModule (history : History) (event : PlainEvent) (answer : Answer) (rows : Rows Slot) : Type 0 where
   pub answer_is : answer ≡ answer_of history event
-  pub seats : SeatsMirror berths (entry_of history event ∷ history)
-  pub counted : IsCounted berths (entry_of history event ∷ history)
+  pub seats : SeatsMirror rows (entry_of history event ∷ history)
+  pub counted : IsCounted rows (entry_of history event ∷ history)

@@ -9,7 +9,7 @@ use Rattle.pol_events.specs.Bound.{bound_tag}
 use Rattle.pol_events.specs.declared.event.Bind.{Bind}
 use Rattle.pol_slots.specs.Sights.{slot_sight, slot_reading}
 use Rattle.pol_slots.specs.declared.slot.Slot.{Slot}
-use Rattle.pol_table.specs.Berths.{Berths, part_of}
+use Rattle.pol_table.specs.Rows.{Rows, part_of}
 
 -- what is seen of a service of this slot, if there is one
 abbrev pub slot_sees : Option Slot → List ℕ → Sight
@@ -22,20 +22,20 @@ slot_reads None name = reading_sight.Unreported
 slot_reads (Some slot) name = slot_reading slot name
 
 -- what is seen of the service of a tag, if the role has one
-abbrev pub tag_sees : Berths Slot → Option (List ℕ) → List ℕ → Sight
-tag_sees berths None service = sight.Unreported
-tag_sees berths (Some tag) service = slot_sees (part_of tag berths) service
+abbrev pub tag_sees : Rows Slot → Option (List ℕ) → List ℕ → Sight
+tag_sees rows None service = sight.Unreported
+tag_sees rows (Some tag) service = slot_sees (part_of tag rows) service
 
 -- what is seen of the variable of a tag, likewise
-abbrev pub tag_reads : Berths Slot → Option (List ℕ) → List ℕ → ReadingSight
-tag_reads berths None name = reading_sight.Unreported
-tag_reads berths (Some tag) name = slot_reads (part_of tag berths) name
+abbrev pub tag_reads : Rows Slot → Option (List ℕ) → List ℕ → ReadingSight
+tag_reads rows None name = reading_sight.Unreported
+tag_reads rows (Some tag) name = slot_reads (part_of tag rows) name
 
 -- what a batch with these binds sees
-abbrev pub table_sights : Berths Slot → List Bind → Sights
-table_sights berths binds =
+abbrev pub table_sights : Rows Slot → List Bind → Sights
+table_sights rows binds =
     record {
       tag = bound_tag binds;
-      view = λ role service. tag_sees berths (bound_tag binds role) service;
-      reading = λ role name. tag_reads berths (bound_tag binds role) name;
+      view = λ role service. tag_sees rows (bound_tag binds role) service;
+      reading = λ role name. tag_reads rows (bound_tag binds role) name;
     }

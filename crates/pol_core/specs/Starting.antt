@@ -4,33 +4,33 @@ use Rattle.std.specs.Map.{lookup}
 use Rattle.std.specs.Option.{option_map}
 use Rattle.std.specs.Str.{bytes_eq}
 use Rattle.mtp_codes.specs.Names.{is_among}
-use Rattle.chart_core.specs.Charts.{plan}
-use Rattle.chart_core.specs.Roles.{ChartPlan}
+use Rattle.chart_core.specs.Charts.{plain_chart}
+use Rattle.chart_core.specs.Roles.{PlainChart}
 use Rattle.pol_events.specs.Bound.{tags_of}
 use Rattle.pol_events.specs.declared.event.Bind.{Bind}
 use Rattle.pol_slots.specs.declared.slot.Slot.{Slot}
 use Rattle.pol_table.specs.Answers.{holding}
-use Rattle.pol_table.specs.Berths.{Berths, look, held_by}
+use Rattle.pol_table.specs.Rows.{Rows, look, held_by}
 use Rattle.pol_runs.specs.Logs.{Follows}
 use Rattle.pol_runs.specs.Runs.{PlainRun}
 
 -- a run that has just begun
-pub record IsNew (batch : List ℕ) (chart : ChartPlan) (binds : List Bind) (run : PlainRun) : Type 0 where
+pub record IsNew (batch : List ℕ) (chart : PlainChart) (binds : List Bind) (run : PlainRun) : Type 0 where
   pub batch_is : run.batch ≡ batch
-  pub chart_is : plan run.chart ≡ chart
+  pub chart_is : plain_chart run.chart ≡ chart
   pub binds_are : run.binds ≡ binds
   pub frozen_is : run.frozen ≡ false
   pub outcome_is : run.outcome ≡ None
   pub follows : Follows run []
 
 -- the batch holds all of these tags
-pub record Holds (tags : List (List ℕ)) (batch : List ℕ) (old new : Berths Slot) : Type 0 where
+pub record Holds (tags : List (List ℕ)) (batch : List ℕ) (old new : Rows Slot) : Type 0 where
   pub free : holding tags old ≡ Ok tt
   pub held : (tag : List ℕ) →
-      look tag new ≡ option_map (λ berth. if is_among tags tag then held_by batch berth else berth) (look tag old)
+      look tag new ≡ option_map (λ row. if is_among tags tag then held_by batch row else row) (look tag old)
 
 -- the batch holds all of its modules, and has a run that has just begun
-pub record Begins (batch : List ℕ) (chart : ChartPlan) (binds : List Bind) (old new : Berths Slot)
+pub record Begins (batch : List ℕ) (chart : PlainChart) (binds : List Bind) (old new : Rows Slot)
     (runs after : List (List ℕ × PlainRun)) : Type 0 where
   pub run : PlainRun
   pub is_new : IsNew batch chart binds run

@@ -1,6 +1,6 @@
 //! What an event is answered by the tables, and what it changes in them.
 ghost use Rattle.std.specs.Prelude.{◌≡◌, IsTrue, IsOk, IfOk, OnErr, false};
-ghost use Rattle.pol_events.specs.Events.{event_view};
+ghost use Rattle.pol_events.specs.Events.{plain_event};
 ghost use Rattle.pol_events.specs.Orderly.{is_orderly};
 ghost use Rattle.pol_history.specs.Answers.{is_full};
 ghost use Rattle.pol_history.specs.Looking.{History};
@@ -40,15 +40,15 @@ pub fn answer_event(
     recipes: &mut IndexMap<Name, Arc<Chart>>,
     event: &Event,
 ) -> Result<Answer, AllocError>
-    requires orderly { IsTrue (is_orderly (event_view event.now)) }
+    requires orderly { IsTrue (is_orderly (plain_event event.now)) }
     requires valid { AreValid recipes.old.entries }
     requires few { HaveBegunFew modules.old }
     ensures answered { IfOk result (λ answer. (history : History)
         → Mirrors modules.old runs.old.entries recipes.old.entries history → is_full history ≡ false
-        → Answers history (event_view event.now) answer modules.new runs.new.entries recipes.new.entries) }
+        → Answers history (plain_event event.now) answer modules.new runs.new.entries recipes.new.entries) }
     ensures kept { OnErr result ((history : History) → Mirrors modules.old runs.old.entries recipes.old.entries history
         → Mirrors modules.new runs.new.entries recipes.new.entries history) }
-    ensures spared { IsTrue (is_spared (event_view event.now)) → IsOk result }
+    ensures spared { IsTrue (is_spared (plain_event event.now)) → IsOk result }
 {
     match event {
         Event::Plug { tag, desc, .. } => plug(alloc, modules, *tag, desc),

@@ -10,7 +10,7 @@ ghost use Rattle.pol_events.specs.declared.answer.Rule.TheVariants.{AlreadyFroze
 ghost use Rattle.pol_history.specs.Answers.{advanced, is_full};
 ghost use Rattle.pol_history.specs.Looking.{History};
 ghost use Rattle.pol_slots.specs.declared.slot.Slot.{Slot as slot_type};
-ghost use Rattle.pol_table.specs.Berths.{Berths, look};
+ghost use Rattle.pol_table.specs.Rows.{Rows, look};
 ghost use Rattle.pol_runs.specs.Logs.{closing_in};
 ghost use Rattle.pol_runs.specs.Runs.{PlainRun};
 ghost use Rattle.pol_core.specs.Batches.{AnswersBatch, ChangesRun, ComesNext, IsOpenRun, RunsMirror, SettlesOne, StopsOne, freed_if, not_open};
@@ -142,7 +142,7 @@ fn freeze_run(runs: &mut IndexMap<Name, Run>, batch: Name) -> Result<(), Rule>
 /// A batch waits until it is thawed.
 pub fn freeze(runs: &mut IndexMap<Name, Run>, batch: Name) -> Answer
     ensures count { length runs.new.entries ≡ length runs.old.entries }
-    ensures answered { (history : History) (at : ℕ) (modules : Berths slot_type) → SeatsMirror modules history
+    ensures answered { (history : History) (at : ℕ) (modules : Rows slot_type) → SeatsMirror modules history
         → IsCounted modules history → RunsMirror runs.old.entries history → is_full history ≡ false
         → AnswersBatch history (freeze at batch) result modules runs.new.entries }
 {
@@ -169,7 +169,7 @@ fn thaw_run(runs: &mut IndexMap<Name, Run>, batch: Name) -> Result<(), Rule>
 /// A batch that is frozen goes on.
 pub fn thaw(runs: &mut IndexMap<Name, Run>, batch: Name) -> Answer
     ensures count { length runs.new.entries ≡ length runs.old.entries }
-    ensures answered { (history : History) (at : ℕ) (modules : Berths slot_type) → SeatsMirror modules history
+    ensures answered { (history : History) (at : ℕ) (modules : Rows slot_type) → SeatsMirror modules history
         → IsCounted modules history → RunsMirror runs.old.entries history → is_full history ≡ false
         → AnswersBatch history (thaw at batch) result modules runs.new.entries }
 {
@@ -194,7 +194,7 @@ fn stop_run(runs: &mut IndexMap<Name, Run>, batch: Name) -> bool
 /// A batch is to be stopped step by step. Its freeze ends, whether that is new or not.
 pub fn stop(runs: &mut IndexMap<Name, Run>, batch: Name) -> Answer
     ensures count { length runs.new.entries ≡ length runs.old.entries }
-    ensures answered { (history : History) (at : ℕ) (modules : Berths slot_type) → SeatsMirror modules history
+    ensures answered { (history : History) (at : ℕ) (modules : Rows slot_type) → SeatsMirror modules history
         → IsCounted modules history → RunsMirror runs.old.entries history → is_full history ≡ false
         → AnswersBatch history (stop_batch at batch) result modules runs.new.entries }
 {

@@ -1,9 +1,9 @@
 //! What the tables say against a start: its binds against the roles of the recipe, then its modules one after another.
 ghost use Rattle.std.specs.Prelude.{◌≡◌, [], option_map};
 ghost use Rattle.mtp_procs.specs.Covers.{cover_fault};
-ghost use Rattle.chart_core.specs.Charts.{plan};
+ghost use Rattle.chart_core.specs.Charts.{plain_chart};
 ghost use Rattle.chart_core.specs.Roles.{role_names};
-ghost use Rattle.chart_core.specs.Trees.{arms, tree, trees, step_plan};
+ghost use Rattle.chart_core.specs.Trees.{arms, plain_node, trees, plain_step};
 ghost use Rattle.pol_bind.specs.Roles.{names_in};
 ghost use Rattle.pol_events.specs.Bound.{bound_tag};
 ghost use Rattle.pol_events.specs.Refusals.{cover_rule};
@@ -42,7 +42,7 @@ fn service_unready(tag: Name, service: Name, sight: &Sight) -> Option<Rule>
 
 #[cycle(walk)]
 fn walk(node: &Node, slot: &Slot, tag: Name, role: Name) -> Option<Rule>
-    ensures { result ≡ first_said (step_unready slot.now tag role) (tree node.now) }
+    ensures { result ≡ first_said (step_unready slot.now tag role) (plain_node node.now) }
 {
     match node {
         Node::Step(step) => {
@@ -85,7 +85,8 @@ fn walk_arms(each: &[Arm], slot: &Slot, tag: Name, role: Name) -> Option<Rule>
 
 // The module can't play the role.
 fn not_covered(chart: &Chart, role: Name, slot: &Slot) -> Option<Rule>
-    ensures { result ≡ option_map (cover_rule role) (cover_fault (plan chart.now) role (slot_description slot.now)) }
+    ensures { result ≡ option_map (cover_rule role)
+        (cover_fault (plain_chart chart.now) role (slot_description slot.now)) }
 {
     match covers(chart, role, slot.description()) {
         Ok(()) => None,
@@ -95,7 +96,7 @@ fn not_covered(chart: &Chart, role: Name, slot: &Slot) -> Option<Rule>
 
 // What is wrong with a slot for a role.
 fn slot_rule(chart: &Chart, slot: &Slot, role: Name, tag: Name) -> Option<Rule>
-    ensures { result ≡ slot_rule (plan chart.now) role tag slot.now }
+    ensures { result ≡ slot_rule (plain_chart chart.now) role tag slot.now }
 {
     if let Some(ticket) = slot.ticket() {
         return Some(Rule::InExchange { tag, ticket });
@@ -108,7 +109,7 @@ fn slot_rule(chart: &Chart, slot: &Slot, role: Name, tag: Name) -> Option<Rule>
 
 // What is wrong with the module of a role, if it has one.
 fn role_rule(modules: &Table<Slot>, chart: &Chart, role: Name, tag: Option<Name>) -> Option<Rule>
-    ensures { result ≡ role_rule modules.now (plan chart.now) role tag }
+    ensures { result ≡ role_rule modules.now (plain_chart chart.now) role tag }
 {
     let tag = tag?;
     match modules.get(tag) {
@@ -119,7 +120,7 @@ fn role_rule(modules: &Table<Slot>, chart: &Chart, role: Name, tag: Option<Name>
 
 // The first thing that is wrong with a module, over the roles of the chart.
 fn first_unfit(modules: &Table<Slot>, chart: &Chart, binds: &[Bind], roles: &[Role]) -> Option<Rule>
-    ensures { result ≡ table_unfit modules.now (plan chart.now) binds.now (names_in roles.now) }
+    ensures { result ≡ table_unfit modules.now (plain_chart chart.now) binds.now (names_in roles.now) }
 {
     for role in roles {
         if let Some(rule) = role_rule(modules, chart, role.role, bound_tag(binds, role.role)) {
@@ -151,7 +152,7 @@ fn first_busy(modules: &Table<Slot>, binds: &[Bind], roles: &[Role]) -> Option<R
 
 /// The first rule of a start that its binds and its modules break. It takes no memory.
 pub fn bind_rule(modules: &Table<Slot>, chart: &Chart, binds: &[Bind]) -> Option<Rule>
-    ensures { result ≡ bind_rule modules.now (plan chart.now) binds.now }
+    ensures { result ≡ bind_rule modules.now (plain_chart chart.now) binds.now }
 {
     if let Some(rule) = role_unbound(binds, &chart.roles) {
         return Some(rule);

@@ -1,7 +1,7 @@
 //! The commands that were sent to a module.
 ghost use Rattle.std.specs.Prelude.{◌≡◌, ◌≤◌, ◌<◌, drop, length, map};
 ghost use Rattle.mtp_codes.specs.declared.limits.TheConstants.{LONGEST_HISTORY};
-ghost use Rattle.pol_events.specs.Events.{entry_view, event_view};
+ghost use Rattle.pol_events.specs.Events.{plain_entry, plain_event};
 ghost use Rattle.pol_core.specs.Commands.{batch_in, by_operator, by_recipe, entry_command, for_tag, next_sent, sent_to};
 
 use chart_core::LogEntry;
@@ -93,7 +93,7 @@ fn entry_command(batch: Option<Name>, entry: &LogEntry) -> Option<(Name, Sent)>
 
 // The batch that an event advances.
 fn batch_in(event: &Event) -> Option<Name>
-    ensures { result ≡ batch_in (event_view event.now) }
+    ensures { result ≡ batch_in (plain_event event.now) }
 {
     match event {
         Event::Advance { batch, .. } => Some(*batch),
@@ -111,7 +111,7 @@ fn for_tag(tag: Name, sent: Option<(Name, Sent)>) -> Option<Sent>
 
 // The command that an entry of a history sends to the module.
 fn sent_to(tag: Name, entry: &Entry) -> Option<Sent>
-    ensures { result ≡ sent_to tag (entry_view entry.now) }
+    ensures { result ≡ sent_to tag (plain_entry entry.now) }
 {
     match &entry.answer {
         Answer::Did(done) => for_tag(tag, entry_command(batch_in(&entry.event), done)),
@@ -124,7 +124,7 @@ fn sent_to(tag: Name, entry: &Entry) -> Option<Sent>
 pub fn next_command(history: &[Entry], tag: Name, place: u32) -> (Option<Sent>, u32)
     requires place { place ≤ length history.now }
     requires few { length history.now ≤ LONGEST_HISTORY }
-    ensures { result ≡ next_sent tag place (map entry_view (drop place history.now)) }
+    ensures { result ≡ next_sent tag place (map plain_entry (drop place history.now)) }
 {
     for index in place as usize..history.len() {
         if let Some(sent) = sent_to(tag, &history[index]) {

@@ -1,9 +1,9 @@
 //! Modules that are exchanged.
 ghost use Rattle.std.specs.Prelude.{◌≡◌, ℕ, List, Some, None, IsSome, IfOk, OnOk, OnErr, false, option_map, option_and_then};
 ghost use Rattle.mtp_codes.specs.Faults.{first_of, done_unless};
-ghost use Rattle.mtp_desc.specs.DescriptionView.{description_view};
+ghost use Rattle.mtp_desc.specs.PlainDescription.{plain_description};
 ghost use Rattle.mtp_procs.specs.Covers.{cover_fault, missing_by};
-ghost use Rattle.chart_core.specs.Charts.{plan};
+ghost use Rattle.chart_core.specs.Charts.{plain_chart};
 ghost use Rattle.chart_cursor.specs.Logs.{active};
 ghost use Rattle.pol_events.specs.Bound.{bound_role, step_on, ArePaired};
 ghost use Rattle.pol_events.specs.Events.{exchange_begin, exchange_end, exchange_cancel};
@@ -12,7 +12,7 @@ ghost use Rattle.pol_history.specs.Looking.{History};
 ghost use Rattle.pol_history.specs.Rules.{active_step, held_back};
 ghost use Rattle.pol_slots.specs.Slots.{slot_description, slot_ticket, IsDocked, IsUnchanged};
 ghost use Rattle.pol_slots.specs.declared.slot.Slot.{Slot as slot_type};
-ghost use Rattle.pol_table.specs.Berths.{part_of};
+ghost use Rattle.pol_table.specs.Rows.{part_of};
 ghost use Rattle.pol_runs.specs.Logs.{Follows};
 ghost use Rattle.pol_core.specs.Batches.{RunsMirror};
 ghost use Rattle.pol_core.specs.Exchanges.{HaveBegunFew, IsDockedAt, SendsAway, DocksAgain, StaysAway, ticket_rule};
@@ -115,7 +115,7 @@ fn dock_again(
     requires there { IsSome (part_of tag modules.old) }
     requires away { (slot : slot_type) → part_of tag modules.old ≡ Some slot → slot_ticket slot ≡ Some ticket }
     ensures docked { OnOk result ((slot : slot_type) → part_of tag modules.old ≡ Some slot
-        → DocksAgain tag (description_view desc.value) slot modules.old modules.new) }
+        → DocksAgain tag (plain_description desc.value) slot modules.old modules.new) }
     ensures kept { OnErr result ((slot : slot_type) → part_of tag modules.old ≡ Some slot
         → StaysAway tag slot modules.old modules.new) }
 {
@@ -132,7 +132,8 @@ fn dock_again(
 // What of the batch's chart the description doesn't cover, for the role that the tag plays.
 fn missing_of(run: &Run, tag: Name, desc: &Description) -> Option<Name>
     ensures { result ≡ option_and_then
-        (λ role. option_map (missing_by role) (cover_fault (plan run.now.chart) role (description_view desc.now)))
+        (λ role. option_map (missing_by role)
+        (cover_fault (plain_chart run.now.chart) role (plain_description desc.now)))
         (bound_role run.now.binds tag) }
 {
     let role = bound_role(run.binds(), tag)?;
@@ -147,7 +148,7 @@ fn held_back(
     desc: &Description,
 ) -> Option<Rule>
     ensures { (history : History) → SeatsMirror modules.now history → RunsMirror runs.now.entries history
-        → result ≡ held_back history tag (description_view desc.now) }
+        → result ≡ held_back history tag (plain_description desc.now) }
 {
     let batch = modules.holder(tag)?;
     let run = runs.get(&batch)?;
@@ -166,7 +167,7 @@ pub fn exchange_end(
 ) -> Result<Answer, AllocError>
     ensures answered { IfOk result (λ answer. (history : History) (at : ℕ) → SeatsMirror modules.old history
         → IsCounted modules.old history → RunsMirror runs.now.entries history → is_full history ≡ false
-        → AnswersModule history (exchange_end at tag ticket (description_view desc.now.value)) answer modules.new) }
+        → AnswersModule history (exchange_end at tag ticket (plain_description desc.now.value)) answer modules.new) }
     ensures kept { OnErr result ((history : History) → SeatsMirror modules.old history → IsCounted modules.old history
         → SeatsMirror modules.new history × IsCounted modules.new history) }
 {

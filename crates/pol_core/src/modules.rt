@@ -1,6 +1,6 @@
 //! What events of a module are answered, and what they change in the table of modules.
 ghost use Rattle.std.specs.Prelude.{◌≡◌, ℕ, IfOk, OnErr, false};
-ghost use Rattle.mtp_desc.specs.DescriptionView.{description_view};
+ghost use Rattle.mtp_desc.specs.PlainDescription.{plain_description};
 ghost use Rattle.pol_events.specs.Events.{plug, unplug, report, variable, desk};
 ghost use Rattle.pol_history.specs.Answers.{is_full};
 ghost use Rattle.pol_history.specs.Batches.{holder_of};
@@ -40,7 +40,7 @@ pub fn plug(
 ) -> Result<Answer, AllocError>
     ensures answered { IfOk result (λ answer. (history : History) (at : ℕ) → SeatsMirror modules.old history
         → IsCounted modules.old history → is_full history ≡ false
-        → AnswersModule history (plug at tag (description_view description.now.value)) answer modules.new) }
+        → AnswersModule history (plug at tag (plain_description description.now.value)) answer modules.new) }
     ensures unchanged { OnErr result (modules.new ≡ modules.old) }
 {
     if modules.get(tag).is_some() {

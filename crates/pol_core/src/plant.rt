@@ -1,6 +1,6 @@
 //! The plant, seen as its entries and the room for more.
 ghost use Rattle.std.specs.Prelude.{◌≡◌, ℕ, ◌<◌, ◌≤◌, ◌+◌, ◌++◌, ◌∷◌, [], drop, length, map, option_copied, IfOk, IfErr, IsOk, IsTrue, OnOk, OnErr, vec_len, vec_capacity};
-ghost use Rattle.pol_events.specs.Events.{entry_view, event_view, history_view, exchange_begin, start};
+ghost use Rattle.pol_events.specs.Events.{plain_entry, plain_event, plain_history, exchange_begin, start};
 ghost use Rattle.pol_events.specs.Orderly.{is_orderly};
 ghost use Rattle.pol_history.specs.Answers.{answer_of};
 ghost use Rattle.pol_history.specs.Batches.{holder_of};
@@ -40,7 +40,7 @@ pub struct Plant {
 impl Model for Plant {
     ghost use Rattle.std.specs.Prelude.{◌-◌, vec_len, vec_capacity};
     ghost use Rattle.std.specs.Coded.{codes};
-    ghost use Rattle.pol_events.specs.Events.{history_view};
+    ghost use Rattle.pol_events.specs.Events.{plain_history};
     ghost use Rattle.pol_events.specs.contracts.event.Entry as entry_type;
     ghost use Rattle.pol_core.specs.Histories.{IsPlantHistory};
     ghost use Rattle.pol_core.specs.Mirrors.{Mirrors};
@@ -55,8 +55,8 @@ impl Model for Plant {
       spare = vec_capacity plant.history - vec_len plant.history;
     } };
 
-    ghost invariant = { λ plant. IsPlantHistory (history_view plant.history.items)
-        × Mirrors plant.modules plant.runs.entries plant.recipes.entries (history_view plant.history.items) };
+    ghost invariant = { λ plant. IsPlantHistory (plain_history plant.history.items)
+        × Mirrors plant.modules plant.runs.entries plant.recipes.entries (plain_history plant.history.items) };
 }
 
 // Puts an entry at the end of a history that has room for it.
@@ -127,14 +127,14 @@ impl Plant {
     /// Where memory is wanting the event is handed back with AllocError, the plant is as it was, and `spare` isn't
     /// lower.
     pub fn apply(&mut self, event: Event) -> Result<Answer, (Event, AllocError)>
-        requires orderly { IsTrue (is_orderly (event_view event)) }
-        ensures answer { IfOk result (λ answer. answer ≡ answer_of (plant_history self.old) (event_view event)) }
+        requires orderly { IsTrue (is_orderly (plain_event event)) }
+        ensures answer { IfOk result (λ answer. answer ≡ answer_of (plant_history self.old) (plain_event event)) }
         ensures history { OnOk result (plant_history self.new
-            ≡ recorded (entry_of (plant_history self.old) (event_view event)) (plant_history self.old)) }
+            ≡ recorded (entry_of (plant_history self.old) (plain_event event)) (plant_history self.old)) }
         ensures unchanged { IfErr result (λ back. (self.new.entries ≡ self.old.entries) × (back.0 ≡ event)) }
         ensures room { OnErr result (self.old.spare ≤ self.new.spare) }
-        ensures spared { IsTrue (is_spared (event_view event)) → 0 < self.old.spare → IsOk result }
-        ensures spends { IsTrue (is_spared (event_view event)) → self.old.spare ≤ self.new.spare + 1 }
+        ensures spared { IsTrue (is_spared (plain_event event)) → 0 < self.old.spare → IsOk result }
+        ensures spends { IsTrue (is_spared (plain_event event)) → self.old.spare ≤ self.new.spare + 1 }
     {
         if self.history.len() >= LONGEST_HISTORY {
             return Ok(Answer::Refused(Rule::HistoryFull));
@@ -190,7 +190,7 @@ impl Plant {
     /// history's length. Places are counted from 0. Looks at no entry before the place, and takes no memory.
     pub fn next_command(&self, tag: Name, place: u32) -> (Option<Sent>, u32)
         requires { place ≤ length self.now.entries }
-        ensures { result ≡ next_sent tag place (map entry_view (drop place self.now.entries)) }
+        ensures { result ≡ next_sent tag place (map plain_entry (drop place self.now.entries)) }
     {
         commands::next_command(&self.history, tag, place)
     }

@@ -1,6 +1,6 @@
 //! The settings of a chart's steps.
 ghost use Rattle.std.specs.Prelude.{◌≡◌, option_copied};
-ghost use Rattle.chart_core.specs.Trees.{arms, tree, trees};
+ghost use Rattle.chart_core.specs.Trees.{arms, plain_node, trees};
 ghost use Rattle.pol_core.specs.Walks.{first_said, first_said_among, first_said_in_arms, settings_if};
 
 use chart_core::{Arm, Node};
@@ -9,7 +9,7 @@ use mtp_codes::{Name, Setting};
 /// The settings of the step of this name; None where no step has it. Walks the chart's nodes once.
 #[cycle(walk)]
 pub fn settings_in(node: &Node, name: Name) -> Option<&[Setting]>
-    ensures { option_copied result ≡ first_said (settings_if name) (tree node.now) }
+    ensures { option_copied result ≡ first_said (settings_if name) (plain_node node.now) }
 {
     match node {
         Node::Step(step) => {

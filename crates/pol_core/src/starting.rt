@@ -4,7 +4,7 @@ ghost use Rattle.std.specs.Map.{lookup};
 ghost use Rattle.std.specs.Str.{bytes_eq};
 ghost use Rattle.mtp_codes.specs.Faults.{first_of};
 ghost use Rattle.mtp_codes.specs.Names.{is_among};
-ghost use Rattle.chart_core.specs.Charts.{plan};
+ghost use Rattle.chart_core.specs.Charts.{plain_chart};
 ghost use Rattle.chart_core.specs.Valid.{IsValid};
 ghost use Rattle.pol_events.specs.Bound.{ArePaired, tags_of};
 ghost use Rattle.pol_events.specs.Events.{start};
@@ -58,9 +58,9 @@ fn prepare(
     chart: &Arc<Chart>,
     binds: &[Bind],
 ) -> Result<Run, AllocError>
-    requires valid { IsValid (plan chart.now.value) }
+    requires valid { IsValid (plain_chart chart.now.value) }
     requires paired { ArePaired binds.now }
-    ensures { IfOk result (IsNew batch (plan chart.now.value) binds.now) }
+    ensures { IfOk result (IsNew batch (plain_chart chart.now.value) binds.now) }
 {
     let chart = chart.clone()?;
     let binds = copied(alloc, binds)?;
@@ -101,11 +101,11 @@ fn begin(
     chart: &Arc<Chart>,
     binds: &[Bind],
 ) -> Result<(), AllocError>
-    requires valid { IsValid (plan chart.now.value) }
+    requires valid { IsValid (plain_chart chart.now.value) }
     requires paired { ArePaired binds.now }
     requires free { holding (tags_of binds.now) modules.old ≡ Ok tt }
     requires new { lookup (bytes_eq batch) runs.old.entries ≡ None }
-    ensures begun { OnOk result (Begins batch (plan chart.now.value) binds.now
+    ensures begun { OnOk result (Begins batch (plain_chart chart.now.value) binds.now
         modules.old modules.new runs.old.entries runs.new.entries) }
     ensures count { length modules.new ≡ length modules.old }
     ensures modules { OnErr result (modules.new ≡ modules.old) }
@@ -127,7 +127,7 @@ fn chart_rule(
     chart: &Chart,
     binds: &[Bind],
 ) -> Option<Rule>
-    ensures { result ≡ chart_rule modules.now runs.now.entries batch binds.now (plan chart.now) }
+    ensures { result ≡ chart_rule modules.now runs.now.entries batch binds.now (plain_chart chart.now) }
 {
     if runs.contains_key(&batch) {
         return Some(Rule::BatchKnown);

@@ -4,7 +4,7 @@ use Rattle.std.specs.List.{count_by}
 use Rattle.std.proofs.lemmas.List.{length-map, length-reverse, reverse-append, take_all}
 use Rattle.std.proofs.lemmas.List.Sums.{sum_by-append}
 use Rattle.mtp_desc.proofs.Views.{count_map}
-use Rattle.pol_events.specs.Events.{entry_view, history_view}
+use Rattle.pol_events.specs.Events.{plain_entry, plain_history}
 use Rattle.pol_events.specs.declared.answer.Answer.{Answer}
 use Rattle.pol_events.specs.declared.event.Entry.{Entry}
 use Rattle.pol_demo.specs.Summary.{is_completed, is_refused, summary_of}
@@ -25,22 +25,22 @@ count_reversed test (x ∷ xs) =
 
 -- as many answers pass in the history as in the entries
 pub count_viewed : (test : Answer → Bool) (entries : List Entry) →
-    count_by (λ entry. test entry.answer) entries ≡ count_by (λ entry. test entry.answer) (history_view entries)
+    count_by (λ entry. test entry.answer) entries ≡ count_by (λ entry. test entry.answer) (plain_history entries)
 count_viewed test entries =
-    sym (count_reversed (λ entry. test entry.answer) (map entry_view entries)
-    ∙ count_map entry_view (λ entry. test entry.answer) entries)
+    sym (count_reversed (λ entry. test entry.answer) (map plain_entry entries)
+    ∙ count_map plain_entry (λ entry. test entry.answer) entries)
 
 -- the history has as many
-pub length_viewed : (entries : List Entry) → length entries ≡ length (history_view entries)
-length_viewed entries = sym (length-reverse (map entry_view entries) ∙ length-map entries entry_view)
+pub length_viewed : (entries : List Entry) → length entries ≡ length (plain_history entries)
+length_viewed entries = sym (length-reverse (map plain_entry entries) ∙ length-map entries plain_entry)
 
 -- what was counted of all entries is the summary of the history
 pub summed_up : (entries : List Entry) (index closed refused : ℕ) → length entries ≤ index →
     closed ≡ count_by (λ entry. is_completed entry.answer) (take index entries) →
     refused ≡ count_by (λ entry. is_refused entry.answer) (take index entries) →
-    record { answers = length entries; closed = closed; refused = refused } ≡ summary_of (history_view entries)
+    record { answers = length entries; closed = closed; refused = refused } ≡ summary_of (plain_history entries)
 summed_up entries index closed refused all closed_is refused_is =
-    let history = history_view entries in
+    let history = plain_history entries in
     let whole = take_all index entries all in
     let closes : closed ≡ count_by (λ entry. is_completed entry.answer) history =
     closed_is ∙ (ap (count_by (λ entry. is_completed entry.answer)) whole ∙ count_viewed is_completed entries) in

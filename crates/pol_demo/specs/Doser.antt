@@ -1,31 +1,31 @@
 -- The module that a demo journal docks, and the recipe that its batches follow.
 use Rattle.std.specs.Prelude.{[], ◌∷◌, true, codes, pos, None}
 use Rattle.mtp_codes.specs.declared.value.Value.TheVariants.{Whole}
-use Rattle.mtp_assembly.specs.Plain.{ParamForm, VariableForm}
+use Rattle.mtp_assembly.specs.Plain.{PlainParam, PlainVariable}
 use Rattle.mtp_assembly.specs.declared.param.ParamKind.TheVariants.{DInt}
 use Rattle.mtp_assembly.specs.declared.variable.ViewKind.TheVariants.{Ana}
-use Rattle.mtp_desc.specs.Plain.{DescriptionForm, ProcedureForm, ServiceForm}
-use Rattle.chart_core.specs.Roles.{ChartPlan, RolePlan}
-use Rattle.chart_core.specs.Trees.{StepPlan, leaf}
+use Rattle.mtp_desc.specs.Plain.{PlainDescription, PlainProcedure, PlainService}
+use Rattle.chart_core.specs.Roles.{PlainChart, PlainRole}
+use Rattle.chart_core.specs.Trees.{PlainStep, leaf}
 
 -- the amount that is dosed: from 0 to 5000
-abbrev pub amount : ParamForm
+abbrev pub amount : PlainParam
 amount = record { name = codes "amount"; kind = DInt (pos 0) (pos 5000) }
 
 -- the level in a doser
-abbrev pub level : VariableForm
+abbrev pub level : PlainVariable
 level = record { name = codes "level"; kind = Ana }
 
 -- the one procedure of a doser: it completes by itself, and takes an amount
-abbrev pub dose : ProcedureForm
+abbrev pub dose : PlainProcedure
 dose = record { number = 1; is_default = true; self_completing = true; params = amount ∷ [] }
 
 -- its one service
-abbrev pub dose_service : ServiceForm
+abbrev pub dose_service : PlainService
 dose_service = record { name = codes "dose"; procedures = dose ∷ [] }
 
 -- a doser: one service, and its level
-unfoldable pub doser : DescriptionForm
+unfoldable pub doser : PlainDescription
 doser =
     record {
       type_name = codes "Doser";
@@ -36,11 +36,11 @@ doser =
     }
 
 -- the role of a doser
-abbrev pub doser_role : RolePlan
+abbrev pub doser_role : PlainRole
 doser_role = record { role = codes "A"; type_name = codes "Doser"; wants = codes "^1" }
 
 -- the step of a doser that doses 1500
-abbrev pub dose_step : StepPlan
+abbrev pub dose_step : PlainStep
 dose_step =
     record {
       name = codes "s1";
@@ -52,5 +52,5 @@ dose_step =
     }
 
 -- the recipe `one`: a doser doses 1500
-unfoldable pub dosing : ChartPlan
+unfoldable pub dosing : PlainChart
 dosing = record { roles = doser_role ∷ []; root = leaf dose_step }

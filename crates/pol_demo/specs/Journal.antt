@@ -6,7 +6,7 @@ use Rattle.mtp_codes.specs.declared.mode.Origin.TheVariants.{External}
 use Rattle.mtp_codes.specs.declared.state.State.{State}
 use Rattle.mtp_codes.specs.declared.state.State.TheVariants.{Idle, Starting, Execute, Completing, Completed, Resetting}
 use Rattle.mtp_codes.specs.declared.value.Value.TheVariants.{Whole}
-use Rattle.pol_events.specs.Events.{EventForm, advance, plug, recipe, report, start, variable}
+use Rattle.pol_events.specs.Events.{PlainEvent, advance, plug, recipe, report, start, variable}
 use Rattle.pol_demo.specs.Doser.{doser, dosing}
 use Rattle.pol_demo.specs.Names.{batch_of, busy_batch_of, tag_of}
 use Rattle.pol_demo.specs.Values.{drawn, value_of}
@@ -14,7 +14,7 @@ use Rattle.pol_demo.specs.declared.journal.TheConstants.{MODULES, VALUES}
 
 -- what happens in a line, by the line's number
 abbrev pub Happening : Type 0
-Happening = ℕ → EventForm
+Happening = ℕ → PlainEvent
 
 -- a module is docked
 abbrev pub docked : ℕ → Happening
@@ -86,10 +86,10 @@ unfoldable pub happenings : ℕ → List Happening
 happenings seed = each docked MODULES ++ each idle MODULES ++ known ∷ batch_runs seed (batches_of seed)
 
 -- what happens, numbered on from a line
-abbrev pub numbered : ℕ → List Happening → List EventForm
+abbrev pub numbered : ℕ → List Happening → List PlainEvent
 numbered at [] = []
 numbered at (happening ∷ others) = happening at ∷ numbered (at + 1) others
 
 -- the events of the demo journal of a seed
-abbrev pub demo_events : ℕ → List EventForm
+abbrev pub demo_events : ℕ → List PlainEvent
 demo_events seed = numbered 1 (happenings seed)

@@ -1,6 +1,6 @@
 -- What happens is told to a plant, line by line.
 use Rattle.std.specs.Prelude.{ℕ, ◌+◌, List, [], ◌∷◌}
-use Rattle.pol_events.specs.Events.{EventForm, history_view}
+use Rattle.pol_events.specs.Events.{PlainEvent, plain_history}
 use Rattle.pol_history.specs.Looking.{History}
 use Rattle.pol_history.specs.Runs.{entry_of, recorded}
 use Rattle.pol_demo.specs.Journal.{Happening}
@@ -13,10 +13,10 @@ pub record Told : Type 0 where
 
 -- how far a teller has come
 abbrev pub told_by : Teller → Told
-told_by teller = record { history = history_view teller.plant.entries; at = teller.at }
+told_by teller = record { history = plain_history teller.plant.entries; at = teller.at }
 
 -- one more event is answered
-abbrev pub event_told : EventForm → Told → Told
+abbrev pub event_told : PlainEvent → Told → Told
 event_told event told =
     record { history = recorded (entry_of told.history event) told.history; at = told.at + 1 }
 

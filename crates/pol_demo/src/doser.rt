@@ -1,13 +1,13 @@
 //! The module that a demo journal docks, and the recipe of its batches.
 ghost use Rattle.std.specs.Prelude.{◌≡◌, IfOk, IsTrue};
-ghost use Rattle.chart_core.specs.Charts.{plan};
-ghost use Rattle.chart_core.specs.Roles.{role_plan};
-ghost use Rattle.chart_core.specs.Trees.{step_plan};
-ghost use Rattle.mtp_assembly.specs.Plain.{param_view, variable_view};
+ghost use Rattle.chart_core.specs.Charts.{plain_chart};
+ghost use Rattle.chart_core.specs.Roles.{plain_role};
+ghost use Rattle.chart_core.specs.Trees.{plain_step};
+ghost use Rattle.mtp_assembly.specs.Plain.{plain_param, plain_variable};
 ghost use Rattle.mtp_codes.specs.Texts.{is_short};
-ghost use Rattle.mtp_desc.specs.DescriptionView.{description_view};
-ghost use Rattle.mtp_desc.specs.ProcedureView.{procedure_view};
-ghost use Rattle.mtp_desc.specs.ServiceView.{service_view};
+ghost use Rattle.mtp_desc.specs.PlainDescription.{plain_description};
+ghost use Rattle.mtp_desc.specs.PlainProcedure.{plain_procedure};
+ghost use Rattle.mtp_desc.specs.PlainService.{plain_service};
 ghost use Rattle.pol_demo.specs.Doser.{amount, dose, dose_service, dose_step, doser, doser_role, dosing, level};
 
 use crate::names::name;
@@ -29,7 +29,7 @@ fn short(text: &str) -> Short
 }
 
 fn amount() -> Param
-    ensures { param_view result ≡ amount }
+    ensures { plain_param result ≡ amount }
 {
     Param {
         name: name("amount"),
@@ -38,7 +38,7 @@ fn amount() -> Param
 }
 
 fn level() -> View
-    ensures { variable_view result ≡ level }
+    ensures { plain_variable result ≡ level }
 {
     View {
         name: name("level"),
@@ -47,7 +47,7 @@ fn level() -> View
 }
 
 fn dose(alloc: Global) -> Result<Procedure, AllocError>
-    ensures { IfOk result (λ procedure. procedure_view procedure ≡ dose) }
+    ensures { IfOk result (λ procedure. plain_procedure procedure ≡ dose) }
 {
     Ok(Procedure {
         number: 1,
@@ -58,7 +58,7 @@ fn dose(alloc: Global) -> Result<Procedure, AllocError>
 }
 
 fn dose_service(alloc: Global) -> Result<Service, AllocError>
-    ensures { IfOk result (λ service. service_view service ≡ dose_service) }
+    ensures { IfOk result (λ service. plain_service service ≡ dose_service) }
 {
     let procedure = dose(alloc)?;
     Ok(Service {
@@ -70,7 +70,7 @@ fn dose_service(alloc: Global) -> Result<Service, AllocError>
 /// A doser: one service, and its level.
 #[tactic(auto, unfolding(crate::specs::Doser::doser))]
 pub fn doser(alloc: Global) -> Result<Description, AllocError>
-    ensures { IfOk result (λ description. description_view description ≡ doser) }
+    ensures { IfOk result (λ description. plain_description description ≡ doser) }
 {
     let service = dose_service(alloc)?;
     Ok(Description {
@@ -83,7 +83,7 @@ pub fn doser(alloc: Global) -> Result<Description, AllocError>
 }
 
 fn role(alloc: Global) -> Result<Role, AllocError>
-    ensures { IfOk result (λ role. role_plan role ≡ doser_role) }
+    ensures { IfOk result (λ role. plain_role role ≡ doser_role) }
 {
     let Ok(req) = VersionReq::parse(alloc, "^1") else {
         return Err(AllocError);
@@ -97,7 +97,7 @@ fn role(alloc: Global) -> Result<Role, AllocError>
 }
 
 fn step(alloc: Global) -> Result<Step, AllocError>
-    ensures { IfOk result (λ step. step_plan step ≡ dose_step) }
+    ensures { IfOk result (λ step. plain_step step ≡ dose_step) }
 {
     let amount = Setting {
         name: name("amount"),
@@ -116,7 +116,7 @@ fn step(alloc: Global) -> Result<Step, AllocError>
 /// The recipe `one`: a doser doses 1500.
 #[tactic(auto, unfolding(crate::specs::Doser::dosing))]
 pub fn dosing(alloc: Global) -> Result<Chart, AllocError>
-    ensures { IfOk result (λ chart. plan chart ≡ dosing) }
+    ensures { IfOk result (λ chart. plain_chart chart ≡ dosing) }
 {
     let role = role(alloc)?;
     let root = Node::Step(step(alloc)?);

@@ -1,7 +1,7 @@
 //! The demo journal of a seed.
 ghost use Rattle.std.specs.Prelude.{◌≡◌, ◌+◌, ◌≤◌, ◌<◌, ◌^◌, [], codes, IfOk, OnOk};
-ghost use Rattle.mtp_desc.specs.DescriptionView.{description_view};
-ghost use Rattle.pol_events.specs.Events.{history_view};
+ghost use Rattle.mtp_desc.specs.PlainDescription.{plain_description};
+ghost use Rattle.pol_events.specs.Events.{plain_history};
 ghost use Rattle.pol_history.specs.Runs.{history_after};
 ghost use Rattle.pol_demo.specs.Doser.{doser};
 ghost use Rattle.pol_demo.specs.Journal.{advanced, batch_run, batch_runs, batches_of, busy, demo_events, docked, dosed, each, idle, known, leveled, measured, reported, started};
@@ -39,7 +39,7 @@ fn dock_at(
     place: u8,
     desc: Arc<Description>,
 ) -> Result<(), AllocError>
-    requires doser { description_view desc.value ≡ doser }
+    requires doser { plain_description desc.value ≡ doser }
     requires room { teller.old.at + 1 < 2 ^ 64 }
     ensures told { OnOk result (told_by teller.new ≡ line_told (docked place) (told_by teller.old)) }
     ensures at { OnOk result (teller.new.at ≡ teller.old.at + 1) }
@@ -266,7 +266,7 @@ fn run_batches(alloc: Global, teller: &mut Teller, seed: u32) -> Result<(), Allo
 ///
 /// AllocError where memory is wanting.
 pub fn tell_journal(alloc: Global, seed: u32) -> Result<Teller, AllocError>
-    ensures { IfOk result (λ teller. history_view teller.plant.entries ≡ history_after [] (demo_events seed)) }
+    ensures { IfOk result (λ teller. plain_history teller.plant.entries ≡ history_after [] (demo_events seed)) }
 {
     let lines = FIRST_LINES + BATCH_LINES * u32::from(batches_of(seed));
     let mut teller = Teller::new(alloc, lines)?;

@@ -2,7 +2,7 @@
 ghost use Rattle.std.specs.Prelude.{◌≡◌, false, IfOk};
 ghost use Rattle.serde_json.specs.View.{view};
 ghost use Rattle.serde_json.specs.Written.{has_float};
-ghost use Rattle.pol_events.specs.Events.{history_view};
+ghost use Rattle.pol_events.specs.Events.{plain_history};
 ghost use Rattle.pol_demo.specs.Summary.{demo_output, summary_data, summary_of, summary_text};
 
 use crate::journal::tell_journal;
@@ -21,7 +21,7 @@ pub struct Summary {
 
 /// The summary of a history.
 pub fn summary_of(history: &[Entry]) -> Summary
-    ensures { result ≡ summary_of (history_view history.now) }
+    ensures { result ≡ summary_of (plain_history history.now) }
 {
     let mut closed = 0;
     let mut refused = 0;

@@ -1,6 +1,6 @@
 //! A plant to which a journal is told.
 ghost use Rattle.std.specs.Prelude.{◌≡◌, ◌+◌, ◌<◌, ◌^◌, [], IfOk, IsTrue, OnOk};
-ghost use Rattle.pol_events.specs.Events.{event_view};
+ghost use Rattle.pol_events.specs.Events.{plain_event};
 ghost use Rattle.pol_events.specs.Orderly.{is_orderly};
 ghost use Rattle.pol_demo.specs.Telling.{event_told, told_by};
 
@@ -28,9 +28,9 @@ impl Teller {
 
     /// Tells an event as the next line.
     pub fn tell(&mut self, event: Event) -> Result<(), AllocError>
-        requires orderly { IsTrue (is_orderly (event_view event)) }
+        requires orderly { IsTrue (is_orderly (plain_event event)) }
         requires room { self.old.at + 1 < 2 ^ 64 }
-        ensures told { OnOk result (told_by self.new ≡ event_told (event_view event) (told_by self.old)) }
+        ensures told { OnOk result (told_by self.new ≡ event_told (plain_event event) (told_by self.old)) }
         ensures at { OnOk result (self.new.at ≡ self.old.at + 1) }
     {
         match self.plant.apply(event) {

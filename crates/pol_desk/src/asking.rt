@@ -10,8 +10,8 @@ use pol_events::Rule;
 /// What a command of the operator's to a service is answered: the entry `Asked`, by which the command goes to the
 /// module. `view` is what the service last reported. A Start asks for the service's default procedure.
 ///
-/// `ModeForbids` where the service isn't in mode Operator, `SelfCompletes` for Complete to a procedure that completes by
-/// itself, `StateForbids` where the command doesn't leave the state, `NotEnabled` where `CommandEn` hasn't its bit
+/// `ModeForbids` where the service isn't in mode Operator, `SelfCompletes` for Complete to a procedure that completes
+/// by itself, `StateForbids` where the command doesn't leave the state, `NotEnabled` where `CommandEn` hasn't its bit
 /// (VDI/VDE/NAMUR 2658 part 4); the first of these is told.
 pub fn desk(
     tag: Name,

@@ -33,7 +33,7 @@ use Rattle.pol_record.specs.Texts.{entry_data, obstacle_fields, refusal_fields}
 use Rattle.pol_entries.specs.Answers.{closed_fields, has}
 use Rattle.pol_entries.specs.Candidates.{entry_named, obstacle_named, outcome_named, rule_numbered}
 use Rattle.pol_entries.specs.Found.{each_reading, few_readings, forbid_words, found_or, lookup_in, number_at, reading_of, text_at, up_to}
-use Rattle.pol_entries.specs.Held.{are_held, is_held_reading, is_held_start}
+use Rattle.pol_entries.specs.Ranges.{are_in_range, is_reading_in_range, is_start_in_range}
 use Rattle.mtp_json.specs.Leaf.{meaning_of}
 
 -- ---- single values
@@ -50,17 +50,20 @@ wider n held =
     rw (both.0, more) refl
 
 -- a number of 32 bits
-pub number_again : (n : ℕ) → is_between 0 greatest_u32 n ≡ true → up_to greatest_u32 (found_or 0 (count 0 greatest_u64 (number_data (unsigned n)))) ≡ n
+pub number_again : (n : ℕ) → is_between 0 greatest_u32 n ≡ true
+    → up_to greatest_u32 (found_or 0 (count 0 greatest_u64 (number_data (unsigned n)))) ≡ n
 number_again n held = rw (wider n held, (and_parts (nat_le 0 n) (nat_le n greatest_u32) held).1) refl
 
 -- a number of 16 bits
 half_again : (n : ℕ) → is_between 0 greatest_u32 n ≡ true → is_between 0 65535 n ≡ true
     → up_to 65535 (up_to greatest_u32 (found_or 0 (count 0 greatest_u64 (number_data (unsigned n))))) ≡ n
-half_again n held half = ap (up_to 65535) (number_again n held) ∙ (rw ((and_parts (nat_le 0 n) (nat_le n 65535) half).1) refl)
+half_again n held half =
+    ap (up_to 65535) (number_again n held) ∙ (rw ((and_parts (nat_le 0 n) (nat_le n 65535) half).1) refl)
 
 -- a state by its code
 state_again : (each : State) →
-    unwrap_or (state_of (up_to greatest_u32 (found_or 0 (count 0 greatest_u64 (number_data (unsigned (state_number each)))))) state_codes) state.Idle ≡ each
+    unwrap_or (state_of (up_to greatest_u32
+    (found_or 0 (count 0 greatest_u64 (number_data (unsigned (state_number each)))))) state_codes) state.Idle ≡ each
 state_again state.Stopped = refl
 state_again state.Starting = refl
 state_again state.Idle = refl
@@ -80,7 +83,9 @@ state_again state.Completed = refl
 
 -- a command by its code
 command_again : (each : Command) →
-    unwrap_or (command_of (up_to greatest_u32 (found_or 0 (count 0 greatest_u64 (number_data (unsigned (command_number each)))))) command_codes) command.Reset ≡ each
+    unwrap_or (command_of (up_to greatest_u32
+    (found_or 0 (count 0 greatest_u64 (number_data (unsigned (command_number each)))))) command_codes) command.Reset
+    ≡ each
 command_again command.Reset = refl
 command_again command.Start = refl
 command_again command.Stop = refl
@@ -99,32 +104,35 @@ forbid_again forbid.SelfCompletes = refl
 forbid_again forbid.StateForbids = refl
 forbid_again forbid.NotEnabled = refl
 
-reading_again : (reading : Reading) → is_held_reading reading ≡ true → reading_of (reading_data reading) ≡ reading
+reading_again : (reading : Reading) → is_reading_in_range reading ≡ true → reading_of (reading_data reading) ≡ reading
 reading_again (Whole z) held = rw (whole_again z, held) refl
 reading_again (Bit bit) held = refl
 
-each_again : (told : List Reading) → list_all is_held_reading told ≡ true → each_reading (items_of (map reading_data told)) ≡ told
+each_again : (told : List Reading) → list_all is_reading_in_range told ≡ true
+    → each_reading (items_of (map reading_data told)) ≡ told
 each_again [] held = refl
 each_again (reading ∷ others) held =
-    let both = and_parts (is_held_reading reading) (list_all is_held_reading others) held in
+    let both = and_parts (is_reading_in_range reading) (list_all is_reading_in_range others) held in
     rw (reading_again reading both.0, each_again others both.1) refl
 
 -- readings are at most four, and their numbers have 64 bits
 abbrev pub are_held_readings : List Reading → Bool
-are_held_readings told = nat_le (length told) 4 && list_all is_held_reading told
+are_held_readings told = nat_le (length told) 4 && list_all is_reading_in_range told
 
 -- readings
-readings_again : (told : List Reading) → are_held_readings told ≡ true → few_readings (items_of (map reading_data told)) ≡ told
+readings_again : (told : List Reading) → are_held_readings told ≡ true
+    → few_readings (items_of (map reading_data told)) ≡ told
 readings_again told held =
-    let both = and_parts (nat_le (length told) 4) (list_all is_held_reading told) held in
+    let both = and_parts (nat_le (length told) 4) (list_all is_reading_in_range told) held in
     rw (len_again reading_data told, both.0) (each_again told both.1)
 
 -- ---- rows
 
 -- the object of a rule is a refusal, and its number and its keys tell the rule
-pub rule_again : (rule : Rule) → are_held (rule_row rule).fields ≡ true →
+pub rule_again : (rule : Rule) → are_in_range (rule_row rule).fields ≡ true →
     (has (codes "refused") (fields_data (refusal_fields rule)) ≡ true)
-    × (rule_numbered (number_at (codes "refused") (fields_data (refusal_fields rule))) (lookup_in (fields_data (refusal_fields rule))) ≡ Some rule)
+    × (rule_numbered (number_at (codes "refused") (fields_data (refusal_fields rule)))
+    (lookup_in (fields_data (refusal_fields rule))) ≡ Some rule)
 rule_again TagTaken held = (refl, refl)
 rule_again (NoModule tag) held =
     let first = and_parts (is_name tag) true held in
@@ -175,7 +183,8 @@ rule_again (NotReported tag named) held =
     let second = and_parts (is_name named) true first.1 in
     (refl, rw (name_again tag first.0, name_again named second.0) refl)
 rule_again (NotIdle tag service state) held =
-    let first = and_parts (is_name tag) (is_name service && (is_between 0 greatest_u32 (state_number state) && true)) held in
+    let first = and_parts (is_name tag) (is_name service && (is_between 0 greatest_u32 (state_number state) && true))
+    held in
     let second = and_parts (is_name service) (is_between 0 greatest_u32 (state_number state) && true) first.1 in
     (refl, rw (name_again tag first.0, name_again service second.0, state_again state) refl)
 rule_again (Busy tag batch) held =
@@ -205,72 +214,96 @@ rule_again RecipesFull held = (refl, refl)
 rule_again HistoryFull held = (refl, refl)
 
 -- the name in the object of a log entry and its keys tell the entry
-pub entry_again : (each : LogEntry) → (are_held (entry_row each).fields && is_held_start each) ≡ true →
+pub entry_again : (each : LogEntry) → (are_in_range (entry_row each).fields && is_start_in_range each) ≡ true →
     entry_named (text_at (codes "do") (entry_data each)) (lookup_in (entry_data each)) ≡ Some each
 entry_again (entry.Start step tag service procedure) held =
-    let both = and_parts (is_name step && (is_name tag && (is_name service && (is_between 0 greatest_u32 procedure && true)))) (is_held_start (entry.Start step tag service procedure)) held in
-    let first = and_parts (is_name step) (is_name tag && (is_name service && (is_between 0 greatest_u32 procedure && true))) both.0 in
+    let both =
+    and_parts (is_name step && (is_name tag && (is_name service && (is_between 0 greatest_u32 procedure && true))))
+    (is_start_in_range (entry.Start step tag service procedure)) held in
+    let first = and_parts (is_name step)
+    (is_name tag && (is_name service && (is_between 0 greatest_u32 procedure && true))) both.0 in
     let second = and_parts (is_name tag) (is_name service && (is_between 0 greatest_u32 procedure && true)) first.1 in
     let third = and_parts (is_name service) (is_between 0 greatest_u32 procedure && true) second.1 in
     let fourth = and_parts (is_between 0 greatest_u32 procedure) true third.1 in
-    rw (name_again step first.0, name_again tag second.0, name_again service third.0, half_again procedure fourth.0 both.1) refl
+    rw (
+      name_again step first.0,
+      name_again tag second.0,
+      name_again service third.0,
+      half_again procedure fourth.0
+          both.1,
+    ) refl
 entry_again (entry.Finish step tag service) held =
-    let both = and_parts (is_name step && (is_name tag && (is_name service && true))) (is_held_start (entry.Finish step tag service)) held in
+    let both = and_parts (is_name step && (is_name tag && (is_name service && true)))
+    (is_start_in_range (entry.Finish step tag service)) held in
     let first = and_parts (is_name step) (is_name tag && (is_name service && true)) both.0 in
     let second = and_parts (is_name tag) (is_name service && true) first.1 in
     let third = and_parts (is_name service) true second.1 in
     rw (name_again step first.0, name_again tag second.0, name_again service third.0) refl
 entry_again (entry.Reset step tag service) held =
-    let both = and_parts (is_name step && (is_name tag && (is_name service && true))) (is_held_start (entry.Reset step tag service)) held in
+    let both = and_parts (is_name step && (is_name tag && (is_name service && true)))
+    (is_start_in_range (entry.Reset step tag service)) held in
     let first = and_parts (is_name step) (is_name tag && (is_name service && true)) both.0 in
     let second = and_parts (is_name tag) (is_name service && true) first.1 in
     let third = and_parts (is_name service) true second.1 in
     rw (name_again step first.0, name_again tag second.0, name_again service third.0) refl
 entry_again (entry.End step) held =
-    let both = and_parts (is_name step && true) (is_held_start (entry.End step)) held in
+    let both = and_parts (is_name step && true) (is_start_in_range (entry.End step)) held in
     let first = and_parts (is_name step) true both.0 in
     rw (name_again step first.0) refl
 entry_again (entry.Chose node arm values) held =
-    let both = and_parts (is_between 0 greatest_u32 node && (is_between 0 greatest_u32 arm && (are_held_readings values && true))) (is_held_start (entry.Chose node arm values)) held in
-    let first = and_parts (is_between 0 greatest_u32 node) (is_between 0 greatest_u32 arm && (are_held_readings values && true)) both.0 in
+    let both =
+    and_parts (is_between 0 greatest_u32 node && (is_between 0 greatest_u32 arm && (are_held_readings values && true)))
+    (is_start_in_range (entry.Chose node arm values)) held in
+    let first = and_parts (is_between 0 greatest_u32 node)
+    (is_between 0 greatest_u32 arm && (are_held_readings values && true)) both.0 in
     let second = and_parts (is_between 0 greatest_u32 arm) (are_held_readings values && true) first.1 in
     let third = and_parts (are_held_readings values) true second.1 in
     rw (number_again node first.0, number_again arm second.0, readings_again values third.0) refl
 entry_again (entry.Turn node values) held =
-    let both = and_parts (is_between 0 greatest_u32 node && (are_held_readings values && true)) (is_held_start (entry.Turn node values)) held in
+    let both = and_parts (is_between 0 greatest_u32 node && (are_held_readings values && true))
+    (is_start_in_range (entry.Turn node values)) held in
     let first = and_parts (is_between 0 greatest_u32 node) (are_held_readings values && true) both.0 in
     let second = and_parts (are_held_readings values) true first.1 in
     rw (number_again node first.0, readings_again values second.0) refl
 entry_again (entry.Leave node values) held =
-    let both = and_parts (is_between 0 greatest_u32 node && (are_held_readings values && true)) (is_held_start (entry.Leave node values)) held in
+    let both = and_parts (is_between 0 greatest_u32 node && (are_held_readings values && true))
+    (is_start_in_range (entry.Leave node values)) held in
     let first = and_parts (is_between 0 greatest_u32 node) (are_held_readings values && true) both.0 in
     let second = and_parts (are_held_readings values) true first.1 in
     rw (number_again node first.0, readings_again values second.0) refl
 entry_again (entry.Stop step tag service) held =
-    let both = and_parts (is_name step && (is_name tag && (is_name service && true))) (is_held_start (entry.Stop step tag service)) held in
+    let both = and_parts (is_name step && (is_name tag && (is_name service && true)))
+    (is_start_in_range (entry.Stop step tag service)) held in
     let first = and_parts (is_name step) (is_name tag && (is_name service && true)) both.0 in
     let second = and_parts (is_name tag) (is_name service && true) first.1 in
     let third = and_parts (is_name service) true second.1 in
     rw (name_again step first.0, name_again tag second.0, name_again service third.0) refl
 entry_again (entry.Broke step state) held =
-    let both = and_parts (is_name step && (is_between 0 greatest_u32 (state_number state) && true)) (is_held_start (entry.Broke step state)) held in
+    let both = and_parts (is_name step && (is_between 0 greatest_u32 (state_number state) && true))
+    (is_start_in_range (entry.Broke step state)) held in
     let first = and_parts (is_name step) (is_between 0 greatest_u32 (state_number state) && true) both.0 in
     rw (name_again step first.0, state_again state) refl
 entry_again (entry.Left step state) held =
-    let both = and_parts (is_name step && (is_between 0 greatest_u32 (state_number state) && true)) (is_held_start (entry.Left step state)) held in
+    let both = and_parts (is_name step && (is_between 0 greatest_u32 (state_number state) && true))
+    (is_start_in_range (entry.Left step state)) held in
     let first = and_parts (is_name step) (is_between 0 greatest_u32 (state_number state) && true) both.0 in
     rw (name_again step first.0, state_again state) refl
 entry_again entry.StopAsked held = refl
 entry_again (entry.Asked tag service command) held =
-    let both = and_parts (is_name tag && (is_name service && (is_between 0 greatest_u32 (command_number command) && true))) (is_held_start (entry.Asked tag service command)) held in
-    let first = and_parts (is_name tag) (is_name service && (is_between 0 greatest_u32 (command_number command) && true)) both.0 in
+    let both =
+    and_parts (is_name tag && (is_name service && (is_between 0 greatest_u32 (command_number command) && true)))
+    (is_start_in_range (entry.Asked tag service command)) held in
+    let first = and_parts (is_name tag)
+    (is_name service && (is_between 0 greatest_u32 (command_number command) && true)) both.0 in
     let second = and_parts (is_name service) (is_between 0 greatest_u32 (command_number command) && true) first.1 in
     rw (name_again tag first.0, name_again service second.0, command_again command) refl
 
 -- the object of an obstacle is no refusal, and its name and its keys tell the obstacle
-pub obstacle_again : (each : Why) → are_held (obstacle_row each).fields ≡ true →
-    (has (codes "refused") (fields_data (obstacle_fields each)) ≡ false) × (has (codes "wait") (fields_data (obstacle_fields each)) ≡ true)
-    × (obstacle_named (text_at (codes "wait") (fields_data (obstacle_fields each))) (lookup_in (fields_data (obstacle_fields each))) ≡ Some each)
+pub obstacle_again : (each : Why) → are_in_range (obstacle_row each).fields ≡ true →
+    (has (codes "refused") (fields_data (obstacle_fields each)) ≡ false)
+    × (has (codes "wait") (fields_data (obstacle_fields each)) ≡ true)
+    × (obstacle_named (text_at (codes "wait") (fields_data (obstacle_fields each)))
+    (lookup_in (fields_data (obstacle_fields each))) ≡ Some each)
 obstacle_again why.Frozen held = (refl, refl, refl)
 obstacle_again (why.Away tag) held =
     let first = and_parts (is_name tag) true held in
@@ -293,7 +326,8 @@ obstacle_again (why.NoArm node) held =
     (refl, refl, rw (number_again node first.0) refl)
 
 -- the name in the object of an outcome tells the outcome
-pub outcome_again : (each : Outcome) → outcome_named (text_at (codes "closed") (fields_data (closed_fields each))) ≡ Some each
+pub outcome_again : (each : Outcome)
+    → outcome_named (text_at (codes "closed") (fields_data (closed_fields each))) ≡ Some each
 outcome_again Completed = refl
 outcome_again Broken = refl
 outcome_again Stopped = refl

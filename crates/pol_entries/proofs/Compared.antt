@@ -14,7 +14,7 @@ use Rattle.serde_json.specs.View.{items_of, items_view}
 use Rattle.serde_json.specs.declared.value.Value.{Value}
 use Rattle.mtp_codes.specs.declared.value.Reading.{Reading}
 use Rattle.mtp_codes.specs.declared.value.Reading.TheVariants.{Whole, Bit}
-use Rattle.pol_events.specs.Fields.{FieldForm, ValueForm, field_view, in_order, number, readings, text}
+use Rattle.pol_events.specs.Fields.{PlainField, PlainFieldValue, plain_field, in_order, number, readings, text}
 use Rattle.pol_events.specs.declared.fields.Field.{Field}
 use Rattle.pol_record.specs.Objects.{fields_data, members_in, reading_data, value_data}
 use Rattle.pol_entries.specs.Compared.{are_fields, are_readings, is_field, is_object, is_reading, is_there, is_value, is_whole, same_bit}
@@ -25,13 +25,16 @@ use Rattle.pol_entries.proofs.Sizes.{length_of_view}
 
 -- all of at most four values were read
 pub few_read : (values left : List Value) (front : List Reading) → left ≡ [] → length values ≤ 4
-    → front ++ each_reading (items_view left) ≡ each_reading (items_view values) → front ≡ few_readings (items_view values)
+    → front ++ each_reading (items_view left) ≡ each_reading (items_view values)
+    → front ≡ few_readings (items_view values)
 few_read values left front none few read =
-    let small : nat_le (items_len (items_view values)) 4 ≡ true = rw (length_of_view values) (le-leb (length values) 4 few) in
-    sym (append-nil front) ∙ (rw none at read) ∙ sym (ap (λ fits. if fits then each_reading (items_view values) else []) small)
+    let small : nat_le (items_len (items_view values)) 4 ≡ true =
+    rw (length_of_view values) (le-leb (length values) 4 few) in
+    sym (append-nil front) ∙ (rw none at read)
+    ∙ sym (ap (λ fits. if fits then each_reading (items_view values) else []) small)
 
 -- where fields are left, there have to be members
-pub fields_left : (fields : List Field) → 0 < length fields → false ≡ are_fields (map field_view fields) no_members
+pub fields_left : (fields : List Field) → 0 < length fields → false ≡ are_fields (map plain_field fields) no_members
 fields_left [] some = absurd (omega arith)
 fields_left (field ∷ fields) some = refl
 
@@ -43,13 +46,15 @@ bit_is true false same = absurd cc
 bit_is false true same = absurd cc
 bit_is false false same = refl
 
-negative_is : (n : ℕ) (z : ℤ) → int_eq z (negsuc n) ≡ true → number_data (negative z) ≡ number_data (negative (negsuc n))
+negative_is : (n : ℕ) (z : ℤ) → int_eq z (negsuc n) ≡ true
+    → number_data (negative z) ≡ number_data (negative (negsuc n))
 negative_is n z same = ap (λ z. number_data (negative z)) ((Decides-int_eq z (negsuc n)).0 same)
 
-too-great : (n m : ℕ) (fits : Bool)
-    → is_there (λ z. int_eq z (negsuc n)) (if fits then Some (pos m) else None) ≡ true → number_data (unsigned m) ≡ number_data (negative (negsuc n))
-too-great n m true same = let is : pos m ≡ negsuc n = (Decides-int_eq (pos m) (negsuc n)).0 same in absurd cc
-too-great n m false same = absurd cc
+too_great : (n m : ℕ) (fits : Bool)
+    → is_there (λ z. int_eq z (negsuc n)) (if fits then Some (pos m) else None) ≡ true
+    → number_data (unsigned m) ≡ number_data (negative (negsuc n))
+too_great n m true same = let is : pos m ≡ negsuc n = (Decides-int_eq (pos m) (negsuc n)).0 same in absurd cc
+too_great n m false same = absurd cc
 
 whole_is : (z : ℤ) (value : Data) → is_whole z value ≡ true → value ≡ number_data (of_integer z)
 whole_is (pos n) (number_data (unsigned m)) same = ap (λ k. number_data (unsigned k)) (eqb-true m n same)
@@ -60,7 +65,7 @@ whole_is (pos n) (boolean b) same = absurd cc
 whole_is (pos n) (string s) same = absurd cc
 whole_is (pos n) (array s) same = absurd cc
 whole_is (pos n) (object s) same = absurd cc
-whole_is (negsuc n) (number_data (unsigned m)) same = too-great n m (nat_lt m (2 ^ 63)) same
+whole_is (negsuc n) (number_data (unsigned m)) same = too_great n m (nat_lt m (2 ^ 63)) same
 whole_is (negsuc n) (number_data (negative z)) same = negative_is n z same
 whole_is (negsuc n) (number_data (float x)) same = absurd cc
 whole_is (negsuc n) null same = absurd cc
@@ -78,7 +83,8 @@ reading_is (Bit bit) (string s) same = absurd cc
 reading_is (Bit bit) (array s) same = absurd cc
 reading_is (Bit bit) (object s) same = absurd cc
 
-readings_are : (told : List Reading) (values : Items) → are_readings told values ≡ true → values ≡ items_of (map reading_data told)
+readings_are : (told : List Reading) (values : Items) → are_readings told values ≡ true
+    → values ≡ items_of (map reading_data told)
 readings_are [] no_items same = refl
 readings_are [] (item value rest) same = absurd cc
 readings_are (reading ∷ others) no_items same = absurd cc
@@ -86,14 +92,15 @@ readings_are (reading ∷ others) (item value rest) same =
     let both = and_parts (is_reading reading value) (are_readings others rest) same in
     rw (reading_is reading value both.0, readings_are others rest both.1) refl
 
-value_is : (told : ValueForm) (value : Data) → is_value told value ≡ true → value ≡ value_data told
+value_is : (told : PlainFieldValue) (value : Data) → is_value told value ≡ true → value ≡ value_data told
 value_is (text told) (string found) same = ap string ((bytes_eq-Decides found told).0 same)
 value_is (text told) null same = absurd cc
 value_is (text told) (boolean b) same = absurd cc
 value_is (text told) (number_data n) same = absurd cc
 value_is (text told) (array s) same = absurd cc
 value_is (text told) (object s) same = absurd cc
-value_is (number told) (number_data (unsigned found)) same = ap (λ n. number_data (unsigned n)) (eqb-true found told same)
+value_is (number told) (number_data (unsigned found)) same =
+    ap (λ n. number_data (unsigned n)) (eqb-true found told same)
 value_is (number told) (number_data (negative z)) same = absurd cc
 value_is (number told) (number_data (float x)) same = absurd cc
 value_is (number told) null same = absurd cc
@@ -108,7 +115,8 @@ value_is (readings told) (number_data n) same = absurd cc
 value_is (readings told) (string s) same = absurd cc
 value_is (readings told) (object s) same = absurd cc
 
-members_are : (fields : List FieldForm) (members : Members) → are_fields fields members ≡ true → members ≡ members_in fields
+members_are : (fields : List PlainField) (members : Members) → are_fields fields members ≡ true
+    → members ≡ members_in fields
 members_are [] no_members same = refl
 members_are [] (member key value rest) same = absurd cc
 members_are (field ∷ fields) no_members same = absurd cc
@@ -118,7 +126,7 @@ members_are (field ∷ fields) (member key value rest) same =
     rw ((bytes_eq-Decides key field.key).0 own.0, value_is field.value value own.1, members_are fields rest both.1) refl
 
 -- a value that is compared equal to fields is their object
-pub object_is : (fields : List FieldForm) (value : Data) → is_object fields value ≡ true → value ≡ fields_data fields
+pub object_is : (fields : List PlainField) (value : Data) → is_object fields value ≡ true → value ≡ fields_data fields
 object_is fields (object members) same = ap object (members_are (in_order fields) members same)
 object_is fields null same = absurd cc
 object_is fields (boolean b) same = absurd cc
@@ -147,24 +155,25 @@ readings_same : (told : List Reading) → are_readings told (items_of (map readi
 readings_same [] = refl
 readings_same (reading ∷ others) = rw (reading_same reading, readings_same others) refl
 
-value_same : (told : ValueForm) → is_value told (value_data told) ≡ true
+value_same : (told : PlainFieldValue) → is_value told (value_data told) ≡ true
 value_same (text told) = bytes_same told
 value_same (number told) = number_same told
 value_same (readings told) = readings_same told
 
-members_same : (fields : List FieldForm) → are_fields fields (members_in fields) ≡ true
+members_same : (fields : List PlainField) → are_fields fields (members_in fields) ≡ true
 members_same [] = refl
 members_same (field ∷ fields) = rw (bytes_same field.key, value_same field.value, members_same fields) refl
 
 -- the object of fields is compared equal to them
-pub object_same : (fields : List FieldForm) → is_object fields (fields_data fields) ≡ true
+pub object_same : (fields : List PlainField) → is_object fields (fields_data fields) ≡ true
 object_same fields = members_same (in_order fields)
 
 not_zero : (n : ℕ) → (suc n == 0) ≡ false
 not_zero n = grind (arith, nat_tests)
 
 -- where no reading is left, no item may be
-pub no_reading_left : (left : List Reading) (values : List Value) → length left ≡ 0 → (length values == 0) ≡ are_readings left (items_view values)
+pub no_reading_left : (left : List Reading) (values : List Value) → length left ≡ 0
+    → (length values == 0) ≡ are_readings left (items_view values)
 no_reading_left [] [] none = refl
 no_reading_left [] (value ∷ values) none = not_zero (length values)
 no_reading_left (reading ∷ left) values none = absurd (omega arith)

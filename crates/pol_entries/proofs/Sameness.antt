@@ -22,7 +22,7 @@ use Rattle.mtp_codes.specs.declared.state.State.TheVariants as state
 use Rattle.mtp_codes.specs.declared.value.Reading.{Reading}
 use Rattle.mtp_codes.specs.declared.value.Reading.TheVariants.{Whole, Bit}
 use Rattle.mtp_json.specs.Leaf.{meaning_of}
-use Rattle.pol_events.specs.Fields.{FieldForm, ValueForm, field_view, number, readings, text}
+use Rattle.pol_events.specs.Fields.{PlainField, PlainFieldValue, plain_field, number, readings, text}
 use Rattle.pol_events.specs.declared.fields.Field.{Field}
 use Rattle.pol_events.specs.declared.answer.Answer.{Answer}
 use Rattle.pol_events.specs.declared.answer.Answer.TheVariants.{Done, Ticket, Did, Waiting, Closed, Refused}
@@ -37,28 +37,28 @@ use Rattle.pol_entries.specs.Same.{same_answer, same_field, same_fields, same_re
 
 -- ---- fields tell what they are of
 
-abbrev text_in : ValueForm → List ℕ
+abbrev text_in : PlainFieldValue → List ℕ
 text_in (text told) = told
 text_in (number told) = []
 text_in (readings told) = []
 
-abbrev number_in : ValueForm → ℕ
+abbrev number_in : PlainFieldValue → ℕ
 number_in (text told) = 0
 number_in (number told) = told
 number_in (readings told) = 0
 
-abbrev readings_in : ValueForm → List Reading
+abbrev readings_in : PlainFieldValue → List Reading
 readings_in (text told) = []
 readings_in (number told) = []
 readings_in (readings told) = told
 
 -- the value under a key
-abbrev value_under : List ℕ → List FieldForm → ValueForm
+abbrev value_under : List ℕ → List PlainField → PlainFieldValue
 value_under key [] = number 0
 value_under key (field ∷ fields) = cond (bytes_eq field.key key) field.value (value_under key fields)
 
 -- what stands under each key of some fields
-abbrev lookup_of : List FieldForm → Lookup
+abbrev lookup_of : List PlainField → Lookup
 lookup_of fields =
     record {
       name = λ key. text_in (value_under key fields);
@@ -107,7 +107,7 @@ forbid_told forbid.StateForbids = refl
 forbid_told forbid.NotEnabled = refl
 
 -- the rule of a refusal's fields
-abbrev rule_of : List FieldForm → Option Rule
+abbrev rule_of : List PlainField → Option Rule
 rule_of fields = rule_numbered (number_in (value_under (codes "refused") fields)) (lookup_of fields)
 
 rule_told : (rule : Rule) → rule_of (refusal_fields rule) ≡ Some rule
@@ -151,7 +151,7 @@ rule_told RecipesFull = refl
 rule_told HistoryFull = refl
 
 -- the entry of its fields
-abbrev entry_of : List FieldForm → Option LogEntry
+abbrev entry_of : List PlainField → Option LogEntry
 entry_of fields = entry_named (text_in (value_under (codes "do") fields)) (lookup_of fields)
 
 entry_told : (each : LogEntry) → entry_of (entry_fields each) ≡ Some each
@@ -169,7 +169,7 @@ entry_told entry.StopAsked = refl
 entry_told (entry.Asked tag service command) = rw (command_told command) refl
 
 -- the obstacle of its fields
-abbrev obstacle_of : List FieldForm → Option Why
+abbrev obstacle_of : List PlainField → Option Why
 obstacle_of fields = obstacle_named (text_in (value_under (codes "wait") fields)) (lookup_of fields)
 
 obstacle_told : (each : Why) → obstacle_of (obstacle_fields each) ≡ Some each
@@ -188,7 +188,8 @@ outcome_told Stopped = refl
 outcome_told Abandoned = refl
 
 -- what tells two values tells them apart
-told_apart : {A B : Type 0} (told : A → B) (back : B → Option A) → ((x : A) → back (told x) ≡ Some x) → (x y : A) → told x ≡ told y → x ≡ y
+told_apart : {A B : Type 0} (told : A → B) (back : B → Option A) → ((x : A) → back (told x) ≡ Some x) → (x y : A)
+    → told x ≡ told y → x ≡ y
 told_apart told back again x y same = let both : Some x ≡ Some y = sym (again x) ∙ ap back same ∙ again y in cc
 
 -- ---- fields that are compared equal are equal
@@ -213,7 +214,7 @@ readings_are (reading ∷ told) (other ∷ others) same =
     let both = and_parts (same_reading reading other) (same_readings told others) same in
     rw (reading_is reading other both.0, readings_are told others both.1) refl
 
-value_is : (told other : ValueForm) → same_value told other ≡ true → told ≡ other
+value_is : (told other : PlainFieldValue) → same_value told other ≡ true → told ≡ other
 value_is (text told) (text other) same = ap text ((bytes_eq-Decides told other).0 same)
 value_is (text told) (number other) same = absurd cc
 value_is (text told) (readings other) same = absurd cc
@@ -224,14 +225,14 @@ value_is (readings told) (text other) same = absurd cc
 value_is (readings told) (number other) same = absurd cc
 value_is (readings told) (readings other) same = ap readings (readings_are told other same)
 
-field_is : (told other : FieldForm) → same_field told other ≡ true → told ≡ other
+field_is : (told other : PlainField) → same_field told other ≡ true → told ≡ other
 field_is told other same =
     let both = and_parts (bytes_eq told.key other.key) (same_value told.value other.value) same in
     let key_is : told.key ≡ other.key = (bytes_eq-Decides told.key other.key).0 both.0 in
     let its : told.value ≡ other.value = value_is told.value other.value both.1 in
     λ i. record { key = key_is i; value = its i }
 
-fields_are : (told others : List FieldForm) → same_fields told others ≡ true → told ≡ others
+fields_are : (told others : List PlainField) → same_fields told others ≡ true → told ≡ others
 fields_are [] [] same = refl
 fields_are [] (other ∷ others) same = absurd cc
 fields_are (field ∷ told) [] same = absurd cc
@@ -253,14 +254,15 @@ readings_same : (told : List Reading) → same_readings told told ≡ true
 readings_same [] = refl
 readings_same (reading ∷ told) = rw (reading_same reading, readings_same told) refl
 
-value_same : (told : ValueForm) → same_value told told ≡ true
+value_same : (told : PlainFieldValue) → same_value told told ≡ true
 value_same (text told) = (bytes_eq-Decides told told).1 refl
 value_same (number told) = (Decides-eqb told told).1 refl
 value_same (readings told) = readings_same told
 
-fields_same : (told : List FieldForm) → same_fields told told ≡ true
+fields_same : (told : List PlainField) → same_fields told told ≡ true
 fields_same [] = refl
-fields_same (field ∷ told) = rw ((bytes_eq-Decides field.key field.key).1 refl, value_same field.value, fields_same told) refl
+fields_same (field ∷ told) =
+    rw ((bytes_eq-Decides field.key field.key).1 refl, value_same field.value, fields_same told) refl
 
 -- ---- where one of two lists is at its end
 
@@ -270,7 +272,7 @@ readings_left [] some = absurd (omega arith)
 readings_left (reading ∷ told) some = refl
 
 -- nor are fields
-pub fields_left : (told : List Field) → 0 < length told → false ≡ same_fields (map field_view told) []
+pub fields_left : (told : List Field) → 0 < length told → false ≡ same_fields (map plain_field told) []
 fields_left [] some = absurd (omega arith)
 fields_left (field ∷ told) some = refl
 
@@ -291,28 +293,36 @@ answer_is (Ticket ticket) (Closed other) same = absurd cc
 answer_is (Ticket ticket) (Refused other) same = absurd cc
 answer_is (Did each) Done same = absurd cc
 answer_is (Did each) (Ticket other) same = absurd cc
-answer_is (Did each) (Did other) same = ap Did (told_apart entry_fields entry_of entry_told each other (fields_are (entry_fields each) (entry_fields other) same))
+answer_is (Did each) (Did other) same =
+    ap Did (told_apart entry_fields entry_of entry_told each other
+    (fields_are (entry_fields each) (entry_fields other) same))
 answer_is (Did each) (Waiting other) same = absurd cc
 answer_is (Did each) (Closed other) same = absurd cc
 answer_is (Did each) (Refused other) same = absurd cc
 answer_is (Waiting obstacle) Done same = absurd cc
 answer_is (Waiting obstacle) (Ticket other) same = absurd cc
 answer_is (Waiting obstacle) (Did other) same = absurd cc
-answer_is (Waiting obstacle) (Waiting other) same = ap Waiting (told_apart obstacle_fields obstacle_of obstacle_told obstacle other (fields_are (obstacle_fields obstacle) (obstacle_fields other) same))
+answer_is (Waiting obstacle) (Waiting other) same =
+    ap Waiting (told_apart obstacle_fields obstacle_of obstacle_told obstacle other
+    (fields_are (obstacle_fields obstacle) (obstacle_fields other) same))
 answer_is (Waiting obstacle) (Closed other) same = absurd cc
 answer_is (Waiting obstacle) (Refused other) same = absurd cc
 answer_is (Closed outcome) Done same = absurd cc
 answer_is (Closed outcome) (Ticket other) same = absurd cc
 answer_is (Closed outcome) (Did other) same = absurd cc
 answer_is (Closed outcome) (Waiting other) same = absurd cc
-answer_is (Closed outcome) (Closed other) same = ap Closed (told_apart outcome_name outcome_named outcome_told outcome other ((bytes_eq-Decides (outcome_name outcome) (outcome_name other)).0 same))
+answer_is (Closed outcome) (Closed other) same =
+    ap Closed (told_apart outcome_name outcome_named outcome_told outcome other
+    ((bytes_eq-Decides (outcome_name outcome) (outcome_name other)).0 same))
 answer_is (Closed outcome) (Refused other) same = absurd cc
 answer_is (Refused rule) Done same = absurd cc
 answer_is (Refused rule) (Ticket other) same = absurd cc
 answer_is (Refused rule) (Did other) same = absurd cc
 answer_is (Refused rule) (Waiting other) same = absurd cc
 answer_is (Refused rule) (Closed other) same = absurd cc
-answer_is (Refused rule) (Refused other) same = ap Refused (told_apart refusal_fields rule_of rule_told rule other (fields_are (refusal_fields rule) (refusal_fields other) same))
+answer_is (Refused rule) (Refused other) same =
+    ap Refused (told_apart refusal_fields rule_of rule_told rule other
+    (fields_are (refusal_fields rule) (refusal_fields other) same))
 
 answer_same : (answer : Answer) → same_answer answer answer ≡ true
 answer_same Done = refl
@@ -327,5 +337,6 @@ pub same_decides : (answer other : Answer) → Decides (same_answer answer other
 same_decides answer other = (answer_is answer other, λ is. ap (same_answer answer) (sym is) ∙ answer_same answer)
 
 -- so does what a function answers that is the same
-pub decides_by : (result : Bool) (answer other : Answer) → result ≡ same_answer answer other → Decides result (answer ≡ other)
+pub decides_by : (result : Bool) (answer other : Answer) → result ≡ same_answer answer other
+    → Decides result (answer ≡ other)
 decides_by result answer other is = rw is (same_decides answer other)

@@ -6,11 +6,11 @@ use Rattle.std.specs.Str.{bytes_eq}
 use Rattle.chart_core.specs.declared.entry.LogEntry.{LogEntry}
 use Rattle.chart_core.specs.declared.next.Outcome.{Outcome}
 use Rattle.chart_core.specs.declared.why.Why.{Why}
-use Rattle.mtp_json.specs.Reading.{Finding, Reading, here}
+use Rattle.mtp_json.specs.ReadResult.{Finding, ReadResult, here}
 use Rattle.mtp_json.specs.declared.fault.FaultKind.TheVariants.{Unsound}
 use Rattle.mtp_json.specs.declared.fault.JsonRefusal.{JsonRefusal}
 use Rattle.mtp_json.specs.declared.fault.JsonRefusal.TheVariants.{Fault, Memory}
-use Rattle.pol_events.specs.Fields.{FieldForm, number_field, text_field}
+use Rattle.pol_events.specs.Fields.{PlainField, number_field, text_field}
 use Rattle.pol_events.specs.declared.answer.Answer.{Answer}
 use Rattle.pol_events.specs.declared.answer.Answer.TheVariants.{Done, Ticket, Did, Waiting, Closed, Refused}
 use Rattle.pol_events.specs.declared.answer.Rule.{Rule}
@@ -18,10 +18,10 @@ use Rattle.pol_record.specs.Texts.{answer_data, entry_fields, obstacle_fields, o
 use Rattle.pol_entries.specs.Candidates.{entry_named, obstacle_named, outcome_named, rule_numbered}
 use Rattle.pol_entries.specs.Compared.{is_object, is_there, same_bit}
 use Rattle.pol_entries.specs.Found.{lookup_in, number_at, text_at}
-use Rattle.pol_entries.specs.Held.{is_held}
+use Rattle.pol_entries.specs.Ranges.{is_in_range}
 
 -- what an object may tell, if the object is the one of its fields
-abbrev pub checked : {A : Type 0} → (A → List FieldForm) → Data → Option A → Option A
+abbrev pub checked : {A : Type 0} → (A → List PlainField) → Data → Option A → Option A
 checked fields value None = None
 checked fields value (Some told) = if is_object (fields told) value then Some told else None
 
@@ -38,7 +38,7 @@ abbrev pub obstacle_in : Data → Option Why
 obstacle_in value = checked obstacle_fields value (obstacle_named (text_at (codes "wait") value) (lookup_in value))
 
 -- the field of an outcome
-abbrev pub closed_fields : Outcome → List FieldForm
+abbrev pub closed_fields : Outcome → List PlainField
 closed_fields outcome = text_field (codes "closed") (outcome_name outcome) ∷ []
 
 -- an outcome
@@ -46,7 +46,7 @@ abbrev pub outcome_in : Data → Option Outcome
 outcome_in value = checked closed_fields value (outcome_named (text_at (codes "closed") value))
 
 -- the field of a ticket
-abbrev pub ticket_fields : ℕ → List FieldForm
+abbrev pub ticket_fields : ℕ → List PlainField
 ticket_fields ticket = number_field (codes "ticket") ticket ∷ []
 
 -- a ticket
@@ -65,7 +65,8 @@ alone key value = option_and_then (alone_in key) (as_object value)
 
 -- that it was done
 abbrev pub done_in : Data → Option Answer
-done_in value = if is_there (is_there (same_bit true)) (option_map as_bool (alone (codes "done") value)) then Some Done else None
+done_in value =
+    if is_there (is_there (same_bit true)) (option_map as_bool (alone (codes "done") value)) then Some Done else None
 
 -- the key is there
 abbrev pub has : List ℕ → Data → Bool
@@ -86,12 +87,12 @@ or_unsound None = Err Unsound
 or_unsound (Some answer) = Ok answer
 
 -- the form of an answer's object
-unfoldable pub answer_form : Data → Reading Answer
+unfoldable pub answer_form : Data → ReadResult Answer
 answer_form value = here (or_unsound (answer_in value))
 
 -- no answer that a program holds has this object
 abbrev pub IsNoAnswer : Data → Type 0
-IsNoAnswer value = (answer : Answer) → is_held answer ≡ true → value ≢ answer_data answer
+IsNoAnswer value = (answer : Answer) → is_in_range answer ≡ true → value ≢ answer_data answer
 
 -- the refusal is Unsound with the empty path, and the value is no answer's object; or there was no memory
 abbrev pub RefusesAnswer : Data → JsonRefusal → Type 0

@@ -65,7 +65,8 @@ rule_numbered number told = named_by number (map (λ rule. (rule, (rule_row rule
 -- each entry of a log
 abbrev pub every_entry : Lookup → List LogEntry
 every_entry told =
-    entry.Start (told.name (codes "step")) (told.name (codes "tag")) (told.name (codes "service")) (told.half (codes "procedure"))
+    entry.Start (told.name (codes "step")) (told.name (codes "tag")) (told.name (codes "service"))
+    (told.half (codes "procedure"))
     ∷ entry.Finish (told.name (codes "step")) (told.name (codes "tag")) (told.name (codes "service"))
     ∷ entry.Reset (told.name (codes "step")) (told.name (codes "tag")) (told.name (codes "service"))
     ∷ entry.End (told.name (codes "step"))
@@ -97,8 +98,10 @@ every_obstacle told =
 
 -- the obstacle of this name
 abbrev pub obstacle_named : List ℕ → Lookup → Option Why
-obstacle_named name told = meaning_of name (map (λ obstacle. ((obstacle_row obstacle).name, obstacle)) (every_obstacle told))
+obstacle_named name told =
+    meaning_of name (map (λ obstacle. ((obstacle_row obstacle).name, obstacle)) (every_obstacle told))
 
 -- the outcome of this name
 abbrev pub outcome_named : List ℕ → Option Outcome
-outcome_named name = meaning_of name (map (λ outcome. (outcome_name outcome, outcome)) (Completed ∷ Broken ∷ Stopped ∷ Abandoned ∷ []))
+outcome_named name =
+    meaning_of name (map (λ outcome. (outcome_name outcome, outcome)) (Completed ∷ Broken ∷ Stopped ∷ Abandoned ∷ []))

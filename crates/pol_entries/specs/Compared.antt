@@ -6,7 +6,7 @@ use Rattle.serde_json.specs.Data.{Data, Items, no_items, item, Members, no_membe
 use Rattle.serde_json.specs.Find.{as_array, as_bool, as_i64, as_number, as_object, as_str, as_u64}
 use Rattle.mtp_codes.specs.declared.value.Reading.{Reading}
 use Rattle.mtp_codes.specs.declared.value.Reading.TheVariants.{Whole, Bit}
-use Rattle.pol_events.specs.Fields.{FieldForm, ValueForm, in_order, number, readings, text}
+use Rattle.pol_events.specs.Fields.{PlainField, PlainFieldValue, in_order, number, readings, text}
 
 -- something is there that passes the test
 abbrev pub is_there : {A : Type 0} → (A → Bool) → Option A → Bool
@@ -37,17 +37,17 @@ are_readings (reading ∷ others) no_items = false
 are_readings (reading ∷ others) (item value rest) = is_reading reading value && are_readings others rest
 
 -- the value is this value of a field
-abbrev pub is_value : ValueForm → Data → Bool
+abbrev pub is_value : PlainFieldValue → Data → Bool
 is_value (text told) value = is_there (λ found. bytes_eq found told) (as_str value)
 is_value (number told) value = is_there (λ found. found == told) (option_and_then as_u64 (as_number value))
 is_value (readings told) value = is_there (are_readings told) (as_array value)
 
 -- the member is this field
-abbrev pub is_field : List ℕ → Data → FieldForm → Bool
+abbrev pub is_field : List ℕ → Data → PlainField → Bool
 is_field key value field = bytes_eq key field.key && is_value field.value value
 
 -- the members are these fields, one after another
-abbrev pub are_fields : List FieldForm → Members → Bool
+abbrev pub are_fields : List PlainField → Members → Bool
 are_fields [] no_members = true
 are_fields [] (member key value rest) = false
 are_fields (field ∷ fields) no_members = false
@@ -55,5 +55,5 @@ are_fields (field ∷ fields) (member key value rest) =
     is_field key value field && are_fields fields rest
 
 -- the value is the object of these fields
-abbrev pub is_object : List FieldForm → Data → Bool
+abbrev pub is_object : List PlainField → Data → Bool
 is_object fields value = is_there (are_fields (in_order fields)) (as_object value)

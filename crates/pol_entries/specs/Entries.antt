@@ -2,12 +2,12 @@
 use Rattle.std.specs.Prelude.{◌≡◌, ℕ, List, codes, Option, Some, None, Result, Ok, Err}
 use Rattle.serde_json.specs.Data.{Data}
 use Rattle.chart_core.specs.declared.fault.ChartFault.{ChartFault}
-use Rattle.mtp_json.specs.Form.{inside, nothing_but, object_here}
-use Rattle.mtp_json.specs.Gives.{Fails as FailsJson}
+use Rattle.mtp_json.specs.Form.{nested, nothing_but, object_here}
+use Rattle.mtp_json.specs.ReadsAs.{IsFaultOrMemory as FailsJson}
 use Rattle.mtp_json.specs.Parse.{json_of}
-use Rattle.mtp_json.specs.Reading.{Reading, ◌>>=◌, here}
+use Rattle.mtp_json.specs.ReadResult.{ReadResult, ◌>>=◌, here}
 use Rattle.mtp_json.specs.declared.fault.JsonRefusal.{JsonRefusal}
-use Rattle.pol_events.specs.Events.{EntryForm, EventForm, entry_view}
+use Rattle.pol_events.specs.Events.{PlainEntry, PlainEvent, plain_entry}
 use Rattle.pol_events.specs.Forms.{event_in}
 use Rattle.pol_events.specs.Lines.{fault_within}
 use Rattle.pol_events.specs.declared.event.Entry.{Entry}
@@ -18,48 +18,50 @@ use Rattle.pol_events.specs.declared.fault.LineRefusal.TheVariants.{Fault, Memor
 use Rattle.pol_entries.specs.Answers.{answer_form}
 
 -- the object of an entry
-unfoldable pub entry_form : Data → Reading EntryForm
+unfoldable pub entry_form : Data → ReadResult PlainEntry
 entry_form value =
     object_here value >>= λ _.
-    inside (codes "answer") answer_form value >>= λ answer.
-    inside (codes "event") event_in value >>= λ event.
+    nested (codes "answer") answer_form value >>= λ answer.
+    nested (codes "event") event_in value >>= λ event.
     nothing_but (codes "answer event") value >>= λ _.
     Ok (record { event = event; answer = answer })
 
 -- what the bytes of a line are read as
-abbrev pub read_of : List ℕ → Reading EntryForm
+abbrev pub read_of : List ℕ → ReadResult PlainEntry
 read_of line = here (json_of line) >>= entry_form
 
 -- an entry, unless the chart that its event makes known has a fault
-abbrev pub unless_faulty : EntryForm → Option ChartFault → Result EntryForm LineFault
+abbrev pub unless_faulty : PlainEntry → Option ChartFault → Result PlainEntry LineFault
 unless_faulty entry None = Ok entry
 unless_faulty entry (Some fault) = Err (Chart fault)
 
 -- what was read, with its fault as a fault of the line; where all was read, the chart is asked
-abbrev pub of_line : Reading EntryForm → Result EntryForm LineFault
+abbrev pub of_line : ReadResult PlainEntry → Result PlainEntry LineFault
 of_line (Ok entry) = unless_faulty entry (fault_within entry.event)
 of_line (Err fault) = Err (Json fault)
 
 -- the entry of a line, or the line's first fault
-unfoldable pub entry_of : List ℕ → Result EntryForm LineFault
+unfoldable pub entry_of : List ℕ → Result PlainEntry LineFault
 entry_of line = of_line (read_of line)
 
 -- a refusal is the line's fault, or want of memory
-abbrev pub Fails : LineRefusal → Result EntryForm LineFault → Type 0
-Fails Memory said = Unit {0}
-Fails (Fault fault) said = said ≡ Err fault
+abbrev pub IsLineFaultOrMemory : LineRefusal → Result PlainEntry LineFault → Type 0
+IsLineFaultOrMemory Memory said = Unit {0}
+IsLineFaultOrMemory (Fault fault) said = said ≡ Err fault
 
 -- the result is the entry that the line says, or the line's fault, unless there was no memory
-abbrev pub Tells : Result Entry LineRefusal → Result EntryForm LineFault → Type 0
-Tells (Ok entry) said = said ≡ Ok (entry_view entry)
-Tells (Err refusal) said = Fails refusal said
+abbrev pub Tells : Result Entry LineRefusal → Result PlainEntry LineFault → Type 0
+Tells (Ok entry) said = said ≡ Ok (plain_entry entry)
+Tells (Err refusal) said = IsLineFaultOrMemory refusal said
 
 -- what was read is this, of which the chart may have a fault
-abbrev pub Sound : {X Y : Type 0} → (X → Y) → (Y → EventForm) → Result X ChartFault → Reading Y → Type 0
+abbrev pub Sound : {X Y : Type 0} → (X → Y) → (Y → PlainEvent) → Result X ChartFault → ReadResult Y → Type 0
 Sound view its (Ok value) read = (read ≡ Ok (view value)) × (fault_within (its (view value)) ≡ None)
 Sound {Y = Y} view its (Err fault) read = (value : Y) × (read ≡ Ok value) × (fault_within (its value) ≡ Some fault)
 
 -- what was read, of which the chart may have a fault; or its first fault, unless there was no memory
-abbrev pub Gives : {X Y : Type 0} → (X → Y) → (Y → EventForm) → Result (Result X ChartFault) JsonRefusal → Reading Y → Type 0
-Gives view its (Ok asked) read = Sound view its asked read
-Gives view its (Err refusal) read = FailsJson refusal read
+abbrev pub ReadsAs : {X Y : Type 0} → (X → Y) → (Y → PlainEvent) → Result (Result X ChartFault) JsonRefusal
+    → ReadResult Y
+    → Type 0
+ReadsAs view its (Ok asked) read = Sound view its asked read
+ReadsAs view its (Err refusal) read = FailsJson refusal read

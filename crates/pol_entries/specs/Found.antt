@@ -14,7 +14,7 @@ use Rattle.mtp_codes.specs.declared.value.Reading.{Reading}
 use Rattle.mtp_codes.specs.declared.value.Reading.TheVariants.{Whole, Bit}
 use Rattle.mtp_json.specs.Form.{field}
 use Rattle.mtp_json.specs.Leaf.{count, items, meaning_of, name, text, truth, whole}
-use Rattle.mtp_json.specs.Reading.{Finding}
+use Rattle.mtp_json.specs.ReadResult.{Finding}
 use Rattle.pol_record.specs.Rows.{forbid_name}
 
 -- what was found, or what stands for it

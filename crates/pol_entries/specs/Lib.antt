@@ -1,6 +1,6 @@
 pub mod Found
 pub mod Compared
-pub mod Held
+pub mod Ranges
 pub mod Candidates
 pub mod Answers
 pub mod Entries

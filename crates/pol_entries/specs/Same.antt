@@ -4,7 +4,7 @@ use Rattle.std.specs.Ordering.{int_eq}
 use Rattle.std.specs.Str.{bytes_eq}
 use Rattle.mtp_codes.specs.declared.value.Reading.{Reading}
 use Rattle.mtp_codes.specs.declared.value.Reading.TheVariants.{Whole, Bit}
-use Rattle.pol_events.specs.Fields.{FieldForm, ValueForm, number, readings, text}
+use Rattle.pol_events.specs.Fields.{PlainField, PlainFieldValue, number, readings, text}
 use Rattle.pol_events.specs.declared.answer.Answer.{Answer}
 use Rattle.pol_events.specs.declared.answer.Answer.TheVariants.{Done, Ticket, Did, Waiting, Closed, Refused}
 use Rattle.pol_record.specs.Texts.{entry_fields, obstacle_fields, outcome_name, refusal_fields}
@@ -25,7 +25,7 @@ same_readings (reading ∷ told) [] = false
 same_readings (reading ∷ told) (other ∷ others) = same_reading reading other && same_readings told others
 
 -- two values of fields are
-abbrev pub same_value : ValueForm → ValueForm → Bool
+abbrev pub same_value : PlainFieldValue → PlainFieldValue → Bool
 same_value (text told) (text other) = bytes_eq told other
 same_value (number told) (number other) = told == other
 same_value (readings told) (readings other) = same_readings told other
@@ -34,11 +34,11 @@ same_value (number told) _ = false
 same_value (readings told) _ = false
 
 -- two fields are
-abbrev pub same_field : FieldForm → FieldForm → Bool
+abbrev pub same_field : PlainField → PlainField → Bool
 same_field field other = bytes_eq field.key other.key && same_value field.value other.value
 
 -- two lists of fields are
-abbrev pub same_fields : List FieldForm → List FieldForm → Bool
+abbrev pub same_fields : List PlainField → List PlainField → Bool
 same_fields [] [] = true
 same_fields [] (other ∷ others) = false
 same_fields (field ∷ told) [] = false

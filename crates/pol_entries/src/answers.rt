@@ -1,7 +1,7 @@
 //! Reading the object of an answer.
 ghost use Rattle.std.specs.Prelude.{◌≡◌, codes, option_and_then, option_map};
 ghost use Rattle.serde_json.specs.View.{view};
-ghost use Rattle.mtp_json.specs.Gives.{Gives};
+ghost use Rattle.mtp_json.specs.ReadsAs.{ReadsAs};
 ghost use Rattle.pol_entries.specs.Answers.{ReadsAnswer, alone, answer_form, answer_in, done_in, entry_in, has, obstacle_in, or_unsound, outcome_in, rule_in, ticket_in};
 
 use crate::candidates::{entry_named, obstacle_named, outcome_named, rule_numbered};
@@ -125,7 +125,7 @@ fn answer_in(value: &Value) -> Option<Answer>
 
 #[tactic(auto, unfolding(crate::specs::Answers::answer_form))]
 fn read_form(alloc: Global, value: &Value) -> Result<Answer, JsonRefusal>
-    ensures { Gives (λ answer. answer) result (answer_form (view value.now)) }
+    ensures { ReadsAs (λ answer. answer) result (answer_form (view value.now)) }
 {
     here(alloc, answer_in(value).ok_or(FaultKind::Unsound))
 }
@@ -133,7 +133,7 @@ fn read_form(alloc: Global, value: &Value) -> Result<Answer, JsonRefusal>
 /// The answer whose object this is: what `answer_line` writes of it. Any other value is Unsound, with the empty path.
 #[tactic(auto, using(crate::proofs::Told::reads_answer))]
 pub fn read_answer(alloc: Global, value: &Value) -> Result<Answer, JsonRefusal>
-    ensures gives { Gives (λ answer. answer) result (answer_form (view value.now)) }
+    ensures gives { ReadsAs (λ answer. answer) result (answer_form (view value.now)) }
     ensures reads { ReadsAnswer (view value.now) result }
 {
     read_form(alloc, value)

@@ -1,7 +1,7 @@
 //! Whether a value is the object of some fields.
 ghost use Rattle.std.specs.Prelude.{◌≡◌, map};
 ghost use Rattle.serde_json.specs.View.{items_view, members_view, view};
-ghost use Rattle.pol_events.specs.Fields.{field_view, fields_of, number, text, value_view};
+ghost use Rattle.pol_events.specs.Fields.{plain_field, fields_of, number, text, plain_field_value};
 ghost use Rattle.pol_entries.specs.Compared.{are_fields, are_readings, is_field, is_object, is_reading, is_value, is_whole};
 
 use mtp_codes::Reading;
@@ -73,7 +73,7 @@ fn is_number(value: &Value, told: u32) -> bool
 }
 
 fn is_value(value: &Value, told: &FieldValue<'_>) -> bool
-    ensures { result ≡ is_value (value_view told.now) (view value.now) }
+    ensures { result ≡ is_value (plain_field_value told.now) (view value.now) }
 {
     match told {
         FieldValue::Text(text) => is_text(value, text),
@@ -86,13 +86,13 @@ fn is_value(value: &Value, told: &FieldValue<'_>) -> bool
 }
 
 fn is_field(key: &str, value: &Value, field: &Field<'_>) -> bool
-    ensures { result ≡ is_field key.now (view value.now) (field_view field.now) }
+    ensures { result ≡ is_field key.now (view value.now) (plain_field field.now) }
 {
     key == field.key && is_value(value, &field.value)
 }
 
 fn are_fields(members: &Map<String, Value>, fields: &[Field<'_>]) -> bool
-    ensures { result ≡ are_fields (map field_view fields.now) (members_view members.now.entries) }
+    ensures { result ≡ are_fields (map plain_field fields.now) (members_view members.now.entries) }
 {
     let mut rest = members.iter();
     for field in fields {

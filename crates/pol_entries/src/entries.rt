@@ -3,13 +3,13 @@ ghost use Rattle.std.specs.Prelude.{◌≡◌, ◌≤◌, IfOk, IsTrue, codes};
 ghost use Rattle.serde_json.specs.Data.{depth};
 ghost use Rattle.serde_json.specs.Read.{max_depth};
 ghost use Rattle.serde_json.specs.View.{view};
-ghost use Rattle.mtp_json.specs.Form.{inside};
-ghost use Rattle.mtp_json.specs.Gives.{Gives as GivesJson};
-ghost use Rattle.pol_events.specs.Events.{entry_view, event_view};
+ghost use Rattle.mtp_json.specs.Form.{nested};
+ghost use Rattle.mtp_json.specs.ReadsAs.{ReadsAs as GivesJson};
+ghost use Rattle.pol_events.specs.Events.{plain_entry, plain_event};
 ghost use Rattle.pol_events.specs.Forms.{event_in};
 ghost use Rattle.pol_events.specs.Lines as event_lines;
 ghost use Rattle.pol_events.specs.Orderly.{is_orderly};
-ghost use Rattle.pol_entries.specs.Entries.{Gives, Tells, entry_form, entry_of, read_of};
+ghost use Rattle.pol_entries.specs.Entries.{ReadsAs, Tells, entry_form, entry_of, read_of};
 
 use crate::answers::AnswerJson;
 use chart_core::ChartFault;
@@ -22,7 +22,7 @@ use std::alloc::Global;
 fn told_event(alloc: Global, value: &Value) -> Result<Event, LineRefusal>
     requires { depth (view value.now) ≤ max_depth }
     ensures tells { event_lines.Tells result (event_lines.of_line (event_in (view value.now))) }
-    ensures orderly { IfOk result (λ event. IsTrue (is_orderly (event_view event))) }
+    ensures orderly { IfOk result (λ event. IsTrue (is_orderly (plain_event event))) }
 {
     match value.to_vec(alloc) {
         Ok(text) => read_event(alloc, &text),
@@ -33,8 +33,8 @@ fn told_event(alloc: Global, value: &Value) -> Result<Event, LineRefusal>
 #[tactic(auto, using(crate::proofs::Lines::line_ok, crate::proofs::Lines::line_chart, crate::proofs::Lines::line_json))]
 fn event_here(alloc: Global, value: &Value) -> Result<Result<Event, ChartFault>, JsonRefusal>
     requires { depth (view value.now) ≤ max_depth }
-    ensures gives { Gives event_view (λ event. event) result (event_in (view value.now)) }
-    ensures orderly { IfOk result (λ asked. IfOk asked (λ event. IsTrue (is_orderly (event_view event)))) }
+    ensures gives { ReadsAs plain_event (λ event. event) result (event_in (view value.now)) }
+    ensures orderly { IfOk result (λ asked. IfOk asked (λ event. IsTrue (is_orderly (plain_event event)))) }
 {
     match told_event(alloc, value) {
         Ok(event) => Ok(Ok(event)),
@@ -50,8 +50,8 @@ fn event_here(alloc: Global, value: &Value) -> Result<Result<Event, ChartFault>,
 #[tactic(auto, using(crate::proofs::Lines::given_below, crate::proofs::Lines::inner_below))]
 fn event_at(alloc: Global, value: &Value) -> Result<Result<Event, ChartFault>, JsonRefusal>
     requires { depth (view value.now) ≤ max_depth }
-    ensures gives { Gives event_view (λ event. event) result (inside (codes "event") event_in (view value.now)) }
-    ensures orderly { IfOk result (λ asked. IfOk asked (λ event. IsTrue (is_orderly (event_view event)))) }
+    ensures gives { ReadsAs plain_event (λ event. event) result (nested (codes "event") event_in (view value.now)) }
+    ensures orderly { IfOk result (λ asked. IfOk asked (λ event. IsTrue (is_orderly (plain_event event)))) }
 {
     let inner = value_at(alloc, value, "event")?;
     under("event", event_here(alloc, inner))
@@ -60,8 +60,8 @@ fn event_at(alloc: Global, value: &Value) -> Result<Result<Event, ChartFault>, J
 #[tactic(auto, unfolding(crate::specs::Entries::entry_form))]
 fn read_asked(alloc: Global, value: &Value) -> Result<Result<Entry, ChartFault>, JsonRefusal>
     requires { depth (view value.now) ≤ max_depth }
-    ensures gives { Gives entry_view (λ entry. entry.event) result (entry_form (view value.now)) }
-    ensures orderly { IfOk result (λ asked. IfOk asked (λ entry. IsTrue (is_orderly (event_view entry.event)))) }
+    ensures gives { ReadsAs plain_entry (λ entry. entry.event) result (entry_form (view value.now)) }
+    ensures orderly { IfOk result (λ asked. IfOk asked (λ entry. IsTrue (is_orderly (plain_event entry.event)))) }
 {
     object_here(alloc, value)?;
     let answer: Answer = form_at::<AnswerJson>(alloc, value, "answer")?;
@@ -75,8 +75,8 @@ fn read_asked(alloc: Global, value: &Value) -> Result<Result<Entry, ChartFault>,
 
 #[tactic(auto, using(crate::proofs::Lines::shallow))]
 fn read_line(alloc: Global, line: &[u8]) -> Result<Result<Entry, ChartFault>, JsonRefusal>
-    ensures gives { Gives entry_view (λ entry. entry.event) result (read_of line.now) }
-    ensures orderly { IfOk result (λ asked. IfOk asked (λ entry. IsTrue (is_orderly (event_view entry.event)))) }
+    ensures gives { ReadsAs plain_entry (λ entry. entry.event) result (read_of line.now) }
+    ensures orderly { IfOk result (λ asked. IfOk asked (λ entry. IsTrue (is_orderly (plain_event entry.event)))) }
 {
     let value = parse(alloc, line)?;
     read_asked(alloc, &value)
@@ -88,7 +88,7 @@ fn read_line(alloc: Global, line: &[u8]) -> Result<Result<Entry, ChartFault>, Js
 #[tactic(auto, unfolding(crate::specs::Entries::entry_of))]
 pub fn read_entry(alloc: Global, line: &[u8]) -> Result<Entry, LineRefusal>
     ensures tells { Tells result (entry_of line.now) }
-    ensures orderly { IfOk result (λ entry. IsTrue (is_orderly (event_view entry.event))) }
+    ensures orderly { IfOk result (λ entry. IsTrue (is_orderly (plain_event entry.event))) }
 {
     match read_line(alloc, line) {
         Ok(Ok(entry)) => Ok(entry),

@@ -1,7 +1,7 @@
 //! Whether two answers are the same.
 ghost use Rattle.std.specs.Prelude.{◌≡◌, map};
 ghost use Rattle.std.specs.Bool.{Decides};
-ghost use Rattle.pol_events.specs.Fields.{field_view, fields_of, value_view};
+ghost use Rattle.pol_events.specs.Fields.{plain_field, fields_of, plain_field_value};
 ghost use Rattle.pol_entries.specs.Same.{same_answer, same_field, same_fields, same_reading, same_readings, same_value};
 
 use mtp_codes::Reading;
@@ -34,7 +34,7 @@ fn same_readings(told: &[Reading], others: &[Reading]) -> bool
 }
 
 fn same_value(told: &FieldValue<'_>, other: &FieldValue<'_>) -> bool
-    ensures { result ≡ same_value (value_view told.now) (value_view other.now) }
+    ensures { result ≡ same_value (plain_field_value told.now) (plain_field_value other.now) }
 {
     match (told, other) {
         (FieldValue::Text(told), FieldValue::Text(other)) => *told == *other,
@@ -45,13 +45,13 @@ fn same_value(told: &FieldValue<'_>, other: &FieldValue<'_>) -> bool
 }
 
 fn same_field(field: &Field<'_>, other: &Field<'_>) -> bool
-    ensures { result ≡ same_field (field_view field.now) (field_view other.now) }
+    ensures { result ≡ same_field (plain_field field.now) (plain_field other.now) }
 {
     field.key == other.key && same_value(&field.value, &other.value)
 }
 
 fn same_lists(told: &[Field<'_>], others: &[Field<'_>]) -> bool
-    ensures { result ≡ same_fields (map field_view told.now) (map field_view others.now) }
+    ensures { result ≡ same_fields (map plain_field told.now) (map plain_field others.now) }
 {
     let mut rest = others.iter();
     for field in told {

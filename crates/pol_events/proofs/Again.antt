@@ -26,13 +26,13 @@ use Rattle.mtp_json.specs.Parse.{json_of}
 use Rattle.mtp_json.specs.Written.{is_scalar, scalar_data}
 use Rattle.mtp_json.proofs.Again.{scalar_again}
 use Rattle.mtp_json.proofs.Utf8.{utf8_is}
-use Rattle.mtp_desc.specs.DescriptionView.{description_view}
-use Rattle.mtp_desc.specs.Plain.{DescriptionForm}
+use Rattle.mtp_desc.specs.PlainDescription.{plain_description}
+use Rattle.mtp_desc.specs.Plain.{PlainDescription}
 use Rattle.mtp_desc.specs.Written.{written_description}
 use Rattle.mtp_desc.proofs.Again.{description_again}
 use Rattle.mtp_desc.proofs.Sound.{IsDescription, description_sound}
-use Rattle.chart_core.specs.Charts.{plan}
-use Rattle.chart_core.specs.Roles.{ChartPlan, is_chart_form}
+use Rattle.chart_core.specs.Charts.{plain_chart}
+use Rattle.chart_core.specs.Roles.{PlainChart, is_chart_form}
 use Rattle.chart_core.specs.Valid.{chart_fault}
 use Rattle.chart_json.specs.Sound.{is_sound}
 use Rattle.chart_json.specs.Written.{written_roles, written_tree}
@@ -41,9 +41,9 @@ use Rattle.pol_events.specs.declared.event.Bind.{Bind}
 use Rattle.pol_events.specs.declared.event.Event.{Event}
 use Rattle.pol_events.specs.declared.event.Event.TheVariants.{Plug, Unplug, Report, Variable, Recipe, Start, Advance, Freeze, Thaw, StopBatch, Abandon, Desk, ExchangeBegin, ExchangeEnd, ExchangeCancel}
 use Rattle.pol_events.specs.Binds.{are_texts, each_bind, binds_of}
-use Rattle.pol_events.specs.Events.{EventForm, plug, unplug, report, variable, recipe, start, advance, freeze, thaw, stop_batch, abandon, desk, exchange_begin, exchange_end, exchange_cancel, event_view}
+use Rattle.pol_events.specs.Events.{PlainEvent, plug, unplug, report, variable, recipe, start, advance, freeze, thaw, stop_batch, abandon, desk, exchange_begin, exchange_end, exchange_cancel, plain_event}
 use Rattle.pol_events.specs.Forms.{control_in, event_in, plug_in, tag_in, report_in, variable_in, desk_in, exchange_end_in, exchange_cancel_in, recipe_in, start_in, batch_in}
-use Rattle.pol_events.specs.Held.{is_stamped, is_held, is_held_bind, is_held_control}
+use Rattle.pol_events.specs.Ranges.{is_stamped, is_in_range, is_bind_in_range, is_control_in_range}
 use Rattle.pol_events.specs.Lines.{event_of, fault_within}
 use Rattle.pol_events.specs.Orderly.{is_orderly, is_valid, rise}
 use Rattle.pol_events.specs.Words.{mode_words, origin_words}
@@ -98,7 +98,7 @@ origin_again External = refl
 -- ---- modules
 
 -- a written plug is read back
-plug_again : (at : ℕ) (tag : List ℕ) (description : DescriptionForm) → is_stamped at tag ≡ true
+plug_again : (at : ℕ) (tag : List ℕ) (description : PlainDescription) → is_stamped at tag ≡ true
     → IsDescription description
     → event_in (written_plug at tag (written_description description)) ≡ Ok (plug at tag description)
 unfolding event_in plug_in written_plug
@@ -107,7 +107,7 @@ plug_again at tag description held sound = let stamped =
     (stamped.0, stamped.1, description_again description sound) refl
 
 -- a written event that names a tag alone is read back by its form
-tag_again : (word : List ℕ) (event : ℕ → List ℕ → EventForm) (at : ℕ) (tag : List ℕ) → is_stamped at tag ≡ true
+tag_again : (word : List ℕ) (event : ℕ → List ℕ → PlainEvent) (at : ℕ) (tag : List ℕ) → is_stamped at tag ≡ true
     → tag_in event (written_tag word at tag) ≡ Ok (event at tag)
 unfolding tag_in written_tag
 tag_again word event at tag held = let stamped = and_parts (is_between 0 greatest_u64 at) (is_name tag) held in
@@ -115,13 +115,13 @@ tag_again word event at tag held = let stamped = and_parts (is_between 0 greates
 
 -- a written report is read back
 report_again : (at : ℕ) (tag service : List ℕ) (control : ServiceControl)
-    → is_held (report at tag service control) ≡ true
+    → is_in_range (report at tag service control) ≡ true
     → event_in (written_report at tag service control) ≡ Ok (report at tag service control)
 unfolding event_in report_in control_in written_report
 report_again at tag service control held =
-    let parts = and_parts (is_stamped at tag) (is_name service && is_held_control control) held in
+    let parts = and_parts (is_stamped at tag) (is_name service && is_control_in_range control) held in
     let stamped = and_parts (is_between 0 greatest_u64 at) (is_name tag) parts.0 in
-    let served = and_parts (is_name service) (is_held_control control) parts.1 in
+    let served = and_parts (is_name service) (is_control_in_range control) parts.1 in
     let ranged = and_parts (is_between 0 greatest_u32 control.mask) (is_between 0 65535 control.procedure) served.1 in
     rw (
       stamped.0,
@@ -136,7 +136,7 @@ report_again at tag service control held =
     ) refl
 
 -- a written value of a variable is read back
-variable_again : (at : ℕ) (tag named : List ℕ) (value : Value) → is_held (variable at tag named value) ≡ true
+variable_again : (at : ℕ) (tag named : List ℕ) (value : Value) → is_in_range (variable at tag named value) ≡ true
     → event_in (written_variable at tag named (scalar_data value)) ≡ Ok (variable at tag named value)
 unfolding event_in variable_in written_variable
 variable_again at tag named value held =
@@ -146,7 +146,7 @@ variable_again at tag named value held =
     rw (stamped.0, stamped.1, valued.0, scalar_again value valued.1) refl
 
 -- a written command of an operator is read back
-desk_again : (at : ℕ) (tag service : List ℕ) (order : Command) → is_held (desk at tag service order) ≡ true
+desk_again : (at : ℕ) (tag service : List ℕ) (order : Command) → is_in_range (desk at tag service order) ≡ true
     → event_in (written_desk at tag service order) ≡ Ok (desk at tag service order)
 unfolding event_in desk_in written_desk
 desk_again at tag service order held =
@@ -155,7 +155,7 @@ desk_again at tag service order held =
     rw (stamped.0, stamped.1, parts.1, command_again order) refl
 
 -- a written end of an exchange is read back
-exchange_end_again : (at : ℕ) (tag : List ℕ) (ticket : ℕ) (description : DescriptionForm)
+exchange_end_again : (at : ℕ) (tag : List ℕ) (ticket : ℕ) (description : PlainDescription)
     → (is_stamped at tag && is_between 0 greatest_u32 ticket) ≡ true → IsDescription description
     → event_in (written_exchange_end at tag ticket (written_description description))
     ≡ Ok (exchange_end at tag ticket description)
@@ -178,8 +178,8 @@ exchange_cancel_again at tag ticket held =
 -- ---- recipes
 
 -- a written recipe is read back
-recipe_again : (at : ℕ) (named : List ℕ) (chart : ChartPlan) → is_chart_form chart ≡ true
-    → is_held (recipe at named chart) ≡ true
+recipe_again : (at : ℕ) (named : List ℕ) (chart : PlainChart) → is_chart_form chart ≡ true
+    → is_in_range (recipe at named chart) ≡ true
     → event_in (written_recipe at named (written_roles chart.roles) (written_tree chart.root))
     ≡ Ok (recipe at named chart)
 unfolding event_in recipe_in written_recipe
@@ -204,17 +204,17 @@ many_again : (binds : List Bind) → members_len (bind_members binds) ≡ length
 many_again [] = refl
 many_again (bind ∷ binds) = ap suc (many_again binds)
 
-each_again : (binds : List Bind) → list_all is_held_bind binds ≡ true → each_bind (bind_members binds) ≡ Ok binds
+each_again : (binds : List Bind) → list_all is_bind_in_range binds ≡ true → each_bind (bind_members binds) ≡ Ok binds
 unfolding each_bind
 each_again [] held = refl
 each_again (bind ∷ binds) held =
-    let parts = and_parts (is_held_bind bind) (list_all is_held_bind binds) held in
+    let parts = and_parts (is_bind_in_range bind) (list_all is_bind_in_range binds) held in
     let named = and_parts (is_name bind.role) (is_name bind.tag) parts.0 in
     rw (named.0, named.1, each_again binds parts.1) refl
 
 -- written binds are read back
 binds_again : (binds : List Bind) → (nat_le (length binds) MOST_BINDS && rise binds) ≡ true
-    → list_all is_held_bind binds ≡ true
+    → list_all is_bind_in_range binds ≡ true
     → binds_of (written_binds binds) ≡ Ok binds
 unfolding binds_of written_binds
 binds_again binds orderly held =
@@ -222,18 +222,18 @@ binds_again binds orderly held =
     rw (texts_again binds, many_again binds, parts.0, each_again binds held, by_role_rising binds parts.1) refl
 
 -- a written start is read back
-start_again : (at : ℕ) (batch named : List ℕ) (binds : List Bind) → is_held (start at batch named binds) ≡ true
+start_again : (at : ℕ) (batch named : List ℕ) (binds : List Bind) → is_in_range (start at batch named binds) ≡ true
     → is_orderly (start at batch named binds) ≡ true
     → event_in (written_start at batch named (written_binds binds)) ≡ Ok (start at batch named binds)
 unfolding event_in start_in written_start
 start_again at batch named binds held orderly =
-    let parts = and_parts (is_stamped at batch) (is_name named && list_all is_held_bind binds) held in
+    let parts = and_parts (is_stamped at batch) (is_name named && list_all is_bind_in_range binds) held in
     let stamped = and_parts (is_between 0 greatest_u64 at) (is_name batch) parts.0 in
-    let bound = and_parts (is_name named) (list_all is_held_bind binds) parts.1 in
+    let bound = and_parts (is_name named) (list_all is_bind_in_range binds) parts.1 in
     rw (stamped.0, stamped.1, bound.0, binds_again binds orderly bound.1) refl
 
 -- a written event that names a batch alone is read back by its form
-batch_again : (word : List ℕ) (event : ℕ → List ℕ → EventForm) (at : ℕ) (batch : List ℕ) → is_stamped at batch ≡ true
+batch_again : (word : List ℕ) (event : ℕ → List ℕ → PlainEvent) (at : ℕ) (batch : List ℕ) → is_stamped at batch ≡ true
     → batch_in event (written_batch word at batch) ≡ Ok (event at batch)
 unfolding batch_in written_batch
 batch_again word event at batch held = let stamped = and_parts (is_between 0 greatest_u64 at) (is_name batch) held in
@@ -241,26 +241,26 @@ batch_again word event at batch held = let stamped = and_parts (is_between 0 gre
 
 -- ---- all kinds
 
-is_none-none : {A : Type 0} (found : Option A) → is_none found ≡ true → found ≡ None
-is_none-none None none = refl
-is_none-none (Some value) none = absurd (true≢false (sym none))
+is_none_none : {A : Type 0} (found : Option A) → is_none found ≡ true → found ≡ None
+is_none_none None none = refl
+is_none_none (Some value) none = absurd (true≢false (sym none))
 
 -- the chart of an orderly event has no fault
-pub faultless : (event : EventForm) → is_orderly event ≡ true → fault_within event ≡ None
-faultless (recipe at name chart) orderly = is_none-none (chart_fault chart)
+pub faultless : (event : PlainEvent) → is_orderly event ≡ true → fault_within event ≡ None
+faultless (recipe at name chart) orderly = is_none_none (chart_fault chart)
     (and_parts (is_chart_form chart) (is_valid chart) orderly).1
 faultless _ orderly = refl
 
 -- a written event is read back
-pub event_again : (event : Event) → is_held (event_view event) ≡ true → is_orderly (event_view event) ≡ true
-    → event_in (written_event (event_view event)) ≡ Ok (event_view event)
+pub event_again : (event : Event) → is_in_range (plain_event event) ≡ true → is_orderly (plain_event event) ≡ true
+    → event_in (written_event (plain_event event)) ≡ Ok (plain_event event)
 unfolding event_in written_tag written_batch
-event_again (Plug at tag desc) held orderly = plug_again at tag (description_view desc.value) held
+event_again (Plug at tag desc) held orderly = plug_again at tag (plain_description desc.value) held
     (description_sound desc.value)
 event_again (Unplug at tag) held orderly = tag_again (codes "unplug") unplug at tag held
 event_again (Report at tag service control) held orderly = report_again at tag service control held
 event_again (Variable at tag name value) held orderly = variable_again at tag name value held
-event_again (Recipe at name chart) held orderly = recipe_again at name (plan chart.value) chart.value.form held
+event_again (Recipe at name chart) held orderly = recipe_again at name (plain_chart chart.value) chart.value.form held
 event_again (Start at batch name bind) held orderly = start_again at batch name bind.items held orderly
 event_again (Advance at batch) held orderly = batch_again (codes "advance") advance at batch held
 event_again (Freeze at batch) held orderly = batch_again (codes "freeze") freeze at batch held
@@ -270,11 +270,11 @@ event_again (Abandon at batch) held orderly = batch_again (codes "abandon") aban
 event_again (Desk at tag service order) held orderly = desk_again at tag service order held
 event_again (ExchangeBegin at tag) held orderly = tag_again (codes "exchange_begin") exchange_begin at tag held
 event_again (ExchangeEnd at tag ticket desc) held orderly = exchange_end_again at tag ticket
-    (description_view desc.value) held (description_sound desc.value)
+    (plain_description desc.value) held (description_sound desc.value)
 event_again (ExchangeCancel at tag ticket) held orderly = exchange_cancel_again at tag ticket held
 
 -- a text that is read as a value is a line that says what the value says, if that is orderly
-pub line_again : (text : List ℕ) (value : Data) (event : EventForm) → IsUtf8 text → read text ≡ Some value
+pub line_again : (text : List ℕ) (value : Data) (event : PlainEvent) → IsUtf8 text → read text ≡ Some value
     → event_in value ≡ Ok event → is_orderly event ≡ true → event_of text ≡ Ok event
 unfolding event_of json_of
 line_again text value event utf8 is again orderly = rw (utf8_is text utf8, is, again, faultless event orderly) refl

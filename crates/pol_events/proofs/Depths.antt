@@ -3,63 +3,63 @@ use Rattle.std.proofs.Common.{◌≡◌, ◌≤◌, List, [], ◌∷◌, true, f
 use Rattle.serde_json.specs.Data.{depth, members_depth}
 use Rattle.serde_json.specs.Read.{max_depth}
 use Rattle.serde_json.specs.Written.{has_float, members_have_float}
-use Rattle.mtp_desc.specs.DescriptionView.{description_view}
+use Rattle.mtp_desc.specs.PlainDescription.{plain_description}
 use Rattle.mtp_desc.proofs.Depths.{description_depth}
 use Rattle.mtp_desc.proofs.Floats.{description_whole}
-use Rattle.chart_core.specs.Charts.{plan}
+use Rattle.chart_core.specs.Charts.{plain_chart}
 use Rattle.chart_json.proofs.Depths.{roles_depth, root_depth, scalar_depth}
 use Rattle.chart_json.proofs.Floats.{roles_whole, tree_whole, scalar_whole}
 use Rattle.chart_json.proofs.Shallow.{valid_shallow}
 use Rattle.pol_events.specs.declared.event.Bind.{Bind}
 use Rattle.pol_events.specs.declared.event.Event.{Event}
 use Rattle.pol_events.specs.declared.event.Event.TheVariants.{Plug, Variable, Recipe, Start, ExchangeEnd}
-use Rattle.pol_events.specs.Events.{EventForm, plug, variable, recipe, start, exchange_end, event_view}
+use Rattle.pol_events.specs.Events.{PlainEvent, plug, variable, recipe, start, exchange_end, plain_event}
 use Rattle.pol_events.specs.Orderly.{is_orderly}
 use Rattle.pol_events.specs.Written.{bind_members, written_binds, written_event, written_plug, written_tag, written_report, written_variable, written_desk, written_exchange_end, written_exchange_cancel, written_recipe, written_start, written_batch}
 use Rattle.pol_events.proofs.Again.{faultless}
 
-members-depth : (binds : List Bind) → members_depth (bind_members binds) ≤ 0
-members-depth [] = omega arith
-members-depth (bind ∷ binds) = omega (arith, members-depth binds)
+members_depth_is : (binds : List Bind) → members_depth (bind_members binds) ≤ 0
+members_depth_is [] = omega arith
+members_depth_is (bind ∷ binds) = omega (arith, members_depth_is binds)
 
-binds-depth : (binds : List Bind) → depth (written_binds binds) ≤ 1
+binds_depth : (binds : List Bind) → depth (written_binds binds) ≤ 1
 unfolding written_binds
-binds-depth binds = omega (arith, members-depth binds)
+binds_depth binds = omega (arith, members_depth_is binds)
 
-members-whole : (binds : List Bind) → members_have_float (bind_members binds) ≡ false
-members-whole [] = refl
-members-whole (bind ∷ binds) = members-whole binds
+members_whole : (binds : List Bind) → members_have_float (bind_members binds) ≡ false
+members_whole [] = refl
+members_whole (bind ∷ binds) = members_whole binds
 
-binds-whole : (binds : List Bind) → has_float (written_binds binds) ≡ false
+binds_whole : (binds : List Bind) → has_float (written_binds binds) ≡ false
 unfolding written_binds
-binds-whole binds = members-whole binds
+binds_whole binds = members_whole binds
 
 -- a written event nests no deeper than reading goes
-pub event_depth : (event : Event) → is_orderly (event_view event) ≡ true
-    → depth (written_event (event_view event)) ≤ max_depth
+pub event_depth : (event : Event) → is_orderly (plain_event event) ≡ true
+    → depth (written_event (plain_event event)) ≤ max_depth
 unfolding written_plug written_tag written_report written_variable written_desk written_exchange_end
     written_exchange_cancel written_recipe written_start written_batch
-event_depth (Plug at tag desc) orderly = omega (arith, description_depth (description_view desc.value))
+event_depth (Plug at tag desc) orderly = omega (arith, description_depth (plain_description desc.value))
 event_depth (Variable at tag name value) orderly = omega (arith, scalar_depth value)
 event_depth (Recipe at name chart) orderly =
-    let chart_plan = plan chart.value in
+    let chart_plan = plain_chart chart.value in
     omega (
       arith,
       roles_depth chart_plan.roles,
       root_depth chart_plan chart.value.form
           (valid_shallow chart_plan (faultless (recipe at name chart_plan) orderly)),
     )
-event_depth (Start at batch name bind) orderly = omega (arith, binds-depth bind.items)
-event_depth (ExchangeEnd at tag ticket desc) orderly = omega (arith, description_depth (description_view desc.value))
+event_depth (Start at batch name bind) orderly = omega (arith, binds_depth bind.items)
+event_depth (ExchangeEnd at tag ticket desc) orderly = omega (arith, description_depth (plain_description desc.value))
 event_depth _ orderly = omega arith
 
 -- a written event has no float, so its compact text is exact
-pub event_whole : (event : EventForm) → has_float (written_event event) ≡ false
+pub event_whole : (event : PlainEvent) → has_float (written_event event) ≡ false
 unfolding written_plug written_tag written_report written_variable written_desk written_exchange_end
     written_exchange_cancel written_recipe written_start written_batch
 event_whole (plug at tag description) = rw (description_whole description) refl
 event_whole (variable at tag name value) = rw (scalar_whole value) refl
 event_whole (recipe at name chart) = rw (roles_whole chart.roles, tree_whole chart.root) refl
-event_whole (start at batch name binds) = rw (binds-whole binds) refl
+event_whole (start at batch name binds) = rw (binds_whole binds) refl
 event_whole (exchange_end at tag ticket description) = rw (description_whole description) refl
 event_whole _ = refl

@@ -13,30 +13,30 @@ use Rattle.serde_json.specs.View.{members_view, view}
 use Rattle.serde_json.specs.declared.value.Value.{Value}
 use Rattle.serde_json.proofs.Views.{Entry, members_view-insert_entry}
 use Rattle.pol_events.specs.declared.event.Bind.{Bind}
-use Rattle.pol_events.specs.Held.{is_held_bind}
+use Rattle.pol_events.specs.Ranges.{is_bind_in_range}
 use Rattle.pol_events.specs.Orderly.{rise, stands_before}
 use Rattle.pol_events.specs.Written.{bind_members}
-use Rattle.pol_events.proofs.Rising.{compared, first-before, leads, less, rise-first}
+use Rattle.pol_events.proofs.Rising.{compared, first_before, leads, less, rise_first}
 
 -- the last of rising binds stands behind the first
-last-behind : (bind last : Bind) (binds rest : List Bind) → rise (bind ∷ (binds ++ last ∷ rest)) ≡ true
+last_behind : (bind last : Bind) (binds rest : List Bind) → rise (bind ∷ (binds ++ last ∷ rest)) ≡ true
     → compared last bind ≡ Greater
-last-behind bind last binds rest rising =
+last_behind bind last binds rest rising =
     let each : (list_all (stands_before bind) binds && list_all (stands_before bind) (last ∷ rest)) ≡ true =
     sym (list_all-append (stands_before bind) binds (last ∷ rest))
-    ∙ first-before bind (binds ++ last ∷ rest) rising in
+    ∙ first_before bind (binds ++ last ∷ rest) rising in
     let later = and_parts (list_all (stands_before bind) binds) (list_all (stands_before bind) (last ∷ rest)) each in
     let here = and_parts (stands_before bind last) (list_all (stands_before bind) rest) later.1 in
     nat_list_cmp_total.antisymm last.role bind.role ∙ ap ordering_reverse (less (compared bind last) here.0)
 
 -- a bind that stands behind all others goes last
-put-last : (binds : List Bind) (bind : Bind) (rest : List Bind) → rise (binds ++ bind ∷ rest) ≡ true
+put_last : (binds : List Bind) (bind : Bind) (rest : List Bind) → rise (binds ++ bind ∷ rest) ≡ true
     → put bind.role (string bind.tag) (bind_members binds) ≡ bind_members (binds ++ bind ∷ [])
-put-last [] bind rest rising = refl
-put-last (first ∷ binds) bind rest rising =
+put_last [] bind rest rising = refl
+put_last (first ∷ binds) bind rest rising =
     let parts = and_parts (leads first (binds ++ bind ∷ rest)) (rise (binds ++ bind ∷ rest))
-    (sym (rise-first first (binds ++ bind ∷ rest)) ∙ rising) in
-    rw (last-behind first bind binds rest rising, put-last binds bind rest parts.1) refl
+    (sym (rise_first first (binds ++ bind ∷ rest)) ∙ rising) in
+    rw (last_behind first bind binds rest rising, put_last binds bind rest parts.1) refl
 
 -- the first i binds, the i-th one and the others
 cut : (binds : List Bind) (i : ℕ) (bind : Bind) → i < length binds → bind ≡ get_or binds i bind
@@ -59,15 +59,15 @@ pub puts_next : (binds : List Bind) (i : ℕ) (bind : Bind) (old new : List Entr
 puts_next binds i bind old new key value rising inside is keyed valued put so_far =
     let whole : rise (take i binds ++ bind ∷ drop (suc i) binds) ≡ true = rw (cut binds i bind inside is) rising in
     rw (put, members_view-insert_entry old key value, keyed, valued, so_far, next binds i bind inside is)
-    (put-last (take i binds) bind (drop (suc i) binds) whole)
+    (put_last (take i binds) bind (drop (suc i) binds) whole)
 
 -- one more bind holds names
 pub holds_next : (binds : List Bind) (i : ℕ) (bind : Bind) → i < length binds → bind ≡ get_or binds i bind
-    → is_held_bind bind ≡ true → list_all is_held_bind (take i binds) ≡ true
-    → list_all is_held_bind (take (i + 1) binds) ≡ true
+    → is_bind_in_range bind ≡ true → list_all is_bind_in_range (take i binds) ≡ true
+    → list_all is_bind_in_range (take (i + 1) binds) ≡ true
 holds_next binds i bind inside is held so_far = rw (
   next binds i bind inside is,
-  list_all-append is_held_bind
+  list_all-append is_bind_in_range
       (take i binds) (bind ∷ []),
   so_far,
   held,

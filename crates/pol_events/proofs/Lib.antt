@@ -8,3 +8,4 @@ pub mod Entries
 pub mod Again
 pub mod Depths
 pub mod Places
+pub mod Histories

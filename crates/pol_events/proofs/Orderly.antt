@@ -4,11 +4,11 @@ use Rattle.std.specs.Prelude.{codes, IfOk, IsTrue, Result}
 use Rattle.serde_json.specs.Data.{Data}
 use Rattle.mtp_codes.specs.Numbers.{greatest_u64}
 use Rattle.mtp_json.specs.declared.fault.FaultKind.TheVariants.{Repeated}
-use Rattle.mtp_json.specs.Form.{need, inside, nothing_but, refused_if, repeats_by}
+use Rattle.mtp_json.specs.Form.{required, nested, nothing_but, refused_if, repeats_by}
 use Rattle.mtp_json.specs.Leaf.{count, name}
-use Rattle.mtp_json.specs.Reading.{Reading, ◌>>=◌, under}
+use Rattle.mtp_json.specs.ReadResult.{ReadResult, ◌>>=◌, under}
 use Rattle.chart_core.specs.Form.{is_tree_formed}
-use Rattle.chart_core.specs.Roles.{RolePlan, ChartPlan, is_chart_form}
+use Rattle.chart_core.specs.Roles.{PlainRole, PlainChart, is_chart_form}
 use Rattle.chart_core.specs.Trees.{Tree}
 use Rattle.chart_core.specs.Valid.{chart_fault}
 use Rattle.chart_core.specs.declared.fault.ChartFault.{ChartFault}
@@ -20,101 +20,101 @@ use Rattle.pol_events.specs.declared.kind.EventKind.{EventKind}
 use Rattle.pol_events.specs.declared.kind.EventKind.TheVariants.{Plug, Unplug, Report, Variable, Recipe, Start, Advance, Freeze, Thaw, Stop, Abandon, Desk, ExchangeBegin, ExchangeEnd, ExchangeCancel}
 use Rattle.pol_events.specs.declared.event.Event.{Event}
 use Rattle.pol_events.specs.Binds.{binds_of}
-use Rattle.pol_events.specs.Events.{EventForm, event_view, recipe}
+use Rattle.pol_events.specs.Events.{PlainEvent, plain_event, recipe}
 use Rattle.pol_events.specs.Forms.{plug_in, tag_in, report_in, variable_in, desk_in, exchange_end_in, exchange_cancel_in, recipe_in, start_in, batch_in, event_by, event_in}
 use Rattle.pol_events.specs.Lines.{Tells, read_of, fault_within, unless_faulty, of_line, event_of}
 use Rattle.pol_events.specs.Orderly.{is_orderly, is_valid}
 use Rattle.pol_events.proofs.Members.{AreOrderly, binds_orderly}
 
 -- the event is orderly, unless its chart has a fault
-abbrev pub IsOrderly : EventForm → Type 0
+abbrev pub IsOrderly : PlainEvent → Type 0
 IsOrderly event = fault_within event ≡ None → is_orderly event ≡ true
 
-start-orderly : (value : Data) → IfOk (start_in value) IsOrderly
+start_orderly : (value : Data) → IfOk (start_in value) IsOrderly
 unfolding start_in
-start-orderly value =
-    any_before IsOrderly (need (codes "at") (count 0 greatest_u64) value) _ (λ at.
-    any_before IsOrderly (need (codes "batch") name value) _ (λ batch.
-    any_before IsOrderly (need (codes "recipe") name value) _ (λ named.
-    told_before AreOrderly IsOrderly (inside (codes "bind") binds_of value) _
+start_orderly value =
+    any_before IsOrderly (required (codes "at") (count 0 greatest_u64) value) _ (λ at.
+    any_before IsOrderly (required (codes "batch") name value) _ (λ batch.
+    any_before IsOrderly (required (codes "recipe") name value) _ (λ named.
+    told_before AreOrderly IsOrderly (nested (codes "bind") binds_of value) _
     (told_inside AreOrderly (codes "bind") binds_of binds_orderly value) (λ binds orderly.
     any_before IsOrderly (nothing_but (codes "ev at batch recipe bind") value) _ (λ _ _. orderly)))))
 
 -- a chart that is formed and has no fault is orderly
-sound-chart : (chart : ChartPlan) → is_chart_form chart ≡ true → chart_fault chart ≡ None
+sound_chart : (chart : PlainChart) → is_chart_form chart ≡ true → chart_fault chart ≡ None
     → (is_chart_form chart && is_valid chart) ≡ true
-sound-chart chart formed none = rw (formed, none) refl
+sound_chart chart formed none = rw (formed, none) refl
 
 -- a chart of sized roles and a formed root is formed, where no role is named twice
-made-orderly : (at : ℕ) (named : List ℕ) (roles : List RolePlan) (root : Tree) → are_roles_sized roles ≡ true
+made_orderly : (at : ℕ) (named : List ℕ) (roles : List PlainRole) (root : Tree) → are_roles_sized roles ≡ true
     → is_tree_formed root ≡ true →
     IfOk (chart_from roles root >>= λ chart. Ok (recipe at named chart)) IsOrderly
 unfolding chart_from
-made-orderly at named roles root sized formed = go (repeats_by same_role roles) refl
+made_orderly at named roles root sized formed = go (repeats_by same_role roles) refl
   where
     go : (broken : Bool) → repeats_by same_role roles ≡ broken →
         IfOk ((under (codes "roles") (refused_if broken Repeated) >>= λ _. Ok (record { roles = roles; root = root }))
         >>= λ chart. Ok (recipe at named chart)) IsOrderly
     go true is = tt
-    go false is = λ none. sound-chart (record { roles = roles; root = root })
+    go false is = λ none. sound_chart (record { roles = roles; root = root })
         (chart_formed roles root sized formed is) none
 
-recipe-orderly : (value : Data) → IfOk (recipe_in value) IsOrderly
+recipe_orderly : (value : Data) → IfOk (recipe_in value) IsOrderly
 unfolding recipe_in
-recipe-orderly value =
-    any_before IsOrderly (need (codes "at") (count 0 greatest_u64) value) _ (λ at.
-    any_before IsOrderly (need (codes "recipe") name value) _ (λ named.
-    told_before (λ roles. are_roles_sized roles ≡ true) IsOrderly (inside (codes "roles") roles_of value) _
+recipe_orderly value =
+    any_before IsOrderly (required (codes "at") (count 0 greatest_u64) value) _ (λ at.
+    any_before IsOrderly (required (codes "recipe") name value) _ (λ named.
+    told_before (λ roles. are_roles_sized roles ≡ true) IsOrderly (nested (codes "roles") roles_of value) _
     (told_inside (λ roles. are_roles_sized roles ≡ true) (codes "roles") roles_of roles_sized value) (λ roles sized.
-    told_before (λ root. is_tree_formed root ≡ true) IsOrderly (inside (codes "chart") tree_of value) _
+    told_before (λ root. is_tree_formed root ≡ true) IsOrderly (nested (codes "chart") tree_of value) _
     (told_inside (λ root. is_tree_formed root ≡ true) (codes "chart") tree_of tree_formed value) (λ root formed.
     any_before IsOrderly (nothing_but (codes "ev at recipe roles chart") value) _
-    (λ _. made-orderly at named roles root sized formed)))))
+    (λ _. made_orderly at named roles root sized formed)))))
 
 -- an event of any kind is orderly, unless its chart has a fault
-kind-orderly : (value : Data) (kind : EventKind) → IfOk (event_by value kind) IsOrderly
+kind_orderly : (value : Data) (kind : EventKind) → IfOk (event_by value kind) IsOrderly
 unfolding plug_in tag_in report_in variable_in desk_in exchange_end_in exchange_cancel_in batch_in
-kind-orderly value Plug = search (rules, any_before)
-kind-orderly value Unplug = search (rules, any_before)
-kind-orderly value Report = search (rules, any_before)
-kind-orderly value Variable = search (rules, any_before)
-kind-orderly value Recipe = recipe-orderly value
-kind-orderly value Start = start-orderly value
-kind-orderly value Advance = search (rules, any_before)
-kind-orderly value Freeze = search (rules, any_before)
-kind-orderly value Thaw = search (rules, any_before)
-kind-orderly value Stop = search (rules, any_before)
-kind-orderly value Abandon = search (rules, any_before)
-kind-orderly value Desk = search (rules, any_before)
-kind-orderly value ExchangeBegin = search (rules, any_before)
-kind-orderly value ExchangeEnd = search (rules, any_before)
-kind-orderly value ExchangeCancel = search (rules, any_before)
+kind_orderly value Plug = search (rules, any_before)
+kind_orderly value Unplug = search (rules, any_before)
+kind_orderly value Report = search (rules, any_before)
+kind_orderly value Variable = search (rules, any_before)
+kind_orderly value Recipe = recipe_orderly value
+kind_orderly value Start = start_orderly value
+kind_orderly value Advance = search (rules, any_before)
+kind_orderly value Freeze = search (rules, any_before)
+kind_orderly value Thaw = search (rules, any_before)
+kind_orderly value Stop = search (rules, any_before)
+kind_orderly value Abandon = search (rules, any_before)
+kind_orderly value Desk = search (rules, any_before)
+kind_orderly value ExchangeBegin = search (rules, any_before)
+kind_orderly value ExchangeEnd = search (rules, any_before)
+kind_orderly value ExchangeCancel = search (rules, any_before)
 
 -- and so is one that a value says
 pub value_orderly : (value : Data) → IfOk (event_in value) IsOrderly
 unfolding event_in
-value_orderly value = search (rules, any_before, kind-orderly)
+value_orderly value = search (rules, any_before, kind_orderly)
 
-read-orderly : (line : List ℕ) → IfOk (read_of line) IsOrderly
-read-orderly line = search (rules, any_before, value_orderly)
+read_orderly : (line : List ℕ) → IfOk (read_of line) IsOrderly
+read_orderly line = search (rules, any_before, value_orderly)
 
-valid-orderly : (found event : EventForm) (fault : Option ChartFault) → fault_within found ≡ fault → IsOrderly found
+valid_orderly : (found event : PlainEvent) (fault : Option ChartFault) → fault_within found ≡ fault → IsOrderly found
     → unless_faulty found fault ≡ Ok event → is_orderly event ≡ true
-valid-orderly found event None none orderly is = let same : found ≡ event = cc in rw (← same) (orderly none)
-valid-orderly found event (Some fault) some orderly is = absurd cc
+valid_orderly found event None none orderly is = let same : found ≡ event = cc in rw (← same) (orderly none)
+valid_orderly found event (Some fault) some orderly is = absurd cc
 
-said-orderly : (read : Reading EventForm) (event : EventForm) → IfOk read IsOrderly → of_line read ≡ Ok event
+said_orderly : (read : ReadResult PlainEvent) (event : PlainEvent) → IfOk read IsOrderly → of_line read ≡ Ok event
     → is_orderly event ≡ true
-said-orderly (Ok found) event orderly is = valid-orderly found event (fault_within found) refl orderly is
-said-orderly (Err fault) event orderly is = absurd cc
+said_orderly (Ok found) event orderly is = valid_orderly found event (fault_within found) refl orderly is
+said_orderly (Err fault) event orderly is = absurd cc
 
 -- an event that a line says is orderly
-pub line_orderly : (line : List ℕ) (event : EventForm) → event_of line ≡ Ok event → is_orderly event ≡ true
+pub line_orderly : (line : List ℕ) (event : PlainEvent) → event_of line ≡ Ok event → is_orderly event ≡ true
 unfolding event_of
-line_orderly line event is = said-orderly (read_of line) event (read-orderly line) is
+line_orderly line event is = said_orderly (read_of line) event (read_orderly line) is
 
 -- what was told of a line is orderly
 pub told_orderly : (line : List ℕ) (result : Result Event LineRefusal) → Tells result (event_of line)
-    → IfOk result (λ event. IsTrue (is_orderly (event_view event)))
-told_orderly line (Ok event) tells = line_orderly line (event_view event) tells
+    → IfOk result (λ event. IsTrue (is_orderly (plain_event event)))
+told_orderly line (Ok event) tells = line_orderly line (plain_event event) tells
 told_orderly line (Err refusal) tells = tt

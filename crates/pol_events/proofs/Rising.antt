@@ -27,9 +27,9 @@ leads bind [] = true
 leads bind (next ∷ binds) = stands_before bind next
 
 -- rising is asked of the first bind, and then of the others
-pub rise-first : (bind : Bind) (binds : List Bind) → rise (bind ∷ binds) ≡ (leads bind binds && rise binds)
-rise-first bind [] = refl
-rise-first bind (next ∷ binds) = refl
+pub rise_first : (bind : Bind) (binds : List Bind) → rise (bind ∷ binds) ≡ (leads bind binds && rise binds)
+rise_first bind [] = refl
+rise_first bind (next ∷ binds) = refl
 
 -- where the binds rise, they stand in byte order of roles already
 pub by_role_rising : (binds : List Bind) → rise binds ≡ true → by_role binds ≡ binds
@@ -39,93 +39,93 @@ by_role_rising (bind ∷ next ∷ binds) rising =
     let parts = and_parts (stands_before bind next) (rise (next ∷ binds)) rising in
     rw (by_role_rising (next ∷ binds) parts.1, less (compared bind next) parts.0) refl
 
-leads-placed : (bind other next : Bind) (binds : List Bind) (order : Ordering) → stands_before bind other ≡ true
+leads_placed : (bind other next : Bind) (binds : List Bind) (order : Ordering) → stands_before bind other ≡ true
     → stands_before bind next ≡ true
     → leads bind (match_ordering order (other ∷ next ∷ binds) (next ∷ binds) (next ∷ with_bind other binds)) ≡ true
-leads-placed bind other next binds Less before leading = before
-leads-placed bind other next binds Equal before leading = leading
-leads-placed bind other next binds Greater before leading = leading
+leads_placed bind other next binds Less before leading = before
+leads_placed bind other next binds Equal before leading = leading
+leads_placed bind other next binds Greater before leading = leading
 
-leads-with : (bind other : Bind) (binds : List Bind) → stands_before bind other ≡ true → leads bind binds ≡ true
+leads_with : (bind other : Bind) (binds : List Bind) → stands_before bind other ≡ true → leads bind binds ≡ true
     → leads bind (with_bind other binds) ≡ true
-leads-with bind other [] before leading = before
-leads-with bind other (next ∷ binds) before leading = leads-placed bind other next binds
+leads_with bind other [] before leading = before
+leads_with bind other (next ∷ binds) before leading = leads_placed bind other next binds
     (compared other next) before leading
 
 reversed : (bind next : Bind) → compared bind next ≡ Greater → stands_before next bind ≡ true
 reversed bind next after = rw (nat_list_cmp_total.antisymm next.role bind.role, after) refl
 
-rise-placed : (bind next : Bind) (binds : List Bind) (order : Ordering) → compared bind next ≡ order
+rise_placed : (bind next : Bind) (binds : List Bind) (order : Ordering) → compared bind next ≡ order
     → rise (next ∷ binds) ≡ true → (rise binds ≡ true → rise (with_bind bind binds) ≡ true)
     → rise (match_ordering order (bind ∷ next ∷ binds) (next ∷ binds) (next ∷ with_bind bind binds)) ≡ true
-rise-placed bind next binds Less is rising rest = rw (is, rising) refl
-rise-placed bind next binds Equal is rising rest = rising
-rise-placed bind next binds Greater is rising rest =
-    let parts = and_parts (leads next binds) (rise binds) (sym (rise-first next binds) ∙ rising) in
+rise_placed bind next binds Less is rising rest = rw (is, rising) refl
+rise_placed bind next binds Equal is rising rest = rising
+rise_placed bind next binds Greater is rising rest =
+    let parts = and_parts (leads next binds) (rise binds) (sym (rise_first next binds) ∙ rising) in
     rw (
-      rise-first next (with_bind bind binds),
-      leads-with next bind binds
+      rise_first next (with_bind bind binds),
+      leads_with next bind binds
           (reversed bind next is) parts.0,
       rest parts.1,
     ) refl
 
-rise-with : (bind : Bind) (binds : List Bind) → rise binds ≡ true → rise (with_bind bind binds) ≡ true
-rise-with bind [] rising = refl
-rise-with bind (next ∷ binds) rising = rise-placed bind next binds (compared bind next) refl rising
-    (rise-with bind binds)
+rise_with : (bind : Bind) (binds : List Bind) → rise binds ≡ true → rise (with_bind bind binds) ≡ true
+rise_with bind [] rising = refl
+rise_with bind (next ∷ binds) rising = rise_placed bind next binds (compared bind next) refl rising
+    (rise_with bind binds)
 
 -- binds that were put in byte order of roles rise
-pub by_role-rises : (binds : List Bind) → rise (by_role binds) ≡ true
-by_role-rises [] = refl
-by_role-rises (bind ∷ binds) = rise-with bind (by_role binds) (by_role-rises binds)
+pub by_role_rises : (binds : List Bind) → rise (by_role binds) ≡ true
+by_role_rises [] = refl
+by_role_rises (bind ∷ binds) = rise_with bind (by_role binds) (by_role_rises binds)
 
-length-placed : (bind next : Bind) (binds : List Bind) (order : Ordering)
+length_placed : (bind next : Bind) (binds : List Bind) (order : Ordering)
     → length (with_bind bind binds) ≤ length (bind ∷ binds)
     → length (match_ordering order (bind ∷ next ∷ binds) (next ∷ binds) (next ∷ with_bind bind binds)) ≤ length
     (bind ∷ next ∷ binds)
-length-placed bind next binds Less few = omega arith
-length-placed bind next binds Equal few = omega arith
-length-placed bind next binds Greater few = omega arith
+length_placed bind next binds Less few = omega arith
+length_placed bind next binds Equal few = omega arith
+length_placed bind next binds Greater few = omega arith
 
-length-with : (bind : Bind) (binds : List Bind) → length (with_bind bind binds) ≤ length (bind ∷ binds)
-length-with bind [] = omega arith
-length-with bind (next ∷ binds) = length-placed bind next binds (compared bind next) (length-with bind binds)
+length_with : (bind : Bind) (binds : List Bind) → length (with_bind bind binds) ≤ length (bind ∷ binds)
+length_with bind [] = omega arith
+length_with bind (next ∷ binds) = length_placed bind next binds (compared bind next) (length_with bind binds)
 
 -- putting binds in order makes them no more
-pub by_role-few : (binds : List Bind) → length (by_role binds) ≤ length binds
-by_role-few [] = omega arith
-by_role-few (bind ∷ binds) = omega (arith, length-with bind (by_role binds), by_role-few binds)
+pub by_role_few : (binds : List Bind) → length (by_role binds) ≤ length binds
+by_role_few [] = omega arith
+by_role_few (bind ∷ binds) = omega (arith, length_with bind (by_role binds), by_role_few binds)
 
-before-each : (bind next : Bind) (binds : List Bind) → stands_before bind next ≡ true → rise (next ∷ binds) ≡ true
+before_each : (bind next : Bind) (binds : List Bind) → stands_before bind next ≡ true → rise (next ∷ binds) ≡ true
     → list_all (stands_before bind) (next ∷ binds) ≡ true
-before-each bind next [] before rising = rw before refl
-before-each bind next (other ∷ binds) before rising =
+before_each bind next [] before rising = rw before refl
+before_each bind next (other ∷ binds) before rising =
     let parts = and_parts (stands_before next other) (rise (other ∷ binds)) rising in
     let further : stands_before bind other ≡ true =
     ap is_lt (nat_list_cmp_total.trans bind.role next.role other.role (less (compared bind next) before)
     (less (compared next other) parts.0)) in
-    rw (before, before-each bind other binds further parts.1) refl
+    rw (before, before_each bind other binds further parts.1) refl
 
 -- the first of rising binds stands before each of the others
-pub first-before : (bind : Bind) (binds : List Bind) → rise (bind ∷ binds) ≡ true
+pub first_before : (bind : Bind) (binds : List Bind) → rise (bind ∷ binds) ≡ true
     → list_all (stands_before bind) binds ≡ true
-first-before bind [] rising = refl
-first-before bind (next ∷ binds) rising = let parts =
-    and_parts (stands_before bind next) (rise (next ∷ binds)) rising in before-each bind next binds parts.0 parts.1
+first_before bind [] rising = refl
+first_before bind (next ∷ binds) rising = let parts =
+    and_parts (stands_before bind next) (rise (next ∷ binds)) rising in before_each bind next binds parts.0 parts.1
 
 unlike : (bind other : Bind) → stands_before bind other ≡ true → bytes_eq bind.role other.role ≡ false
 unlike bind other before = sym (is_eq-slice_cmp bind.role other.role) ∙ ap is_eq (less (compared bind other) before)
 
-unlike-each : (bind : Bind) (binds : List Bind) → list_all (stands_before bind) binds ≡ true
+unlike_each : (bind : Bind) (binds : List Bind) → list_all (stands_before bind) binds ≡ true
     → list_all (λ other. not (bytes_eq bind.role other.role)) binds ≡ true
-unlike-each bind [] before = refl
-unlike-each bind (other ∷ binds) before =
+unlike_each bind [] before = refl
+unlike_each bind (other ∷ binds) before =
     let parts = and_parts (stands_before bind other) (list_all (stands_before bind) binds) before in
-    rw (unlike bind other parts.0, unlike-each bind binds parts.1) refl
+    rw (unlike bind other parts.0, unlike_each bind binds parts.1) refl
 
 -- rising binds name no role twice
 pub rising_distinct : (binds : List Bind) → rise binds ≡ true → roles_once binds ≡ true
 rising_distinct [] rising = refl
 rising_distinct (bind ∷ binds) rising =
-    let parts = and_parts (leads bind binds) (rise binds) (sym (rise-first bind binds) ∙ rising) in
-    rw (unlike-each bind binds (first-before bind binds rising), rising_distinct binds parts.1) refl
+    let parts = and_parts (leads bind binds) (rise binds) (sym (rise_first bind binds) ∙ rising) in
+    rw (unlike_each bind binds (first_before bind binds rising), rising_distinct binds parts.1) refl

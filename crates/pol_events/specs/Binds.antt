@@ -7,7 +7,7 @@ use Rattle.serde_json.specs.Events.{members_len}
 use Rattle.serde_json.specs.Find.{as_object, as_str}
 use Rattle.mtp_codes.specs.declared.limits.TheConstants.{MOST_BINDS}
 use Rattle.mtp_json.specs.Leaf.{name}
-use Rattle.mtp_json.specs.Reading.{Finding, Reading, ◌>>=◌, here}
+use Rattle.mtp_json.specs.ReadResult.{Finding, ReadResult, ◌>>=◌, here}
 use Rattle.mtp_json.specs.declared.fault.FaultKind.TheVariants.{WrongKind, OutOfRange}
 use Rattle.pol_events.specs.declared.event.Bind.{Bind}
 
@@ -26,14 +26,14 @@ few_texts None = Err WrongKind
 few_texts (Some members) = if are_texts members then few members else Err WrongKind
 
 -- a member as a bind: its key and its value are names
-abbrev pub bind_of : List ℕ → Data → Reading Bind
+abbrev pub bind_of : List ℕ → Data → ReadResult Bind
 bind_of key value =
     here (name (string key)) >>= λ role.
     here (name value) >>= λ tag.
     Ok (record { role = role; tag = tag })
 
 -- each member as a bind
-unfoldable pub each_bind : Members → Reading (List Bind)
+unfoldable pub each_bind : Members → ReadResult (List Bind)
 each_bind no_members = Ok []
 each_bind (member key value rest) =
     bind_of key value >>= λ bind.
@@ -53,7 +53,7 @@ by_role [] = []
 by_role (bind ∷ binds) = with_bind bind (by_role binds)
 
 -- an object of at most 64 members, from role to tag
-unfoldable pub binds_of : Data → Reading (List Bind)
+unfoldable pub binds_of : Data → ReadResult (List Bind)
 binds_of value =
     here (few_texts (as_object value)) >>= λ members.
     each_bind members >>= λ binds.

@@ -3,7 +3,7 @@ use Rattle.std.specs.Prelude.{ℕ, ◌≡◌, Bool, false, List, map, find, Opti
 use Rattle.std.specs.List.{Contains}
 use Rattle.std.specs.Str.{bytes_eq}
 use Rattle.mtp_codes.specs.Names.{same_name}
-use Rattle.chart_core.specs.Trees.{StepPlan}
+use Rattle.chart_core.specs.Trees.{PlainStep}
 use Rattle.pol_events.specs.declared.event.Bind.{Bind}
 
 -- the tag that is bound to the role
@@ -29,5 +29,5 @@ is_tag tag None = false
 is_tag tag (Some other) = same_name other tag
 
 -- the first of these steps whose role has the tag
-abbrev pub step_on : List Bind → List ℕ → List StepPlan → Option StepPlan
+abbrev pub step_on : List Bind → List ℕ → List PlainStep → Option PlainStep
 step_on binds tag steps = find (λ step. is_tag tag (bound_tag binds step.role)) steps

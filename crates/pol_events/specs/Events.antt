@@ -3,10 +3,10 @@ use Rattle.std.specs.Prelude.{ℕ, List, map, reverse}
 use Rattle.mtp_codes.specs.declared.command.Command.{Command}
 use Rattle.mtp_codes.specs.declared.value.Value.{Value}
 use Rattle.mtp_assembly.specs.declared.control.ServiceControl.{ServiceControl}
-use Rattle.mtp_desc.specs.Plain.{DescriptionForm}
-use Rattle.mtp_desc.specs.DescriptionView.{description_view}
-use Rattle.chart_core.specs.Roles.{ChartPlan}
-use Rattle.chart_core.specs.Charts.{plan}
+use Rattle.mtp_desc.specs.Plain.{PlainDescription}
+use Rattle.mtp_desc.specs.PlainDescription.{plain_description}
+use Rattle.chart_core.specs.Roles.{PlainChart}
+use Rattle.chart_core.specs.Charts.{plain_chart}
 use Rattle.pol_events.specs.declared.answer.Answer.{Answer}
 use Rattle.pol_events.specs.declared.event.Bind.{Bind}
 use Rattle.pol_events.specs.declared.event.Event.{Event}
@@ -14,50 +14,50 @@ use Rattle.pol_events.specs.declared.event.Event.TheVariants.{Plug, Unplug, Repo
 use Rattle.pol_events.specs.declared.event.Entry.{Entry}
 
 -- an event, with names as their bytes
-pub data EventForm : Type 0 where
-  plug : (at : ℕ) (tag : List ℕ) (description : DescriptionForm) → EventForm
-  unplug : (at : ℕ) (tag : List ℕ) → EventForm
-  report : (at : ℕ) (tag service : List ℕ) (control : ServiceControl) → EventForm
-  variable : (at : ℕ) (tag name : List ℕ) (value : Value) → EventForm
-  recipe : (at : ℕ) (recipe : List ℕ) (chart : ChartPlan) → EventForm
-  start : (at : ℕ) (batch recipe : List ℕ) (binds : List Bind) → EventForm
-  advance : (at : ℕ) (batch : List ℕ) → EventForm
-  freeze : (at : ℕ) (batch : List ℕ) → EventForm
-  thaw : (at : ℕ) (batch : List ℕ) → EventForm
-  stop_batch : (at : ℕ) (batch : List ℕ) → EventForm
-  abandon : (at : ℕ) (batch : List ℕ) → EventForm
-  desk : (at : ℕ) (tag service : List ℕ) (command : Command) → EventForm
-  exchange_begin : (at : ℕ) (tag : List ℕ) → EventForm
-  exchange_end : (at : ℕ) (tag : List ℕ) (ticket : ℕ) (description : DescriptionForm) → EventForm
-  exchange_cancel : (at : ℕ) (tag : List ℕ) (ticket : ℕ) → EventForm
+pub data PlainEvent : Type 0 where
+  plug : (at : ℕ) (tag : List ℕ) (description : PlainDescription) → PlainEvent
+  unplug : (at : ℕ) (tag : List ℕ) → PlainEvent
+  report : (at : ℕ) (tag service : List ℕ) (control : ServiceControl) → PlainEvent
+  variable : (at : ℕ) (tag name : List ℕ) (value : Value) → PlainEvent
+  recipe : (at : ℕ) (recipe : List ℕ) (chart : PlainChart) → PlainEvent
+  start : (at : ℕ) (batch recipe : List ℕ) (binds : List Bind) → PlainEvent
+  advance : (at : ℕ) (batch : List ℕ) → PlainEvent
+  freeze : (at : ℕ) (batch : List ℕ) → PlainEvent
+  thaw : (at : ℕ) (batch : List ℕ) → PlainEvent
+  stop_batch : (at : ℕ) (batch : List ℕ) → PlainEvent
+  abandon : (at : ℕ) (batch : List ℕ) → PlainEvent
+  desk : (at : ℕ) (tag service : List ℕ) (command : Command) → PlainEvent
+  exchange_begin : (at : ℕ) (tag : List ℕ) → PlainEvent
+  exchange_end : (at : ℕ) (tag : List ℕ) (ticket : ℕ) (description : PlainDescription) → PlainEvent
+  exchange_cancel : (at : ℕ) (tag : List ℕ) (ticket : ℕ) → PlainEvent
 
 -- an event with its answer
-pub record EntryForm : Type 0 where
-  pub event : EventForm
+pub record PlainEntry : Type 0 where
+  pub event : PlainEvent
   pub answer : Answer
 
 -- what contracts see of an event
-abbrev pub event_view : Event → EventForm
-event_view (Plug at tag desc) = plug at tag (description_view desc.value)
-event_view (Unplug at tag) = unplug at tag
-event_view (Report at tag service control) = report at tag service control
-event_view (Variable at tag name value) = variable at tag name value
-event_view (Recipe at name chart) = recipe at name (plan chart.value)
-event_view (Start at batch name bind) = start at batch name bind.items
-event_view (Advance at batch) = advance at batch
-event_view (Freeze at batch) = freeze at batch
-event_view (Thaw at batch) = thaw at batch
-event_view (StopBatch at batch) = stop_batch at batch
-event_view (Abandon at batch) = abandon at batch
-event_view (Desk at tag service command) = desk at tag service command
-event_view (ExchangeBegin at tag) = exchange_begin at tag
-event_view (ExchangeEnd at tag ticket desc) = exchange_end at tag ticket (description_view desc.value)
-event_view (ExchangeCancel at tag ticket) = exchange_cancel at tag ticket
+abbrev pub plain_event : Event → PlainEvent
+plain_event (Plug at tag desc) = plug at tag (plain_description desc.value)
+plain_event (Unplug at tag) = unplug at tag
+plain_event (Report at tag service control) = report at tag service control
+plain_event (Variable at tag name value) = variable at tag name value
+plain_event (Recipe at name chart) = recipe at name (plain_chart chart.value)
+plain_event (Start at batch name bind) = start at batch name bind.items
+plain_event (Advance at batch) = advance at batch
+plain_event (Freeze at batch) = freeze at batch
+plain_event (Thaw at batch) = thaw at batch
+plain_event (StopBatch at batch) = stop_batch at batch
+plain_event (Abandon at batch) = abandon at batch
+plain_event (Desk at tag service command) = desk at tag service command
+plain_event (ExchangeBegin at tag) = exchange_begin at tag
+plain_event (ExchangeEnd at tag ticket desc) = exchange_end at tag ticket (plain_description desc.value)
+plain_event (ExchangeCancel at tag ticket) = exchange_cancel at tag ticket
 
 -- what contracts see of an entry
-abbrev pub entry_view : Entry → EntryForm
-entry_view entry = record { event = event_view entry.event; answer = entry.answer }
+abbrev pub plain_entry : Entry → PlainEntry
+plain_entry entry = record { event = plain_event entry.event; answer = entry.answer }
 
 -- what contracts see of a plant's entries, which stand from the oldest on: the history, the newest entry first
-abbrev pub history_view : List Entry → List EntryForm
-history_view entries = reverse (map entry_view entries)
+abbrev pub plain_history : List Entry → List PlainEntry
+plain_history entries = reverse (map plain_entry entries)

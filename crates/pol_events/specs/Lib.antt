@@ -13,5 +13,5 @@ pub mod Bound
 pub mod BindRules
 pub mod Forms
 pub mod Lines
-pub mod Held
+pub mod Ranges
 pub mod Written

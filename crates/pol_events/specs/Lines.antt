@@ -3,13 +3,13 @@ use Rattle.std.specs.Prelude.{◌≡◌, ◌||◌, ◌==◌, ℕ, Bool, List, Op
 use Rattle.chart_core.specs.declared.fault.ChartFault.{ChartFault}
 use Rattle.chart_core.specs.Valid.{chart_fault}
 use Rattle.mtp_json.specs.Parse.{json_of}
-use Rattle.mtp_json.specs.Reading.{Reading, ◌>>=◌, here}
+use Rattle.mtp_json.specs.ReadResult.{ReadResult, ◌>>=◌, here}
 use Rattle.pol_events.specs.declared.event.Event.{Event}
 use Rattle.pol_events.specs.declared.fault.LineFault.{LineFault}
 use Rattle.pol_events.specs.declared.fault.LineFault.TheVariants.{Json, Chart}
 use Rattle.pol_events.specs.declared.fault.LineRefusal.{LineRefusal}
 use Rattle.pol_events.specs.declared.fault.LineRefusal.TheVariants.{Fault, Memory}
-use Rattle.pol_events.specs.Events.{EventForm, recipe, event_view}
+use Rattle.pol_events.specs.Events.{PlainEvent, recipe, plain_event}
 use Rattle.pol_events.specs.Forms.{event_in}
 
 -- the byte is a space, a tab or a carriage return
@@ -17,34 +17,34 @@ abbrev pub is_blank_byte : ℕ → Bool
 is_blank_byte byte = byte == 32 || (byte == 9 || byte == 13)
 
 -- what the bytes of a line are read as
-abbrev pub read_of : List ℕ → Reading EventForm
+abbrev pub read_of : List ℕ → ReadResult PlainEvent
 read_of line = here (json_of line) >>= event_in
 
 -- the fault of the chart that an event makes known
-abbrev pub fault_within : EventForm → Option ChartFault
+abbrev pub fault_within : PlainEvent → Option ChartFault
 fault_within (recipe at name chart) = chart_fault chart
 fault_within _ = None
 
 -- an event, unless its chart has a fault
-abbrev pub unless_faulty : EventForm → Option ChartFault → Result EventForm LineFault
+abbrev pub unless_faulty : PlainEvent → Option ChartFault → Result PlainEvent LineFault
 unless_faulty event None = Ok event
 unless_faulty event (Some fault) = Err (Chart fault)
 
 -- what was read, with its fault as a fault of the line; where all was read, the chart is asked
-abbrev pub of_line : Reading EventForm → Result EventForm LineFault
+abbrev pub of_line : ReadResult PlainEvent → Result PlainEvent LineFault
 of_line (Ok event) = unless_faulty event (fault_within event)
 of_line (Err fault) = Err (Json fault)
 
 -- the event of a line that isn't too long, or the line's first fault
-unfoldable pub event_of : List ℕ → Result EventForm LineFault
+unfoldable pub event_of : List ℕ → Result PlainEvent LineFault
 event_of line = of_line (read_of line)
 
 -- a refusal is the line's fault, or want of memory
-abbrev pub Fails : LineRefusal → Result EventForm LineFault → Type 0
+abbrev pub Fails : LineRefusal → Result PlainEvent LineFault → Type 0
 Fails Memory said = Unit {0}
 Fails (Fault fault) said = said ≡ Err fault
 
 -- the result is the event that the line says, or the line's fault, unless there was no memory
-abbrev pub Tells : Result Event LineRefusal → Result EventForm LineFault → Type 0
-Tells (Ok event) said = said ≡ Ok (event_view event)
+abbrev pub Tells : Result Event LineRefusal → Result PlainEvent LineFault → Type 0
+Tells (Ok event) said = said ≡ Ok (plain_event event)
 Tells (Err refusal) said = Fails refusal said

@@ -5,10 +5,10 @@ use Rattle.std.specs.Cmp.Lexicographic.{slice_cmp}
 use Rattle.std.specs.List.{list_all}
 use Rattle.std.specs.Str.{bytes_eq}
 use Rattle.mtp_codes.specs.declared.limits.TheConstants.{MOST_BINDS}
-use Rattle.chart_core.specs.Roles.{ChartPlan, is_chart_form}
+use Rattle.chart_core.specs.Roles.{PlainChart, is_chart_form}
 use Rattle.chart_core.specs.Valid.{chart_fault}
 use Rattle.pol_events.specs.declared.event.Bind.{Bind}
-use Rattle.pol_events.specs.Events.{EventForm, recipe, start}
+use Rattle.pol_events.specs.Events.{PlainEvent, recipe, start}
 
 -- the first role stands before the second in byte order
 abbrev pub stands_before : Bind → Bind → Bool
@@ -26,11 +26,11 @@ roles_once [] = true
 roles_once (bind ∷ binds) = list_all (λ other. not (bytes_eq bind.role other.role)) binds && roles_once binds
 
 -- the chart has no fault
-abbrev pub is_valid : ChartPlan → Bool
+abbrev pub is_valid : PlainChart → Bool
 is_valid chart = is_none (chart_fault chart)
 
 -- a recipe's chart is formed and valid; a start has at most 64 binds, and their roles rise in byte order
-abbrev pub is_orderly : EventForm → Bool
+abbrev pub is_orderly : PlainEvent → Bool
 is_orderly (recipe at name chart) = is_chart_form chart && is_valid chart
 is_orderly (start at batch name binds) = nat_le (length binds) MOST_BINDS && rise binds
 is_orderly _ = true

@@ -17,13 +17,13 @@ use Rattle.mtp_assembly.specs.declared.check.ValueFault.TheVariants as value
 use Rattle.mtp_assembly.specs.declared.control.ServiceControl.{ServiceControl}
 use Rattle.mtp_modes.specs.Permission.{forbidden_by}
 use Rattle.mtp_modes.specs.declared.view.ServiceView.{ServiceView}
-use Rattle.mtp_desc.specs.Plain.{ServiceForm, DescriptionForm}
+use Rattle.mtp_desc.specs.Plain.{PlainService, PlainDescription}
 use Rattle.mtp_desc.specs.Lookup.{service_named, variable_named}
 use Rattle.pol_events.specs.declared.answer.Rule.{Rule}
 use Rattle.pol_events.specs.declared.answer.Rule.TheVariants.{NoService, NotAnEdge, NoVariable, WrongKind, OutOfRange, WrongType, WrongVersion, NotCovered, ModeForbids, SelfCompletes, StateForbids, NotEnabled, NotAtRest, InExchange, WrongTicket}
 
 -- the module's description lacks the service
-abbrev pub no_service : List ℕ → DescriptionForm → Option Rule
+abbrev pub no_service : List ℕ → PlainDescription → Option Rule
 no_service service description = when (is_none (service_named service description)) NoService
 
 -- a state may follow the one reported last: it is the same, or an edge leads to it
@@ -36,7 +36,7 @@ not_an_edge state last =
     option_and_then (λ last. when (not (may_follow last.state state)) (NotAnEdge last.state state)) last
 
 -- the module's description lacks the variable
-abbrev pub no_variable : List ℕ → DescriptionForm → Option Rule
+abbrev pub no_variable : List ℕ → PlainDescription → Option Rule
 no_variable name description = when (is_none (variable_named name description)) NoVariable
 
 -- a value's fault as a rule
@@ -45,8 +45,8 @@ value_rule value.WrongKind = WrongKind
 value_rule value.OutOfRange = OutOfRange
 
 -- the value is of another kind than the variable, or out of its range
-abbrev pub misfit : List ℕ → Value → DescriptionForm → Option Rule
-misfit name value description =
+abbrev pub value_misfit : List ℕ → Value → PlainDescription → Option Rule
+value_misfit name value description =
     option_and_then (λ variable. option_map value_rule (view_fault variable.kind value))
     (variable_named name description)
 
@@ -67,7 +67,7 @@ service_not_at_rest service control =
     option_and_then (λ control. when (not (is_at_rest control.state)) (NotAtRest service control.state)) control
 
 -- the first of these services that isn't at rest, by what each reported last
-abbrev pub not_at_rest : (List ℕ → Option ServiceControl) → List ServiceForm → Option Rule
+abbrev pub not_at_rest : (List ℕ → Option ServiceControl) → List PlainService → Option Rule
 not_at_rest last services = first_of (map (λ service. service_not_at_rest service.name (last service.name)) services)
 
 -- the module is away under a ticket
@@ -79,17 +79,17 @@ abbrev pub wrong_ticket : ℕ → Option ℕ → Option Rule
 wrong_ticket given kept = option_and_then (λ kept. when (not (kept == given)) (WrongTicket kept given)) kept
 
 -- the rules of a report, by the ticket of the module's exchange, its description and what the service reported last
-abbrev pub report_rules : List ℕ → List ℕ → State → Option ℕ → Option DescriptionForm → Option ServiceControl
+abbrev pub report_rules : List ℕ → List ℕ → State → Option ℕ → Option PlainDescription → Option ServiceControl
     → List (Option Rule)
 report_rules tag service state ticket description last =
     in_exchange tag ticket ∷ option_and_then (no_service service) description ∷ not_an_edge state last ∷ []
 
 -- the rules of a variable's value, by the ticket of the module's exchange and its description
-abbrev pub variable_rules : List ℕ → List ℕ → Value → Option ℕ → Option DescriptionForm → List (Option Rule)
+abbrev pub variable_rules : List ℕ → List ℕ → Value → Option ℕ → Option PlainDescription → List (Option Rule)
 variable_rules tag name value ticket description =
     in_exchange tag ticket
     ∷ option_and_then (no_variable name) description
-    ∷ option_and_then (misfit name value) description
+    ∷ option_and_then (value_misfit name value) description
     ∷ []
 
 -- why a module can't play the role, as a rule

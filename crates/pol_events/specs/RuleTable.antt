@@ -1,7 +1,7 @@
 -- The table of the rules: the number, the name and the fields of each.
 use Rattle.std.specs.Prelude.{ℕ, List, [], ◌∷◌, codes}
 use Rattle.mtp_codes.specs.Codes.{state_number}
-use Rattle.pol_events.specs.Fields.{FieldForm, fields_of, number_field, text_field}
+use Rattle.pol_events.specs.Fields.{PlainField, fields_of, number_field, text_field}
 use Rattle.pol_events.specs.declared.answer.Rule.{Rule}
 use Rattle.pol_events.specs.declared.answer.Rule.TheVariants.{TagTaken, NoModule, PlantFull, Held, InExchange, NotInExchange, WrongTicket, NoService, NotAnEdge, NoVariable, WrongKind, RecipeKnown, NoRecipe, BatchKnown, NoBatch, BatchClosed, RoleUnbound, RoleUnknown, OneModuleTwice, WrongType, WrongVersion, NotCovered, NotReported, NotIdle, Busy, BatchesFull, NotAtRest, ActiveStep, HeldBack, ModeForbids, StateForbids, NotEnabled, OutOfRange, NotFrozen, AlreadyFrozen, SelfCompletes, RecipesFull, HistoryFull}
 use Rattle.pol_events.specs.declared.rule_table.RuleRow.{RuleRow}
@@ -10,10 +10,10 @@ use Rattle.pol_events.specs.declared.rule_table.RuleRow.{RuleRow}
 pub record PlainRow : Type 0 where
   pub number : ℕ
   pub name : List ℕ
-  pub fields : List FieldForm
+  pub fields : List PlainField
 
 -- a rule of this number and name, with these fields
-abbrev pub row : ℕ → List ℕ → List FieldForm → PlainRow
+abbrev pub row : ℕ → List ℕ → List PlainField → PlainRow
 row number name fields = record { number = number; name = name; fields = fields }
 
 -- each rule
@@ -73,5 +73,5 @@ rule_row RecipesFull = row 37 (codes "RecipesFull") []
 rule_row HistoryFull = row 38 (codes "HistoryFull") []
 
 -- what contracts see of a row
-abbrev pub row_view : RuleRow → PlainRow
-row_view rule = row rule.number rule.name.now (fields_of rule.fields)
+abbrev pub plain_row : RuleRow → PlainRow
+plain_row rule = row rule.number rule.name.now (fields_of rule.fields)

@@ -1,6 +1,6 @@
 -- Whom an event is of.
 use Rattle.std.specs.Prelude.{ℕ, List}
-use Rattle.pol_events.specs.Events.{EventForm, plug, unplug, report, variable, recipe, start, advance, freeze, thaw, stop_batch, abandon, desk, exchange_begin, exchange_end, exchange_cancel}
+use Rattle.pol_events.specs.Events.{PlainEvent, plug, unplug, report, variable, recipe, start, advance, freeze, thaw, stop_batch, abandon, desk, exchange_begin, exchange_end, exchange_cancel}
 use Rattle.pol_events.specs.declared.subject.Subject.{Subject as Told}
 use Rattle.pol_events.specs.declared.subject.Subject.TheVariants.{Module, Batch, Recipe}
 
@@ -11,7 +11,7 @@ pub data Subject : Type 0 where
   of_recipe : (recipe : List ℕ) → Subject
 
 -- the module, batch or recipe that an event is of
-abbrev pub subject : EventForm → Subject
+abbrev pub subject : PlainEvent → Subject
 subject (plug at tag description) = of_module tag
 subject (unplug at tag) = of_module tag
 subject (report at tag service control) = of_module tag
@@ -29,7 +29,7 @@ subject (exchange_end at tag ticket description) = of_module tag
 subject (exchange_cancel at tag ticket) = of_module tag
 
 -- what contracts see of a subject
-abbrev pub subject_view : Told → Subject
-subject_view (Module tag) = of_module tag
-subject_view (Batch batch) = of_batch batch
-subject_view (Recipe name) = of_recipe name
+abbrev pub plain_subject : Told → Subject
+plain_subject (Module tag) = of_module tag
+plain_subject (Batch batch) = of_batch batch
+plain_subject (Recipe name) = of_recipe name

@@ -12,7 +12,7 @@ use Rattle.mtp_json.specs.Written.{scalar_data}
 use Rattle.mtp_desc.specs.Written.{written_description}
 use Rattle.chart_json.specs.Written.{written_roles, written_tree}
 use Rattle.pol_events.specs.declared.event.Bind.{Bind}
-use Rattle.pol_events.specs.Events.{EventForm, plug, unplug, report, variable, recipe, start, advance, freeze, thaw, stop_batch, abandon, desk, exchange_begin, exchange_end, exchange_cancel}
+use Rattle.pol_events.specs.Events.{PlainEvent, plug, unplug, report, variable, recipe, start, advance, freeze, thaw, stop_batch, abandon, desk, exchange_begin, exchange_end, exchange_cancel}
 
 -- a whole number
 abbrev pub whole : ℕ → Data
@@ -135,7 +135,7 @@ written_batch word at batch = object
 -- ---- all kinds
 
 -- an event
-abbrev pub written_event : EventForm → Data
+abbrev pub written_event : PlainEvent → Data
 written_event (plug at tag description) = written_plug at tag (written_description description)
 written_event (unplug at tag) = written_tag (codes "unplug") at tag
 written_event (report at tag service control) = written_report at tag service control

@@ -1,8 +1,8 @@
 //! The lines of events that name a batch.
 ghost use Rattle.std.specs.Prelude.{◌≡◌};
 ghost use Rattle.serde_json.specs.View.{view};
-ghost use Rattle.mtp_json.specs.Gives.{Gives};
-ghost use Rattle.pol_events.specs.Events.{event_view};
+ghost use Rattle.mtp_json.specs.ReadsAs.{ReadsAs};
+ghost use Rattle.pol_events.specs.Events.{plain_event};
 ghost use Rattle.pol_events.specs.Forms.{batch_in, start_in};
 ghost use Rattle.pol_events.specs.Kinds.{batch_event};
 
@@ -17,7 +17,7 @@ use std::alloc::Global;
 /// A start by its form.
 #[tactic(auto, unfolding(crate::specs::Forms::start_in))]
 pub fn read_start(alloc: Global, value: &Value) -> Result<Event, JsonRefusal>
-    ensures { Gives event_view result (start_in (view value.now)) }
+    ensures { ReadsAs plain_event result (start_in (view value.now)) }
 {
     let at = u64_at(alloc, value, "at")?;
     let batch = name_at(alloc, value, "batch")?;
@@ -33,7 +33,7 @@ pub fn read_start(alloc: Global, value: &Value) -> Result<Event, JsonRefusal>
 }
 
 fn of_batch(kind: BatchKind, at: u64, batch: Name) -> Event
-    ensures { event_view result ≡ batch_event kind at batch }
+    ensures { plain_event result ≡ batch_event kind at batch }
 {
     match kind {
         BatchKind::Advance => Event::Advance { at, batch },
@@ -47,7 +47,7 @@ fn of_batch(kind: BatchKind, at: u64, batch: Name) -> Event
 /// An event that names a batch and nothing more, by its form.
 #[tactic(auto, unfolding(crate::specs::Forms::batch_in))]
 pub fn read_of_batch(alloc: Global, value: &Value, kind: BatchKind) -> Result<Event, JsonRefusal>
-    ensures { Gives event_view result (batch_in (batch_event kind) (view value.now)) }
+    ensures { ReadsAs plain_event result (batch_in (batch_event kind) (view value.now)) }
 {
     let at = u64_at(alloc, value, "at")?;
     let batch = name_at(alloc, value, "batch")?;

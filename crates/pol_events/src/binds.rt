@@ -4,7 +4,7 @@ ghost use Rattle.std.specs.BTreeMap.{values as map_values};
 ghost use Rattle.std.specs.List.{list_all};
 ghost use Rattle.serde_json.specs.Find.{as_object, as_str};
 ghost use Rattle.serde_json.specs.View.{members_view, view};
-ghost use Rattle.mtp_json.specs.Gives.{Gives, seen};
+ghost use Rattle.mtp_json.specs.ReadsAs.{ReadsAs, seen};
 ghost use Rattle.pol_events.specs.Binds.{are_texts, bind_of, binds_of, each_bind, few_texts};
 ghost use Rattle.pol_events.specs.Orderly.{rise};
 
@@ -15,7 +15,7 @@ use serde_json::{Map, Value};
 use std::alloc::Global;
 
 fn read_bind(alloc: Global, role: &str, tag: &Value) -> Result<Bind, JsonRefusal>
-    ensures { Gives (λ bind. bind) result (bind_of role.now (view tag.now)) }
+    ensures { ReadsAs (λ bind. bind) result (bind_of role.now (view tag.now)) }
 {
     let role = here(
         alloc,
@@ -26,7 +26,7 @@ fn read_bind(alloc: Global, role: &str, tag: &Value) -> Result<Bind, JsonRefusal
 }
 
 fn read_each(alloc: Global, members: &Map<String, Value>) -> Result<Vec<Bind>, JsonRefusal>
-    ensures gives { Gives (λ binds. binds.items) result (each_bind (members_view members.now.entries)) }
+    ensures gives { ReadsAs (λ binds. binds.items) result (each_bind (members_view members.now.entries)) }
     ensures order { IfOk result (λ binds. rise binds.items ≡ true) }
 {
     let mut binds = Vec::new(alloc);
@@ -66,7 +66,7 @@ fn few_texts(value: &Value) -> Result<&Map<String, Value>, FaultKind>
 
 #[tactic(auto, unfolding(crate::specs::Binds::binds_of), using(crate::proofs::Rising::by_role_rising))]
 fn read_binds(alloc: Global, value: &Value) -> Result<Vec<Bind>, JsonRefusal>
-    ensures { Gives (λ binds. binds.items) result (binds_of (view value.now)) }
+    ensures { ReadsAs (λ binds. binds.items) result (binds_of (view value.now)) }
 {
     let members = here(alloc, few_texts(value))?;
     read_each(alloc, members)

@@ -1,6 +1,6 @@
 //! What a service reports, in JSON.
 ghost use Rattle.serde_json.specs.View.{view};
-ghost use Rattle.mtp_json.specs.Gives.{Gives};
+ghost use Rattle.mtp_json.specs.ReadsAs.{ReadsAs};
 ghost use Rattle.pol_events.specs.Forms.{control_in};
 
 use crate::words::{ModeWords, OriginWords};
@@ -12,7 +12,7 @@ use std::alloc::Global;
 /// The five fields of what a service reports.
 #[tactic(auto, unfolding(crate::specs::Forms::control_in))]
 pub fn read_control(alloc: Global, value: &Value) -> Result<ServiceControl, JsonRefusal>
-    ensures { Gives (λ control. control) result (control_in (view value.now)) }
+    ensures { ReadsAs (λ control. control) result (control_in (view value.now)) }
 {
     let state = state_at(alloc, value, "StateCur")?;
     let mask = u32_at(alloc, value, "CommandEn", 0, u32::MAX)?;

@@ -3,7 +3,7 @@ ghost use Rattle.std.specs.Prelude.{◌≡◌, ◌+◌, ◌<◌, ◌≤◌, ◌+
 ghost use Rattle.std.specs.List.{position, position_or_len};
 ghost use Rattle.mtp_codes.specs.Codes.{command_number, state_number};
 ghost use Rattle.pol_events.specs.declared.fields.TheConstants.{MOST_FIELDS};
-ghost use Rattle.pol_events.specs.Fields.{field_view, fields_of, in_order, placed, stands_before, number_field, readings_field, text_field};
+ghost use Rattle.pol_events.specs.Fields.{plain_field, fields_of, in_order, placed, stands_before, number_field, readings_field, text_field};
 
 use arrayvec::ArrayVec;
 use mtp_codes::{Command, Name, Reading, State};
@@ -47,7 +47,7 @@ pub struct Fields<'a> {
 
 // The place of the first field whose key is greater.
 fn first_greater(fields: &[Field<'_>], key: &str) -> Option<usize>
-    ensures { result ≡ position (λ other. stands_before key.now (field_view other)) fields.now }
+    ensures { result ≡ position (λ other. stands_before key.now (plain_field other)) fields.now }
 {
     fields.iter().position(|other| key < other.key)
 }
@@ -55,7 +55,7 @@ fn first_greater(fields: &[Field<'_>], key: &str) -> Option<usize>
 // The place of a key among fields in byte order of their keys: before the first whose key is greater.
 #[tactic(auto, using(crate::proofs::Places::seen_place, crate::proofs::Places::place_within))]
 fn place_of(fields: &[Field<'_>], key: &str) -> usize
-    ensures place { result ≡ position_or_len (stands_before key.now) (map field_view fields.now) }
+    ensures place { result ≡ position_or_len (stands_before key.now) (map plain_field fields.now) }
     ensures within { result ≤ length fields.now }
 {
     first_greater(fields, key).unwrap_or(fields.len())
@@ -75,7 +75,7 @@ impl<'a> Fields<'a> {
     fn with(self, key: &'static str, value: FieldValue<'a>) -> Fields<'a>
         requires { length (fields_of self) < MOST_FIELDS }
         ensures fields { fields_of result ≡ fields_of self.entry
-            ++ field_view (record { key = key.entry; value = value.entry }) ∷ [] }
+            ++ plain_field (record { key = key.entry; value = value.entry }) ∷ [] }
         ensures count { length (fields_of result) ≡ length (fields_of self.entry) + 1 }
     {
         let mut items = self.items;
@@ -131,7 +131,7 @@ impl<'a> Fields<'a> {
     #[tactic(auto, using(crate::proofs::Places::map_insert))]
     fn place(&mut self, field: Field<'a>)
         requires { length (fields_of self.old) < MOST_FIELDS }
-        ensures fields { fields_of self.new ≡ placed (fields_of self.old) (field_view field.entry) }
+        ensures fields { fields_of self.new ≡ placed (fields_of self.old) (plain_field field.entry) }
         ensures count { length (fields_of self.new) ≡ length (fields_of self.old) + 1 }
     {
         let place = place_of(self.items.as_slice(), field.key);
@@ -151,7 +151,7 @@ impl<'a> Fields<'a> {
 
     /// The fields.
     pub fn as_slice(&self) -> &[Field<'a>]
-        ensures { map field_view result.now ≡ fields_of self.now }
+        ensures { map plain_field result.now ≡ fields_of self.now }
     {
         self.items.as_slice()
     }

@@ -1,6 +1,6 @@
 //! Laws of what lines say.
 ghost use Rattle.std.specs.Prelude.{◌≡◌, ℕ, List, Ok, true};
-ghost use Rattle.pol_events.specs.Events.{EventForm};
+ghost use Rattle.pol_events.specs.Events.{PlainEvent};
 ghost use Rattle.pol_events.specs.Lines.{event_of};
 ghost use Rattle.pol_events.specs.Orderly.{is_orderly, rise, roles_once};
 ghost use Rattle.pol_events.specs.declared.event.Bind.{Bind};
@@ -8,7 +8,7 @@ ghost use Rattle.pol_events.specs.declared.event.Bind.{Bind};
 /// What a line says is orderly: a recipe's chart is valid, and a start binds at most 64 roles, in byte order.
 #[tactic(auto, using(crate::proofs::Orderly::line_orderly))]
 pub fn lines_are_orderly()
-    ensures { (line : List ℕ) (event : EventForm) → event_of line ≡ Ok event → is_orderly event ≡ true }
+    ensures { (line : List ℕ) (event : PlainEvent) → event_of line ≡ Ok event → is_orderly event ≡ true }
 {}
 
 /// Roles that stand in byte order are bound once each.

@@ -1,11 +1,11 @@
-//! What happens in a plant and what it is answered: events, rules, answers, and the pairs of both that a history is made
-//! of; and the lines of a journal that say the events.
+//! What happens in a plant and what it is answered: events, rules, answers, and the pairs of both that a history is
+//! made of; and the lines of a journal that say the events.
 //!
-//! The form of each of the fifteen kinds of line is in `specs/Forms.antt`. `read_event` gives the event that a line says,
-//! or the first fault in reading order, and last the fault of a recipe's chart; each text of the value that `event_value`
-//! writes is a line that says the same event. What a line says is orderly (`specs/Orderly.antt`): charts are valid, and
-//! roles are bound once each, in byte order. This crate knows nothing of the plant's state: which answer an event gets is
-//! said in `pol_history`.
+//! The form of each of the fifteen kinds of line is in `specs/Forms.antt`. `read_event` gives the event that a line
+//! says, or the first fault in reading order, and last the fault of a recipe's chart; each text of the value that
+//! `event_value` writes is a line that says the same event. What a line says is orderly (`specs/Orderly.antt`): charts
+//! are valid, and roles are bound once each, in byte order. This crate knows nothing of the plant's state: which answer
+//! an event gets is said in `pol_history`.
 #![tactic(auto)]
 
 mod answer;

@@ -1,11 +1,11 @@
 //! The lines of events that name a module.
 ghost use Rattle.std.specs.Prelude.{◌≡◌, codes};
 ghost use Rattle.serde_json.specs.View.{view};
-ghost use Rattle.mtp_json.specs.Form.{inside};
-ghost use Rattle.mtp_json.specs.Gives.{Gives};
-ghost use Rattle.mtp_desc.specs.DescriptionView.{description_view};
+ghost use Rattle.mtp_json.specs.Form.{nested};
+ghost use Rattle.mtp_json.specs.ReadsAs.{ReadsAs};
+ghost use Rattle.mtp_desc.specs.PlainDescription.{plain_description};
 ghost use Rattle.mtp_desc.specs.Form.{description_of};
-ghost use Rattle.pol_events.specs.Events.{event_view};
+ghost use Rattle.pol_events.specs.Events.{plain_event};
 ghost use Rattle.pol_events.specs.Forms.{desk_in, exchange_cancel_in, exchange_end_in, plug_in, report_in, tag_in, variable_in};
 ghost use Rattle.pol_events.specs.Kinds.{tag_event};
 
@@ -20,8 +20,8 @@ use std::alloc::Global;
 use std::sync::Arc;
 
 fn description_at(alloc: Global, object: &Value) -> Result<Arc<Description>, JsonRefusal>
-    ensures { Gives (λ shared. description_view shared.value) result
-        (inside (codes "desc") description_of (view object.now)) }
+    ensures { ReadsAs (λ shared. plain_description shared.value) result
+        (nested (codes "desc") description_of (view object.now)) }
 {
     let description = form_at::<DescriptionJson>(alloc, object, "desc")?;
     Ok(Arc::new(alloc, description)?)
@@ -30,7 +30,7 @@ fn description_at(alloc: Global, object: &Value) -> Result<Arc<Description>, Jso
 /// A plug by its form.
 #[tactic(auto, unfolding(crate::specs::Forms::plug_in))]
 pub fn read_plug(alloc: Global, value: &Value) -> Result<Event, JsonRefusal>
-    ensures { Gives event_view result (plug_in (view value.now)) }
+    ensures { ReadsAs plain_event result (plug_in (view value.now)) }
 {
     let at = u64_at(alloc, value, "at")?;
     let tag = name_at(alloc, value, "tag")?;
@@ -40,7 +40,7 @@ pub fn read_plug(alloc: Global, value: &Value) -> Result<Event, JsonRefusal>
 }
 
 fn of_tag(kind: TagKind, at: u64, tag: Name) -> Event
-    ensures { event_view result ≡ tag_event kind at tag }
+    ensures { plain_event result ≡ tag_event kind at tag }
 {
     match kind {
         TagKind::Unplug => Event::Unplug { at, tag },
@@ -51,7 +51,7 @@ fn of_tag(kind: TagKind, at: u64, tag: Name) -> Event
 /// An event that names a tag and nothing more, by its form.
 #[tactic(auto, unfolding(crate::specs::Forms::tag_in))]
 pub fn read_of_tag(alloc: Global, value: &Value, kind: TagKind) -> Result<Event, JsonRefusal>
-    ensures { Gives event_view result (tag_in (tag_event kind) (view value.now)) }
+    ensures { ReadsAs plain_event result (tag_in (tag_event kind) (view value.now)) }
 {
     let at = u64_at(alloc, value, "at")?;
     let tag = name_at(alloc, value, "tag")?;
@@ -62,7 +62,7 @@ pub fn read_of_tag(alloc: Global, value: &Value, kind: TagKind) -> Result<Event,
 /// A report by its form.
 #[tactic(auto, unfolding(crate::specs::Forms::report_in))]
 pub fn read_report(alloc: Global, value: &Value) -> Result<Event, JsonRefusal>
-    ensures { Gives event_view result (report_in (view value.now)) }
+    ensures { ReadsAs plain_event result (report_in (view value.now)) }
 {
     let at = u64_at(alloc, value, "at")?;
     let tag = name_at(alloc, value, "tag")?;
@@ -84,7 +84,7 @@ pub fn read_report(alloc: Global, value: &Value) -> Result<Event, JsonRefusal>
 /// A variable's value by its form.
 #[tactic(auto, unfolding(crate::specs::Forms::variable_in))]
 pub fn read_variable(alloc: Global, value: &Value) -> Result<Event, JsonRefusal>
-    ensures { Gives event_view result (variable_in (view value.now)) }
+    ensures { ReadsAs plain_event result (variable_in (view value.now)) }
 {
     let at = u64_at(alloc, value, "at")?;
     let tag = name_at(alloc, value, "tag")?;
@@ -102,7 +102,7 @@ pub fn read_variable(alloc: Global, value: &Value) -> Result<Event, JsonRefusal>
 /// An operator's command by its form.
 #[tactic(auto, unfolding(crate::specs::Forms::desk_in))]
 pub fn read_desk(alloc: Global, value: &Value) -> Result<Event, JsonRefusal>
-    ensures { Gives event_view result (desk_in (view value.now)) }
+    ensures { ReadsAs plain_event result (desk_in (view value.now)) }
 {
     let at = u64_at(alloc, value, "at")?;
     let tag = name_at(alloc, value, "tag")?;
@@ -120,7 +120,7 @@ pub fn read_desk(alloc: Global, value: &Value) -> Result<Event, JsonRefusal>
 /// The end of an exchange by its form.
 #[tactic(auto, unfolding(crate::specs::Forms::exchange_end_in))]
 pub fn read_exchange_end(alloc: Global, value: &Value) -> Result<Event, JsonRefusal>
-    ensures { Gives event_view result (exchange_end_in (view value.now)) }
+    ensures { ReadsAs plain_event result (exchange_end_in (view value.now)) }
 {
     let at = u64_at(alloc, value, "at")?;
     let tag = name_at(alloc, value, "tag")?;
@@ -138,7 +138,7 @@ pub fn read_exchange_end(alloc: Global, value: &Value) -> Result<Event, JsonRefu
 /// The cancelling of an exchange by its form.
 #[tactic(auto, unfolding(crate::specs::Forms::exchange_cancel_in))]
 pub fn read_exchange_cancel(alloc: Global, value: &Value) -> Result<Event, JsonRefusal>
-    ensures { Gives event_view result (exchange_cancel_in (view value.now)) }
+    ensures { ReadsAs plain_event result (exchange_cancel_in (view value.now)) }
 {
     let at = u64_at(alloc, value, "at")?;
     let tag = name_at(alloc, value, "tag")?;

@@ -1,8 +1,8 @@
 //! Reading the lines of a journal.
 ghost use Rattle.std.specs.Prelude.{◌≡◌, IfOk, IsTrue};
 ghost use Rattle.serde_json.specs.View.{view};
-ghost use Rattle.mtp_json.specs.Gives.{Gives};
-ghost use Rattle.pol_events.specs.Events.{event_view};
+ghost use Rattle.mtp_json.specs.ReadsAs.{ReadsAs};
+ghost use Rattle.pol_events.specs.Events.{plain_event};
 ghost use Rattle.pol_events.specs.Forms.{event_by, event_in};
 ghost use Rattle.pol_events.specs.Lines.{Tells, event_of, fault_within, read_of};
 ghost use Rattle.pol_events.specs.Orderly.{is_orderly};
@@ -22,7 +22,7 @@ use serde_json::Value;
 use std::alloc::Global;
 
 fn read_kind(alloc: Global, value: &Value, kind: EventKind) -> Result<Event, JsonRefusal>
-    ensures { Gives event_view result (event_by (view value.now) kind) }
+    ensures { ReadsAs plain_event result (event_by (view value.now) kind) }
 {
     match kind {
         EventKind::Plug => read_plug(alloc, value),
@@ -45,7 +45,7 @@ fn read_kind(alloc: Global, value: &Value, kind: EventKind) -> Result<Event, Jso
 
 #[tactic(auto, unfolding(crate::specs::Forms::event_in))]
 fn read_value(alloc: Global, value: &Value) -> Result<Event, JsonRefusal>
-    ensures { Gives event_view result (event_in (view value.now)) }
+    ensures { ReadsAs plain_event result (event_in (view value.now)) }
 {
     object_here(alloc, value)?;
     let kind = word_at::<KindWords>(alloc, value, "ev")?;
@@ -53,14 +53,14 @@ fn read_value(alloc: Global, value: &Value) -> Result<Event, JsonRefusal>
 }
 
 fn read_line(alloc: Global, line: &[u8]) -> Result<Event, JsonRefusal>
-    ensures { Gives event_view result (read_of line.now) }
+    ensures { ReadsAs plain_event result (read_of line.now) }
 {
     let value = parse(alloc, line)?;
     read_value(alloc, &value)
 }
 
 fn chart_fault(event: &Event) -> Option<ChartFault>
-    ensures { result ≡ fault_within (event_view event.now) }
+    ensures { result ≡ fault_within (plain_event event.now) }
 {
     match event {
         Event::Recipe { chart, .. } => chart.valid().err(),
@@ -82,12 +82,12 @@ fn read_valid(alloc: Global, line: &[u8]) -> Result<Event, LineRefusal>
     }
 }
 
-/// The event that a line of a journal says; else the line's first fault in reading order, with its path; else, where the
-/// line makes a recipe known, the fault of its chart. A line is one JSON object (RFC 8259) without its line feed. It
-/// never answers `TooLong`.
+/// The event that a line of a journal says; else the line's first fault in reading order, with its path; else, where
+/// the line makes a recipe known, the fault of its chart. A line is one JSON object (RFC 8259) without its line feed.
+/// It never answers `TooLong`.
 pub fn read_event(alloc: Global, line: &[u8]) -> Result<Event, LineRefusal>
     ensures tells { Tells result (event_of line.now) }
-    ensures orderly { IfOk result (λ event. IsTrue (is_orderly (event_view event))) }
+    ensures orderly { IfOk result (λ event. IsTrue (is_orderly (plain_event event))) }
 {
     read_valid(alloc, line)
 }

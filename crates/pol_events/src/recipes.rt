@@ -1,8 +1,8 @@
 //! The lines of recipes.
 ghost use Rattle.std.specs.Prelude.{◌≡◌};
 ghost use Rattle.serde_json.specs.View.{view};
-ghost use Rattle.mtp_json.specs.Gives.{Gives};
-ghost use Rattle.pol_events.specs.Events.{event_view};
+ghost use Rattle.mtp_json.specs.ReadsAs.{ReadsAs};
+ghost use Rattle.pol_events.specs.Events.{plain_event};
 ghost use Rattle.pol_events.specs.Forms.{recipe_in};
 
 use crate::event::Event;
@@ -15,7 +15,7 @@ use std::sync::Arc;
 /// A recipe by its form.
 #[tactic(auto, unfolding(crate::specs::Forms::recipe_in))]
 pub fn read_recipe(alloc: Global, value: &Value) -> Result<Event, JsonRefusal>
-    ensures { Gives event_view result (recipe_in (view value.now)) }
+    ensures { ReadsAs plain_event result (recipe_in (view value.now)) }
 {
     let at = u64_at(alloc, value, "at")?;
     let recipe = name_at(alloc, value, "recipe")?;

@@ -1,7 +1,7 @@
 //! The table of the rules: the number, the name and the fields of each.
 ghost use Rattle.std.specs.Prelude.{◌≡◌, ◌≤◌, length};
 ghost use Rattle.pol_events.specs.Fields.{fields_of};
-ghost use Rattle.pol_events.specs.RuleTable.{row, row_view, rule_row};
+ghost use Rattle.pol_events.specs.RuleTable.{row, plain_row, rule_row};
 
 use crate::answer::Rule;
 use crate::fields::Fields;
@@ -18,7 +18,7 @@ pub struct RuleRow<'a> {
 }
 
 fn row<'a>(number: u32, name: &'static str, fields: Fields<'a>) -> RuleRow<'a>
-    ensures { row_view result ≡ row number name.now (fields_of fields.entry) }
+    ensures { plain_row result ≡ row number name.now (fields_of fields.entry) }
 {
     RuleRow {
         number,
@@ -30,7 +30,7 @@ fn row<'a>(number: u32, name: &'static str, fields: Fields<'a>) -> RuleRow<'a>
 impl Rule {
     /// The rule's row in the table.
     pub fn row(&self) -> RuleRow<'_>
-        ensures row { row_view result ≡ rule_row self.now }
+        ensures row { plain_row result ≡ rule_row self.now }
         ensures few { length (rule_row self.now).fields ≤ 3 }
     {
         let none = Fields::none();

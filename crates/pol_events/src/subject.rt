@@ -1,7 +1,7 @@
 //! Whom an event is of.
 ghost use Rattle.std.specs.Prelude.{◌≡◌};
-ghost use Rattle.pol_events.specs.Events.{event_view};
-ghost use Rattle.pol_events.specs.Subjects.{subject, subject_view};
+ghost use Rattle.pol_events.specs.Events.{plain_event};
+ghost use Rattle.pol_events.specs.Subjects.{subject, plain_subject};
 
 use crate::event::Event;
 use mtp_codes::Name;
@@ -20,7 +20,7 @@ pub enum Subject {
 impl Event {
     /// The module, batch or recipe that the event is of.
     pub fn subject(&self) -> Subject
-        ensures { subject_view result ≡ subject (event_view self.now) }
+        ensures { plain_subject result ≡ subject (plain_event self.now) }
     {
         match self {
             Event::Plug { tag, .. }

@@ -1,7 +1,7 @@
 //! Lines of a journal, read and written.
 
 ghost use Rattle.std.specs.Prelude.{◌≡◌, IfOk, IsTrue, Ok};
-ghost use Rattle.pol_events.specs.Events.{event_view};
+ghost use Rattle.pol_events.specs.Events.{plain_event};
 ghost use Rattle.pol_events.specs.Lines.{event_of};
 ghost use Rattle.pol_events.specs.Orderly.{is_orderly};
 
@@ -11,8 +11,8 @@ use std::test::*;
 
 /// The line of an event: its text says the event again.
 fn line_of(alloc: Global, event: &Event) -> Result<Vec<u8>, AllocError>
-    requires { IsTrue (is_orderly (event_view event.now)) }
-    ensures { IfOk result (λ line. event_of line.items ≡ Ok (event_view event.now)) }
+    requires { IsTrue (is_orderly (plain_event event.now)) }
+    ensures { IfOk result (λ line. event_of line.items ≡ Ok (plain_event event.now)) }
 {
     let value = event_value(alloc, event)?;
     value.to_vec(alloc)

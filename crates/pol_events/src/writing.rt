@@ -5,9 +5,9 @@ ghost use Rattle.serde_json.specs.Data.{depth};
 ghost use Rattle.serde_json.specs.Read.{max_depth, read};
 ghost use Rattle.serde_json.specs.Written.{has_float};
 ghost use Rattle.serde_json.specs.View.{view};
-ghost use Rattle.pol_events.specs.Events.{event_view};
+ghost use Rattle.pol_events.specs.Events.{plain_event};
 ghost use Rattle.pol_events.specs.Forms.{event_in};
-ghost use Rattle.pol_events.specs.Held.{is_held};
+ghost use Rattle.pol_events.specs.Ranges.{is_in_range};
 ghost use Rattle.pol_events.specs.Lines.{event_of};
 ghost use Rattle.pol_events.specs.Orderly.{is_orderly};
 ghost use Rattle.pol_events.specs.Written.{written_event};
@@ -23,9 +23,9 @@ use serde_json::Value;
 use std::alloc::{AllocError, Global};
 
 fn write_event(alloc: Global, event: &Event) -> Result<Value, AllocError>
-    requires { IsTrue (is_orderly (event_view event.now)) }
+    requires { IsTrue (is_orderly (plain_event event.now)) }
     ensures { IfOk result
-        (λ value. (view value ≡ written_event (event_view event.now)) × (is_held (event_view event.now) ≡ true)) }
+        (λ value. (view value ≡ written_event (plain_event event.now)) × (is_in_range (plain_event event.now) ≡ true)) }
 {
     match event {
         Event::Plug { at, tag, desc } => write_plug(alloc, *at, *tag, desc),
@@ -74,16 +74,16 @@ fn write_event(alloc: Global, event: &Event) -> Result<Value, AllocError>
 }
 
 /// The line of an event as a JSON value, with every key of its form. Each text of this value is read as the same event,
-/// and so is the text that `to_vec` gives of it. The event has to be one that a line can say: a recipe's chart is valid,
-/// and a start binds at most 64 roles, each once and in byte order.
+/// and so is the text that `to_vec` gives of it. The event has to be one that a line can say: a recipe's chart is
+/// valid, and a start binds at most 64 roles, each once and in byte order.
 pub fn event_value(alloc: Global, event: &Event) -> Result<Value, AllocError>
-    requires { IsTrue (is_orderly (event_view event.now)) }
-    ensures value { IfOk result (λ value. view value ≡ written_event (event_view event.now)) }
-    ensures reads_back { IfOk result (λ value. event_in (view value) ≡ Ok (event_view event.now)) }
+    requires { IsTrue (is_orderly (plain_event event.now)) }
+    ensures value { IfOk result (λ value. view value ≡ written_event (plain_event event.now)) }
+    ensures reads_back { IfOk result (λ value. event_in (view value) ≡ Ok (plain_event event.now)) }
     ensures nests { IfOk result (λ value. depth (view value) ≤ max_depth) }
     ensures whole { IfOk result (λ value. has_float (view value) ≡ false) }
     ensures line { IfOk result (λ value. (text : List ℕ) → IsUtf8 text
-        → read text ≡ Some (view value) → event_of text ≡ Ok (event_view event.now)) }
+        → read text ≡ Some (view value) → event_of text ≡ Ok (plain_event event.now)) }
 {
     write_event(alloc, event)
 }

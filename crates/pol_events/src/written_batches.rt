@@ -3,7 +3,7 @@ ghost use Rattle.std.specs.Prelude.{◌≡◌, ◌&&◌, IfOk, IsTrue, true};
 ghost use Rattle.serde_json.specs.View.{view};
 ghost use Rattle.mtp_codes.specs.Names.{is_name};
 ghost use Rattle.pol_events.specs.Events.{start};
-ghost use Rattle.pol_events.specs.Held.{is_held, is_stamped};
+ghost use Rattle.pol_events.specs.Ranges.{is_in_range, is_stamped};
 ghost use Rattle.pol_events.specs.Orderly.{rise};
 ghost use Rattle.pol_events.specs.Written.{written_batch, written_binds, written_start};
 
@@ -39,7 +39,7 @@ pub fn write_start(
 ) -> Result<Value, AllocError>
     requires { IsTrue (rise bind.now) }
     ensures value { IfOk result (λ value. view value ≡ written_start at batch recipe (written_binds bind.now)) }
-    ensures held { IfOk result (λ _. is_held (start at batch recipe bind.now) ≡ true) }
+    ensures held { IfOk result (λ _. is_in_range (start at batch recipe bind.now) ≡ true) }
 {
     let binds = write_binds(alloc, bind)?;
     start_object(alloc, at, batch, recipe, binds)

@@ -4,7 +4,7 @@ ghost use Rattle.std.specs.List.{list_all};
 ghost use Rattle.serde_json.specs.Data.{string};
 ghost use Rattle.serde_json.specs.View.{members_view, view};
 ghost use Rattle.mtp_codes.specs.Names.{is_name};
-ghost use Rattle.pol_events.specs.Held.{is_held_bind};
+ghost use Rattle.pol_events.specs.Ranges.{is_bind_in_range};
 ghost use Rattle.pol_events.specs.Orderly.{rise};
 ghost use Rattle.pol_events.specs.Written.{bind_members, written_binds};
 
@@ -24,7 +24,7 @@ fn name_value(alloc: Global, name: Name) -> Result<Value, AllocError>
 fn bind_members(alloc: Global, binds: &[Bind]) -> Result<Map<String, Value>, AllocError>
     requires { IsTrue (rise binds.now) }
     ensures value { IfOk result (λ members. members_view members.entries ≡ bind_members binds.now) }
-    ensures held { IfOk result (λ _. list_all is_held_bind binds.now ≡ true) }
+    ensures held { IfOk result (λ _. list_all is_bind_in_range binds.now ≡ true) }
 {
     let mut members = Map::new(alloc);
     for bind in binds {
@@ -40,7 +40,7 @@ fn bind_members(alloc: Global, binds: &[Bind]) -> Result<Map<String, Value>, All
 pub fn write_binds(alloc: Global, binds: &[Bind]) -> Result<Value, AllocError>
     requires { IsTrue (rise binds.now) }
     ensures value { IfOk result (λ value. view value ≡ written_binds binds.now) }
-    ensures held { IfOk result (λ _. list_all is_held_bind binds.now ≡ true) }
+    ensures held { IfOk result (λ _. list_all is_bind_in_range binds.now ≡ true) }
 {
     Ok(Value::Object(bind_members(alloc, binds)?))
 }

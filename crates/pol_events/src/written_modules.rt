@@ -4,10 +4,10 @@ ghost use Rattle.serde_json.specs.View.{view};
 ghost use Rattle.mtp_codes.specs.Names.{is_name};
 ghost use Rattle.mtp_codes.specs.Numbers.{greatest_u32, is_between};
 ghost use Rattle.mtp_json.specs.Written.{scalar_data};
-ghost use Rattle.mtp_desc.specs.DescriptionView.{description_view};
+ghost use Rattle.mtp_desc.specs.PlainDescription.{plain_description};
 ghost use Rattle.mtp_desc.specs.Written.{written_description};
 ghost use Rattle.pol_events.specs.Events.{desk, exchange_cancel, exchange_end, plug, report, variable};
-ghost use Rattle.pol_events.specs.Held.{is_held, is_stamped};
+ghost use Rattle.pol_events.specs.Ranges.{is_in_range, is_stamped};
 ghost use Rattle.pol_events.specs.Written.{written_desk, written_exchange_cancel, written_exchange_end, written_plug, written_report, written_tag, written_variable};
 
 use crate::words::{mode_word, origin_word};
@@ -35,8 +35,8 @@ pub fn write_plug(
     desc: &Description,
 ) -> Result<Value, AllocError>
     ensures value { IfOk result
-        (λ value. view value ≡ written_plug at tag (written_description (description_view desc.now))) }
-    ensures held { IfOk result (λ _. is_held (plug at tag (description_view desc.now)) ≡ true) }
+        (λ value. view value ≡ written_plug at tag (written_description (plain_description desc.now))) }
+    ensures held { IfOk result (λ _. is_in_range (plug at tag (plain_description desc.now)) ≡ true) }
 {
     let desc = write_description(alloc, desc)?;
     plug_object(alloc, at, tag, desc)
@@ -62,7 +62,7 @@ pub fn write_report(
     control: ServiceControl,
 ) -> Result<Value, AllocError>
     ensures value { IfOk result (λ value. view value ≡ written_report at tag service control) }
-    ensures held { is_held (report at tag service control) ≡ true }
+    ensures held { is_in_range (report at tag service control) ≡ true }
 {
     let tag = tag.as_str();
     let service = service.as_str();
@@ -107,7 +107,7 @@ pub fn write_variable(
     value: &mtp_codes::Value,
 ) -> Result<Value, AllocError>
     ensures value { IfOk result (λ object. view object ≡ written_variable at tag name (scalar_data value.now)) }
-    ensures held { IfOk result (λ _. is_held (variable at tag name value.now) ≡ true) }
+    ensures held { IfOk result (λ _. is_in_range (variable at tag name value.now) ≡ true) }
 {
     let value = write_scalar(alloc, value)?;
     variable_object(alloc, at, tag, name, value)
@@ -123,7 +123,7 @@ pub fn write_desk(
     command: Command,
 ) -> Result<Value, AllocError>
     ensures value { IfOk result (λ value. view value ≡ written_desk at tag service command) }
-    ensures held { is_held (desk at tag service command) ≡ true }
+    ensures held { is_in_range (desk at tag service command) ≡ true }
 {
     let tag = tag.as_str();
     let service = service.as_str();
@@ -155,8 +155,8 @@ pub fn write_exchange_end(
     desc: &Description,
 ) -> Result<Value, AllocError>
     ensures value { IfOk result
-        (λ value. view value ≡ written_exchange_end at tag ticket (written_description (description_view desc.now))) }
-    ensures held { IfOk result (λ _. is_held (exchange_end at tag ticket (description_view desc.now)) ≡ true) }
+        (λ value. view value ≡ written_exchange_end at tag ticket (written_description (plain_description desc.now))) }
+    ensures held { IfOk result (λ _. is_in_range (exchange_end at tag ticket (plain_description desc.now)) ≡ true) }
 {
     let desc = write_description(alloc, desc)?;
     exchange_end_object(alloc, at, tag, ticket, desc)
@@ -171,7 +171,7 @@ pub fn write_exchange_cancel(
     ticket: u32,
 ) -> Result<Value, AllocError>
     ensures value { IfOk result (λ value. view value ≡ written_exchange_cancel at tag ticket) }
-    ensures held { is_held (exchange_cancel at tag ticket) ≡ true }
+    ensures held { is_in_range (exchange_cancel at tag ticket) ≡ true }
 {
     let tag = tag.as_str();
     json!(in alloc; {"at": at, "ev": "exchange_cancel", "tag": tag, "ticket": ticket})

@@ -1,10 +1,10 @@
 //! Writing the lines of recipes.
 ghost use Rattle.std.specs.Prelude.{◌≡◌, IfOk, true};
 ghost use Rattle.serde_json.specs.View.{view};
-ghost use Rattle.chart_core.specs.Charts.{plan};
+ghost use Rattle.chart_core.specs.Charts.{plain_chart};
 ghost use Rattle.chart_json.specs.Written.{written_roles, written_tree};
 ghost use Rattle.pol_events.specs.Events.{recipe};
-ghost use Rattle.pol_events.specs.Held.{is_held, is_stamped};
+ghost use Rattle.pol_events.specs.Ranges.{is_in_range, is_stamped};
 ghost use Rattle.pol_events.specs.Written.{written_recipe};
 
 use chart_core::Chart;
@@ -31,8 +31,9 @@ fn recipe_object(
 /// A recipe with every key of its form.
 pub fn write_recipe(alloc: Global, at: u64, name: Name, chart: &Chart) -> Result<Value, AllocError>
     ensures value { IfOk result (λ value. view value
-        ≡ written_recipe at name (written_roles (plan chart.now).roles) (written_tree (plan chart.now).root)) }
-    ensures held { IfOk result (λ _. is_held (recipe at name (plan chart.now)) ≡ true) }
+        ≡ written_recipe at name (written_roles (plain_chart chart.now).roles)
+        (written_tree (plain_chart chart.now).root)) }
+    ensures held { IfOk result (λ _. is_in_range (recipe at name (plain_chart chart.now)) ≡ true) }
 {
     let (roles, root) = write_chart(alloc, chart)?;
     recipe_object(alloc, at, name, roles, root)

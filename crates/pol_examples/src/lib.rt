@@ -4,6 +4,8 @@
 #[cfg(test)]
 mod audits;
 #[cfg(test)]
+mod batch_runs;
+#[cfg(test)]
 mod batches;
 #[cfg(test)]
 mod chart_logs;

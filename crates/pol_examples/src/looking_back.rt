@@ -1,6 +1,6 @@
 //! A journal's output, each answer worked out by looking back over the history: no part of a plant has a hand in it.
 ghost use Rattle.std.specs.Prelude.{IfOk};
-ghost use Rattle.pol_events.specs.Events.{history_view};
+ghost use Rattle.pol_events.specs.Events.{plain_history};
 ghost use Rattle.pol_history.specs.Runs.{IsOrderly};
 
 use pol_audit::says;
@@ -10,7 +10,7 @@ use std::alloc::{AllocError, Global};
 
 // Puts the answer to each line, and gives the history.
 fn put_answers(alloc: Global, journal: &str, output: &mut Vec<u8>) -> Result<Vec<Entry>, AllocError>
-    ensures { IfOk result (λ history. IsOrderly (history_view history.items)) }
+    ensures { IfOk result (λ history. IsOrderly (plain_history history.items)) }
 {
     let mut history = Vec::new(alloc);
     for line in journal.split('\n') {
@@ -36,7 +36,7 @@ fn put_answers(alloc: Global, journal: &str, output: &mut Vec<u8>) -> Result<Vec
 
 // Puts the line of each batch that was started.
 fn put_batches(alloc: Global, history: &[Entry], output: &mut Vec<u8>) -> Result<(), AllocError>
-    requires { IsOrderly (history_view history.now) }
+    requires { IsOrderly (plain_history history.now) }
 {
     for entry in history {
         if let Event::Start { batch, .. } = &entry.event {

@@ -1,5 +1,6 @@
 //! Twenty sites that are made from few numbers, each run to its end by the job plant.
 use super::plants::{accepted_with, lines_with, run_site};
+use mtp_codes::LONGEST_HISTORY;
 use std::alloc::{AllocError, Global};
 use std::test::Fail;
 
@@ -147,6 +148,13 @@ fn modules(alloc: Global, numbers: &Numbers, site: &mut String) -> Result<(), Al
     site.push_str("]")
 }
 
+// How many entries the exchange or the command of the desk at this place waits for.
+fn waited(numbers: &Numbers, place: u32) -> u32 {
+    place
+        .saturating_mul(numbers.apart)
+        .min(LONGEST_HISTORY as u32)
+}
+
 // The exchanges, each with what takes the module's place.
 fn exchanges(alloc: Global, numbers: &Numbers, site: &mut String) -> Result<(), AllocError> {
     let plan = plan(alloc, numbers)?;
@@ -155,7 +163,7 @@ fn exchanges(alloc: Global, numbers: &Numbers, site: &mut String) -> Result<(), 
     for place in 0..numbers.exchanges {
         comma(site, place)?;
         let tag = place % numbers.modules.max(1);
-        let after = place.saturating_mul(numbers.apart).min(200_000);
+        let after = waited(numbers, place);
         let exchange = format!(in alloc;
             r#"{{"tag":"M{tag}","after":{after},"desc":{next},"sim":{plan}}}"#
         )?;
@@ -218,7 +226,7 @@ fn orders(alloc: Global, numbers: &Numbers, site: &mut String) -> Result<(), All
     for place in 0..numbers.orders {
         comma(site, place)?;
         let tag = place % numbers.modules.max(1);
-        let after = place.saturating_mul(numbers.apart).min(200_000);
+        let after = waited(numbers, place);
         let order = format!(in alloc;
             r#"{{"tag":"M{tag}","service":"s0","CommandOp":4,"after":{after}}}"#
         )?;

@@ -1,7 +1,7 @@
 -- An accepted event meets none of its rules.
 use Rattle.std.proofs.Common.{◌≡◌, true, false, List, [], ◌∷◌, Option, Some, None, refl, ap}
 use Rattle.mtp_codes.specs.Faults.{when}
-use Rattle.pol_events.specs.Events.{EventForm, EntryForm}
+use Rattle.pol_events.specs.Events.{PlainEvent, PlainEntry}
 use Rattle.pol_events.specs.declared.answer.Rule.{Rule}
 use Rattle.pol_events.specs.declared.answer.Rule.TheVariants.{HistoryFull}
 use Rattle.pol_events.specs.declared.answer.Answer.{Answer}
@@ -13,38 +13,38 @@ abbrev pub NoneHolds : List (Option Rule) → Type 0
 NoneHolds [] = Unit {0}
 NoneHolds (rule ∷ rules) = (rule ≡ None) × NoneHolds rules
 
-pub none-holds : (rules : List (Option Rule)) (answer : Answer) → is_accepted (first_rule rules answer) ≡ true
+pub none_holds : (rules : List (Option Rule)) (answer : Answer) → is_accepted (first_rule rules answer) ≡ true
     → NoneHolds rules
-none-holds [] answer accepted = tt
-none-holds (Some rule ∷ rules) answer accepted = cc
-none-holds (None ∷ rules) answer accepted = (refl, none-holds rules answer accepted)
+none_holds [] answer accepted = tt
+none_holds (Some rule ∷ rules) answer accepted = cc
+none_holds (None ∷ rules) answer accepted = (refl, none_holds rules answer accepted)
 
 -- where no rule holds the answer is the other one
-pub otherwise-it-is : (rules : List (Option Rule)) (answer : Answer) → NoneHolds rules
+pub otherwise_it_is : (rules : List (Option Rule)) (answer : Answer) → NoneHolds rules
     → first_rule rules answer ≡ answer
-otherwise-it-is [] answer none = refl
-otherwise-it-is (Some rule ∷ rules) answer none = cc
-otherwise-it-is (None ∷ rules) answer none = otherwise-it-is rules answer none.1
+otherwise_it_is [] answer none = refl
+otherwise_it_is (Some rule ∷ rules) answer none = cc
+otherwise_it_is (None ∷ rules) answer none = otherwise_it_is rules answer none.1
 
 -- an accepted event meets none of the rules of its kind
-pub accepted-none : (history : History) (event : EventForm) → is_accepted (answer_of history event) ≡ true
+pub accepted_none : (history : History) (event : PlainEvent) → is_accepted (answer_of history event) ≡ true
     → NoneHolds (rules history event)
-accepted-none history event accepted =
-    (none-holds (when (is_full history) HistoryFull ∷ rules history event) (otherwise history event) accepted).1
+accepted_none history event accepted =
+    (none_holds (when (is_full history) HistoryFull ∷ rules history event) (otherwise history event) accepted).1
 
 -- and is answered by what is answered otherwise
-pub accepted-otherwise : (history : History) (event : EventForm) → is_accepted (answer_of history event) ≡ true
+pub accepted_otherwise : (history : History) (event : PlainEvent) → is_accepted (answer_of history event) ≡ true
     → answer_of history event ≡ otherwise history event
-accepted-otherwise history event accepted =
-    otherwise-it-is (when (is_full history) HistoryFull ∷ rules history event) (otherwise history event)
-    (none-holds (when (is_full history) HistoryFull ∷ rules history event) (otherwise history event) accepted)
+accepted_otherwise history event accepted =
+    otherwise_it_is (when (is_full history) HistoryFull ∷ rules history event) (otherwise history event)
+    (none_holds (when (is_full history) HistoryFull ∷ rules history event) (otherwise history event) accepted)
 
 -- where the history has room, its fullness refuses nothing
-pub with-room : (history : History) (event : EventForm) → is_full history ≡ false →
+pub with_room : (history : History) (event : PlainEvent) → is_full history ≡ false →
     answer_of history event ≡ first_rule (rules history event) (otherwise history event)
-with-room history event room =
+with_room history event room =
     ap (λ full. first_rule (when full HistoryFull ∷ rules history event) (otherwise history event)) room
 
 -- an event with an answer
-abbrev pub paired : EventForm → Answer → EntryForm
+abbrev pub paired : PlainEvent → Answer → PlainEntry
 paired event answer = record { event = event; answer = answer }

@@ -3,27 +3,27 @@ use Rattle.std.proofs.Common.{◌≡◌, ◌≤◌, Bool, true, false, cond, Lis
 use Rattle.std.specs.Prelude.{filter}
 use Rattle.std.specs.List.{AllByRecursion}
 
-kept-step : {X : Type 0} (takes : X → Bool) (x : X) (xs : List X) (kept taken : Bool) → takes x ≡ taken
+kept_step : {X : Type 0} (takes : X → Bool) (x : X) (xs : List X) (kept taken : Bool) → takes x ≡ taken
     → (taken ≡ true → kept ≡ true) →
     filter takes (cond kept (x ∷ xs) xs) ≡ cond taken (x ∷ filter takes xs) (filter takes xs)
-kept-step takes x xs true taken is keeps = rw is
-kept-step takes x xs false true is keeps = let clash : false ≡ true = keeps refl in cc
-kept-step takes x xs false false is keeps = refl
+kept_step takes x xs true taken is keeps = rw is
+kept_step takes x xs false true is keeps = let clash : false ≡ true = keeps refl in cc
+kept_step takes x xs false false is keeps = refl
 
 -- a filter that keeps all that another takes changes nothing for that other
-pub filter-kept : {X : Type 0} (takes keeps : X → Bool) (xs : List X)
+pub filter_kept : {X : Type 0} (takes keeps : X → Bool) (xs : List X)
     → AllByRecursion (λ x. takes x ≡ true → keeps x ≡ true) xs →
     filter takes (filter keeps xs) ≡ filter takes xs
-filter-kept takes keeps [] all = refl
-filter-kept takes keeps (x ∷ xs) all = rw (
-  kept-step takes x (filter keeps xs) (keeps x)
+filter_kept takes keeps [] all = refl
+filter_kept takes keeps (x ∷ xs) all = rw (
+  kept_step takes x (filter keeps xs) (keeps x)
       (takes x) refl all.0,
-  filter-kept takes keeps xs all.1,
+  filter_kept takes keeps xs all.1,
 )
 
-pub length-filter : {X : Type 0} (keeps : X → Bool) (xs : List X) → length (filter keeps xs) ≤ length xs
-length-filter keeps [] = omega arith
-length-filter {X} keeps (x ∷ xs) = go (keeps x) (length-filter keeps xs)
+pub length_filter : {X : Type 0} (keeps : X → Bool) (xs : List X) → length (filter keeps xs) ≤ length xs
+length_filter keeps [] = omega arith
+length_filter {X} keeps (x ∷ xs) = go (keeps x) (length_filter keeps xs)
   where
     go : (kept : Bool) → length (filter keeps xs) ≤ length xs
         → length (cond kept (x ∷ filter keeps xs) (filter keeps xs)) ≤ length (x ∷ xs)
@@ -31,22 +31,22 @@ length-filter {X} keeps (x ∷ xs) = go (keeps x) (length-filter keeps xs)
     go false shorter = omega arith
 
 -- what holds of everything holds of each element
-pub all-of : {X : Type 0} (P : X → Type 0) → ((x : X) → P x) → (xs : List X) → AllByRecursion P xs
-all-of P each [] = tt
-all-of P each (x ∷ xs) = (each x, all-of P each xs)
+pub all_of : {X : Type 0} (P : X → Type 0) → ((x : X) → P x) → (xs : List X) → AllByRecursion P xs
+all_of P each [] = tt
+all_of P each (x ∷ xs) = (each x, all_of P each xs)
 
-filters-step : {X : Type 0} (first second : X → Bool) (x : X) (xs ys : List X) (one two : Bool) → first x ≡ one
+filters_step : {X : Type 0} (first second : X → Bool) (x : X) (xs ys : List X) (one two : Bool) → first x ≡ one
     → second x ≡ two → filter first xs ≡ filter second ys →
     filter first (cond two (x ∷ xs) xs) ≡ filter second (cond one (x ∷ ys) ys)
-filters-step first second x xs ys true true is also same = rw (is, also, same)
-filters-step first second x xs ys true false is also same = rw (also, same)
-filters-step first second x xs ys false true is also same = rw (is, same)
-filters-step first second x xs ys false false is also same = same
+filters_step first second x xs ys true true is also same = rw (is, also, same)
+filters_step first second x xs ys true false is also same = rw (also, same)
+filters_step first second x xs ys false true is also same = rw (is, same)
+filters_step first second x xs ys false false is also same = same
 
 -- two filters can change places
-pub filter-filter : {X : Type 0} (first second : X → Bool) (xs : List X)
+pub filter_filter : {X : Type 0} (first second : X → Bool) (xs : List X)
     → filter first (filter second xs) ≡ filter second (filter first xs)
-filter-filter first second [] = refl
-filter-filter first second (x ∷ xs) =
-    filters-step first second x (filter second xs) (filter first xs) (first x) (second x) refl refl
-    (filter-filter first second xs)
+filter_filter first second [] = refl
+filter_filter first second (x ∷ xs) =
+    filters_step first second x (filter second xs) (filter first xs) (first x) (second x) refl refl
+    (filter_filter first second xs)

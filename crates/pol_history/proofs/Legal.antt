@@ -1,39 +1,39 @@
 -- The history that a run leaves is legal, and its events are among those that came.
 use Rattle.std.proofs.Common.{◌≡◌, Bool, true, false, cond, List, [], ◌∷◌, refl}
-use Rattle.pol_events.specs.Events.{EventForm}
+use Rattle.pol_events.specs.Events.{PlainEvent}
 use Rattle.pol_events.specs.Orderly.{is_orderly}
 use Rattle.pol_history.specs.Looking.{History}
 use Rattle.pol_history.specs.Runs.{entry_of, is_recorded, recorded, history_after, IsLegal, AreOrderly, IsOrderly, RunsAreLegal}
 
-legal-recorded : (history : History) (event : EventForm) → IsLegal history
+legal_recorded : (history : History) (event : PlainEvent) → IsLegal history
     → IsLegal (recorded (entry_of history event) history)
-legal-recorded history event legal = go (is_recorded (entry_of history event).answer) refl
+legal_recorded history event legal = go (is_recorded (entry_of history event).answer) refl
   where
     go : (kept : Bool) → is_recorded (entry_of history event).answer ≡ kept
         → IsLegal (cond kept (entry_of history event ∷ history) history)
     go true is = (refl, is, legal)
     go false is = legal
 
-pub legal-after : (history : History) (events : List EventForm) → IsLegal history
+pub legal_after : (history : History) (events : List PlainEvent) → IsLegal history
     → IsLegal (history_after history events)
-legal-after history [] legal = legal
-legal-after history (event ∷ events) legal = legal-after (recorded (entry_of history event) history) events
-    (legal-recorded history event legal)
+legal_after history [] legal = legal
+legal_after history (event ∷ events) legal = legal_after (recorded (entry_of history event) history) events
+    (legal_recorded history event legal)
 
-orderly-recorded : (history : History) (event : EventForm) → is_orderly event ≡ true → IsOrderly history
+orderly_recorded : (history : History) (event : PlainEvent) → is_orderly event ≡ true → IsOrderly history
     → IsOrderly (recorded (entry_of history event) history)
-orderly-recorded history event here orderly = go (is_recorded (entry_of history event).answer)
+orderly_recorded history event here orderly = go (is_recorded (entry_of history event).answer)
   where
     go : (kept : Bool) → IsOrderly (cond kept (entry_of history event ∷ history) history)
     go true = (here, orderly)
     go false = orderly
 
-pub orderly-after : (history : History) (events : List EventForm) → IsOrderly history → AreOrderly events
+pub orderly_after : (history : History) (events : List PlainEvent) → IsOrderly history → AreOrderly events
     → IsOrderly (history_after history events)
-orderly-after history [] orderly all = orderly
-orderly-after history (event ∷ events) orderly all =
-    orderly-after (recorded (entry_of history event) history) events
-    (orderly-recorded history event all.0 orderly) all.1
+orderly_after history [] orderly all = orderly
+orderly_after history (event ∷ events) orderly all =
+    orderly_after (recorded (entry_of history event) history) events
+    (orderly_recorded history event all.0 orderly) all.1
 
-pub runs-legal : RunsAreLegal
-runs-legal events = (legal-after [] events tt, λ all. orderly-after [] events tt all)
+pub runs_legal : RunsAreLegal
+runs_legal events = (legal_after [] events tt, λ all. orderly_after [] events tt all)

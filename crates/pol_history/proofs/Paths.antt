@@ -9,7 +9,7 @@ use Rattle.mtp_codes.specs.declared.state.State.{State}
 use Rattle.mtp_codes.specs.Faults.{when}
 use Rattle.mtp_machine.specs.Machine.{is_path}
 use Rattle.mtp_assembly.specs.declared.control.ServiceControl.{ServiceControl}
-use Rattle.pol_events.specs.Events.{EventForm, plug, unplug, report, variable, recipe, start, advance, freeze, thaw, stop_batch, abandon, desk, exchange_begin, exchange_end, exchange_cancel, EntryForm}
+use Rattle.pol_events.specs.Events.{PlainEvent, plug, unplug, report, variable, recipe, start, advance, freeze, thaw, stop_batch, abandon, desk, exchange_begin, exchange_end, exchange_cancel, PlainEntry}
 use Rattle.pol_events.specs.declared.answer.Rule.TheVariants.{NotAnEdge}
 use Rattle.pol_events.specs.Refusals.{may_follow, not_an_edge, in_exchange}
 use Rattle.pol_history.specs.Looking.{History, subject, is_module, is_accepted, is_accepted_of, past, last_of, after_last}
@@ -18,8 +18,8 @@ use Rattle.pol_history.specs.Rules.{no_module}
 use Rattle.pol_history.specs.Answers.{answer_of, rules}
 use Rattle.pol_history.specs.Runs.{entry_of, IsLegal}
 use Rattle.pol_history.specs.Paths.{ReportsArePaths}
-use Rattle.pol_history.proofs.Names.{same-true}
-use Rattle.pol_history.proofs.Accepted.{NoneHolds, accepted-none, paired}
+use Rattle.pol_history.proofs.Names.{same_true}
+use Rattle.pol_history.proofs.Accepted.{NoneHolds, accepted_none, paired}
 
 -- the same from the newest state on: each may follow the one after it
 abbrev is_path_back : List State → Bool
@@ -63,23 +63,23 @@ allowed state (Some control) none = go (may_follow control.state state) none
     go false none = cc
 
 -- a module that is neither absent nor away is docked
-is-docked : (tag : List ℕ) (docking : Docking) → no_module tag docking ≡ None
+is_docked : (tag : List ℕ) (docking : Docking) → no_module tag docking ≡ None
     → in_exchange tag (ticket_of docking) ≡ None →
     (count : ℕ) × (docking ≡ docked count)
-is-docked tag absent there still = cc
-is-docked tag (docked count) there still = (count, refl)
-is-docked tag (away ticket) there still = cc
+is_docked tag absent there still = cc
+is_docked tag (docked count) there still = (count, refl)
+is_docked tag (away ticket) there still = cc
 
 -- where the last move is a docking, nothing moved after the last docking
-docked-last : (all older : History) (count : ℕ) → last_of (λ entry. docking_after all entry.event entry.answer) older
+docked_last : (all older : History) (count : ℕ) → last_of (λ entry. docking_after all entry.event entry.answer) older
     ≡ Some (docked count) →
     after_last (λ entry. is_moving entry.event) older ≡ after_last (λ entry. is_docking entry.event) older
-docked-last all [] count last = refl
-docked-last all (entry ∷ older) count last = by_kind (docked-last all older count) entry.event last
+docked_last all [] count last = refl
+docked_last all (entry ∷ older) count last = by_kind (docked_last all older count) entry.event last
   where
     by_kind : (last_of (λ entry. docking_after all entry.event entry.answer) older ≡ Some (docked count) →
         after_last (λ entry. is_moving entry.event) older ≡ after_last (λ entry. is_docking entry.event) older)
-        → (event : EventForm) →
+        → (event : PlainEvent) →
         option_or (docking_after all event entry.answer) (last_of
         (λ entry. docking_after all entry.event entry.answer) older) ≡ Some (docked count) →
         cond (is_moving event) [] (entry ∷ after_last (λ entry. is_moving entry.event) older)
@@ -92,16 +92,16 @@ docked-last all (entry ∷ older) count last = by_kind (docked-last all older co
     by_kind rest _ last = ap (λ rest. entry ∷ rest) (rest last)
 
 -- so a docked module's reports are those after its last docking
-since-docked : (past : History) (count : ℕ) → docking_by past ≡ docked count → since_docking past ≡ after_docking past
-since-docked past count is = last (last_of (λ entry. docking_after past entry.event entry.answer) past) refl is
+since_docked : (past : History) (count : ℕ) → docking_by past ≡ docked count → since_docking past ≡ after_docking past
+since_docked past count is = last (last_of (λ entry. docking_after past entry.event entry.answer) past) refl is
   where
     last : (found : Option Docking) → last_of (λ entry. docking_after past entry.event entry.answer) past ≡ found →
         unwrap_or found absent ≡ docked count → since_docking past ≡ after_docking past
     last None found is = cc
-    last (Some docking) found is = docked-last past past count (found ∙ ap Some is)
+    last (Some docking) found is = docked_last past past count (found ∙ ap Some is)
 
 -- an accepted event of the module keeps the path
-step : (history : History) (tag service : List ℕ) (event : EventForm) → is_module tag (subject event) ≡ true →
+step : (history : History) (tag service : List ℕ) (event : PlainEvent) → is_module tag (subject event) ≡ true →
     is_accepted (answer_of history event) ≡ true → is_path_back
     (states_in service (after_docking (past tag history))) ≡ true →
     is_path_back (states_in service (after_docking (entry_of history event ∷ past tag history))) ≡ true
@@ -122,17 +122,17 @@ step history tag service (abandon at batch) of_tag accepted path = cc
 step history tag service (report at other named control) of_tag accepted path = go (bytes_eq named service) refl
   where
     free : NoneHolds (rules history (report at other named control))
-    free = accepted-none history (report at other named control) accepted
+    free = accepted_none history (report at other named control) accepted
 
     passed : comes_after (control_by named (past other history)) control.state ≡ true
     passed = allowed control.state (control_by named (past other history)) free.1.1.1.0
 
-    docked-here : since_docking (past tag history) ≡ after_docking (past tag history)
-    docked-here =
-        let docked = is-docked other (docking_by (past other history)) free.0 free.1.0 in
-        ap (λ name. since_docking (past name history)) (sym (same-true other tag of_tag))
-        ∙ since-docked (past other history) docked.0 docked.1
-        ∙ ap (λ name. after_docking (past name history)) (same-true other tag of_tag)
+    docked_here : since_docking (past tag history) ≡ after_docking (past tag history)
+    docked_here =
+        let docked = is_docked other (docking_by (past other history)) free.0 free.1.0 in
+        ap (λ name. since_docking (past name history)) (sym (same_true other tag of_tag))
+        ∙ since_docked (past other history) docked.0 docked.1
+        ∙ ap (λ name. after_docking (past name history)) (same_true other tag of_tag)
 
     go : (same : Bool) → bytes_eq named service ≡ same
         → is_path_back (states_in service
@@ -141,16 +141,16 @@ step history tag service (report at other named control) of_tag accepted path = 
     go true is =
         let here : comes_after (control_by service (past tag history)) control.state ≡ true =
         ap (λ name. comes_after (control_by service (past name history)) control.state)
-        (sym (same-true other tag of_tag))
+        (sym (same_true other tag of_tag))
         ∙ ap (λ name. comes_after (control_by name (past other history)) control.state)
-        (sym (same-true named service is)) ∙ passed in
+        (sym (same_true named service is)) ∙ passed in
         let last : comes_after (last_of (λ entry. reported service entry.event) (after_docking (past tag history)))
         control.state ≡ true =
         ap (λ entries. comes_after (last_of (λ entry. reported service entry.event) entries) control.state)
-        (sym docked-here) ∙ here in
+        (sym docked_here) ∙ here in
         rw is (longer service control.state (after_docking (past tag history)) last path)
 
-more : (history : History) (tag service : List ℕ) (event : EventForm)
+more : (history : History) (tag service : List ℕ) (event : PlainEvent)
     → is_path_back (states_in service (after_docking (past tag history))) ≡ true →
     is_path_back (states_in service (after_docking (past tag (entry_of history event ∷ history)))) ≡ true
 more history tag service event path = go (is_accepted_of tag (entry_of history event)) refl
@@ -163,14 +163,14 @@ more history tag service event path = go (is_accepted_of tag (entry_of history e
         step history tag service event parts.0 parts.1 path
     go false is = path
 
-paths-back : (history : History) → IsLegal history → (tag service : List ℕ)
+paths_back : (history : History) → IsLegal history → (tag service : List ℕ)
     → is_path_back (states_in service (after_docking (past tag history))) ≡ true
-paths-back [] legal tag service = refl
-paths-back (entry ∷ history) legal tag service =
-    let P : EntryForm → Type 0 = λ newest. is_path_back (states_in service
+paths_back [] legal tag service = refl
+paths_back (entry ∷ history) legal tag service =
+    let P : PlainEntry → Type 0 = λ newest. is_path_back (states_in service
     (after_docking (past tag (newest ∷ history)))) ≡ true in
     subst P (ap (paired entry.event) (sym legal.0)) (more history tag service entry.event
-    (paths-back history legal.2 tag service))
+    (paths_back history legal.2 tag service))
 
 -- the last of the states may be followed by this one
 abbrev ends_before : List State → State → Bool
@@ -178,34 +178,34 @@ ends_before [] state = true
 ends_before (last ∷ []) state = may_follow last state
 ends_before (first ∷ next ∷ states) state = ends_before (next ∷ states) state
 
-path-pushed : (states : List State) (state : State) → is_path states ≡ true → ends_before states state ≡ true
+path_pushed : (states : List State) (state : State) → is_path states ≡ true → ends_before states state ≡ true
     → is_path (states ++ state ∷ []) ≡ true
-path-pushed [] state path ends = refl
-path-pushed (last ∷ []) state path ends = and_from (may_follow last state) true ends refl
-path-pushed (first ∷ next ∷ states) state path ends =
+path_pushed [] state path ends = refl
+path_pushed (last ∷ []) state path ends = and_from (may_follow last state) true ends refl
+path_pushed (first ∷ next ∷ states) state path ends =
     let parts = and_parts (may_follow first next) (is_path (next ∷ states)) path in
     and_from (may_follow first next) (is_path (next ∷ states ++ state ∷ [])) parts.0
-    (path-pushed (next ∷ states) state parts.1 ends)
+    (path_pushed (next ∷ states) state parts.1 ends)
 
-ends-pushed : (states : List State) (last state : State) → ends_before (states ++ last ∷ []) state
+ends_pushed : (states : List State) (last state : State) → ends_before (states ++ last ∷ []) state
     ≡ may_follow last state
-ends-pushed [] last state = refl
-ends-pushed (first ∷ []) last state = refl
-ends-pushed (first ∷ next ∷ states) last state = ends-pushed (next ∷ states) last state
+ends_pushed [] last state = refl
+ends_pushed (first ∷ []) last state = refl
+ends_pushed (first ∷ next ∷ states) last state = ends_pushed (next ∷ states) last state
 
 reversed : (state : State) (states : List State) → reverse (state ∷ states) ≡ reverse states ++ state ∷ []
 reversed state states = reverse-append (state ∷ []) states
 
 -- a path read from its end is a path
-path-reversed : (states : List State) → is_path_back states ≡ true → is_path (reverse states) ≡ true
-path-reversed [] path = refl
-path-reversed (new ∷ []) path = refl
-path-reversed (new ∷ old ∷ older) path =
+path_reversed : (states : List State) → is_path_back states ≡ true → is_path (reverse states) ≡ true
+path_reversed [] path = refl
+path_reversed (new ∷ []) path = refl
+path_reversed (new ∷ old ∷ older) path =
     let parts = and_parts (may_follow old new) (is_path_back (old ∷ older)) path in
     let ends : ends_before (reverse (old ∷ older)) new ≡ true =
-    ap (λ states. ends_before states new) (reversed old older) ∙ ends-pushed (reverse older) old new ∙ parts.0 in
-    rw (reversed new (old ∷ older)) (path-pushed (reverse (old ∷ older)) new (path-reversed (old ∷ older) parts.1) ends)
+    ap (λ states. ends_before states new) (reversed old older) ∙ ends_pushed (reverse older) old new ∙ parts.0 in
+    rw (reversed new (old ∷ older)) (path_pushed (reverse (old ∷ older)) new (path_reversed (old ∷ older) parts.1) ends)
 
 pub reports_follow_paths : ReportsArePaths
-reports_follow_paths history legal tag service = path-reversed (states_in service (after_docking (past tag history)))
-    (paths-back history legal tag service)
+reports_follow_paths history legal tag service = path_reversed (states_in service (after_docking (past tag history)))
+    (paths_back history legal tag service)

@@ -4,27 +4,27 @@ use Rattle.std.specs.Prelude.{filter, filter_map}
 use Rattle.std.specs.List.{cons_option}
 use Rattle.std.specs.Option.{option_or}
 use Rattle.std.proofs.lemmas.Bool.{and_right}
-use Rattle.pol_events.specs.Events.{EventForm, EntryForm, plug, unplug}
+use Rattle.pol_events.specs.Events.{PlainEvent, PlainEntry, plug, unplug}
 use Rattle.pol_history.specs.Looking.{History, subject, is_module, is_batch, is_recipe, is_accepted, past, past_of_batch, recipes, last_of}
 use Rattle.pol_history.specs.Modules.{present_after, present_tags}
 use Rattle.pol_history.specs.Batches.{starting, started_batch, taking, takes, outcome_by, if_open, is_start}
 use Rattle.pol_history.specs.Refused.{RefusedChangesNothing}
 
-present-refused : (event : EventForm) (tags : List (List ℕ)) → present_after event false tags ≡ tags
-present-refused (plug at tag description) tags = refl
-present-refused (unplug at tag) tags = refl
-present-refused _ tags = refl
+present_refused : (event : PlainEvent) (tags : List (List ℕ)) → present_after event false tags ≡ tags
+present_refused (plug at tag description) tags = refl
+present_refused (unplug at tag) tags = refl
+present_refused _ tags = refl
 
-open-refused : (entry : EntryForm) (history : History) →
+open_refused : (entry : PlainEntry) (history : History) →
     ((batch : List ℕ) → past_of_batch batch (entry ∷ history) ≡ past_of_batch batch history) →
     (found : Option (List ℕ)) → if_open (entry ∷ history) found ≡ if_open history found
-open-refused entry history same None = refl
-open-refused entry history same (Some batch) =
+open_refused entry history same None = refl
+open_refused entry history same (Some batch) =
     ap (λ past. cond (is_none (outcome_by past)) (Some batch) None) (same batch)
 
 -- the pasts, the recipes, the holders, the tags that are there and the batches stay
-pub refused-nothing : RefusedChangesNothing
-refused-nothing entry history refused =
+pub refused_nothing : RefusedChangesNothing
+refused_nothing entry history refused =
     record {
       modules = λ tag. ap (λ kept. cond kept (entry ∷ past tag history) (past tag history))
           (and_right (is_module tag (subject entry.event)) (is_accepted entry.answer) refused);
@@ -35,10 +35,10 @@ refused-nothing entry history refused =
           ap (λ kept. if_open (entry ∷ history) (option_or (cond kept (taking tag entry.event) None)
           (last_of (takes tag) history)))
           refused
-          ∙ open-refused entry history batch_pasts (last_of (takes tag) history);
+          ∙ open_refused entry history batch_pasts (last_of (takes tag) history);
       present =
           ap (λ kept. present_after entry.event kept (present_tags history)) refused
-          ∙ present-refused entry.event (present_tags history);
+          ∙ present_refused entry.event (present_tags history);
       batches = ap (λ kept. reverse (cons_option (cond kept (started_batch entry.event) None)
           (filter_map (λ entry. cond (is_accepted entry.answer) (started_batch entry.event) None) history))) refused;
     }
@@ -49,8 +49,8 @@ refused-nothing entry history refused =
         (and_right (is_batch batch (subject entry.event)) (is_accepted entry.answer) refused)
 
 -- and so do the starts
-pub starts-refused : (entry : EntryForm) (history : History) → is_accepted entry.answer ≡ false →
+pub starts_refused : (entry : PlainEntry) (history : History) → is_accepted entry.answer ≡ false →
     filter is_start (entry ∷ history) ≡ filter is_start history
-starts-refused entry history refused =
+starts_refused entry history refused =
     ap (λ kept. cond kept (entry ∷ filter is_start history) (filter is_start history))
     (and_right (is_some (starting entry.event)) (is_accepted entry.answer) refused)

@@ -2,13 +2,13 @@
 use Rattle.std.specs.Prelude.{ℕ, Bool, ◌||◌, nat_le, List, [], ◌∷◌, length, Option, Some, None, if◌then◌else◌, option_and_then}
 use Rattle.mtp_codes.specs.Faults.{when}
 use Rattle.mtp_codes.specs.declared.limits.TheConstants.{LONGEST_HISTORY}
-use Rattle.chart_core.specs.Roles.{ChartPlan, role_names}
+use Rattle.chart_core.specs.Roles.{PlainChart, role_names}
 use Rattle.chart_core.specs.declared.entry.LogEntry.TheVariants.{StopAsked, Asked}
 use Rattle.chart_core.specs.declared.next.Next.TheVariants as next
 use Rattle.chart_core.specs.declared.next.Next.{Next}
 use Rattle.chart_core.specs.declared.next.Outcome.TheVariants.{Abandoned}
 use Rattle.chart_cursor.specs.Logs.{has_broken, was_stopped}
-use Rattle.pol_events.specs.Events.{EventForm, plug, unplug, report, variable, recipe, start, advance, freeze, thaw, stop_batch, abandon, desk, exchange_begin, exchange_end, exchange_cancel}
+use Rattle.pol_events.specs.Events.{PlainEvent, plug, unplug, report, variable, recipe, start, advance, freeze, thaw, stop_batch, abandon, desk, exchange_begin, exchange_end, exchange_cancel}
 use Rattle.pol_events.specs.declared.answer.Rule.{Rule}
 use Rattle.pol_events.specs.declared.answer.Rule.TheVariants.{Held, HistoryFull}
 use Rattle.pol_events.specs.declared.answer.Answer.{Answer}
@@ -22,7 +22,7 @@ use Rattle.pol_history.specs.Following.{next_of}
 use Rattle.pol_history.specs.Rules.{tag_taken, no_module, not_in_exchange, plant_full, module_not_at_rest, not_reported, recipe_known, recipes_full, no_recipe, batch_known, no_batch, batch_closed, already_frozen, not_frozen, batches_full, role_unbound, role_unknown, one_module_twice, modules_unfit, busy, active_step, held_back}
 
 -- the rules of a start, by the chart of its recipe
-abbrev pub start_rules : History → List ℕ → List Bind → Option ChartPlan → List (Option Rule)
+abbrev pub start_rules : History → List ℕ → List Bind → Option PlainChart → List (Option Rule)
 start_rules history batch binds None = no_recipe None ∷ []
 start_rules history batch binds (Some chart) =
     batch_known (start_by (past_of_batch batch history))
@@ -35,7 +35,7 @@ start_rules history batch binds (Some chart) =
     ∷ []
 
 -- the rules that can refuse the event, in their order
-abbrev pub rules : History → EventForm → List (Option Rule)
+abbrev pub rules : History → PlainEvent → List (Option Rule)
 rules history (plug at tag description) =
     tag_taken (docking_by (past tag history)) ∷ plant_full history ∷ []
 rules history (unplug at tag) =
@@ -108,7 +108,7 @@ abbrev pub stopped : History → Answer
 stopped past = if has_broken (log_by past) || was_stopped (log_by past) then Done else Did StopAsked
 
 -- the answer where no rule refuses the event
-abbrev pub otherwise : History → EventForm → Answer
+abbrev pub otherwise : History → PlainEvent → Answer
 otherwise history (advance at batch) = advanced (next_of history batch)
 otherwise history (stop_batch at batch) = stopped (past_of_batch batch history)
 otherwise history (abandon at batch) = Closed Abandoned
@@ -127,6 +127,6 @@ abbrev pub is_full : History → Bool
 is_full history = nat_le LONGEST_HISTORY (length history)
 
 -- the answer to an event after a history
-abbrev pub answer_of : History → EventForm → Answer
+abbrev pub answer_of : History → PlainEvent → Answer
 answer_of history event = first_rule (when (is_full history) HistoryFull ∷ rules history event)
     (otherwise history event)

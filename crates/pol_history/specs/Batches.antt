@@ -2,10 +2,10 @@
 use Rattle.std.specs.Prelude.{ℕ, Bool, true, false, ◌&&◌, List, [], filter_map, Option, Some, None, is_some, is_none, unwrap_or, reverse, option_and_then, if◌then◌else◌}
 use Rattle.std.specs.Str.{bytes_eq}
 use Rattle.mtp_codes.specs.Names.{is_among}
-use Rattle.chart_core.specs.Roles.{ChartPlan}
+use Rattle.chart_core.specs.Roles.{PlainChart}
 use Rattle.chart_core.specs.declared.entry.LogEntry.{LogEntry}
 use Rattle.chart_core.specs.declared.next.Outcome.{Outcome}
-use Rattle.pol_events.specs.Events.{EventForm, recipe, start, freeze, thaw, stop_batch, EntryForm}
+use Rattle.pol_events.specs.Events.{PlainEvent, recipe, start, freeze, thaw, stop_batch, PlainEntry}
 use Rattle.pol_events.specs.declared.event.Bind.{Bind}
 use Rattle.pol_events.specs.declared.answer.Answer.{Answer}
 use Rattle.pol_events.specs.declared.answer.Answer.TheVariants.{Did, Closed}
@@ -18,7 +18,7 @@ pub record Started : Type 0 where
   pub binds : List Bind
 
 -- the start that an event is
-abbrev pub starting : EventForm → Option Started
+abbrev pub starting : PlainEvent → Option Started
 starting (start at batch name binds) = Some (record { recipe = name; binds = binds })
 starting _ = None
 
@@ -31,24 +31,24 @@ abbrev pub start_of : History → List ℕ → Option Started
 start_of history batch = start_by (past_of_batch batch history)
 
 -- the chart that a recipe of this name brings
-abbrev pub charted : List ℕ → EventForm → Option ChartPlan
+abbrev pub charted : List ℕ → PlainEvent → Option PlainChart
 charted name (recipe at other chart) = if bytes_eq other name then Some chart else None
 charted name _ = None
 
 -- the chart of the recipe of this name, by the accepted recipes
-abbrev pub chart_named : List ℕ → History → Option ChartPlan
+abbrev pub chart_named : List ℕ → History → Option PlainChart
 chart_named name recipes = last_of (λ entry. charted name entry.event) recipes
 
 -- the chart of a batch that was started so, by the accepted recipes
-abbrev pub chart_by : History → Option Started → Option ChartPlan
+abbrev pub chart_by : History → Option Started → Option PlainChart
 chart_by recipes started = option_and_then (λ started. chart_named started.recipe recipes) started
 
 -- the chart of the batch
-abbrev pub chart_of : History → List ℕ → Option ChartPlan
+abbrev pub chart_of : History → List ℕ → Option PlainChart
 chart_of history batch = chart_by (recipes history) (start_of history batch)
 
 -- the binds of a start; none of another event
-abbrev pub binds_in : EventForm → List Bind
+abbrev pub binds_in : PlainEvent → List Bind
 binds_in (start at batch name binds) = binds
 binds_in _ = []
 
@@ -66,7 +66,7 @@ abbrev pub outcome_of : History → List ℕ → Option Outcome
 outcome_of history batch = outcome_by (past_of_batch batch history)
 
 -- whether an event freezes its batch or ends its freeze
-abbrev pub freezing : EventForm → Option Bool
+abbrev pub freezing : PlainEvent → Option Bool
 freezing (freeze at batch) = Some true
 freezing (thaw at batch) = Some false
 freezing (stop_batch at batch) = Some false
@@ -94,12 +94,12 @@ abbrev pub log_of : History → List ℕ → List LogEntry
 log_of history batch = log_by (past_of_batch batch history)
 
 -- the accepted start of a batch on these modules
-abbrev pub taking : List ℕ → EventForm → Option (List ℕ)
+abbrev pub taking : List ℕ → PlainEvent → Option (List ℕ)
 taking tag (start at batch name binds) = if is_among (tags_of binds) tag then Some batch else None
 taking tag _ = None
 
 -- the batch whose accepted start an entry is, where it binds the tag
-abbrev pub takes : List ℕ → EntryForm → Option (List ℕ)
+abbrev pub takes : List ℕ → PlainEntry → Option (List ℕ)
 takes tag entry = if is_accepted entry.answer then taking tag entry.event else None
 
 -- a batch, where it isn't closed
@@ -112,11 +112,11 @@ abbrev pub holder_of : History → List ℕ → Option (List ℕ)
 holder_of history tag = if_open history (last_of (takes tag) history)
 
 -- the entry is an accepted start
-abbrev pub is_start : EntryForm → Bool
+abbrev pub is_start : PlainEntry → Bool
 is_start entry = is_some (starting entry.event) && is_accepted entry.answer
 
 -- the batch that an event starts
-abbrev pub started_batch : EventForm → Option (List ℕ)
+abbrev pub started_batch : PlainEvent → Option (List ℕ)
 started_batch (start at batch name binds) = Some batch
 started_batch _ = None
 

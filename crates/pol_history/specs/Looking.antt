@@ -3,12 +3,12 @@ use Rattle.std.specs.Prelude.{ℕ, Bool, true, false, ◌&&◌, List, [], ◌∷
 use Rattle.std.specs.Option.{option_or}
 use Rattle.std.specs.Str.{bytes_eq}
 pub use Rattle.pol_events.specs.Accepted.{is_accepted}
-use Rattle.pol_events.specs.Events.{EntryForm}
+use Rattle.pol_events.specs.Events.{PlainEntry}
 pub use Rattle.pol_events.specs.Subjects.{Subject, of_module, of_batch, of_recipe, subject}
 
 -- the events with their answers, the newest first
 abbrev pub History : Type 0
-History = List EntryForm
+History = List PlainEntry
 
 -- the subject is this module
 abbrev pub is_module : List ℕ → Subject → Bool
@@ -29,15 +29,15 @@ is_recipe (of_batch batch) = false
 is_recipe (of_recipe name) = true
 
 -- an accepted event of the module
-abbrev pub is_accepted_of : List ℕ → EntryForm → Bool
+abbrev pub is_accepted_of : List ℕ → PlainEntry → Bool
 is_accepted_of tag entry = is_module tag (subject entry.event) && is_accepted entry.answer
 
 -- an accepted event of the batch
-abbrev pub is_accepted_of_batch : List ℕ → EntryForm → Bool
+abbrev pub is_accepted_of_batch : List ℕ → PlainEntry → Bool
 is_accepted_of_batch batch entry = is_batch batch (subject entry.event) && is_accepted entry.answer
 
 -- an accepted recipe
-abbrev pub is_accepted_recipe : EntryForm → Bool
+abbrev pub is_accepted_recipe : PlainEntry → Bool
 is_accepted_recipe entry = is_recipe (subject entry.event) && is_accepted entry.answer
 
 -- the accepted events of a module: its past
@@ -53,16 +53,16 @@ abbrev pub recipes : History → History
 recipes history = filter is_accepted_recipe history
 
 -- what the newest entry says that says something
-abbrev pub last_of : {A : Type 0} → (EntryForm → Option A) → History → Option A
+abbrev pub last_of : {A : Type 0} → (PlainEntry → Option A) → History → Option A
 last_of says [] = None
 last_of says (entry ∷ older) = option_or (says entry) (last_of says older)
 
 -- the entries since the newest one that passes the test, that one included
-abbrev pub since : (EntryForm → Bool) → History → History
+abbrev pub since : (PlainEntry → Bool) → History → History
 since test [] = []
 since test (entry ∷ older) = if test entry then entry ∷ [] else entry ∷ since test older
 
 -- the entries after the newest one that passes the test
-abbrev pub after_last : (EntryForm → Bool) → History → History
+abbrev pub after_last : (PlainEntry → Bool) → History → History
 after_last test [] = []
 after_last test (entry ∷ older) = if test entry then [] else entry ∷ after_last test older

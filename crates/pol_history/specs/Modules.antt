@@ -6,8 +6,8 @@ use Rattle.mtp_codes.specs.declared.state.State.{State}
 use Rattle.mtp_codes.specs.declared.value.Value.{Value}
 use Rattle.mtp_assembly.specs.declared.control.ServiceControl.{ServiceControl}
 use Rattle.mtp_modes.specs.declared.view.ServiceView.{ServiceView}
-use Rattle.mtp_desc.specs.Plain.{DescriptionForm}
-use Rattle.pol_events.specs.Events.{EventForm, plug, unplug, report, variable, exchange_begin, exchange_end, exchange_cancel}
+use Rattle.mtp_desc.specs.Plain.{PlainDescription}
+use Rattle.pol_events.specs.Events.{PlainEvent, plug, unplug, report, variable, exchange_begin, exchange_end, exchange_cancel}
 pub use Rattle.pol_events.specs.Views.{completes_by, seen_with}
 use Rattle.pol_events.specs.declared.answer.Answer.{Answer}
 use Rattle.pol_events.specs.declared.answer.Answer.TheVariants.{Ticket}
@@ -20,24 +20,24 @@ pub data Docking : Type 0 where
   away : (ticket : ℕ) → Docking
 
 -- the event plugs a module
-abbrev pub is_plug : EventForm → Bool
+abbrev pub is_plug : PlainEvent → Bool
 is_plug (plug at tag description) = true
 is_plug _ = false
 
 -- the event begins an exchange
-abbrev pub is_begin : EventForm → Bool
+abbrev pub is_begin : PlainEvent → Bool
 is_begin (exchange_begin at tag) = true
 is_begin _ = false
 
 -- the event docks a module: it plugs it, or ends or cancels its exchange
-abbrev pub is_docking : EventForm → Bool
+abbrev pub is_docking : PlainEvent → Bool
 is_docking (plug at tag description) = true
 is_docking (exchange_end at tag ticket description) = true
 is_docking (exchange_cancel at tag ticket) = true
 is_docking _ = false
 
 -- the event changes whether the module is docked
-abbrev pub is_moving : EventForm → Bool
+abbrev pub is_moving : PlainEvent → Bool
 is_moving (plug at tag description) = true
 is_moving (unplug at tag) = true
 is_moving (exchange_begin at tag) = true
@@ -63,7 +63,7 @@ ticket_in (Ticket ticket) = ticket
 ticket_in _ = 0
 
 -- the docking that an event leaves, with its answer
-abbrev pub docking_after : History → EventForm → Answer → Option Docking
+abbrev pub docking_after : History → PlainEvent → Answer → Option Docking
 docking_after past (plug at tag description) answer = Some (docked (dockings_by past))
 docking_after past (unplug at tag) answer = Some absent
 docking_after past (exchange_begin at tag) answer = Some (away (ticket_in answer))
@@ -86,17 +86,17 @@ abbrev pub docking_of : History → List ℕ → Docking
 docking_of history tag = docking_by (past tag history)
 
 -- the description that an event brings
-abbrev pub described : EventForm → Option DescriptionForm
+abbrev pub described : PlainEvent → Option PlainDescription
 described (plug at tag description) = Some description
 described (exchange_end at tag ticket description) = Some description
 described _ = None
 
 -- the module's description, by its past
-abbrev pub description_by : History → Option DescriptionForm
+abbrev pub description_by : History → Option PlainDescription
 description_by past = last_of (λ entry. described entry.event) past
 
 -- the tag's description: that of the last plug or of the last end of an exchange
-abbrev pub description_of : History → List ℕ → Option DescriptionForm
+abbrev pub description_of : History → List ℕ → Option PlainDescription
 description_of history tag = description_by (past tag history)
 
 -- what happened to the module after its last docking, whether it is docked still or not
@@ -108,7 +108,7 @@ abbrev pub since_docking : History → History
 since_docking past = after_last (λ entry. is_moving entry.event) past
 
 -- the control that an event reports of the service
-abbrev pub reported : List ℕ → EventForm → Option ServiceControl
+abbrev pub reported : List ℕ → PlainEvent → Option ServiceControl
 reported service (report at tag other control) = if bytes_eq other service then Some control else None
 reported service _ = None
 
@@ -125,7 +125,7 @@ abbrev pub view_of : History → List ℕ → List ℕ → Option ServiceView
 view_of history tag service = view_by service (past tag history)
 
 -- the value that an event reports of the variable
-abbrev pub reported_value : List ℕ → EventForm → Option Value
+abbrev pub reported_value : List ℕ → PlainEvent → Option Value
 reported_value name (variable at tag other value) = if bytes_eq other name then Some value else None
 reported_value name _ = None
 
@@ -147,7 +147,7 @@ abbrev pub tags_without : List ℕ → List (List ℕ) → List (List ℕ)
 tags_without tag tags = filter (λ other. not (bytes_eq other tag)) tags
 
 -- the tags that are docked or away after one more event
-abbrev pub present_after : EventForm → Bool → List (List ℕ) → List (List ℕ)
+abbrev pub present_after : PlainEvent → Bool → List (List ℕ) → List (List ℕ)
 present_after (plug at tag description) true tags = tag ∷ tags_without tag tags
 present_after (unplug at tag) true tags = tags_without tag tags
 present_after _ _ tags = tags

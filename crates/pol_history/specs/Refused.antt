@@ -1,6 +1,6 @@
 -- A refused event changes nothing that is found by looking back.
 use Rattle.std.specs.Prelude.{ℕ, ◌≡◌, List, ◌∷◌, false}
-use Rattle.pol_events.specs.Events.{EntryForm}
+use Rattle.pol_events.specs.Events.{PlainEntry}
 use Rattle.pol_history.specs.Looking.{History, past, past_of_batch, recipes, is_accepted}
 use Rattle.pol_history.specs.Modules.{present_tags}
 use Rattle.pol_history.specs.Batches.{holder_of, batches}
@@ -8,7 +8,7 @@ use Rattle.pol_history.specs.Batches.{holder_of, batches}
 -- after a refused event each module, each batch and the recipes have the past that they had, and with it everything
 -- that
 -- is found there; and so are the holders, the tags that are there and the batches
-pub record ChangesNothing (entry : EntryForm) (history : History) : Type 0 where
+pub record ChangesNothing (entry : PlainEntry) (history : History) : Type 0 where
   pub modules : (tag : List ℕ) → past tag (entry ∷ history) ≡ past tag history
   pub batch_pasts : (batch : List ℕ) → past_of_batch batch (entry ∷ history) ≡ past_of_batch batch history
   pub recipes : recipes (entry ∷ history) ≡ recipes history
@@ -18,5 +18,5 @@ pub record ChangesNothing (entry : EntryForm) (history : History) : Type 0 where
 
 -- A refused event changes nothing that is looked back at.
 abbrev pub RefusedChangesNothing : Type 0
-RefusedChangesNothing = (entry : EntryForm) (history : History) → is_accepted entry.answer ≡ false
+RefusedChangesNothing = (entry : PlainEntry) (history : History) → is_accepted entry.answer ≡ false
     → ChangesNothing entry history

@@ -7,8 +7,8 @@ use Rattle.mtp_codes.specs.Faults.{when, first_of}
 use Rattle.mtp_codes.specs.declared.limits.TheConstants.{MOST_BATCHES, MOST_MODULES, MOST_RECIPES}
 use Rattle.mtp_machine.specs.States.{is_idle}
 use Rattle.mtp_modes.specs.declared.view.ServiceView.{ServiceView}
-use Rattle.mtp_desc.specs.Plain.{DescriptionForm}
-use Rattle.chart_core.specs.Roles.{ChartPlan}
+use Rattle.mtp_desc.specs.Plain.{PlainDescription}
+use Rattle.chart_core.specs.Roles.{PlainChart}
 use Rattle.chart_core.specs.Trees.{steps}
 use Rattle.mtp_procs.specs.Covers.{cover_fault, missing_by}
 use Rattle.chart_cursor.specs.Logs.{active}
@@ -61,7 +61,7 @@ not_idle tag service view =
     view
 
 -- the first service of the module that reported last that it isn't at rest
-abbrev pub module_not_at_rest : History → DescriptionForm → Option Rule
+abbrev pub module_not_at_rest : History → PlainDescription → Option Rule
 module_not_at_rest past description = not_at_rest (λ service. control_by service past) description.services
 
 -- ---- recipes
@@ -75,7 +75,7 @@ abbrev pub recipes_full : History → Option Rule
 recipes_full recipes = when (nat_le MOST_RECIPES (length recipes)) RecipesFull
 
 -- no recipe of this name is known
-abbrev pub no_recipe : Option ChartPlan → Option Rule
+abbrev pub no_recipe : Option PlainChart → Option Rule
 no_recipe chart = when (is_none chart) NoRecipe
 
 -- ---- batches
@@ -107,14 +107,14 @@ batches_full history = when (nat_le MOST_BATCHES (length (filter is_start histor
 -- ---- the binds of a start, against the roles of the recipe
 
 -- the module can't play the role
-abbrev pub not_covered : ChartPlan → List ℕ → Option DescriptionForm → Option Rule
+abbrev pub not_covered : PlainChart → List ℕ → Option PlainDescription → Option Rule
 not_covered chart role description =
     option_and_then
     (λ description. option_map (cover_rule role) (cover_fault chart role description))
     description
 
 -- the services of the steps of a role, in chart order
-abbrev pub services_of : ChartPlan → List ℕ → List (List ℕ)
+abbrev pub services_of : PlainChart → List ℕ → List (List ℕ)
 services_of chart role =
     map (λ step. step.service) (filter (λ step. same_name step.role role)
     (map (λ placed. placed.step) (steps chart.root 0)))
@@ -129,7 +129,7 @@ abbrev pub not_ready : List ℕ → History → List (List ℕ) → Option Rule
 not_ready tag past services = first_of (map (unready tag past) services)
 
 -- what is wrong with the module of a role, by the module's past
-abbrev pub module_rules : ChartPlan → List ℕ → List ℕ → History → List (Option Rule)
+abbrev pub module_rules : PlainChart → List ℕ → List ℕ → History → List (Option Rule)
 module_rules chart role tag past =
     no_module tag (docking_by past)
     ∷ in_exchange tag (ticket_of (docking_by past))
@@ -138,12 +138,12 @@ module_rules chart role tag past =
     ∷ []
 
 -- the first thing that is wrong with the module of a role, if it has one
-abbrev pub module_rule : History → ChartPlan → List ℕ → Option (List ℕ) → Option Rule
+abbrev pub module_rule : History → PlainChart → List ℕ → Option (List ℕ) → Option Rule
 module_rule history chart role tag =
     option_and_then (λ tag. first_of (module_rules chart role tag (past tag history))) tag
 
 -- the first thing that is wrong with a module, over these roles
-abbrev pub modules_unfit : History → ChartPlan → List Bind → List (List ℕ) → Option Rule
+abbrev pub modules_unfit : History → PlainChart → List Bind → List (List ℕ) → Option Rule
 modules_unfit history chart binds roles =
     first_of (map (λ role. module_rule history chart role (bound_tag binds role)) roles)
 
@@ -178,7 +178,7 @@ active_step history tag =
     (holder_of history tag)
 
 -- what of the chart the new module doesn't cover, for the role that the tag plays in the batch
-abbrev pub uncovered_by : History → List ℕ → DescriptionForm → List ℕ → History → Option Rule
+abbrev pub uncovered_by : History → List ℕ → PlainDescription → List ℕ → History → Option Rule
 uncovered_by recipes tag description batch past =
     option_and_then
     (λ started.
@@ -191,7 +191,7 @@ uncovered_by recipes tag description batch past =
     (start_by past)
 
 -- the new module doesn't cover its role in the batch that holds the tag
-abbrev pub held_back : History → List ℕ → DescriptionForm → Option Rule
+abbrev pub held_back : History → List ℕ → PlainDescription → Option Rule
 held_back history tag description =
     option_and_then (λ batch. uncovered_by (recipes history) tag description batch (past_of_batch batch history))
     (holder_of history tag)

@@ -2,7 +2,7 @@
 //! input. Definitions, and the first laws about them: each law is the contract of a function with an empty body.
 //!
 //! It knows nothing of tables or of how an answer is found: `pol_audit` and `pol_core` are held against it. What
-//! follows from the definitions stands above it, in `pol_conduct` and `pol_removal`.
+//! follows from the definitions stands above it, in `pol_safety` and `pol_removal`.
 #![tactic(auto)]
 
 ghost use Rattle.pol_history.specs.Paths.{ReportsArePaths};

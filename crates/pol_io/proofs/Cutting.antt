@@ -4,7 +4,7 @@ use Rattle.std.specs.Io.KnownBytes.{Keeps, prepend_known}
 use Rattle.pol_io.specs.Known.{Between, joined}
 use Rattle.pol_io.specs.Pieces.{has_no_feed}
 use Rattle.pol_io.specs.Cuts.{FeedAt, PassesLong, Cuts, CutsLong}
-use Rattle.pol_io.proofs.Feeds.{no_feed-append, feed_parts}
+use Rattle.pol_io.proofs.Feeds.{no_feed_append, feed_parts}
 
 -- what stands before a line feed is the first line, where more follows what waits
 cuts_at_feed : (ended : Bool) (waiting : List ℕ) (place : ℕ) (text rest : List ℕ) → FeedAt waiting place
@@ -71,7 +71,7 @@ long_to_feed : (most : ℕ) (ended : Bool) (waiting : List ℕ) (place : ℕ) �
 long_to_feed most ended waiting place at text rest long = record {
   line = long.part ++ take place waiting;
   cuts = record {
-    no_feed = no_feed-append long.part (take place waiting) long.no_feed at.before;
+    no_feed = no_feed_append long.part (take place waiting) long.no_feed at.before;
     cut = inl (long.cut ∙ (ap (λ front. long.part ++ (front ++ rest)) (feed_parts waiting place at)
         ∙ (ap (λ front. long.part ++ front) (append_assoc (take place waiting) (10 ∷ drop (place + 1) waiting) rest)
         ∙ sym (append_assoc long.part (take place waiting) (10 ∷ (drop (place + 1) waiting ++ rest))))));
@@ -96,7 +96,7 @@ longer : (most : ℕ) (waiting : List ℕ) → IsTrue (has_no_feed waiting) → 
     → PassesLong most text (waiting ++ rest) → PassesLong most text rest
 longer most waiting no_feed text rest long = record {
   part = long.part ++ waiting;
-  no_feed = no_feed-append long.part waiting long.no_feed no_feed;
+  no_feed = no_feed_append long.part waiting long.no_feed no_feed;
   cut = long.cut ∙ sym (append_assoc long.part waiting rest);
   long = let before = long.long in rw length-append (omega (arith, before));
 }

@@ -5,7 +5,7 @@ use Rattle.pol_io.specs.Pieces.{pieces, is_whole, IsFirstLine, IsDone}
 use Rattle.pol_io.specs.Known.{Between, joined}
 use Rattle.pol_io.specs.Cuts.{Cuts, CutsLong}
 use Rattle.pol_io.proofs.Feeds.{either_way}
-use Rattle.pol_io.proofs.Pieces.{pieces-feed, pieces-no_feed, pieces-append, pieces-piece, line_of-feed, line_of-no_feed, whole-feed, whole-append}
+use Rattle.pol_io.proofs.Pieces.{pieces_feed, pieces_no_feed, pieces_append, pieces_piece, line_of_feed, line_of_no_feed, whole_feed, whole_append}
 
 -- a line that is cut from the front is the first line
 pub first_line : (ended : Bool) (line text rest : List ℕ) → (IsTrue ended → rest ≡ []) → Cuts ended line text rest
@@ -15,16 +15,16 @@ first_line ended line text rest spent cuts =
     (λ feed. record {
       piece = line ++ 10 ∷ [];
       cut = feed ∙ sym (append_assoc line (10 ∷ []) rest);
-      pieces_are = rw feed (pieces-feed line rest cuts.no_feed);
-      line_is = line_of-feed line cuts.no_feed;
-      whole = or_left (is_whole (line ++ 10 ∷ [])) ended (whole-feed line);
+      pieces_are = rw feed (pieces_feed line rest cuts.no_feed);
+      line_is = line_of_feed line cuts.no_feed;
+      whole = or_left (is_whole (line ++ 10 ∷ [])) ended (whole_feed line);
       spent = spent;
     })
     (λ end. record {
       piece = line;
       cut = end.1 ∙ (sym (append-nil line) ∙ ap (λ r. line ++ r) (sym end.2));
-      pieces_are = rw (end.1, end.2) (pieces-no_feed line cuts.no_feed end.3);
-      line_is = line_of-no_feed line cuts.no_feed;
+      pieces_are = rw (end.1, end.2) (pieces_no_feed line cuts.no_feed end.3);
+      line_is = line_of_no_feed line cuts.no_feed;
       whole = or_right (is_whole line) ended end.0;
       spent = spent;
     })
@@ -85,15 +85,15 @@ done_line : (ended : Bool) (bytes done text line rest : List ℕ) → bytes ≡ 
     → pieces bytes ≡ pieces done ++ pieces text → is_whole done ≡ true → (first : IsFirstLine ended line text rest)
     → IsDone ended bytes (done ++ first.piece) rest
 done_line ended bytes done text line rest cut are whole first =
-    let alone = pieces-piece text first.piece (pieces rest) first.pieces_are in
+    let alone = pieces_piece text first.piece (pieces rest) first.pieces_are in
     record {
       cut = cut ∙ (ap (λ front. done ++ front) first.cut ∙ sym (append_assoc done first.piece rest));
       pieces_are = are ∙ (ap (λ front. pieces done ++ front) first.pieces_are
           ∙ (sym (append_assoc (pieces done) (first.piece ∷ []) (pieces rest))
           ∙ ap (λ front. front ++ pieces rest)
-          (sym (pieces-append done first.piece whole ∙ ap (λ front. pieces done ++ front) alone))));
+          (sym (pieces_append done first.piece whole ∙ ap (λ front. pieces done ++ front) alone))));
       whole = still_whole (is_whole first.piece) (is_whole (done ++ first.piece)) ended
-          (λ last. whole-append done first.piece whole last) first.whole;
+          (λ last. whole_append done first.piece whole last) first.whole;
       spent = first.spent;
     }
 
@@ -112,8 +112,8 @@ pub pieces_next : (before ended : Bool) (bytes done text line rest : List ℕ) �
 pieces_next before ended bytes done text line rest so_far first =
     either_way before (pieces (done ++ first.piece) ≡ pieces done ++ first.piece ∷ [])
     (λ at_end. absurd (some_text text first.piece rest first.pieces_are (so_far.spent at_end)))
-    (λ unended. pieces-append done first.piece (left_true (is_whole done) before so_far.whole unended)
-    ∙ ap (λ front. pieces done ++ front) (pieces-piece text first.piece (pieces rest) first.pieces_are))
+    (λ unended. pieces_append done first.piece (left_true (is_whole done) before so_far.whole unended)
+    ∙ ap (λ front. pieces done ++ front) (pieces_piece text first.piece (pieces rest) first.pieces_are))
 
 -- all is done
 pub done_all : (ended : Bool) (bytes done rest : List ℕ) → IsDone ended bytes done rest → rest ≡ [] → done ≡ bytes

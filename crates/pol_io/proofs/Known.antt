@@ -36,56 +36,56 @@ between_kept Fact (Some text) None same fact = absurd fact
 between_kept Fact (Some text) (Some rest) same fact = rw fact (same text)
 
 -- known bytes stay as they are
-pub Keeps-refl : (known : Option (List ℕ)) → Keeps known known
-Keeps-refl None = tt
-Keeps-refl (Some bytes) = refl
+pub Keeps_refl : (known : Option (List ℕ)) → Keeps known known
+Keeps_refl None = tt
+Keeps_refl (Some bytes) = refl
 
 -- known bytes that stay, and stay again
-pub Keeps-trans : (old middle new : Option (List ℕ)) → Keeps old middle → Keeps middle new → Keeps old new
-Keeps-trans None middle new first later = tt
-Keeps-trans (Some text) None new first later = absurd first
-Keeps-trans (Some text) (Some between) None first later = absurd later
-Keeps-trans (Some text) (Some between) (Some rest) first later = later ∙ first
+pub Keeps_trans : (old middle new : Option (List ℕ)) → Keeps old middle → Keeps middle new → Keeps old new
+Keeps_trans None middle new first later = tt
+Keeps_trans (Some text) None new first later = absurd first
+Keeps_trans (Some text) (Some between) None first later = absurd later
+Keeps_trans (Some text) (Some between) (Some rest) first later = later ∙ first
 
 -- bytes that are appended twice
-pub Appends-trans : (old middle new : Option (List ℕ)) (more others : List ℕ) → Appends old middle more
+pub Appends_trans : (old middle new : Option (List ℕ)) (more others : List ℕ) → Appends old middle more
     → Appends middle new others → Appends old new (more ++ others)
-Appends-trans None middle new more others first later = tt
-Appends-trans (Some text) None new more others first later = absurd first
-Appends-trans (Some text) (Some between) None more others first later = absurd later
-Appends-trans (Some text) (Some between) (Some rest) more others first later =
+Appends_trans None middle new more others first later = tt
+Appends_trans (Some text) None new more others first later = absurd first
+Appends_trans (Some text) (Some between) None more others first later = absurd later
+Appends_trans (Some text) (Some between) (Some rest) more others first later =
     rw (later, first) (append_assoc text more others)
 
 -- nothing was appended
-pub Appends-none : (old new : Option (List ℕ)) → Keeps old new → Appends old new []
-Appends-none None new kept = tt
-Appends-none (Some text) None kept = absurd kept
-Appends-none (Some text) (Some rest) kept = kept ∙ sym (append-nil text)
+pub Appends_none : (old new : Option (List ℕ)) → Keeps old new → Appends old new []
+Appends_none None new kept = tt
+Appends_none (Some text) None kept = absurd kept
+Appends_none (Some text) (Some rest) kept = kept ∙ sym (append-nil text)
 
 -- bytes that are consumed twice
-pub Consumes-trans : (old middle new : Option (List ℕ)) (more others : List ℕ) → Consumes old middle more
+pub Consumes_trans : (old middle new : Option (List ℕ)) (more others : List ℕ) → Consumes old middle more
     → Consumes middle new others → Consumes old new (more ++ others)
-Consumes-trans None middle new more others first later = tt
-Consumes-trans (Some text) None new more others first later = absurd first
-Consumes-trans (Some text) (Some between) None more others first later = absurd later
-Consumes-trans (Some text) (Some between) (Some rest) more others first later =
+Consumes_trans None middle new more others first later = tt
+Consumes_trans (Some text) None new more others first later = absurd first
+Consumes_trans (Some text) (Some between) None more others first later = absurd later
+Consumes_trans (Some text) (Some between) (Some rest) more others first later =
     rw (first, later) (sym (append_assoc more others rest))
 
 -- what was consumed waits behind what waited
-pub joined-consumed : (ended : Bool) (old new : Option (List ℕ)) (waited more : List ℕ) → ended ≡ false
+pub joined_consumed : (ended : Bool) (old new : Option (List ℕ)) (waited more : List ℕ) → ended ≡ false
     → Consumes old new more → Keeps (joined ended waited old) (joined ended (waited ++ more) new)
-joined-consumed true old new waited more unended took = absurd (cc)
-joined-consumed false None new waited more unended took = tt
-joined-consumed false (Some text) None waited more unended took = absurd took
-joined-consumed false (Some text) (Some rest) waited more unended took = rw took (append_assoc waited more rest)
+joined_consumed true old new waited more unended took = absurd (cc)
+joined_consumed false None new waited more unended took = tt
+joined_consumed false (Some text) None waited more unended took = absurd took
+joined_consumed false (Some text) (Some rest) waited more unended took = rw took (append_assoc waited more rest)
 
 -- at the end all that is ahead waits
-pub joined-at_end : (ended : Bool) (left after : Option (List ℕ)) (waiting : List ℕ) → Keeps left after → IsAtEnd after
+pub joined_at_end : (ended : Bool) (left after : Option (List ℕ)) (waiting : List ℕ) → Keeps left after → IsAtEnd after
     → Keeps (joined ended waiting left) (Some waiting)
-joined-at_end true left after waiting kept end = refl
-joined-at_end false None after waiting kept end = tt
-joined-at_end false (Some text) None waiting kept end = absurd kept
-joined-at_end false (Some text) (Some rest) waiting kept end =
+joined_at_end true left after waiting kept end = refl
+joined_at_end false None after waiting kept end = tt
+joined_at_end false (Some text) None waiting kept end = absurd kept
+joined_at_end false (Some text) (Some rest) waiting kept end =
     sym (ap (λ behind. waiting ++ behind) (sym kept ∙ end) ∙ append-nil waiting)
 
 -- counts of what was taken

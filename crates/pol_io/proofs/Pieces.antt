@@ -5,55 +5,55 @@ use Rattle.pol_io.specs.Pieces.{pieces, onto_first, line_of, has_no_feed, is_who
 use Rattle.pol_io.proofs.Feeds.{head_no_feed}
 
 -- a line with its line feed is one piece
-pub pieces-feed : (line rest : List ℕ) → IsTrue (has_no_feed line)
+pub pieces_feed : (line rest : List ℕ) → IsTrue (has_no_feed line)
     → pieces (line ++ 10 ∷ rest) ≡ (line ++ 10 ∷ []) ∷ pieces rest
-pieces-feed [] rest none = refl
-pieces-feed (byte ∷ bytes) rest none = let parts = head_no_feed byte bytes none in
-    rw (parts.0, pieces-feed bytes rest parts.1)
+pieces_feed [] rest none = refl
+pieces_feed (byte ∷ bytes) rest none = let parts = head_no_feed byte bytes none in
+    rw (parts.0, pieces_feed bytes rest parts.1)
 
 -- bytes without a line feed are one piece
-pub pieces-no_feed : (line : List ℕ) → IsTrue (has_no_feed line) → 0 < length line → pieces line ≡ line ∷ []
-pieces-no_feed [] none some = absurd (omega arith)
-pieces-no_feed (byte ∷ []) none some = let parts = head_no_feed byte [] none in rw parts.0
-pieces-no_feed (byte ∷ (second ∷ others)) none some =
+pub pieces_no_feed : (line : List ℕ) → IsTrue (has_no_feed line) → 0 < length line → pieces line ≡ line ∷ []
+pieces_no_feed [] none some = absurd (omega arith)
+pieces_no_feed (byte ∷ []) none some = let parts = head_no_feed byte [] none in rw parts.0
+pieces_no_feed (byte ∷ (second ∷ others)) none some =
     let parts = head_no_feed byte (second ∷ others) none in
     let rest : pieces (second ∷ others) ≡ (second ∷ others) ∷ [] =
-    pieces-no_feed (second ∷ others) parts.1 (omega arith) in
+    pieces_no_feed (second ∷ others) parts.1 (omega arith) in
     let cut : Bool → List (List ℕ) = λ is_feed. if is_feed then (byte ∷ []) ∷ pieces
     (second ∷ others) else onto_first byte (pieces (second ∷ others)) in
     ap cut parts.0 ∙ ap (λ found. onto_first byte found) rest
 
 -- the line of a piece is what stands before its line feed
-pub line_of-feed : (line : List ℕ) → IsTrue (has_no_feed line) → line ≡ line_of (line ++ 10 ∷ [])
-line_of-feed [] none = refl
-line_of-feed (byte ∷ bytes) none = let parts = head_no_feed byte bytes none in
-    rw (parts.0, ← line_of-feed bytes parts.1)
+pub line_of_feed : (line : List ℕ) → IsTrue (has_no_feed line) → line ≡ line_of (line ++ 10 ∷ [])
+line_of_feed [] none = refl
+line_of_feed (byte ∷ bytes) none = let parts = head_no_feed byte bytes none in
+    rw (parts.0, ← line_of_feed bytes parts.1)
 
 -- and all of it, where it has none
-pub line_of-no_feed : (line : List ℕ) → IsTrue (has_no_feed line) → line ≡ line_of line
-line_of-no_feed [] none = refl
-line_of-no_feed (byte ∷ bytes) none = let parts = head_no_feed byte bytes none in
-    rw parts.0 (ap (λ line. byte ∷ line) (line_of-no_feed bytes parts.1))
+pub line_of_no_feed : (line : List ℕ) → IsTrue (has_no_feed line) → line ≡ line_of line
+line_of_no_feed [] none = refl
+line_of_no_feed (byte ∷ bytes) none = let parts = head_no_feed byte bytes none in
+    rw parts.0 (ap (λ line. byte ∷ line) (line_of_no_feed bytes parts.1))
 
 -- bytes that end in a line feed are whole
-pub whole-feed : (line : List ℕ) → IsTrue (is_whole (line ++ 10 ∷ []))
-whole-feed [] = refl
-whole-feed (byte ∷ []) = refl
-whole-feed (byte ∷ (second ∷ others)) = whole-feed (second ∷ others)
+pub whole_feed : (line : List ℕ) → IsTrue (is_whole (line ++ 10 ∷ []))
+whole_feed [] = refl
+whole_feed (byte ∷ []) = refl
+whole_feed (byte ∷ (second ∷ others)) = whole_feed (second ∷ others)
 
 -- whole lines followed by whole lines
-pub whole-append : (done more : List ℕ) → IsTrue (is_whole done) → IsTrue (is_whole more)
+pub whole_append : (done more : List ℕ) → IsTrue (is_whole done) → IsTrue (is_whole more)
     → IsTrue (is_whole (done ++ more))
-whole-append [] more first later = later
-whole-append (byte ∷ []) [] first later = first
-whole-append (byte ∷ []) (second ∷ others) first later = later
-whole-append (byte ∷ (second ∷ others)) more first later = whole-append (second ∷ others) more first later
+whole_append [] more first later = later
+whole_append (byte ∷ []) [] first later = first
+whole_append (byte ∷ []) (second ∷ others) first later = later
+whole_append (byte ∷ (second ∷ others)) more first later = whole_append (second ∷ others) more first later
 
 -- a byte in front of the first piece, whatever follows the pieces
-onto_first-append : (byte : ℕ) (found tail : List (List ℕ)) → 0 < length found
+onto_first_append : (byte : ℕ) (found tail : List (List ℕ)) → 0 < length found
     → onto_first byte (found ++ tail) ≡ onto_first byte found ++ tail
-onto_first-append byte [] tail some = absurd (omega arith)
-onto_first-append byte (first ∷ found) tail some = refl
+onto_first_append byte [] tail some = absurd (omega arith)
+onto_first_append byte (first ∷ found) tail some = refl
 
 -- there is a piece where there is a byte
 cut_some : (is_feed : Bool) (byte : ℕ) (found : List (List ℕ))
@@ -68,15 +68,15 @@ cut_append : (is_feed : Bool) (byte : ℕ) (found more tail : List (List ℕ)) �
     ≡ (if is_feed then (byte ∷ []) ∷ found else onto_first byte found) ++ tail
 cut_append true byte found more tail parts some = ap (λ rest. (byte ∷ []) ∷ rest) parts
 cut_append false byte found more tail parts some = ap (λ rest. onto_first byte rest) parts
-    ∙ onto_first-append byte found tail some
+    ∙ onto_first_append byte found tail some
 
 -- the pieces of whole lines and of what follows them
-pub pieces-append : (done rest : List ℕ) → IsTrue (is_whole done) → pieces (done ++ rest) ≡ pieces done ++ pieces rest
-pieces-append [] rest whole = refl
-pieces-append (byte ∷ []) rest whole = rw whole
-pieces-append (byte ∷ (second ∷ others)) rest whole =
+pub pieces_append : (done rest : List ℕ) → IsTrue (is_whole done) → pieces (done ++ rest) ≡ pieces done ++ pieces rest
+pieces_append [] rest whole = refl
+pieces_append (byte ∷ []) rest whole = rw whole
+pieces_append (byte ∷ (second ∷ others)) rest whole =
     cut_append (byte == 10) byte (pieces (second ∷ others)) (pieces (second ∷ (others ++ rest))) (pieces rest)
-    (pieces-append (second ∷ others) rest whole) (cut_some (second == 10) second (pieces others))
+    (pieces_append (second ∷ others) rest whole) (cut_some (second == 10) second (pieces others))
 
 -- one more byte in front of joined pieces
 cut_joined : (is_feed : Bool) (byte : ℕ) (found : List (List ℕ))
@@ -87,10 +87,10 @@ cut_joined false byte [] = refl
 cut_joined false byte (first ∷ found) = refl
 
 -- the pieces joined are the bytes
-pub pieces-joined : (bytes : List ℕ) → flat_map (λ piece. piece) (pieces bytes) ≡ bytes
-pieces-joined [] = refl
-pieces-joined (byte ∷ bytes) = cut_joined (byte == 10) byte (pieces bytes)
-    ∙ ap (λ rest. byte ∷ rest) (pieces-joined bytes)
+pub pieces_joined : (bytes : List ℕ) → flat_map (λ piece. piece) (pieces bytes) ≡ bytes
+pieces_joined [] = refl
+pieces_joined (byte ∷ bytes) = cut_joined (byte == 10) byte (pieces bytes)
+    ∙ ap (λ rest. byte ∷ rest) (pieces_joined bytes)
 
 -- equal lists begin alike
 head_is : (first other : List ℕ) (firsts others : List (List ℕ)) → first ∷ firsts ≡ other ∷ others → first ≡ other
@@ -114,7 +114,7 @@ cut_alone false byte (first ∷ found) tail piece test alone same =
     rw (← head_is (byte ∷ first) piece found tail same, test) (ap (λ rest. onto_first byte rest) rest)
 
 -- the first piece of a text is a piece by itself
-pub pieces-piece : (text piece : List ℕ) (tail : List (List ℕ)) → pieces text ≡ piece ∷ tail → pieces piece ≡ piece ∷ []
-pieces-piece [] piece tail same = absurd (cc)
-pieces-piece (byte ∷ bytes) piece tail same = cut_alone (byte == 10) byte (pieces bytes) tail piece refl
-    (λ first later is. pieces-piece bytes first later is) same
+pub pieces_piece : (text piece : List ℕ) (tail : List (List ℕ)) → pieces text ≡ piece ∷ tail → pieces piece ≡ piece ∷ []
+pieces_piece [] piece tail same = absurd (cc)
+pieces_piece (byte ∷ bytes) piece tail same = cut_alone (byte == 10) byte (pieces bytes) tail piece refl
+    (λ first later is. pieces_piece bytes first later is) same

@@ -27,9 +27,9 @@ range_grows items others start end more order same = range_split items start end
     ∙ ap (λ front. front ++ slice_range items end (end + more)) (range_same items others start end same)
 
 -- how long a range is
-pub length-range : (items : List ℕ) (start size : ℕ) → start + size ≤ length items
+pub length_range : (items : List ℕ) (start size : ℕ) → start + size ≤ length items
     → length (slice_range items start (start + size)) ≡ size
-length-range items start size fits = simp (length-take, length-drop) (omega arith)
+length_range items start size fits = simp (length-take, length-drop) (omega arith)
 
 -- a range without its front
 pub range_drop : (items : List ℕ) (start end size : ℕ) → slice_range items (start + size) end

@@ -9,13 +9,13 @@ use Rattle.pol_io.specs.Pieces.{has_no_feed, Passes, PassesMore}
 use Rattle.pol_io.specs.Cuts.{PassesLong}
 use Rattle.pol_io.specs.Faults.{Stops}
 use Rattle.pol_io.proofs.Known.{between_weaker, between_trans, between_kept, counts_taken, counts_kept, counts_trans}
-use Rattle.pol_io.proofs.Feeds.{no_feed-append}
+use Rattle.pol_io.proofs.Feeds.{no_feed_append}
 
 -- one byte that was consumed was passed over
-Consumes-PassesMore : (old new : Option (List ℕ)) (byte : ℕ) → Consumes old new (byte ∷ []) → Between PassesMore old new
-Consumes-PassesMore None new byte took = tt
-Consumes-PassesMore (Some text) None byte took = absurd took
-Consumes-PassesMore (Some text) (Some rest) byte took = record
+Consumes_PassesMore : (old new : Option (List ℕ)) (byte : ℕ) → Consumes old new (byte ∷ []) → Between PassesMore old new
+Consumes_PassesMore None new byte took = tt
+Consumes_PassesMore (Some text) None byte took = absurd took
+Consumes_PassesMore (Some text) (Some rest) byte took = record
     { last = byte; passes = record { part = []; no_feed = refl; cut = took } }
 
 -- the source failed, and nothing is gone
@@ -35,23 +35,23 @@ stops_too_much left after byte took = record {
   reached = LONGEST_INPUT + 1;
   counted = counts_taken left after (byte ∷ []) LONGEST_INPUT 1 refl took;
   read = λ is. absurd (cc);
-  too_much = λ _. (refl, Consumes-PassesMore left after byte took);
+  too_much = λ _. (refl, Consumes_PassesMore left after byte took);
 }
 
 -- passed over, and again
-Passes-trans : (text between rest : List ℕ) → Passes text between → Passes between rest → Passes text rest
-Passes-trans text between rest first later = record {
+Passes_trans : (text between rest : List ℕ) → Passes text between → Passes between rest → Passes text rest
+Passes_trans text between rest first later = record {
   part = first.part ++ later.part;
-  no_feed = no_feed-append first.part later.part first.no_feed later.no_feed;
+  no_feed = no_feed_append first.part later.part first.no_feed later.no_feed;
   cut = first.cut ∙ (ap (λ part. first.part ++ part) later.cut ∙ sym (append_assoc first.part later.part rest));
 }
 
 -- passed over, and one more byte
-Passes-PassesMore : (text between rest : List ℕ) → Passes text between → PassesMore between rest → PassesMore text rest
-Passes-PassesMore text between rest first later = record {
+Passes_PassesMore : (text between rest : List ℕ) → Passes text between → PassesMore between rest → PassesMore text rest
+Passes_PassesMore text between rest first later = record {
   last = later.last;
   passes =
-      Passes-trans text between (later.last ∷ rest) first later.passes;
+      Passes_trans text between (later.last ∷ rest) first later.passes;
 }
 
 -- a fault after some bytes were passed over
@@ -62,9 +62,9 @@ stops_after text left middle after before now fault passes counted stops = recor
   reached = stops.reached;
   counted = counts_trans left middle after before now stops.reached counted stops.counted;
   read = λ is. let at = stops.read is in
-      (at.0, between_trans Passes Passes Passes text middle after Passes-trans passes at.1);
+      (at.0, between_trans Passes Passes Passes text middle after Passes_trans passes at.1);
   too_much = λ is. let at = stops.too_much is in
-      (at.0, between_trans Passes PassesMore PassesMore text middle after Passes-PassesMore passes at.1);
+      (at.0, between_trans Passes PassesMore PassesMore text middle after Passes_PassesMore passes at.1);
 }
 
 -- all that waited was passed over

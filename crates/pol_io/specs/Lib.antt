@@ -6,6 +6,6 @@ pub mod Edge
 pub mod Faults
 pub mod Known
 pub mod Pieces
-pub mod Reading
+pub mod LinesState
 pub mod Scripted
 pub mod Window

@@ -4,7 +4,7 @@ ghost use Rattle.std.specs.Borrow.{sem};
 ghost use Rattle.std.specs.Io.BufRead.{Rests};
 ghost use Rattle.pol_io.specs.Causes.{HasCauseOf};
 ghost use Rattle.pol_io.specs.Faults.{Stops};
-ghost use Rattle.pol_io.specs.Reading.{ahead, needs_no_source, Reads};
+ghost use Rattle.pol_io.specs.LinesState.{ahead, needs_no_source, Reads};
 ghost use Rattle.pol_io.specs.contracts.lines.Lines.{the_row};
 
 use crate::seek::{cut_line, has_feed};
@@ -42,9 +42,9 @@ pub struct Lines {
 
 impl Model for Lines {
     ghost use Rattle.std.specs.Prelude.{not};
-    ghost use Rattle.pol_io.specs.Reading.{Reading};
+    ghost use Rattle.pol_io.specs.LinesState.{LinesState};
 
-    ghost Value = { Reading };
+    ghost Value = { LinesState };
 
     ghost use Rattle.pol_io.specs.Window.{waiting};
 
@@ -89,8 +89,8 @@ impl Lines {
     /// buffer. A line ends at a line feed or at the end of input; a last line without a line feed counts where it has
     /// a byte. Once the end was seen, no source is asked again.
     ///
-    /// `Read` comes exactly where the source's count of faults rose in this call, and `TooMuch` exactly where 268,435,456
-    /// bytes were taken and another one came. After an `Err` the lines can't be read on.
+    /// `Read` comes exactly where the source's count of faults rose in this call, and `TooMuch` exactly where
+    /// 268,435,456 bytes were taken and another one came. After an `Err` the lines can't be read on.
     pub fn next_line<S: Source>(&mut self, source: &mut S) -> Result<Line<'_>, IoFault>
         requires { IsTrue self.old.sound }
         // of the lines as they are once the answered line is let go

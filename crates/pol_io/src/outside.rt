@@ -62,8 +62,8 @@ fn flush_again<W: Write>(writer: &mut W) -> io::Result<()>
     Err(io::Error::from(ErrorKind::Interrupted))
 }
 
-/// A reader as a source. Each error of the reader is a fault, but an interruption: then it is read again. It tells of its
-/// bytes what the reader tells, which is nothing for a file or a terminal.
+/// A reader as a source. Each error of the reader is a fault, but an interruption: then it is read again. It tells of
+/// its bytes what the reader tells, which is nothing for a file or a terminal.
 #[derive(Drop)]
 pub struct ReaderSource<R: Read> {
     inner: R,
@@ -102,8 +102,8 @@ impl<R: Read> Source for ReaderSource<R> {
 }
 
 /// A writer as a sink. Each error of the writer is a fault, but an interruption: then it is written again. A piece of
-/// which it takes nothing is a fault too. A flush is the writer's. It tells of its bytes what the writer tells, which is
-/// nothing for a file or a terminal.
+/// which it takes nothing is a fault too. A flush is the writer's. It tells of its bytes what the writer tells, which
+/// is nothing for a file or a terminal.
 #[derive(Drop)]
 pub struct WriterSink<W: Write> {
     inner: W,

@@ -30,8 +30,8 @@ pub trait Sink {
         ensures bytes { WriteAppends (held self.old) (held self.new) result piece.now }
         ensures cause { HasCauseOf SinkFault.Failed (faults self.old) (faults self.new) result };
 
-    /// Hands on what it took and still keeps to itself, where it does so: a sink that keeps nothing to itself has nothing
-    /// to do. It holds what it held. The count of faults rises in this call exactly where it answers `Failed`.
+    /// Hands on what it took and still keeps to itself, where it does so: a sink that keeps nothing to itself has
+    /// nothing to do. It holds what it held. The count of faults rises in this call exactly where it answers `Failed`.
     fn flush(&mut self) -> Result<(), SinkFault>
         ensures bytes { Keeps (held self.old) (held self.new) }
         ensures cause { HasCauseOf SinkFault.Failed (faults self.old) (faults self.new) result }

@@ -18,7 +18,8 @@ pub trait Source {
     ghost faults: { Self → ℕ };
 
     /// Fills the front of the slice with the next bytes, and says with how many. No byte for a slice with room is the
-    /// end of input. The count of faults rises in this call exactly where it answers `Failed`, and then no byte is gone.
+    /// end of input. The count of faults rises in this call exactly where it answers `Failed`, and then no byte is
+    /// gone.
     fn read(&mut self, into: &mut [u8]) -> Result<usize, Failed>
         ensures bound { ReadsAtMost result into.new }
         ensures bytes { ReadConsumes (left self.old) (left self.new) result into.new }

@@ -1,10 +1,14 @@
 -- Pieces at the front of a text.
-use Rattle.std.proofs.Common.{◌≡◌, ℕ, ◌≤◌, ◌-◌, List, ◌++◌, length, take, drop, true, sym, ap, ◌∙◌, arith, length-drop, length-append}
+use Rattle.std.proofs.Common.{◌≡◌, ℕ, ◌≤◌, ◌-◌, List, ◌++◌, length, take, drop, true, sym, ap, ◌∙◌, arith, length-drop, length-append, subst}
 use Rattle.std.proofs.lemmas.List.{take-append-drop, take_all}
 use Rattle.std.proofs.lemmas.Slice.Eq.{bytes_eq-Decides}
 use Rattle.std.specs.Str.{bytes_eq}
 use Rattle.std.proofs.Math.Seq.{drop-append_seam}
-use Rattle.pol_lines.specs.Begins.{last_of}
+use Rattle.json.specs.Print.{print}
+use Rattle.json.specs.Tree.{json_tokens}
+use Rattle.serde_json.specs.Data.{Data}
+use Rattle.mtp_json.specs.ReadResult.{ReadResult}
+use Rattle.pol_lines.specs.Begins.{Reads, last_of}
 
 -- a text is its front and the rest
 pub front_and_rest : (text piece : List ℕ) → length piece ≤ length text
@@ -30,3 +34,10 @@ pub last_behind : (text front rest : List ℕ) → text ≡ front ++ rest → la
 last_behind text front rest is =
     let place : length text - length rest ≡ length front = omega (arith, ap length is, length-append front rest) in
     rw (place, is) (drop-append_seam front rest)
+
+-- what was read is read up to the last bytes
+pub reads_last : {A : Type 0} (form : Data → ReadResult A) (deep : ℕ) (text : List ℕ) (found : A) (rest : List ℕ)
+    → Reads form deep text found rest → Reads form deep text found (last_of (length rest) text)
+reads_last form deep text found rest reads =
+    subst (λ s. Reads form deep text found s)
+    (sym (last_behind text (print (json_tokens reads.begins.tree)) rest reads.begins.piece)) reads

@@ -3,7 +3,9 @@ pub mod Digits
 pub mod Printed
 pub mod Lookups
 pub mod Members
+pub mod Cuts
 pub mod Listing
+pub mod Describing
 pub mod Stepping
 pub mod Noding
 pub mod Making

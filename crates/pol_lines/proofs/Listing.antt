@@ -8,9 +8,9 @@ use Rattle.serde_json.specs.Data.{Data, Items, array, item, no_items}
 use Rattle.serde_json.specs.Events.{items_len}
 use Rattle.serde_json.specs.Read.{of_items, of_json}
 use Rattle.mtp_json.specs.Form.{each}
-use Rattle.mtp_json.specs.Reading.{Reading, ◌>>=◌, in_place}
+use Rattle.mtp_json.specs.ReadResult.{ReadResult, ◌>>=◌, in_place}
 use Rattle.pol_lines.specs.Begins.{OpensList, Reads, ReadsList, item_pieces}
-use Rattle.pol_lines.proofs.Printed.{tree-before}
+use Rattle.pol_lines.proofs.Printed.{tree_before}
 
 -- ---- trees
 
@@ -31,46 +31,46 @@ starts (json.array trees) more = refl
 starts (json.object trees) more = refl
 
 -- a comma stands before an item that follows another
-comma-before : (trees : json.Items) (tree : json.Json)
+comma_before : (trees : json.Items) (tree : json.Json)
     → print_from true (items_tokens (then_tree trees tree)) ≡ 44 ∷ print_from false
     (items_tokens (then_tree trees tree))
 unfolding print_from
-comma-before json.no_items tree = starts tree (items_tokens json.no_items)
-comma-before (json.item first others) tree = starts first (items_tokens (then_tree others tree))
+comma_before json.no_items tree = starts tree (items_tokens json.no_items)
+comma_before (json.item first others) tree = starts first (items_tokens (then_tree others tree))
 
 -- items, a last one and the closing bracket
-items-close : (trees : json.Items) (tree : json.Json) → print_from false (items_tokens (then_tree trees tree))
+items_close : (trees : json.Items) (tree : json.Json) → print_from false (items_tokens (then_tree trees tree))
     ≡ item_pieces trees ++ (print (json_tokens tree) ++ 93 ∷ [])
 unfolding print_from
-items-close json.no_items tree = tree-before tree (items_tokens json.no_items)
-items-close (json.item first others) tree =
+items_close json.no_items tree = tree_before tree (items_tokens json.no_items)
+items_close (json.item first others) tree =
     let behind = print (json_tokens tree) ++ 93 ∷ [] in
     let held = print (json_tokens first) in
-    tree-before first (items_tokens (then_tree others tree))
-    ∙ ap (λ s. held ++ s) (comma-before others tree ∙ ap (λ s. 44 ∷ s) (items-close others tree))
+    tree_before first (items_tokens (then_tree others tree))
+    ∙ ap (λ s. held ++ s) (comma_before others tree ∙ ap (λ s. 44 ∷ s) (items_close others tree))
     ∙ sym (append_assoc (held ++ 44 ∷ []) (item_pieces others) behind
     ∙ append_assoc held (44 ∷ []) (item_pieces others ++ behind))
 
 -- items and one more, each with its comma
-pieces-then : (trees : json.Items) (tree : json.Json) → item_pieces (then_tree trees tree)
+pieces_then : (trees : json.Items) (tree : json.Json) → item_pieces (then_tree trees tree)
     ≡ item_pieces trees ++ (print (json_tokens tree) ++ 44 ∷ [])
-pieces-then json.no_items tree = append-nil _
-pieces-then (json.item first others) tree =
+pieces_then json.no_items tree = append-nil _
+pieces_then (json.item first others) tree =
     let piece = print (json_tokens first) ++ 44 ∷ [] in
-    ap (λ s. piece ++ s) (pieces-then others tree) ∙ sym (append_assoc piece (item_pieces others) _)
+    ap (λ s. piece ++ s) (pieces_then others tree) ∙ sym (append_assoc piece (item_pieces others) _)
 
 -- their numbers are numbers
-numbers-then : (trees : json.Items) (tree : json.Json) → ItemsHaveNumbers trees → HasNumbers tree
+numbers_then : (trees : json.Items) (tree : json.Json) → ItemsHaveNumbers trees → HasNumbers tree
     → ItemsHaveNumbers (then_tree trees tree)
-numbers-then json.no_items tree numbers here = (here, tt)
-numbers-then (json.item first others) tree numbers here = (numbers.0, numbers-then others tree numbers.1 here)
+numbers_then json.no_items tree numbers here = (here, tt)
+numbers_then (json.item first others) tree numbers here = (numbers.0, numbers_then others tree numbers.1 here)
 
 -- they nest no deeper
-depth-then : (deep : ℕ) (trees : json.Items) (tree : json.Json) → items_depth trees ≤ deep → depth tree ≤ deep
+depth_then : (deep : ℕ) (trees : json.Items) (tree : json.Json) → items_depth trees ≤ deep → depth tree ≤ deep
     → items_depth (then_tree trees tree) ≤ deep
-depth-then deep json.no_items tree shallow here = omega (arith)
-depth-then deep (json.item first others) tree shallow here =
-    omega (arith, depth-then deep others tree (omega arith) here)
+depth_then deep json.no_items tree shallow here = omega (arith)
+depth_then deep (json.item first others) tree shallow here =
+    omega (arith, depth_then deep others tree (omega arith) here)
 
 -- ---- values
 
@@ -80,12 +80,12 @@ then_value no_items value = item value no_items
 then_value (item first others) value = item first (then_value others value)
 
 -- what one more tree means stands last
-means-then : (trees : json.Items) (tree : json.Json) (values : Items) (value : Data) → of_items trees ≡ Some values
+means_then : (trees : json.Items) (tree : json.Json) (values : Items) (value : Data) → of_items trees ≡ Some values
     → of_json tree ≡ Some value
     → of_items (then_tree trees tree) ≡ Some (then_value values value)
-means-then json.no_items tree values value is here = rw here (let same : no_items ≡ values = cc in rw (← same) refl)
-means-then (json.item first others) tree values value is here =
-    go (of_json first) (of_items others) is (λ held read. means-then others tree held value read here)
+means_then json.no_items tree values value is here = rw here (let same : no_items ≡ values = cc in rw (← same) refl)
+means_then (json.item first others) tree values value is here =
+    go (of_json first) (of_items others) is (λ held read. means_then others tree held value read here)
   where
     go : (read : Option Data) (behind : Option Items) → option_and_then
         (λ held. option_map (item held) behind) read ≡ Some values
@@ -97,22 +97,22 @@ means-then (json.item first others) tree values value is here =
     go (Some held) (Some rest) some next = let same : item held rest ≡ values = cc in rw (next rest refl, ← same) refl
 
 -- one more
-many-then : (values : Items) (value : Data) → items_len (then_value values value) ≡ suc (items_len values)
-many-then no_items value = refl
-many-then (item first others) value = ap suc (many-then others value)
+many_then : (values : Items) (value : Data) → items_len (then_value values value) ≡ suc (items_len values)
+many_then no_items value = refl
+many_then (item first others) value = ap suc (many_then others value)
 
 -- what the form gives of one more stands last
-gives-then : {A : Type 0} (form : Data → Reading A) (place : ℕ) (values : Items) (value : Data)
+gives_then : {A : Type 0} (form : Data → ReadResult A) (place : ℕ) (values : Items) (value : Data)
     (found : List A) (last : A)
     → each form place values ≡ Ok found → form value ≡ Ok last
     → each form place (then_value values value) ≡ Ok (found ++ last ∷ [])
 unfolding each
-gives-then form place no_items value found last is here = rw here (let same : [] ≡ found = cc in rw (← same) refl)
-gives-then {A = A} form place (item first others) value found last is here =
-    go (form first) (each form (suc place) others) is (λ held read. gives-then form
+gives_then form place no_items value found last is here = rw here (let same : [] ≡ found = cc in rw (← same) refl)
+gives_then {A = A} form place (item first others) value found last is here =
+    go (form first) (each form (suc place) others) is (λ held read. gives_then form
     (suc place) others value held last read here)
   where
-    go : (read : Reading A) (behind : Reading (List A)) → (in_place place read >>= λ one. behind >>= λ more. Ok
+    go : (read : ReadResult A) (behind : ReadResult (List A)) → (in_place place read >>= λ one. behind >>= λ more. Ok
         (one ∷ more)) ≡ Ok found
         → ((held : List A) → behind ≡ Ok held → each form (suc place) (then_value others value)
         ≡ Ok (held ++ last ∷ []))
@@ -125,7 +125,7 @@ gives-then {A = A} form place (item first others) value found last is here =
 -- ---- what a text begins with
 
 -- a bracket opens a list
-pub list_opens : {A : Type 0} (form : Data → Reading A) (deep : ℕ) (text rest : List ℕ) → text ≡ 91 ∷ rest
+pub list_opens : {A : Type 0} (form : Data → ReadResult A) (deep : ℕ) (text rest : List ℕ) → text ≡ 91 ∷ rest
     → OpensList form deep text [] rest
 unfolding each
 list_opens form deep text rest is =
@@ -142,7 +142,7 @@ list_opens form deep text rest is =
     }
 
 -- a list of nothing
-pub list_empty : {A : Type 0} (form : Data → Reading A) (deep : ℕ) (text rest : List ℕ) → text ≡ 91 ∷ 93 ∷ rest
+pub list_empty : {A : Type 0} (form : Data → ReadResult A) (deep : ℕ) (text rest : List ℕ) → text ≡ 91 ∷ 93 ∷ rest
     → ReadsList form (suc deep) text [] rest
 unfolding each print_from
 list_empty form deep text rest is = record {
@@ -153,7 +153,7 @@ list_empty form deep text rest is = record {
 }
 
 -- an item with a comma behind those before
-pub list_more : {A : Type 0} (form : Data → Reading A) (deep : ℕ) (text between after : List ℕ)
+pub list_more : {A : Type 0} (form : Data → ReadResult A) (deep : ℕ) (text between after : List ℕ)
     (found : List A) (last : A)
     → OpensList form deep text found between → Reads form deep between last (44 ∷ after)
     → OpensList form deep text (found ++ last ∷ []) after
@@ -164,17 +164,17 @@ list_more form deep text between after found last opens reads =
       piece = opens.piece ∙ ap (λ s. 91 ∷ (item_pieces opens.trees ++ s))
           (reads.begins.piece ∙ sym (append_assoc held (44 ∷ []) after))
           ∙ ap (λ s. 91 ∷ s) (sym (append_assoc (item_pieces opens.trees) (held ++ 44 ∷ []) after)
-          ∙ ap (λ s. s ++ after) (sym (pieces-then opens.trees tree)));
-      numbers = numbers-then opens.trees tree opens.numbers reads.begins.numbers;
-      shallow = depth-then deep opens.trees tree opens.shallow reads.begins.shallow;
+          ∙ ap (λ s. s ++ after) (sym (pieces_then opens.trees tree)));
+      numbers = numbers_then opens.trees tree opens.numbers reads.begins.numbers;
+      shallow = depth_then deep opens.trees tree opens.shallow reads.begins.shallow;
       values = then_value opens.values reads.value;
-      means = means-then opens.trees tree opens.values reads.value opens.means reads.begins.means;
-      gives = gives-then form 0 opens.values reads.value found last opens.gives reads.gives;
-      many = omega (arith, many-then opens.values reads.value, length-append found (last ∷ []), opens.many);
+      means = means_then opens.trees tree opens.values reads.value opens.means reads.begins.means;
+      gives = gives_then form 0 opens.values reads.value found last opens.gives reads.gives;
+      many = omega (arith, many_then opens.values reads.value, length-append found (last ∷ []), opens.many);
     }
 
 -- the last item and the closing bracket
-pub list_closes : {A : Type 0} (form : Data → Reading A) (deep : ℕ) (text between after : List ℕ)
+pub list_closes : {A : Type 0} (form : Data → ReadResult A) (deep : ℕ) (text between after : List ℕ)
     (found : List A) (last : A)
     → OpensList form deep text found between → Reads form deep between last (93 ∷ after)
     → ReadsList form (suc deep) text (found ++ last ∷ []) after
@@ -188,12 +188,12 @@ list_closes form deep text between after found last opens reads =
         piece = opens.piece ∙ ap (λ s. 91 ∷ (item_pieces opens.trees ++ s))
             (reads.begins.piece ∙ sym (append_assoc held (93 ∷ []) after))
             ∙ ap (λ s. 91 ∷ s) (sym (append_assoc (item_pieces opens.trees) (held ++ 93 ∷ []) after)
-            ∙ ap (λ s. s ++ after) (sym (items-close opens.trees tree)));
-        numbers = numbers-then opens.trees tree opens.numbers reads.begins.numbers;
-        shallow = omega (arith, depth-then deep opens.trees tree opens.shallow reads.begins.shallow);
-        means = ap (option_map array) (means-then opens.trees tree opens.values reads.value opens.means
+            ∙ ap (λ s. s ++ after) (sym (items_close opens.trees tree)));
+        numbers = numbers_then opens.trees tree opens.numbers reads.begins.numbers;
+        shallow = omega (arith, depth_then deep opens.trees tree opens.shallow reads.begins.shallow);
+        means = ap (option_map array) (means_then opens.trees tree opens.values reads.value opens.means
             reads.begins.means);
       };
-      gives = gives-then form 0 opens.values reads.value found last opens.gives reads.gives;
-      many = omega (arith, many-then opens.values reads.value, length-append found (last ∷ []), opens.many);
+      gives = gives_then form 0 opens.values reads.value found last opens.gives reads.gives;
+      many = omega (arith, many_then opens.values reads.value, length-append found (last ∷ []), opens.many);
     }

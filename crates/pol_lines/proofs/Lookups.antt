@@ -14,59 +14,60 @@ use Rattle.mtp_json.specs.Form.{all_listed, is_listed, only_keys}
 use Rattle.mtp_json.specs.Leaf.{meaning_of}
 use Rattle.pol_lines.specs.declared.flat.Member.{Member}
 use Rattle.pol_lines.specs.declared.key.Key.{Key}
-use Rattle.pol_lines.specs.declared.key.Key.TheVariants.{At, Ev, Tag, Name, Value, Service, Batch, Ticket, StateCur, CommandEn, CommandOp, Mode, Src, ProcedureCur, Role, TypeName, Version, Step, Procedure, Recipe}
+use Rattle.pol_lines.specs.declared.key.Key.TheVariants.{At, Ev, Tag, Name, Value, Service, Batch, Ticket, StateCur, CommandEn, CommandOp, Mode, Src, ProcedureCur, Role, TypeName, Version, Step, Procedure, Recipe, Kind, Min, Max, Number, IsDefault, SelfCompleting}
 use Rattle.pol_lines.specs.Flat.{flat_data, put_all}
-use Rattle.pol_lines.specs.Keys.{key_text}
+use Rattle.pol_lines.specs.Keys.{IsNoKey, key_rows, key_text}
 use Rattle.pol_lines.specs.Leaves.{leaf_data}
 
 -- ---- keys by their texts
 
--- the keys with their texts
-abbrev pub key_rows : List (List ℕ × Key)
-key_rows =
-    (key_text At, At) ∷ (key_text Ev, Ev) ∷ (key_text Tag, Tag) ∷ (key_text Name, Name) ∷ (key_text Value, Value)
-    ∷ (key_text Service, Service) ∷ (key_text Batch, Batch) ∷ (key_text Ticket, Ticket) ∷ (key_text StateCur, StateCur)
-    ∷ (key_text CommandEn, CommandEn) ∷ (key_text CommandOp, CommandOp) ∷ (key_text Mode, Mode) ∷ (key_text Src, Src)
-    ∷ (key_text ProcedureCur, ProcedureCur) ∷ (key_text Role, Role) ∷ (key_text TypeName, TypeName) ∷
-    (key_text Version, Version)
-    ∷ (key_text Step, Step) ∷ (key_text Procedure, Procedure) ∷ (key_text Recipe, Recipe) ∷ []
-
 -- a text names one key
-key-by_text : (key : Key) → meaning_of (key_text key) key_rows ≡ Some key
-key-by_text At = refl
-key-by_text Ev = refl
-key-by_text Tag = refl
-key-by_text Name = refl
-key-by_text Value = refl
-key-by_text Service = refl
-key-by_text Batch = refl
-key-by_text Ticket = refl
-key-by_text StateCur = refl
-key-by_text CommandEn = refl
-key-by_text CommandOp = refl
-key-by_text Mode = refl
-key-by_text Src = refl
-key-by_text ProcedureCur = refl
-key-by_text Role = refl
-key-by_text TypeName = refl
-key-by_text Version = refl
-key-by_text Step = refl
-key-by_text Procedure = refl
-key-by_text Recipe = refl
+key_by_text : (key : Key) → meaning_of (key_text key) key_rows ≡ Some key
+key_by_text At = refl
+key_by_text Ev = refl
+key_by_text Tag = refl
+key_by_text Name = refl
+key_by_text Value = refl
+key_by_text Service = refl
+key_by_text Batch = refl
+key_by_text Ticket = refl
+key_by_text StateCur = refl
+key_by_text CommandEn = refl
+key_by_text CommandOp = refl
+key_by_text Mode = refl
+key_by_text Src = refl
+key_by_text ProcedureCur = refl
+key_by_text Role = refl
+key_by_text TypeName = refl
+key_by_text Version = refl
+key_by_text Step = refl
+key_by_text Procedure = refl
+key_by_text Recipe = refl
+key_by_text Kind = refl
+key_by_text Min = refl
+key_by_text Max = refl
+key_by_text Number = refl
+key_by_text IsDefault = refl
+key_by_text SelfCompleting = refl
 
 -- keys of one text are one key
 same_text_same_key : (key other : Key) → key_text key ≡ key_text other → key ≡ other
 same_text_same_key key other same =
-    let both : Some key ≡ Some other = sym (key-by_text key) ∙ ap (λ text. meaning_of text key_rows) same
-    ∙ key-by_text other in cc
+    let both : Some key ≡ Some other = sym (key_by_text key) ∙ ap (λ text. meaning_of text key_rows) same
+    ∙ key_by_text other in cc
+
+-- a name that is no key's is no key's text
+pub key_is_no_other : (key : Key) (name : List ℕ) → IsNoKey name → name ≡ key_text key → ⊥
+key_is_no_other key name none same =
+    let both : None ≡ Some key = sym none ∙ ap (λ text. meaning_of text key_rows) same ∙ key_by_text key in cc
 
 -- ---- one member after another
 
 -- what is put after other members is put into what they gave
-pub put_all-append : (members others : List Member) (found : Members)
+pub put_all_append : (members others : List Member) (found : Members)
     → put_all (members ++ others) found ≡ put_all others (put_all members found)
-put_all-append [] others found = refl
-put_all-append (first ∷ members) others found = put_all-append members others
+put_all_append [] others found = refl
+put_all_append (first ∷ members) others found = put_all_append members others
     (put (key_text first.key) (leaf_data first.leaf) found)
 
 -- the key of the member put last has its value
@@ -76,7 +77,7 @@ pub found_here : (members : List Member) (place : ℕ) (default : Member) (key :
 found_here members place default key within is =
     let last = get_or members place default in
     let front = take place members in
-    rw (take_more members place default within, put_all-append front (last ∷ []) no_members, is)
+    rw (take_more members place default within, put_all_append front (last ∷ []) no_members, is)
     (get_member-put (key_text key) (leaf_data last.leaf) (put_all front no_members))
 
 -- another key has the value that it had
@@ -86,23 +87,9 @@ pub found_before : (members : List Member) (place : ℕ) (default : Member) (key
 found_before members place default key within other =
     let last = get_or members place default in
     let front = take place members in
-    rw (take_more members place default within, put_all-append front (last ∷ []) no_members)
+    rw (take_more members place default within, put_all_append front (last ∷ []) no_members)
     (get_member-put_other (key_text key) (key_text last.key) (leaf_data last.leaf) (put_all front no_members)
     (λ same. other (sym (same_text_same_key key last.key same))))
-
--- a name that is no key's
-abbrev pub IsNoKey : List ℕ → Type 0
-IsNoKey name = meaning_of name key_rows ≡ None
-
--- stands nowhere
-pub absent : (name : List ℕ) (members : List Member) (found : Members) → IsNoKey name
-    → get_member name (put_all members found) ≡ get_member name found
-absent name [] found none = refl
-absent name (first ∷ members) found none =
-    absent name members (put (key_text first.key) (leaf_data first.leaf) found) none
-    ∙ get_member-put_other name (key_text first.key) (leaf_data first.leaf) found
-    (λ same. let both : None ≡ Some first.key = sym none ∙ ap (λ text. meaning_of text key_rows) same
-    ∙ key-by_text first.key in cc)
 
 -- what is put at a key leaves the others
 pub put_aside : (key other : List ℕ) (value : Data) (members : Members) → bytes_eq key other ≡ false
@@ -113,38 +100,38 @@ put_aside key other value members differs =
 -- ---- the keys of an object
 
 -- a key that may stand there, put before, at or behind a member whose key may
-listed-put_at : (order : Ordering) (keys name key : List ℕ) (value held : Data) (members : Members)
+listed_put_at : (order : Ordering) (keys name key : List ℕ) (value held : Data) (members : Members)
     → is_listed keys name ≡ true
     → is_listed keys key ≡ true → all_listed keys members ≡ true → all_listed keys (put name value members) ≡ true
     → all_listed keys (match_ordering order (member name value (member key held members)) (member key value members)
     (member key held (put name value members))) ≡ true
-listed-put_at Less keys name key value held rest here first others later = rw (here, first, others) refl
-listed-put_at Equal keys name key value held rest here first others later = rw (first, others) refl
-listed-put_at Greater keys name key value held rest here first others later = rw (first, later) refl
+listed_put_at Less keys name key value held rest here first others later = rw (here, first, others) refl
+listed_put_at Equal keys name key value held rest here first others later = rw (first, others) refl
+listed_put_at Greater keys name key value held rest here first others later = rw (first, later) refl
 
 -- a key that may stand there, put among others that may
-pub listed-put : (keys name : List ℕ) (value : Data) (members : Members) → is_listed keys name ≡ true
+pub listed_put : (keys name : List ℕ) (value : Data) (members : Members) → is_listed keys name ≡ true
     → all_listed keys members ≡ true
     → all_listed keys (put name value members) ≡ true
-listed-put keys name value no_members here others = rw here refl
-listed-put keys name value (member key held members) here others =
+listed_put keys name value no_members here others = rw here refl
+listed_put keys name value (member key held members) here others =
     let parts = and_parts (is_listed keys key) (all_listed keys members) others in
-    listed-put_at (slice_cmp nat_cmp name key) keys name key value held members here parts.0 parts.1
-    (listed-put keys name value members here parts.1)
+    listed_put_at (slice_cmp nat_cmp name key) keys name key value held members here parts.0 parts.1
+    (listed_put keys name value members here parts.1)
 
 -- keys that may stand there, put one after another
-pub listed-put_all : (keys : List ℕ) (members : List Member) (found : Members)
+pub listed_put_all : (keys : List ℕ) (members : List Member) (found : Members)
     → list_all (λ each. is_listed keys (key_text each.key)) members ≡ true
     → all_listed keys found ≡ true → all_listed keys (put_all members found) ≡ true
-listed-put_all keys [] found here others = others
-listed-put_all keys (first ∷ members) found here others =
+listed_put_all keys [] found here others = others
+listed_put_all keys (first ∷ members) found here others =
     let parts = and_parts (is_listed keys (key_text first.key))
     (list_all (λ each. is_listed keys (key_text each.key)) members) here in
-    listed-put_all keys members (put (key_text first.key) (leaf_data first.leaf) found) parts.1
-    (listed-put keys (key_text first.key) (leaf_data first.leaf) found parts.0 others)
+    listed_put_all keys members (put (key_text first.key) (leaf_data first.leaf) found) parts.1
+    (listed_put keys (key_text first.key) (leaf_data first.leaf) found parts.0 others)
 
 -- an object of members whose keys may all stand there has no other key
 pub only_listed : (keys : List ℕ) (members : List Member) → list_all
     (λ each. is_listed keys (key_text each.key)) members ≡ true
     → only_keys keys (flat_data members) ≡ Ok tt
-only_listed keys members listed = rw (listed-put_all keys members no_members listed refl) refl
+only_listed keys members listed = rw (listed_put_all keys members no_members listed refl) refl

@@ -1,134 +1,198 @@
--- A recipe by its parts.
-use Rattle.std.proofs.Common.{◌≡◌, ℕ, ◌≤◌, ◌<◌, List, [], ◌∷◌, ◌++◌, length, true, false, Option, Some, None, Ok, refl, sym, ap, ◌∙◌, subst, arith, codes}
-use Rattle.std.specs.Prelude.{IfOk, is_some}
+-- Lines by their parts.
+use Rattle.std.proofs.Common.{◌≡◌, ℕ, suc, ◌≤◌, ◌<◌, List, [], ◌∷◌, length, true, false, Option, Some, None, Ok, Err, refl, sym, ap, ◌∙◌, subst, arith, codes}
+use Rattle.std.specs.Prelude.{IfOk, is_some, option_map}
 use Rattle.std.specs.Str.{IsUtf8}
 use Rattle.std.proofs.lemmas.Grind.{common_steps}
 use Rattle.std.specs.List.{list_all}
-use Rattle.serde_json.specs.Data.{Data, Items, array, no_members, object, put}
+use Rattle.serde_json.specs.Data.{Data, Items, array, object}
 use Rattle.serde_json.specs.Events.{items_len}
-use Rattle.serde_json.specs.Find.{get_member}
 use Rattle.serde_json.specs.Read.{read}
-use Rattle.serde_json.proofs.Views.{get_member-put}
-use Rattle.mtp_codes.specs.Numbers.{greatest_u64, is_between}
-use Rattle.mtp_json.specs.Form.{all_listed, each, field, is_listed, present}
+use Rattle.mtp_codes.specs.Numbers.{greatest_u32, greatest_u64, is_between}
+use Rattle.mtp_json.specs.Form.{nested_if_present, field, is_listed}
 use Rattle.mtp_json.specs.Leaf.{count, name, word}
 use Rattle.mtp_json.specs.Parse.{json_of}
-use Rattle.mtp_json.specs.Reading.{Reading}
+use Rattle.mtp_json.specs.ReadResult.{ReadResult, ◌>>=◌}
 use Rattle.mtp_json.proofs.Utf8.{utf8_is}
+use Rattle.mtp_desc.specs.Form.{description_of}
+use Rattle.mtp_desc.specs.Plain.{PlainDescription}
 use Rattle.chart_core.specs.Form.{is_tree_formed}
-use Rattle.chart_core.specs.Roles.{ChartPlan, RolePlan}
+use Rattle.chart_core.specs.Roles.{PlainChart, PlainRole}
 use Rattle.chart_core.specs.Trees.{Tree}
-use Rattle.chart_core.specs.Valid.{chart_fault}
 use Rattle.chart_json.specs.Form.{are_roles_sized, chart_from, role_of, roles_of, tree_of}
 use Rattle.chart_json.proofs.Formed.{roles_sized, tree_formed}
-use Rattle.pol_events.specs.declared.kind.EventKind.TheVariants.{Recipe}
-use Rattle.pol_events.specs.Events.{EventForm, recipe}
-use Rattle.pol_events.specs.Forms.{event_in, recipe_in}
+use Rattle.pol_events.specs.declared.kind.EventKind.TheVariants.{ExchangeEnd, Plug, Recipe}
+use Rattle.pol_events.specs.Events.{PlainEvent, exchange_end, plug, recipe}
+use Rattle.pol_events.specs.Forms.{event_in, exchange_end_in, plug_in, recipe_in}
 use Rattle.pol_events.specs.Lines.{event_of, fault_within}
 use Rattle.pol_events.specs.Words.{kind_words}
 use Rattle.pol_lines.specs.declared.flat.Member.{Member}
-use Rattle.pol_lines.specs.Begins.{Begins, Opens, Reads, ReadsList}
-use Rattle.pol_lines.specs.Flat.{flat_data, put_all}
+use Rattle.pol_lines.specs.declared.key.Key.TheVariants as key
+use Rattle.pol_lines.specs.Begins.{Begins, Reads}
+use Rattle.pol_lines.specs.Flat.{flat_data}
 use Rattle.pol_lines.specs.Keys.{key_text}
-use Rattle.pol_lines.proofs.Lookups.{listed-put, listed-put_all, put_aside}
-use Rattle.pol_lines.proofs.Members.{plain_key}
-use Rattle.pol_lines.proofs.Printed.{begins_all, begins_object, opens_more, opens_within}
+use Rattle.pol_lines.specs.Objects.{GivesEach, IsObject, Makes, with_value}
+use Rattle.pol_lines.proofs.Cuts.{flat_field}
+use Rattle.pol_lines.proofs.Printed.{begins_all}
+
+-- ---- lines
 
 -- a text that reads as what says a faultless event is its line
-pub line_says : (text : List ℕ) (value : Data) (event : EventForm) → IsUtf8 text → read text ≡ Some value
+line_says : (text : List ℕ) (value : Data) (event : PlainEvent) → IsUtf8 text → read text ≡ Some value
     → event_in value ≡ Ok event → fault_within event ≡ None → event_of text ≡ Ok event
 unfolding event_of json_of
 line_says text value event utf8 is again none = rw (utf8_is text utf8, is, again, none) refl
 
+-- so is one object with nothing behind it, of whose members a faultless event is made
+pub line_of_object : (deep : ℕ) (line rest : List ℕ) (members : List Member) (others : List (List ℕ × Data))
+    (event : PlainEvent) → deep < 127 → IsUtf8 line
+    → IsObject deep line members others rest → rest ≡ [] → Makes event_in event members others
+    → fault_within event ≡ None → event_of line ≡ Ok event
+line_of_object deep line rest members others event fits utf8 is ends makes none =
+    line_says line (object is.found) event utf8
+    (begins_all (suc deep) line (object is.found) (omega arith)
+    (subst (λ s. Begins (suc deep) line (object is.found) s) ends is.begins))
+    (makes is.found is.among) none
+
+-- what a form gave of a value that is there
+pub given_value : {A : Type 0} (form : Data → ReadResult A) (value : Data) (made : A)
+    → nested_if_present form (Some value) ≡ Ok (Some made) → form value ≡ Ok made
+given_value {A = A} form value made is = go (form value) is
+  where
+    go : (read : ReadResult A) → (read >>= λ found. Ok (Some found)) ≡ Ok (Some made) → read ≡ Ok made
+    go (Ok found) one = let same : found ≡ made = cc in rw same refl
+    go (Err fault) none = absurd cc
+
+-- a line that is one object of flat members and a value, of which a form gave something, and its event
+pub line_with_value : {A : Type 0} (form : Data → ReadResult A) (made : A) (deep : ℕ) (line rest name : List ℕ)
+    (members : List Member) (value : Option Data) (event : PlainEvent)
+    → deep < 127 → IsUtf8 line → nested_if_present form value ≡ Ok (Some made)
+    → IsObject deep line members (with_value name value []) rest → rest ≡ []
+    → ((given : Data) → form given ≡ Ok made → Makes event_in event members ((name, given) ∷ []))
+    → fault_within event ≡ None → event_of line ≡ Ok event
+line_with_value form made deep line rest name members None event fits utf8 gives is ends makes none = absurd cc
+line_with_value form made deep line rest name members (Some value) event fits utf8 gives is ends makes none =
+    line_of_object deep line rest members ((name, value) ∷ []) event fits utf8 is ends
+    (makes value (given_value form value made gives)) none
+
+-- what flat members say they say as members of an object
+pub flat_makes : {A : Type 0} (form : Data → ReadResult A) (made : A) (members : List Member)
+    → form (flat_data members) ≡ Ok made → Makes form made members []
+flat_makes form made members is found among = ap (λ all. form (object all)) (among.alone refl) ∙ is
+
+-- ---- modules
+
+-- a plug of these members and this description
+pub plug_of_parts : (members : List Member) (value : Data) (at : ℕ) (tag : List ℕ) (description : PlainDescription)
+    → field (codes "ev") (word kind_words) (flat_data members) ≡ Ok Plug
+    → field (codes "at") (count 0 greatest_u64) (flat_data members) ≡ Ok at
+    → field (codes "tag") name (flat_data members) ≡ Ok tag
+    → list_all (λ each. is_listed (codes "ev at tag desc") (key_text each.key)) members ≡ true
+    → description_of value ≡ Ok description
+    → Makes event_in (plug at tag description) members ((codes "desc", value) ∷ [])
+unfolding event_in plug_in
+plug_of_parts members value at tag description is_kind is_at is_tag listed described found among =
+    let e0 = flat_field members _ found (word kind_words) key.Ev (Ok Plug) among is_kind in
+    let e1 = flat_field members _ found (count 0 greatest_u64) key.At (Ok at) among is_at in
+    let e2 = flat_field members _ found name key.Tag (Ok tag) among is_tag in
+    let e3 = among.other (codes "desc") refl in
+    let e4 = among.listed (codes "ev at tag desc") listed refl in
+    rw (e0, e1, e2, e3, described, e4) refl
+
+-- the end of an exchange of these members and this description
+pub exchange_of_parts : (members : List Member) (value : Data) (at : ℕ) (tag : List ℕ) (ticket : ℕ)
+    (description : PlainDescription)
+    → field (codes "ev") (word kind_words) (flat_data members) ≡ Ok ExchangeEnd
+    → field (codes "at") (count 0 greatest_u64) (flat_data members) ≡ Ok at
+    → field (codes "tag") name (flat_data members) ≡ Ok tag
+    → field (codes "ticket") (count 0 greatest_u32) (flat_data members) ≡ Ok ticket
+    → list_all (λ each. is_listed (codes "ev at tag ticket desc") (key_text each.key)) members ≡ true
+    → description_of value ≡ Ok description
+    → Makes event_in (exchange_end at tag ticket description) members ((codes "desc", value) ∷ [])
+unfolding event_in exchange_end_in
+exchange_of_parts members value at tag ticket description is_kind is_at is_tag is_ticket listed described found among =
+    let e0 = flat_field members _ found (word kind_words) key.Ev (Ok ExchangeEnd) among is_kind in
+    let e1 = flat_field members _ found (count 0 greatest_u64) key.At (Ok at) among is_at in
+    let e2 = flat_field members _ found name key.Tag (Ok tag) among is_tag in
+    let e3 = flat_field members _ found (count 0 greatest_u32) key.Ticket (Ok ticket) among is_ticket in
+    let e4 = among.other (codes "desc") refl in
+    let e5 = among.listed (codes "ev at tag ticket desc") listed refl in
+    rw (e0, e1, e2, e3, e4, described, e5) refl
+
+-- ---- recipes
+
 -- what is known of what was read
-known : {A : Type 0} (P : A → Type 0) (read : Reading A) (found : A) → read ≡ Ok found → IfOk read P → P found
+known : {A : Type 0} (P : A → Type 0) (read : ReadResult A) (found : A) → read ≡ Ok found → IfOk read P → P found
 known P read found is told = rw is at told
 
 -- a node that was read is formed
-pub node_formed : (deep : ℕ) (text : List ℕ) (root : Tree) (rest : List ℕ) → Reads tree_of deep text root rest
-    → is_tree_formed root ≡ true
-node_formed deep text root rest reads = known (λ node. is_tree_formed node ≡ true)
-    (tree_of reads.value) root reads.gives (tree_formed reads.value)
+pub node_formed : (value : Data) (root : Tree) → tree_of value ≡ Ok root → is_tree_formed root ≡ true
+node_formed value root is = known (λ node. is_tree_formed node ≡ true) (tree_of value) root is (tree_formed value)
 
 -- a list of 1 to 64 roles is the roles of a chart
-roles-of : (values : Items) (roles : List RolePlan) → each role_of 0 values ≡ Ok roles
-    → is_between 1 64 (items_len values) ≡ true
-    → roles_of (array values) ≡ Ok roles
+pub roles_in : (values : Items) (roles : List PlainRole) → GivesEach role_of roles (Some values)
+    → 0 < length roles → length roles ≤ 64 → roles_of (array values) ≡ Ok roles
 unfolding roles_of
-roles-of values roles gives sized = rw sized gives
+roles_in values roles gives some few =
+    let sized : is_between 1 64 (items_len values) ≡ true = grind (arith, common_steps, gives.1, some, few) in
+    rw sized gives.0
 
 -- so they are sized
-pub roles_fit : (deep : ℕ) (text : List ℕ) (roles : List RolePlan) (rest : List ℕ)
-    → ReadsList role_of deep text roles rest
-    → 0 < length roles → length roles ≤ 64 → are_roles_sized roles ≡ true
-roles_fit deep text roles rest list some few =
-    known (λ found. are_roles_sized found ≡ true) (roles_of (array list.values)) roles
-    (roles-of list.values roles list.gives (grind (arith, common_steps, list.many, some, few)))
-    (roles_sized (array list.values))
+pub roles_fit : (values : Items) (roles : List PlainRole) → roles_of (array values) ≡ Ok roles
+    → are_roles_sized roles ≡ true
+roles_fit values roles is = known (λ found. are_roles_sized found ≡ true) (roles_of (array values)) roles is
+    (roles_sized (array values))
 
 -- a recipe of these members, roles and root
-recipe-of : (members : List Member) (values : Items) (chart : Data) (at : ℕ) (named : List ℕ) (roles : List RolePlan)
-    (root : Tree) (made : ChartPlan)
+pub recipe_of_parts : (members : List Member) (values : Items) (chart : Data) (at : ℕ) (named : List ℕ)
+    (roles : List PlainRole) (root : Tree) (made : PlainChart)
     → field (codes "ev") (word kind_words) (flat_data members) ≡ Ok Recipe
     → field (codes "at") (count 0 greatest_u64) (flat_data members) ≡ Ok at
     → field (codes "recipe") name (flat_data members) ≡ Ok named
     → list_all (λ each. is_listed (codes "ev at recipe roles chart") (key_text each.key)) members ≡ true
     → roles_of (array values) ≡ Ok roles → tree_of chart ≡ Ok root → chart_from roles root ≡ Ok made
-    → event_in (object (put (codes "chart") chart (put (codes "roles") (array values) (put_all members no_members))))
-    ≡ Ok (recipe at named made)
+    → Makes event_in (recipe at named made) members ((codes "chart", chart) ∷ (codes "roles", array values) ∷ [])
 unfolding event_in recipe_in
-recipe-of members values chart at named roles root made is_kind is_at is_named listed is_roles is_root is_made =
-    let held = put_all members no_members in
-    let keys = codes "ev at recipe roles chart" in
-    let between = put (codes "roles") (array values) held in
-    let found = put (codes "chart") chart between in
-    let e1 : present (word kind_words) (get_member (codes "ev") found) ≡ Ok Recipe =
-    ap (present (word kind_words)) (put_aside (codes "ev") (codes "chart") chart between refl
-    ∙ put_aside (codes "ev") (codes "roles") (array values) held refl) ∙ is_kind in
-    let e2 : present (count 0 greatest_u64) (get_member (codes "at") found) ≡ Ok at =
-    ap (present (count 0 greatest_u64)) (put_aside (codes "at") (codes "chart") chart between refl
-    ∙ put_aside (codes "at") (codes "roles") (array values) held refl) ∙ is_at in
-    let e3 : present name (get_member (codes "recipe") found) ≡ Ok named =
-    ap (present name) (put_aside (codes "recipe") (codes "chart") chart between refl
-    ∙ put_aside (codes "recipe") (codes "roles") (array values) held refl) ∙ is_named in
-    let e4 : get_member (codes "roles") found ≡ Some (array values) =
-    put_aside (codes "roles") (codes "chart") chart between refl ∙ get_member-put (codes "roles") (array values) held in
-    let e5 : get_member (codes "chart") found ≡ Some chart = get_member-put (codes "chart") chart between in
-    let e6 : all_listed keys found ≡ true = listed-put keys (codes "chart") chart between refl
-    (listed-put keys (codes "roles") (array values) held refl (listed-put_all keys members no_members listed refl)) in
+recipe_of_parts members values chart at named roles root made is_kind is_at is_named listed is_roles is_root is_made
+    found among =
+    let e1 = flat_field members _ found (word kind_words) key.Ev (Ok Recipe) among is_kind in
+    let e2 = flat_field members _ found (count 0 greatest_u64) key.At (Ok at) among is_at in
+    let e3 = flat_field members _ found name key.Recipe (Ok named) among is_named in
+    let e4 = among.other (codes "roles") refl in
+    let e5 = among.other (codes "chart") refl in
+    let e6 = among.listed (codes "ev at recipe roles chart") listed refl in
     rw (e1, e2, e3, e4, is_roles, e5, is_root, e6, is_made) refl
 
--- so a line of them says the recipe
-pub recipe_line : (line between inner behind chart rest : List ℕ) (members : List Member) (at : ℕ) (named : List ℕ)
-    (roles : List RolePlan) (root : Tree) (made : ChartPlan)
-    → IsUtf8 line → Opens 0 line (put_all members no_members) between → between ≡ codes "\"roles\":" ++ inner
-    → ReadsList role_of 2 inner roles behind → behind ≡ codes ",\"chart\":" ++ chart
-    → Reads tree_of 35 chart root rest → rest ≡ 125 ∷ []
-    → field (codes "ev") (word kind_words) (flat_data members) ≡ Ok Recipe
-    → field (codes "at") (count 0 greatest_u64) (flat_data members) ≡ Ok at
-    → field (codes "recipe") name (flat_data members) ≡ Ok named
-    → list_all (λ each. is_listed (codes "ev at recipe roles chart") (key_text each.key)) members ≡ true
-    → 0 < length roles → length roles ≤ 64 → chart_from roles root ≡ Ok made → chart_fault made ≡ None
-    → event_of line ≡ Ok (recipe at named made)
-recipe_line line between inner behind chart rest members at named roles root made utf8 opens key_roles list key_chart
-    node closing is_kind is_at is_named listed some few is_made valid =
-    let held = put_all members no_members in
-    let with_roles = put (codes "roles") (array list.values) held in
-    let value = object (put (codes "chart") node.value with_roles) in
-    let more : Opens 35 line with_roles (codes "\"chart\":" ++ chart) =
-    opens_within 2 35 line with_roles (codes "\"chart\":" ++ chart) (omega arith)
-    (opens_more 2 line (codes "roles") between inner (codes "\"chart\":" ++ chart) held (array list.values)
-    (opens_within 0 2 line held between (omega arith) opens)
-    (key_roles ∙ ap (λ s. s ++ inner) (sym (plain_key (codes "roles") refl)))
-    (subst (λ s. Begins 2 inner (array list.values) s) key_chart list.begins)) in
-    let begins : Begins 36 line value [] =
-    begins_object 35 line (codes "chart") (codes "\"chart\":" ++ chart) chart [] with_roles node.value more
-    (ap (λ s. s ++ chart) (sym (plain_key (codes "chart") refl)))
-    (subst (λ s. Begins 35 chart node.value s) closing node.begins) in
-    line_says line value (recipe at named made) utf8 (begins_all 36 line value (omega arith) begins)
-    (recipe-of members list.values node.value at named roles root made is_kind is_at is_named listed
-    (roles-of list.values roles list.gives (grind (arith, common_steps, list.many, some, few)))
-    node.gives is_made) valid
+-- a line that is one object of flat members, roles and a chart, and its recipe
+pub line_of_recipe : (line rest : List ℕ) (members : List Member) (values : Option Items) (chart : Option Data)
+    (roles : List PlainRole) (root : Tree) (event : PlainEvent)
+    → IsUtf8 line → GivesEach role_of roles values → 0 < length roles → length roles ≤ 64
+    → nested_if_present tree_of chart ≡ Ok (Some root)
+    → IsObject 35 line members (with_value (codes "chart") chart
+    (with_value (codes "roles") (option_map array values) [])) rest → rest ≡ []
+    → ((played : Items) (given : Data) → roles_of (array played) ≡ Ok roles → tree_of given ≡ Ok root
+    → Makes event_in event members ((codes "chart", given) ∷ (codes "roles", array played) ∷ []))
+    → fault_within event ≡ None → event_of line ≡ Ok event
+line_of_recipe line rest members None chart roles root event utf8 given some few gives is ends makes none =
+    absurd (omega (arith, some, ap length given))
+line_of_recipe line rest members (Some values) None roles root event utf8 given some few gives is ends makes none =
+    absurd cc
+line_of_recipe line rest members (Some values) (Some chart) roles root event utf8 given some few gives is ends makes
+    none =
+    line_of_object 35 line rest members ((codes "chart", chart) ∷ (codes "roles", array values) ∷ []) event
+    (omega arith) utf8 is ends
+    (makes values chart (roles_in values roles given some few) (given_value tree_of chart root gives)) none
+
+-- roles and a root that were read are sized and formed
+pub read_is_formed : (values : Option Items) (chart : Option Data) (roles : List PlainRole) (root : Tree)
+    → GivesEach role_of roles values → 0 < length roles → length roles ≤ 64
+    → nested_if_present tree_of chart ≡ Ok (Some root)
+    → (are_roles_sized roles ≡ true) × (is_tree_formed root ≡ true)
+read_is_formed None chart roles root given some few gives = absurd (omega (arith, some, ap length given))
+read_is_formed (Some values) None roles root given some few gives = absurd cc
+read_is_formed (Some values) (Some chart) roles root given some few gives = (
+  roles_fit values roles (roles_in values roles given some few),
+  node_formed chart root (given_value tree_of chart root gives),
+)
 
 -- where nothing was found there is no fault
 pub no_fault : {A : Type 0} (found : Option A) → is_some found ≡ false → found ≡ None

@@ -8,7 +8,7 @@ use Rattle.serde_json.specs.Data.{Data, Items, Members, array, no_members}
 use Rattle.serde_json.specs.Events.{items_len}
 use Rattle.serde_json.specs.Read.{of_items, of_json, of_members}
 use Rattle.mtp_json.specs.Form.{each}
-use Rattle.mtp_json.specs.Reading.{Reading}
+use Rattle.mtp_json.specs.ReadResult.{ReadResult}
 
 -- a text begins with what is written of a tree that nests at most this deep and means the value
 pub record Begins (deep : ℕ) (text : List ℕ) (value : Data) (rest : List ℕ) : Type 0 where
@@ -19,7 +19,7 @@ pub record Begins (deep : ℕ) (text : List ℕ) (value : Data) (rest : List ℕ
   pub means : of_json tree ≡ Some value
 
 -- a text begins with a value of which the form gives what was found
-pub record Reads {A : Type 0} (form : Data → Reading A) (deep : ℕ) (text : List ℕ) (found : A)
+pub record Reads {A : Type 0} (form : Data → ReadResult A) (deep : ℕ) (text : List ℕ) (found : A)
     (rest : List ℕ) : Type 0 where
   pub value : Data
   pub begins : Begins deep text value rest
@@ -46,7 +46,7 @@ item_pieces json.no_items = []
 item_pieces (json.item tree others) = (print (json_tokens tree) ++ 44 ∷ []) ++ item_pieces others
 
 -- a text begins with a bracket and items, each with a comma, of each of which the form gives what was found
-pub record OpensList {A : Type 0} (form : Data → Reading A) (deep : ℕ) (text : List ℕ) (found : List A)
+pub record OpensList {A : Type 0} (form : Data → ReadResult A) (deep : ℕ) (text : List ℕ) (found : List A)
     (rest : List ℕ) : Type 0 where
   pub trees : json.Items
   pub piece : text ≡ 91 ∷ (item_pieces trees ++ rest)
@@ -58,7 +58,7 @@ pub record OpensList {A : Type 0} (form : Data → Reading A) (deep : ℕ) (text
   pub many : items_len values ≡ length found
 
 -- a text begins with a list, of each item of which the form gives what was found
-pub record ReadsList {A : Type 0} (form : Data → Reading A) (deep : ℕ) (text : List ℕ) (found : List A)
+pub record ReadsList {A : Type 0} (form : Data → ReadResult A) (deep : ℕ) (text : List ℕ) (found : List A)
     (rest : List ℕ) : Type 0 where
   pub values : Items
   pub begins : Begins deep text (array values) rest

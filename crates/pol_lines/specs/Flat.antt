@@ -3,15 +3,15 @@ use Rattle.std.specs.Prelude.{ℕ, List, [], ◌∷◌, ◌++◌, Bool, flat_map
 use Rattle.serde_json.specs.Data.{Data, object, Members, no_members, put}
 use Rattle.pol_lines.specs.declared.flat.Member.{Member}
 use Rattle.pol_lines.specs.Keys.{key_piece, key_text}
-use Rattle.pol_lines.specs.Leaves.{is_held_leaf, leaf_data, leaf_piece}
+use Rattle.pol_lines.specs.Leaves.{is_leaf_in_range, leaf_data, leaf_piece}
 
 -- a member as a line writes it
 abbrev pub member_piece : Member → List ℕ
 member_piece member = key_piece member.key ++ leaf_piece member.leaf
 
 -- the value is as a line holds it
-abbrev pub is_held_member : Member → Bool
-is_held_member member = is_held_leaf member.leaf
+abbrev pub is_member_in_range : Member → Bool
+is_member_in_range member = is_leaf_in_range member.leaf
 
 -- the front of a line: a brace, and the members so far, each with a comma
 abbrev pub front_piece : List Member → List ℕ

@@ -27,7 +27,7 @@ is_few_digits (pos n) = nat_lt n (10 ^ 18)
 is_few_digits (negsuc n) = nat_lt n (10 ^ 18)
 
 -- no byte of a text has to be escaped, and a number has at most 18 digits
-abbrev pub is_held_leaf : Leaf → Bool
-is_held_leaf (Text bytes) = list_all is_plain bytes.now
-is_held_leaf (Whole z) = is_few_digits z
-is_held_leaf (Bit bit) = true
+abbrev pub is_leaf_in_range : Leaf → Bool
+is_leaf_in_range (Text bytes) = list_all is_plain bytes.now
+is_leaf_in_range (Whole z) = is_few_digits z
+is_leaf_in_range (Bit bit) = true

@@ -2,3 +2,4 @@ pub mod Begins
 pub mod Flat
 pub mod Keys
 pub mod Leaves
+pub mod Objects

@@ -2,7 +2,7 @@
 ghost use Rattle.std.specs.Prelude.{◌≡◌, ℕ, List, Ok, IfSome, IsTrue, codes};
 ghost use Rattle.std.specs.List.{list_all};
 ghost use Rattle.mtp_json.specs.Form.{is_listed};
-ghost use Rattle.pol_events.specs.Events.{EventForm, event_view};
+ghost use Rattle.pol_events.specs.Events.{PlainEvent, plain_event};
 ghost use Rattle.pol_events.specs.Forms.{batch_in, control_in, desk_in, event_in, exchange_cancel_in, report_in, tag_in, variable_in};
 ghost use Rattle.pol_events.specs.Orderly.{is_orderly};
 ghost use Rattle.pol_lines.specs.Flat.{flat_data};
@@ -31,8 +31,8 @@ fn are_of_variable(members: &[Member]) -> bool
 /// A variable's value by its form.
 #[tactic(auto, using(crate::proofs::Lookups::only_listed), unfolding(pol_events::specs::Forms::variable_in))]
 fn read_variable(members: &[Member]) -> Option<Event>
-    ensures says { IfSome result (λ event. variable_in (flat_data members.now) ≡ Ok (event_view event)) }
-    ensures orderly { IfSome result (λ event. IsTrue (is_orderly (event_view event))) }
+    ensures says { IfSome result (λ event. variable_in (flat_data members.now) ≡ Ok (plain_event event)) }
+    ensures orderly { IfSome result (λ event. IsTrue (is_orderly (plain_event event))) }
 {
     if !are_of_variable(members) {
         return None;
@@ -91,8 +91,8 @@ fn read_control(members: &[Member]) -> Option<ServiceControl>
 /// A report by its form.
 #[tactic(auto, using(crate::proofs::Lookups::only_listed), unfolding(pol_events::specs::Forms::report_in))]
 fn read_report(members: &[Member]) -> Option<Event>
-    ensures says { IfSome result (λ event. report_in (flat_data members.now) ≡ Ok (event_view event)) }
-    ensures orderly { IfSome result (λ event. IsTrue (is_orderly (event_view event))) }
+    ensures says { IfSome result (λ event. report_in (flat_data members.now) ≡ Ok (plain_event event)) }
+    ensures orderly { IfSome result (λ event. IsTrue (is_orderly (plain_event event))) }
 {
     if !are_of_report(members) {
         return None;
@@ -124,8 +124,8 @@ fn are_of_desk(members: &[Member]) -> bool
 /// An operator's command by its form.
 #[tactic(auto, using(crate::proofs::Lookups::only_listed), unfolding(pol_events::specs::Forms::desk_in))]
 fn read_desk(members: &[Member]) -> Option<Event>
-    ensures says { IfSome result (λ event. desk_in (flat_data members.now) ≡ Ok (event_view event)) }
-    ensures orderly { IfSome result (λ event. IsTrue (is_orderly (event_view event))) }
+    ensures says { IfSome result (λ event. desk_in (flat_data members.now) ≡ Ok (plain_event event)) }
+    ensures orderly { IfSome result (λ event. IsTrue (is_orderly (plain_event event))) }
 {
     if !are_of_desk(members) {
         return None;
@@ -151,8 +151,8 @@ fn are_of_cancel(members: &[Member]) -> bool
 /// The cancelling of an exchange by its form.
 #[tactic(auto, using(crate::proofs::Lookups::only_listed), unfolding(pol_events::specs::Forms::exchange_cancel_in))]
 fn read_cancel(members: &[Member]) -> Option<Event>
-    ensures says { IfSome result (λ event. exchange_cancel_in (flat_data members.now) ≡ Ok (event_view event)) }
-    ensures orderly { IfSome result (λ event. IsTrue (is_orderly (event_view event))) }
+    ensures says { IfSome result (λ event. exchange_cancel_in (flat_data members.now) ≡ Ok (plain_event event)) }
+    ensures orderly { IfSome result (λ event. IsTrue (is_orderly (plain_event event))) }
 {
     if !are_of_cancel(members) {
         return None;
@@ -176,7 +176,7 @@ fn are_of_tag(members: &[Member]) -> bool
 /// The stamp and the tag of an event that names nothing more.
 #[tactic(auto, using(crate::proofs::Lookups::only_listed), unfolding(pol_events::specs::Forms::tag_in))]
 fn read_of_tag(members: &[Member]) -> Option<(u64, Name)>
-    ensures { IfSome result (λ read. (event : ℕ → List ℕ → EventForm) → tag_in event (flat_data members.now)
+    ensures { IfSome result (λ read. (event : ℕ → List ℕ → PlainEvent) → tag_in event (flat_data members.now)
         ≡ Ok (event read.0 read.1)) }
 {
     if !are_of_tag(members) {
@@ -196,7 +196,7 @@ fn are_of_batch(members: &[Member]) -> bool
 /// The stamp and the batch of an event that names nothing more.
 #[tactic(auto, using(crate::proofs::Lookups::only_listed), unfolding(pol_events::specs::Forms::batch_in))]
 fn read_of_batch(members: &[Member]) -> Option<(u64, Name)>
-    ensures { IfSome result (λ read. (event : ℕ → List ℕ → EventForm) → batch_in event (flat_data members.now)
+    ensures { IfSome result (λ read. (event : ℕ → List ℕ → PlainEvent) → batch_in event (flat_data members.now)
         ≡ Ok (event read.0 read.1)) }
 {
     if !are_of_batch(members) {
@@ -210,8 +210,8 @@ fn read_of_batch(members: &[Member]) -> Option<(u64, Name)>
 /// The event that the members of a flat line say; None for some lines that say one, and for each that says none.
 #[tactic(auto, unfolding(pol_events::specs::Forms::event_in))]
 pub fn read_members(members: &[Member]) -> Option<Event>
-    ensures says { IfSome result (λ event. event_in (flat_data members.now) ≡ Ok (event_view event)) }
-    ensures orderly { IfSome result (λ event. IsTrue (is_orderly (event_view event))) }
+    ensures says { IfSome result (λ event. event_in (flat_data members.now) ≡ Ok (plain_event event)) }
+    ensures orderly { IfSome result (λ event. IsTrue (is_orderly (plain_event event))) }
 {
     match kind_at(members, Key::Ev)? {
         EventKind::Variable => read_variable(members),

@@ -1,11 +1,11 @@
 //! What stands at the keys of a flat line.
-ghost use Rattle.std.specs.Prelude.{◌≡◌, ◌≤◌, Ok, Some, IfSome, option_map};
+ghost use Rattle.std.specs.Prelude.{◌≡◌, ◌≤◌, false, Ok, Some, IfSome, IsTrue, option_map};
 ghost use Rattle.serde_json.specs.Data.{string};
 ghost use Rattle.serde_json.specs.Find.{get};
 ghost use Rattle.mtp_codes.specs.Codes.{command_codes, state_codes};
-ghost use Rattle.mtp_codes.specs.Numbers.{greatest_u32, greatest_u64};
-ghost use Rattle.mtp_json.specs.Form.{field};
-ghost use Rattle.mtp_json.specs.Leaf.{code, count, meaning_of, name, scalar, word};
+ghost use Rattle.mtp_codes.specs.Numbers.{greatest_u32, greatest_u64, is_within};
+ghost use Rattle.mtp_json.specs.Form.{field, present_or};
+ghost use Rattle.mtp_json.specs.Leaf.{code, count, meaning_of, name, scalar, text_to, truth, whole, word};
 ghost use Rattle.pol_events.specs.Words.{kind_words, mode_words, origin_words};
 ghost use Rattle.pol_lines.specs.Flat.{flat_data};
 ghost use Rattle.pol_lines.specs.Keys.{key_text};
@@ -149,6 +149,10 @@ fn kind_of(bytes: &[u8]) -> Option<EventKind>
         Some(EventKind::ExchangeCancel)
     } else if bytes == b"recipe".as_slice() {
         Some(EventKind::Recipe)
+    } else if bytes == b"plug".as_slice() {
+        Some(EventKind::Plug)
+    } else if bytes == b"exchange_end".as_slice() {
+        Some(EventKind::ExchangeEnd)
     } else {
         None
     }
@@ -182,5 +186,42 @@ pub fn scalar_at(members: &[Member], key: Key) -> Option<Value>
         Leaf::Text(bytes) => text_value(bytes),
         Leaf::Whole(number) => Some(Value::Whole(number)),
         Leaf::Bit(bit) => Some(Value::Bit(bit)),
+    }
+}
+
+/// The text of at most 64 bytes at a key.
+pub fn short_at(members: &[Member], key: Key) -> Option<Short>
+    ensures { IfSome result (λ found. field (key_text key) (text_to 64) (flat_data members.now) ≡ Ok found) }
+{
+    let bytes = text_at(members, key)?;
+    if bytes.len() > 64 {
+        return None;
+    }
+    match std::str::from_utf8(bytes) {
+        Ok(text) => Short::of_text(text),
+        Err(_) => None,
+    }
+}
+
+/// The whole number from `least` to `most` at a key.
+pub fn whole_at(members: &[Member], key: Key, least: i64, most: i64) -> Option<i64>
+    ensures value { IfSome result (λ found. field (key_text key) (whole least most) (flat_data members.now)
+        ≡ Ok found) }
+    ensures within { IfSome result (λ found. IsTrue (is_within least most found)) }
+{
+    match leaf_at(members, key)? {
+        Leaf::Whole(number) if least <= number && number <= most => Some(number),
+        _ => None,
+    }
+}
+
+/// The truth value at a key; false where the key is absent.
+pub fn truth_at(members: &[Member], key: Key) -> Option<bool>
+    ensures { IfSome result (λ bit. present_or false truth (get (key_text key) (flat_data members.now)) ≡ Ok bit) }
+{
+    match leaf_at(members, key) {
+        None => Some(false),
+        Some(Leaf::Bit(bit)) => Some(bit),
+        _ => None,
     }
 }

@@ -27,6 +27,12 @@ pub enum Key {
     Step,
     Procedure,
     Recipe,
+    Kind,
+    Min,
+    Max,
+    Number,
+    IsDefault,
+    SelfCompleting,
 }
 
 /// The key at the front of a text, with what follows its colon.
@@ -45,13 +51,17 @@ pub fn read_key(text: &[u8]) -> Option<(Key, &[u8])>
             b'y' => Some((Key::TypeName, eat(text, b"\"type\":")?)),
             _ => Some((Key::Ticket, eat(text, b"\"ticket\":")?)),
         },
-        b'n' => Some((Key::Name, eat(text, b"\"name\":")?)),
+        b'n' => match text[2] {
+            b'a' => Some((Key::Name, eat(text, b"\"name\":")?)),
+            _ => Some((Key::Number, eat(text, b"\"number\":")?)),
+        },
         b'v' => match text[2] {
             b'a' => Some((Key::Value, eat(text, b"\"value\":")?)),
             _ => Some((Key::Version, eat(text, b"\"version\":")?)),
         },
         b's' => match text[3] {
             b'r' => Some((Key::Service, eat(text, b"\"service\":")?)),
+            b'l' => Some((Key::SelfCompleting, eat(text, b"\"self_completing\":")?)),
             _ => Some((Key::Step, eat(text, b"\"step\":")?)),
         },
         b'r' => match text[2] {
@@ -59,6 +69,12 @@ pub fn read_key(text: &[u8]) -> Option<(Key, &[u8])>
             _ => Some((Key::Recipe, eat(text, b"\"recipe\":")?)),
         },
         b'p' => Some((Key::Procedure, eat(text, b"\"procedure\":")?)),
+        b'k' => Some((Key::Kind, eat(text, b"\"kind\":")?)),
+        b'm' => match text[2] {
+            b'i' => Some((Key::Min, eat(text, b"\"min\":")?)),
+            _ => Some((Key::Max, eat(text, b"\"max\":")?)),
+        },
+        b'd' => Some((Key::IsDefault, eat(text, b"\"default\":")?)),
         b'b' => Some((Key::Batch, eat(text, b"\"batch\":")?)),
         b'S' => match text[2] {
             b't' => Some((Key::StateCur, eat(text, b"\"StateCur\":")?)),

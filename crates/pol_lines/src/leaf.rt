@@ -5,7 +5,7 @@ ghost use Rattle.std.specs.Fmt.{decimal};
 ghost use Rattle.std.specs.List.{list_all};
 ghost use Rattle.std.specs.Str.Parse.{digits_value};
 ghost use Rattle.json.specs.Run.{is_plain};
-ghost use Rattle.pol_lines.specs.Leaves.{is_held_leaf, leaf_piece};
+ghost use Rattle.pol_lines.specs.Leaves.{is_leaf_in_range, leaf_piece};
 
 use crate::pieces::eat;
 
@@ -43,7 +43,7 @@ fn plain_end(text: &[u8]) -> usize
 #[inline(always)]
 fn read_text(text: &[u8]) -> Option<(Leaf, &[u8])>
     ensures piece { IfSome result (λ read. 34 ∷ text.now ≡ leaf_piece read.0 ++ read.1.now) }
-    ensures held { IfSome result (λ read. IsTrue (is_held_leaf read.0)) }
+    ensures held { IfSome result (λ read. IsTrue (is_leaf_in_range read.0)) }
 {
     let end = plain_end(text);
     let rest = eat(&text[end..], b"\"")?;
@@ -88,7 +88,7 @@ fn read_whole(text: &[u8]) -> Option<(u64, &[u8])>
 #[inline(always)]
 fn read_positive(text: &[u8]) -> Option<(Leaf, &[u8])>
     ensures piece { IfSome result (λ read. text.now ≡ leaf_piece read.0 ++ read.1.now) }
-    ensures held { IfSome result (λ read. IsTrue (is_held_leaf read.0)) }
+    ensures held { IfSome result (λ read. IsTrue (is_leaf_in_range read.0)) }
 {
     let (value, rest) = read_whole(text)?;
     Some((Leaf::Whole(value as i64), rest))
@@ -98,7 +98,7 @@ fn read_positive(text: &[u8]) -> Option<(Leaf, &[u8])>
 #[inline(always)]
 fn read_negative(text: &[u8]) -> Option<(Leaf, &[u8])>
     ensures piece { IfSome result (λ read. 45 ∷ text.now ≡ leaf_piece read.0 ++ read.1.now) }
-    ensures held { IfSome result (λ read. IsTrue (is_held_leaf read.0)) }
+    ensures held { IfSome result (λ read. IsTrue (is_leaf_in_range read.0)) }
 {
     let (value, rest) = read_whole(text)?;
     if value == 0 {
@@ -107,12 +107,12 @@ fn read_negative(text: &[u8]) -> Option<(Leaf, &[u8])>
     Some((Leaf::Whole(-(value as i64)), rest))
 }
 
-/// The value at the front of a text, with what follows it; None for a list, an object, `null`, a text with an escape, and
-/// a number of more than 18 digits or with a point or an exponent after it.
+/// The value at the front of a text, with what follows it; None for a list, an object, `null`, a text with an escape,
+/// and a number of more than 18 digits or with a point or an exponent after it.
 #[inline(always)]
 pub fn read_leaf(text: &[u8]) -> Option<(Leaf, &[u8])>
     ensures piece { IfSome result (λ read. text.now ≡ leaf_piece read.0 ++ read.1.now) }
-    ensures held { IfSome result (λ read. IsTrue (is_held_leaf read.0)) }
+    ensures held { IfSome result (λ read. IsTrue (is_leaf_in_range read.0)) }
 {
     match text {
         [b'"', rest @ ..] => read_text(rest),

@@ -1,22 +1,29 @@
-//! The lines of a journal read fast. A line that is one compact object of numbers, names, texts and truth values is
-//! read without a tree, its keys in any order, and so is a long recipe of steps in sequence and in parallel that have
-//! no condition, its keys in the order of `docs/FORMATS.md`; all other lines by `read_event`, which alone tells faults.
+//! The lines of a journal read fast. A compact line is read without a tree, whatever the order of its keys: a flat one,
+//! of numbers, names, texts and truth values; one with a description, whose variables stand behind its services; and a
+//! recipe of steps in sequence and in parallel that have no condition, whose chart stands behind its roles. All other
+//! lines are read by `read_event`, which alone tells faults.
 //!
 //! `read_line` has the contract of `read_event`. What stands below it is sound and not complete: each reader says that
-//! the text begins with what JSON writes of a value (`specs/Begins.antt`), of which the form gives what was found.
+//! the text begins with what JSON writes of a value (`specs/Begins.antt`), of which the form gives what was found. An
+//! object is read member by member, from cut to cut (`specs/Objects.antt`).
 #![tactic(auto)]
 
+mod descriptions;
 mod events;
 mod fields;
 mod flat;
 mod key;
 mod leaf;
 mod lists;
+mod modules;
 mod nodes;
+mod objects;
+mod params;
 mod pieces;
 mod reading;
 mod recipes;
 mod roles;
+mod services;
 mod steps;
 
 pub use reading::read_line;

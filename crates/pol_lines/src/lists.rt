@@ -1,7 +1,7 @@
 //! Lists at the front of a text.
 ghost use Rattle.std.specs.Prelude.{◌≡◌, ◌≤◌, ℕ, suc, List, [], IfSome, length, map};
 ghost use Rattle.serde_json.specs.Data.{Data};
-ghost use Rattle.mtp_json.specs.Reading.{Reading};
+ghost use Rattle.mtp_json.specs.ReadResult.{ReadResult};
 ghost use Rattle.pol_lines.specs.Begins.{Reads, ReadsList, last_of};
 
 use crate::pieces::{eat, last};
@@ -15,7 +15,7 @@ pub trait Front {
 
     ghost plain: { Self.Item → Form };
 
-    ghost form: { Data → Reading Form };
+    ghost form: { Data → ReadResult Form };
 
     ghost deep: { ℕ };
 

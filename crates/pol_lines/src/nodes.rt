@@ -1,28 +1,29 @@
 //! Nodes at the front of a text.
 ghost use Rattle.std.specs.Prelude.{◌≡◌, ◌+◌, ◌*◌, [], IfSome, map};
-ghost use Rattle.chart_core.specs.Trees.{leaf, par, seq, step_plan, tree, trees_of};
+ghost use Rattle.chart_core.specs.Trees.{Tree, leaf, par, seq, plain_step, plain_node, trees_of};
 ghost use Rattle.chart_json.specs.Form.{tree_of};
 ghost use Rattle.pol_lines.specs.Begins.{Reads, ReadsList, last_of};
 
+use crate::lists::Front;
 use crate::pieces::{eat, last};
 use crate::steps::read_step;
 use chart_core::{Node, Step};
 use std::alloc::Global;
 
 fn in_sequence(nodes: Vec<Node>) -> Node
-    ensures { tree result ≡ seq (trees_of (map tree nodes.items)) }
+    ensures { plain_node result ≡ seq (trees_of (map plain_node nodes.items)) }
 {
     Node::Seq(nodes)
 }
 
 fn in_parallel(nodes: Vec<Node>) -> Node
-    ensures { tree result ≡ par (trees_of (map tree nodes.items)) }
+    ensures { plain_node result ≡ par (trees_of (map plain_node nodes.items)) }
 {
     Node::Par(nodes)
 }
 
 fn of_step(step: Step) -> Node
-    ensures { tree result ≡ leaf (step_plan step) }
+    ensures { plain_node result ≡ leaf (plain_step step) }
 {
     Node::Step(step)
 }
@@ -36,7 +37,8 @@ fn read_inner<'a>(
     nodes: &mut Vec<Node>,
 ) -> Option<&'a [u8]>
     requires { nodes.old.items ≡ [] }
-    ensures { IfSome result (λ rest. ReadsList tree_of (2 * levels + 4) text.now (map tree nodes.new.items) rest.now) }
+    ensures { IfSome result
+        (λ rest. ReadsList tree_of (2 * levels + 4) text.now (map plain_node nodes.new.items) rest.now) }
 {
     let mut rest = eat(text, b"[")?;
     for _ in 0..256u32 {
@@ -56,8 +58,9 @@ fn read_inner<'a>(
 /// The node at the front of a text, with how many bytes follow it: its steps are in sequence and in parallel, and no
 /// condition is in it. It nests at most `levels` lists.
 #[cycle(node)]
-pub fn read_node(alloc: Global, text: &[u8], levels: u32) -> Option<(Node, usize)>
-    ensures { IfSome result (λ read. Reads tree_of (2 * levels + 3) text.now (tree read.0) (last_of read.1 text.now)) }
+fn read_node(alloc: Global, text: &[u8], levels: u32) -> Option<(Node, usize)>
+    ensures { IfSome result
+        (λ read. Reads tree_of (2 * levels + 3) text.now (plain_node read.0) (last_of read.1 text.now)) }
 {
     if let Some(inner) = eat(text, b"{\"seq\":") {
         if levels == 0 {
@@ -85,4 +88,23 @@ pub fn read_node(alloc: Global, text: &[u8], levels: u32) -> Option<(Node, usize
     }
     let (step, left) = read_step(alloc, text)?;
     Some((of_step(step), left))
+}
+
+/// The form of a node at the front of a text, which nests at most 16 lists.
+pub struct NodeFronts;
+
+impl Front for NodeFronts {
+    type Item = Node;
+
+    ghost Form = { Tree };
+
+    ghost plain = { plain_node };
+
+    ghost form = { tree_of };
+
+    ghost deep = { 35 };
+
+    fn read(alloc: Global, text: &[u8]) -> Option<(Node, usize)> {
+        read_node(alloc, text, 16)
+    }
 }

@@ -1,22 +1,29 @@
-//! Recipes of steps without conditions, in a line.
-ghost use Rattle.std.specs.Prelude.{◌≡◌, IfSome, Ok, codes, map};
+//! Lines that make a recipe known.
+ghost use Rattle.std.specs.Prelude.{◌≡◌, ◌∷◌, ℕ, [], IfSome, IsTrue, None, Ok, codes, map};
 ghost use Rattle.std.specs.List.{list_all};
+ghost use Rattle.serde_json.specs.Data.{Data, Items, array};
 ghost use Rattle.mtp_json.specs.Form.{is_listed};
-ghost use Rattle.chart_core.specs.Charts.{plan};
+ghost use Rattle.chart_core.specs.Charts.{plain_chart};
+ghost use Rattle.chart_core.specs.Form.{is_tree_formed};
+ghost use Rattle.chart_core.specs.Roles.{plain_role};
+ghost use Rattle.chart_core.specs.Trees.{plain_node};
 ghost use Rattle.chart_core.specs.Valid.{chart_fault};
-ghost use Rattle.pol_events.specs.Events.{event_view};
-ghost use Rattle.pol_events.specs.Lines.{event_of};
+ghost use Rattle.chart_json.specs.Form.{are_roles_sized, chart_from, roles_of, tree_of};
+ghost use Rattle.pol_events.specs.Events.{plain_event};
+ghost use Rattle.pol_events.specs.Forms.{event_in};
+ghost use Rattle.pol_events.specs.Lines.{event_of, fault_within};
 ghost use Rattle.pol_lines.specs.Keys.{key_text};
+ghost use Rattle.pol_lines.specs.Objects.{Makes, Stands};
 
 use crate::fields::{count_at, kind_at, name_at};
-use crate::flat::{Member, read_front};
+use crate::flat::Member;
 use crate::key::Key;
-use crate::lists::read_list;
-use crate::nodes::read_node;
-use crate::pieces::{eat, is_text, last};
+use crate::nodes::NodeFronts;
+use crate::objects::{Cut, read_flats, read_list_at, read_value_at};
+use crate::pieces::is_text;
 use crate::roles::RoleFronts;
 use arrayvec::ArrayVec;
-use chart_core::{Chart, ChartFault};
+use chart_core::{Chart, ChartFault, MOST_ROLES, Node, Role};
 use chart_json::make_chart;
 use pol_events::{Event, EventKind};
 use std::alloc::Global;
@@ -30,23 +37,41 @@ fn are_of_recipe(members: &[Member]) -> bool
 }
 
 fn fault_of(chart: &Chart) -> Option<ChartFault>
-    ensures { result ≡ chart_fault (plan chart.now) }
+    ensures { result ≡ chart_fault (plain_chart chart.now) }
 {
     chart.valid().err()
 }
 
-/// The recipe that a line makes known: its roles and its chart stand last, and no condition is in it.
-#[inline(never)]
-pub fn read_recipe(alloc: Global, line: &[u8]) -> Option<Event>
-    ensures { IfSome result (λ event. event_of line.now ≡ Ok (event_view event)) }
+/// The chart of these roles and this root, if it is valid.
+fn chart_in(alloc: Global, roles: Vec<Role>, root: Node) -> Option<Arc<Chart>>
+    requires sized { IsTrue (are_roles_sized (map plain_role roles.items)) }
+    requires formed { IsTrue (is_tree_formed (plain_node root)) }
+    ensures made { IfSome result
+        (λ chart. chart_from (map plain_role roles.items) (plain_node root) ≡ Ok (plain_chart chart.value)) }
+    ensures valid { IfSome result (λ chart. chart_fault (plain_chart chart.value) ≡ None) }
 {
-    let mut members = ArrayVec::new();
-    let rest = read_front(line, &mut members)?;
-    let rest = eat(rest, b"\"roles\":")?;
-    let members = members.as_slice();
-    if !is_text(line) {
+    let Ok(chart) = make_chart(alloc, roles, root) else {
+        return None;
+    };
+    if fault_of(&chart).is_some() {
         return None;
     }
+    match Arc::new(alloc, chart) {
+        Ok(chart) => Some(chart),
+        Err(_) => None,
+    }
+}
+
+/// A recipe of these flat members and of the chart of these roles and this root, by its form.
+fn recipe_in(alloc: Global, members: &[Member], roles: Vec<Role>, root: Node) -> Option<Event>
+    requires sized { IsTrue (are_roles_sized (map plain_role roles.items)) }
+    requires formed { IsTrue (is_tree_formed (plain_node root)) }
+    ensures says { IfSome result (λ event. (played : Items) (value : Data)
+        → roles_of (array played) ≡ Ok (map plain_role roles.items) → tree_of value ≡ Ok (plain_node root)
+        → Makes event_in (plain_event event) members.now
+        ((codes "chart", value) ∷ (codes "roles", array played) ∷ [])) }
+    ensures faultless { IfSome result (λ event. fault_within (plain_event event) ≡ None) }
+{
     if !are_of_recipe(members) {
         return None;
     }
@@ -55,24 +80,38 @@ pub fn read_recipe(alloc: Global, line: &[u8]) -> Option<Event>
     };
     let at = count_at(members, Key::At, 0, u64::MAX)?;
     let recipe = name_at(members, Key::Recipe)?;
+    let chart = chart_in(alloc, roles, root)?;
+    Some(Event::Recipe { at, recipe, chart })
+}
+
+/// The event that a line with a recipe says, where its roles come next: its chart stands behind them.
+#[inline(never)]
+pub fn read_recipe<'a>(
+    alloc: Global,
+    line: &'a [u8],
+    cut: Cut<'a>,
+    members: &mut ArrayVec<Member<'a>, 9>,
+) -> Option<Event>
+    requires { (deep : ℕ) → Stands deep line.now members.old.items [] cut }
+    ensures { IfSome result (λ event. event_of line.now ≡ Ok (plain_event event)) }
+{
     let mut roles = Vec::new(alloc);
-    let rest = read_list::<RoleFronts>(alloc, rest, 64, &mut roles)?;
-    let rest = eat(rest, b",\"chart\":")?;
+    let cut = read_list_at::<RoleFronts>(alloc, cut, b"\"roles\":", MOST_ROLES, &mut roles)?;
+    let mut found = None;
+    let cut = read_value_at::<NodeFronts>(alloc, cut, b"\"chart\":", &mut found)?;
+    let root = found?;
+    let Cut::End(rest) = read_flats(cut, members) else {
+        return None;
+    };
+    if !rest.is_empty() {
+        return None;
+    }
+    if !is_text(line) {
+        return None;
+    }
     if roles.is_empty() {
         return None;
     }
-    let (root, left) = read_node(alloc, rest, 16)?;
-    let [b'}'] = last(rest, left) else {
-        return None;
-    };
-    let Ok(chart) = make_chart(alloc, roles, root) else {
-        return None;
-    };
-    if fault_of(&chart).is_some() {
-        return None;
-    }
-    let Ok(chart) = Arc::new(alloc, chart) else {
-        return None;
-    };
-    Some(Event::Recipe { at, recipe, chart })
+    let event = recipe_in(alloc, members.as_slice(), roles, root)?;
+    Some(event)
 }

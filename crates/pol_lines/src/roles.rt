@@ -2,37 +2,22 @@
 ghost use Rattle.std.specs.Prelude.{◌≡◌, IfSome, IfOk, Ok, codes};
 ghost use Rattle.std.specs.List.{list_all};
 ghost use Rattle.semver.specs.Identifiers.{comparator_view};
-ghost use Rattle.mtp_json.specs.Form.{field, is_listed};
-ghost use Rattle.mtp_json.specs.Leaf.{text_to};
+ghost use Rattle.mtp_json.specs.Form.{is_listed};
 ghost use Rattle.chart_core.specs.Requirements.{IsReadTo};
-ghost use Rattle.chart_core.specs.Roles.{RolePlan, role_plan};
+ghost use Rattle.chart_core.specs.Roles.{PlainRole, plain_role};
 ghost use Rattle.chart_json.specs.Form.{role_of};
 ghost use Rattle.pol_lines.specs.Flat.{flat_data};
 ghost use Rattle.pol_lines.specs.Keys.{key_text};
 
-use crate::fields::{name_at, text_at};
-use crate::flat::{Member, read_object};
+use crate::fields::{name_at, short_at};
+use crate::flat::Member;
 use crate::key::Key;
 use crate::lists::Front;
+use crate::objects::read_object;
 use arrayvec::ArrayVec;
 use chart_core::Role;
-use mtp_codes::Short;
 use semver::VersionReq;
 use std::alloc::Global;
-
-/// The text of at most 64 bytes at a key.
-fn short_at(members: &[Member], key: Key) -> Option<Short>
-    ensures { IfSome result (λ found. field (key_text key) (text_to 64) (flat_data members.now) ≡ Ok found) }
-{
-    let bytes = text_at(members, key)?;
-    if bytes.len() > 64 {
-        return None;
-    }
-    match std::str::from_utf8(bytes) {
-        Ok(text) => Short::of_text(text),
-        Err(_) => None,
-    }
-}
 
 fn are_of_role(members: &[Member]) -> bool
     ensures { result ≡ list_all (λ member. is_listed (codes "role type version") (key_text member.key)) members.now }
@@ -43,7 +28,7 @@ fn are_of_role(members: &[Member]) -> bool
 /// A role by its form.
 #[tactic(auto, using(crate::proofs::Lookups::only_listed), unfolding(chart_json::specs::Form::role_of))]
 fn role_in(alloc: Global, members: &[Member]) -> Option<Role>
-    ensures { IfSome result (λ role. role_of (flat_data members.now) ≡ Ok (role_plan role)) }
+    ensures { IfSome result (λ role. role_of (flat_data members.now) ≡ Ok (plain_role role)) }
 {
     if !are_of_role(members) {
         return None;
@@ -68,15 +53,15 @@ pub struct RoleFronts;
 impl Front for RoleFronts {
     type Item = Role;
 
-    ghost Form = { RolePlan };
+    ghost Form = { PlainRole };
 
-    ghost plain = { role_plan };
+    ghost plain = { plain_role };
 
     ghost form = { role_of };
 
     ghost deep = { 1 };
 
-    #[tactic(auto, using(crate::proofs::Stepping::reads_last))]
+    #[tactic(auto, using(crate::proofs::Cutting::reads_last))]
     fn read(alloc: Global, text: &[u8]) -> Option<(Role, usize)> {
         let mut members = ArrayVec::new();
         let rest = read_object(text, &mut members)?;

@@ -1,21 +1,24 @@
 //! Steps at the front of a text.
-ghost use Rattle.std.specs.Prelude.{◌≡◌, ◌≤◌, [], IfSome, Ok, codes, length};
+ghost use Rattle.std.specs.Prelude.{◌≡◌, ◌≤◌, [], Option, IfSome, Ok, codes, length, option_map};
 ghost use Rattle.std.specs.List.{list_all};
-ghost use Rattle.mtp_json.specs.Form.{is_listed, repeats_by};
+ghost use Rattle.serde_json.specs.Data.{Items, array};
+ghost use Rattle.mtp_json.specs.Form.{is_listed};
 ghost use Rattle.mtp_codes.specs.declared.value.Setting.{Setting as SettingForm};
-ghost use Rattle.chart_core.specs.Trees.{step_plan};
+ghost use Rattle.chart_core.specs.Trees.{plain_step};
 ghost use Rattle.chart_json.specs.Form.{same_setting, setting_of, step_of};
-ghost use Rattle.pol_lines.specs.Begins.{Reads, ReadsList, last_of};
+ghost use Rattle.chart_core.specs.declared.limits.TheConstants.{MOST_SETTINGS};
+ghost use Rattle.pol_lines.specs.Begins.{Reads, last_of};
 ghost use Rattle.pol_lines.specs.Flat.{flat_data};
 ghost use Rattle.pol_lines.specs.Keys.{key_text};
+ghost use Rattle.pol_lines.specs.Objects.{GivesEach, Makes, with_value};
 
 use crate::fields::{count_at, name_at, scalar_at};
-use crate::flat::{Member, read_front, read_object};
+use crate::flat::Member;
 use crate::key::Key;
-use crate::lists::{Front, read_list};
-use crate::pieces::eat;
+use crate::lists::Front;
+use crate::objects::{Cut, begin_object, read_flats, read_list_at, read_object};
 use arrayvec::ArrayVec;
-use chart_core::Step;
+use chart_core::{MOST_SETTINGS, Step};
 use mtp_codes::Setting;
 use mtp_json::{Alike, repeats};
 use std::alloc::Global;
@@ -88,13 +91,12 @@ fn are_of_step(members: &[Member]) -> bool
     })
 }
 
-/// The step at the front of a text, with how many bytes follow it: its settings stand last, and it has no condition.
-pub fn read_step(alloc: Global, text: &[u8]) -> Option<(Step, usize)>
-    ensures { IfSome result (λ read. Reads step_of 3 text.now (step_plan read.0) (last_of read.1 text.now)) }
+/// A step of these flat members and these settings, by its form.
+fn step_in(members: &[Member], settings: Vec<Setting>) -> Option<Step>
+    requires { length settings.items ≤ MOST_SETTINGS }
+    ensures { IfSome result (λ step. (values : Option Items) → GivesEach setting_of settings.items values
+        → Makes step_of (plain_step step) members.now (with_value (codes "settings") (option_map array values) [])) }
 {
-    let mut members = ArrayVec::new();
-    let rest = read_front(text, &mut members)?;
-    let members = members.as_slice();
     if !are_of_step(members) {
         return None;
     }
@@ -102,22 +104,37 @@ pub fn read_step(alloc: Global, text: &[u8]) -> Option<(Step, usize)>
     let role = name_at(members, Key::Role)?;
     let service = name_at(members, Key::Service)?;
     let procedure = count_at(members, Key::Procedure, 1, 65535)? as u16;
-    let rest = eat(rest, b"\"settings\":")?;
-    let mut settings = Vec::new(alloc);
-    let rest = read_list::<SettingForms>(alloc, rest, 32, &mut settings)?;
-    let rest = eat(rest, b"}")?;
     if repeats::<SettingForms>(&settings) {
         return None;
     }
-    Some((
-        Step {
-            name,
-            role,
-            service,
-            procedure,
-            settings,
-            finish: None,
-        },
-        rest.len(),
-    ))
+    Some(Step {
+        name,
+        role,
+        service,
+        procedure,
+        settings,
+        finish: None,
+    })
+}
+
+/// The step at the front of a text, with how many bytes follow it: its settings stand last, and it has no condition.
+pub fn read_step(alloc: Global, text: &[u8]) -> Option<(Step, usize)>
+    ensures { IfSome result (λ read. Reads step_of 3 text.now (plain_step read.0) (last_of read.1 text.now)) }
+{
+    let mut members = ArrayVec::new();
+    let cut = begin_object(text)?;
+    let cut = read_flats(cut, &mut members);
+    let mut settings = Vec::new(alloc);
+    let cut = read_list_at::<SettingForms>(
+        alloc,
+        cut,
+        b"\"settings\":",
+        MOST_SETTINGS,
+        &mut settings,
+    )?;
+    let Cut::End(rest) = read_flats(cut, &mut members) else {
+        return None;
+    };
+    let step = step_in(members.as_slice(), settings)?;
+    Some((step, rest.len()))
 }

@@ -21,56 +21,56 @@ use Rattle.chart_core.specs.contracts.role.Role as role
 
 -- ---- plain parts
 
-pub name-send : IsSend name.the_row
-name-send = search (sendable, heap.crosses) depth 20
+pub name_send : IsSend name.the_row
+name_send = search (sendable, heap.crosses) depth 20
 
-name-sync : IsSync name.the_row
-name-sync = search (sendable, heap.crosses) depth 20
+name_sync : IsSync name.the_row
+name_sync = search (sendable, heap.crosses) depth 20
 
-op-send : IsSend op.the_row
-op-send = search (sendable, heap.crosses) depth 20
+op_send : IsSend op.the_row
+op_send = search (sendable, heap.crosses) depth 20
 
-op-sync : IsSync op.the_row
-op-sync = search (sendable, heap.crosses) depth 20
+op_sync : IsSync op.the_row
+op_sync = search (sendable, heap.crosses) depth 20
 
-reading-send : IsSend reading.the_row
-reading-send = search (sendable, heap.crosses) depth 20
+reading_send : IsSend reading.the_row
+reading_send = search (sendable, heap.crosses) depth 20
 
-reading-sync : IsSync reading.the_row
-reading-sync = search (sendable, heap.crosses) depth 20
+reading_sync : IsSync reading.the_row
+reading_sync = search (sendable, heap.crosses) depth 20
 
-setting-send : IsSend setting.the_row
-setting-send = search (sendable, heap.crosses) depth 20
+setting_send : IsSend setting.the_row
+setting_send = search (sendable, heap.crosses) depth 20
 
-setting-sync : IsSync setting.the_row
-setting-sync = search (sendable, heap.crosses) depth 20
+setting_sync : IsSync setting.the_row
+setting_sync = search (sendable, heap.crosses) depth 20
 
-role-send : IsSend role.the_row
-role-send = search (sendable, heap.crosses) depth 40 fits 100000
+role_send : IsSend role.the_row
+role_send = search (sendable, heap.crosses) depth 40 fits 100000
 
-role-sync : IsSync role.the_row
-role-sync = search (sendable, heap.crosses) depth 40 fits 100000
+role_sync : IsSync role.the_row
+role_sync = search (sendable, heap.crosses) depth 40 fits 100000
 
-bool-send : IsSend (as_row bool-field)
-bool-send = as_row_send bool-field (plain_send _ _ _ _ _)
+bool_send : IsSend (as_row bool-field)
+bool_send = as_row_send bool-field (plain_send _ _ _ _ _)
 
-bool-sync : IsSync (as_row bool-field)
-bool-sync = as_row_sync bool-field (plain_sync _ _ _ _ _)
+bool_sync : IsSync (as_row bool-field)
+bool_sync = as_row_sync bool-field (plain_sync _ _ _ _ _)
 
-number-send : IsSend (as_row u16-field)
-number-send = as_row_send u16-field (plain_send _ _ _ _ _)
+number_send : IsSend (as_row u16-field)
+number_send = as_row_send u16-field (plain_send _ _ _ _ _)
 
-number-sync : IsSync (as_row u16-field)
-number-sync = as_row_sync u16-field (plain_sync _ _ _ _ _)
+number_sync : IsSync (as_row u16-field)
+number_sync = as_row_sync u16-field (plain_sync _ _ _ _ _)
 
 -- ---- conditions
 
-condition-layer-send : (h : RattleType) → IsSend h → IsSend (conditions.layer-Condition h h h)
-condition-layer-send h one =
+condition_layer_send : (h : RattleType) → IsSend h → IsSend (conditions.layer-Condition h h h)
+condition_layer_send h one =
     let many = as_row_send (row_field _) (heap.Vec-send h one) in
-    let named = as_row_send (row_field _) name-send in
+    let named = as_row_send (row_field _) name_send in
     variants_send (conditions.type-Condition h h h) (
-      (as_row_send (row_field _) bool-send, tt),
+      (as_row_send (row_field _) bool_send, tt),
       (
         (many, tt),
         (
@@ -83,8 +83,8 @@ condition-layer-send h one =
                 (
                   named,
                   (
-                    as_row_send (row_field _) op-send,
-                    (as_row_send (row_field _) reading-send, tt),
+                    as_row_send (row_field _) op_send,
+                    (as_row_send (row_field _) reading_send, tt),
                   ),
                 ),
               ),
@@ -95,12 +95,12 @@ condition-layer-send h one =
       ),
     )
 
-condition-layer-sync : (h : RattleType) → IsSync h → IsSync (conditions.layer-Condition h h h)
-condition-layer-sync h one =
+condition_layer_sync : (h : RattleType) → IsSync h → IsSync (conditions.layer-Condition h h h)
+condition_layer_sync h one =
     let many = as_row_sync (row_field _) (heap.Vec-sync h one) in
-    let named = as_row_sync (row_field _) name-sync in
+    let named = as_row_sync (row_field _) name_sync in
     variants_sync (conditions.type-Condition h h h) (
-      (as_row_sync (row_field _) bool-sync, tt),
+      (as_row_sync (row_field _) bool_sync, tt),
       (
         (many, tt),
         (
@@ -113,8 +113,8 @@ condition-layer-sync h one =
                 (
                   named,
                   (
-                    as_row_sync (row_field _) op-sync,
-                    (as_row_sync (row_field _) reading-sync, tt),
+                    as_row_sync (row_field _) op_sync,
+                    (as_row_sync (row_field _) reading_sync, tt),
                   ),
                 ),
               ),
@@ -125,44 +125,44 @@ condition-layer-sync h one =
       ),
     )
 
-each-condition : (member : conditions.the_members) → Crosses conditions.ring member
-each-condition =
+each_condition : (member : conditions.the_members) → Crosses conditions.ring member
+each_condition =
     condition.by_members (Crosses conditions.ring) record {
-      send = λ h s y. condition-layer-send (h conditions.member-Condition) (s conditions.member-Condition);
-      sync = λ h s y. condition-layer-sync (h conditions.member-Condition) (y conditions.member-Condition);
+      send = λ h s y. condition_layer_send (h conditions.member-Condition) (s conditions.member-Condition);
+      sync = λ h s y. condition_layer_sync (h conditions.member-Condition) (y conditions.member-Condition);
     }
 
-condition-send : IsSend condition.the_row
-condition-send =
-    let inner = both_send conditions.ring each-condition conditions.member-Condition in
+condition_send : IsSend condition.the_row
+condition_send =
+    let inner = both_send conditions.ring each_condition conditions.member-Condition in
     let many = as_row_send (row_field _) (heap.Vec-send condition.the_hole inner) in
     variants_send condition.enum (
-      (bool-send, tt),
+      (bool_send, tt),
       (
         (many, tt),
         (
           (many, tt),
           (
             (heap.Box-send condition.the_hole inner, tt),
-            ((name-send, (name-send, (op-send, (reading-send, tt)))), tt),
+            ((name_send, (name_send, (op_send, (reading_send, tt)))), tt),
           ),
         ),
       ),
     )
 
-condition-sync : IsSync condition.the_row
-condition-sync =
-    let inner = both_sync conditions.ring each-condition conditions.member-Condition in
+condition_sync : IsSync condition.the_row
+condition_sync =
+    let inner = both_sync conditions.ring each_condition conditions.member-Condition in
     let many = as_row_sync (row_field _) (heap.Vec-sync condition.the_hole inner) in
     variants_sync condition.enum (
-      (bool-sync, tt),
+      (bool_sync, tt),
       (
         (many, tt),
         (
           (many, tt),
           (
             (heap.Box-sync condition.the_hole inner, tt),
-            ((name-sync, (name-sync, (op-sync, (reading-sync, tt)))), tt),
+            ((name_sync, (name_sync, (op_sync, (reading_sync, tt)))), tt),
           ),
         ),
       ),
@@ -170,101 +170,103 @@ condition-sync =
 
 -- ---- nodes
 
-step-send : IsSend step.the_row
-step-send = search (sendable, heap.crosses, condition-send) depth 40 fits 100000
+step_send : IsSend step.the_row
+step_send = search (sendable, heap.crosses, condition_send) depth 40 fits 100000
 
-step-sync : IsSync step.the_row
-step-sync = search (sendable, heap.crosses, condition-sync) depth 40 fits 100000
+step_sync : IsSync step.the_row
+step_sync = search (sendable, heap.crosses, condition_sync) depth 40 fits 100000
 
-node-layer-send : (h a : RattleType) → IsSend h → IsSend a → IsSend (nodes.layer-Node h h a h)
-node-layer-send h a one two =
+node_layer_send : (h a : RattleType) → IsSend h → IsSend a → IsSend (nodes.layer-Node h h a h)
+node_layer_send h a one two =
     let many = as_row_send (row_field _) (heap.Vec-send h one) in
     variants_send (nodes.type-Node h h a h) (
-      (as_row_send (row_field _) step-send, tt),
+      (as_row_send (row_field _) step_send, tt),
       (
         (many, tt),
         (
           (many, tt),
           (
             (as_row_send (row_field _) (heap.Vec-send a two), tt),
-            ((as_row_send (row_field _) (heap.Box-send h one), (as_row_send (row_field _) condition-send, tt)), tt),
+            ((as_row_send (row_field _) (heap.Box-send h one), (as_row_send (row_field _) condition_send, tt)), tt),
           ),
         ),
       ),
     )
 
-node-layer-sync : (h a : RattleType) → IsSync h → IsSync a → IsSync (nodes.layer-Node h h a h)
-node-layer-sync h a one two =
+node_layer_sync : (h a : RattleType) → IsSync h → IsSync a → IsSync (nodes.layer-Node h h a h)
+node_layer_sync h a one two =
     let many = as_row_sync (row_field _) (heap.Vec-sync h one) in
     variants_sync (nodes.type-Node h h a h) (
-      (as_row_sync (row_field _) step-sync, tt),
+      (as_row_sync (row_field _) step_sync, tt),
       (
         (many, tt),
         (
           (many, tt),
           (
             (as_row_sync (row_field _) (heap.Vec-sync a two), tt),
-            ((as_row_sync (row_field _) (heap.Box-sync h one), (as_row_sync (row_field _) condition-sync, tt)), tt),
+            ((as_row_sync (row_field _) (heap.Box-sync h one), (as_row_sync (row_field _) condition_sync, tt)), tt),
           ),
         ),
       ),
     )
 
-arm-layer-send : (h : RattleType) → IsSend h → IsSend (nodes.layer-Arm h)
-arm-layer-send h one =
+arm_layer_send : (h : RattleType) → IsSend h → IsSend (nodes.layer-Arm h)
+arm_layer_send h one =
     declared_send (nodes.type-Arm h)
-    (as_row_send (row_field _) condition-send, (as_row_send (row_field _) one, tt))
+    (as_row_send (row_field _) condition_send, (as_row_send (row_field _) one, tt))
 
-arm-layer-sync : (h : RattleType) → IsSync h → IsSync (nodes.layer-Arm h)
-arm-layer-sync h one =
+arm_layer_sync : (h : RattleType) → IsSync h → IsSync (nodes.layer-Arm h)
+arm_layer_sync h one =
     declared_sync (nodes.type-Arm h)
-    (as_row_sync (row_field _) condition-sync, (as_row_sync (row_field _) one, tt))
+    (as_row_sync (row_field _) condition_sync, (as_row_sync (row_field _) one, tt))
 
-each-node : (member : nodes.the_members) → Crosses nodes.ring member
-each-node =
+each_node : (member : nodes.the_members) → Crosses nodes.ring member
+each_node =
     node.by_members (Crosses nodes.ring)
     record {
-      send = λ h s y. node-layer-send (h nodes.member-Node) (h nodes.member-Arm) (s nodes.member-Node) (s nodes.member-Arm);
-      sync = λ h s y. node-layer-sync (h nodes.member-Node) (h nodes.member-Arm) (y nodes.member-Node) (y nodes.member-Arm);
+      send = λ h s y. node_layer_send (h nodes.member-Node) (h nodes.member-Arm) (s nodes.member-Node)
+          (s nodes.member-Arm);
+      sync = λ h s y. node_layer_sync (h nodes.member-Node) (h nodes.member-Arm) (y nodes.member-Node)
+          (y nodes.member-Arm);
     }
     record {
-      send = λ h s y. arm-layer-send (h nodes.member-Node) (s nodes.member-Node);
-      sync = λ h s y. arm-layer-sync (h nodes.member-Node) (y nodes.member-Node);
+      send = λ h s y. arm_layer_send (h nodes.member-Node) (s nodes.member-Node);
+      sync = λ h s y. arm_layer_sync (h nodes.member-Node) (y nodes.member-Node);
     }
 
-node-send : IsSend node.the_row
-node-send =
-    let inner = both_send nodes.ring each-node nodes.member-Node in
+node_send : IsSend node.the_row
+node_send =
+    let inner = both_send nodes.ring each_node nodes.member-Node in
     let many = as_row_send (row_field _) (heap.Vec-send node.the_hole inner) in
-    let arms = heap.Vec-send arm.the_hole (both_send nodes.ring each-node nodes.member-Arm) in
+    let arms = heap.Vec-send arm.the_hole (both_send nodes.ring each_node nodes.member-Arm) in
     variants_send node.enum (
-      (step-send, tt),
+      (step_send, tt),
       (
         (many, tt),
         (
           (many, tt),
           (
             (as_row_send (row_field _) arms, tt),
-            ((heap.Box-send node.the_hole inner, (condition-send, tt)), tt),
+            ((heap.Box-send node.the_hole inner, (condition_send, tt)), tt),
           ),
         ),
       ),
     )
 
-node-sync : IsSync node.the_row
-node-sync =
-    let inner = both_sync nodes.ring each-node nodes.member-Node in
+node_sync : IsSync node.the_row
+node_sync =
+    let inner = both_sync nodes.ring each_node nodes.member-Node in
     let many = as_row_sync (row_field _) (heap.Vec-sync node.the_hole inner) in
-    let arms = heap.Vec-sync arm.the_hole (both_sync nodes.ring each-node nodes.member-Arm) in
+    let arms = heap.Vec-sync arm.the_hole (both_sync nodes.ring each_node nodes.member-Arm) in
     variants_sync node.enum (
-      (step-sync, tt),
+      (step_sync, tt),
       (
         (many, tt),
         (
           (many, tt),
           (
             (as_row_sync (row_field _) arms, tt),
-            ((heap.Box-sync node.the_hole inner, (condition-sync, tt)), tt),
+            ((heap.Box-sync node.the_hole inner, (condition_sync, tt)), tt),
           ),
         ),
       ),
@@ -272,8 +274,8 @@ node-sync =
 
 -- ---- charts
 
-pub chart-send : IsSend chart.the_row
-chart-send = declared_send chart.the_type (heap.Vec-send role.the_row role-send, (node-send, tt))
+pub chart_send : IsSend chart.the_row
+chart_send = declared_send chart.the_type (heap.Vec-send role.the_row role_send, (node_send, tt))
 
-pub chart-sync : IsSync chart.the_row
-chart-sync = declared_sync chart.the_type (heap.Vec-sync role.the_row role-sync, (node-sync, tt))
+pub chart_sync : IsSync chart.the_row
+chart_sync = declared_sync chart.the_type (heap.Vec-sync role.the_row role_sync, (node_sync, tt))

@@ -2,29 +2,29 @@
 use Rattle.std.proofs.Common.{◌≡◌, ℕ, false, List, [], ◌∷◌, ◌++◌, length, ap, sym, ◌∙◌}
 use Rattle.std.specs.Prelude.{if◌then◌else◌}
 use Rattle.std.specs.List.{AllByRecursion}
-use Rattle.pol_events.specs.Events.{EventForm}
+use Rattle.pol_events.specs.Events.{PlainEvent}
 use Rattle.pol_events.specs.declared.answer.Answer.{Answer}
 use Rattle.pol_history.specs.Answers.{answer_of, is_full}
 use Rattle.pol_history.specs.Looking.{History}
 use Rattle.pol_history.specs.Runs.{entry_of, recorded}
 use Rattle.pol_history.proofs.Accepted.{paired}
-use Rattle.pol_history.proofs.Recording.{recorded-with-room}
+use Rattle.pol_history.proofs.Recording.{recorded_with_room}
 use Rattle.pol_io.specs.Causes.{Rose}
 use Rattle.pol_actors.specs.Stamps.{stamped}
-use Rattle.pol_actors.proofs.Stamped.{answer-stamped}
+use Rattle.pol_actors.proofs.Stamped.{answer_stamped}
 use Rattle.pol_live.specs.Turns.{Enters}
 
 -- the history after an event that came with its stamp, where there was room
-pub entered : (before after : History) (told event : EventForm) (answer : Answer) (last now place calls called : ℕ) →
+pub entered : (before after : History) (told event : PlainEvent) (answer : Answer) (last now place calls called : ℕ) →
     is_full before ≡ false → told ≡ stamped now event → last ≡ now → place ≡ length before →
     answer ≡ answer_of before told → after ≡ recorded (entry_of before told) before → Rose calls called →
     Enters calls called last before after event (record { place = place; answer = answer })
 entered before after told event answer last now place calls called room stamp same where_is is recorded_is rose =
     record {
       place_is = where_is;
-      answer_is = is ∙ ap (answer_of before) stamp ∙ answer-stamped before now event;
+      answer_is = is ∙ ap (answer_of before) stamp ∙ answer_stamped before now event;
       entered = recorded_is
-          ∙ ap (λ b. if b then entry_of before told ∷ before else before) (recorded-with-room before told room)
+          ∙ ap (λ b. if b then entry_of before told ∷ before else before) (recorded_with_room before told room)
           ∙ (λ i. paired (stamps i) (sym is i) ∷ before);
       rose = rose;
     }
@@ -33,7 +33,7 @@ entered before after told event answer last now place calls called room stamp sa
     stamps = stamp ∙ ap (λ n. stamped n event) (sym same)
 
 -- one more item of which the same holds
-pub all-more : {A : Type 0} (P : A → Type 0) (xs : List A) (x : A) → AllByRecursion P xs → P x →
+pub all_more : {A : Type 0} (P : A → Type 0) (xs : List A) (x : A) → AllByRecursion P xs → P x →
     AllByRecursion P (xs ++ x ∷ [])
-all-more P [] x all one = (one, tt)
-all-more P (y ∷ ys) x all one = (all.0, all-more P ys x all.1 one)
+all_more P [] x all one = (one, tt)
+all_more P (y ∷ ys) x all one = (all.0, all_more P ys x all.1 one)

@@ -24,18 +24,18 @@ joined (handle ∷ handles) (seat ∷ seats) same kept =
     λ i. here i ∷ rest i
 
 -- no seat is left
-none-left : (seats : List Seated) → length seats ≡ 0 → actors_of seats ≡ []
-none-left [] is = refl
-none-left (seat ∷ seats) is = absurd (omega arith)
+none_left : (seats : List Seated) → length seats ≡ 0 → actors_of seats ≡ []
+none_left [] is = refl
+none_left (seat ∷ seats) is = absurd (omega arith)
 
 -- those that came back and those that stayed here are all seats
-pub all-home : (count : ℕ) (handles : List (PromisedHandle Seated SeatOf)) (home here turned rest : List Seated) →
+pub all_home : (count : ℕ) (handles : List (PromisedHandle Seated SeatOf)) (home here turned rest : List Seated) →
     promised handles ++ (actors_of here ++ actors_of rest) ≡ range_with_len 0 count → length rest ≡ 0 →
     actors_of home ≡ promised handles → actors_of turned ≡ actors_of here → AreSeated count (home ++ turned)
-all-home count handles home here turned rest all none back same =
+all_home count handles home here turned rest all none back same =
     map-append (λ (seat : Seated). seat.actor) home turned
     ∙ ap (λ (actors : List ℕ). actors ++ actors_of turned) back
     ∙ ap (λ (actors : List ℕ). promised handles ++ actors)
     (same ∙ sym (append-nil (actors_of here))
-    ∙ ap (λ (actors : List ℕ). actors_of here ++ actors) (sym (none-left rest none)))
+    ∙ ap (λ (actors : List ℕ). actors_of here ++ actors) (sym (none_left rest none)))
     ∙ all

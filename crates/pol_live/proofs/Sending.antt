@@ -15,8 +15,8 @@ use Rattle.pol_events.specs.contracts.event.Bind as bind
 use Rattle.pol_events.specs.contracts.event.Event as event
 use Rattle.pol_events.specs.contracts.event.Entry as entry
 use Rattle.pol_slots.specs.contracts.berth.Berth as berth
-use Rattle.pol_slots.specs.contracts.told.Told as told
-use Rattle.pol_slots.specs.contracts.lasts.Lasts as lasts
+use Rattle.pol_slots.specs.contracts.reported.Reported as reported
+use Rattle.pol_slots.specs.contracts.last_values.LastValues as last_values
 use Rattle.pol_slots.specs.contracts.slot.Slot as slot
 use Rattle.pol_runs.specs.contracts.run.Run as run
 use Rattle.pol_core.specs.contracts.plant.Plant as plant
@@ -24,107 +24,108 @@ use Rattle.pol_site.specs.contracts.site.Site as site
 use Rattle.mtp_sim.specs.contracts.sim.Sim as sim
 use Rattle.pol_actors.specs.contracts.unit.Unit as unit
 use Rattle.pol_live.specs.contracts.turned.Placed as placed
-use Rattle.pol_live.proofs.Crossing.{chart-send, chart-sync, name-send}
+use Rattle.pol_live.proofs.Crossing.{chart_send, chart_sync, name_send}
 
-description-send : IsSend description.the_row
-description-send = search (sendable, heap.crosses) depth 40 fits 100000
+description_send : IsSend description.the_row
+description_send = search (sendable, heap.crosses) depth 40 fits 100000
 
-description-sync : IsSync description.the_row
-description-sync = search (sendable, heap.crosses) depth 40 fits 100000
+description_sync : IsSync description.the_row
+description_sync = search (sendable, heap.crosses) depth 40 fits 100000
 
-value-send : IsSend value.the_row
-value-send = search (sendable, heap.crosses) depth 40 fits 100000
+value_send : IsSend value.the_row
+value_send = search (sendable, heap.crosses) depth 40 fits 100000
 
-control-send : IsSend control.the_row
-control-send = search (sendable, heap.crosses) depth 40 fits 100000
+control_send : IsSend control.the_row
+control_send = search (sendable, heap.crosses) depth 40 fits 100000
 
-rule-send : IsSend rule.the_row
-rule-send = search (sendable, heap.crosses, name-send) depth 300 fits 100000
+rule_send : IsSend rule.the_row
+rule_send = search (sendable, heap.crosses, name_send) depth 300 fits 100000
 
-log-send : IsSend log.the_row
-log-send = search (sendable, heap.crosses, name-send) depth 40 fits 100000
+log_send : IsSend log.the_row
+log_send = search (sendable, heap.crosses, name_send) depth 40 fits 100000
 
-why-send : IsSend why.the_row
-why-send = search (sendable, heap.crosses, name-send) depth 40 fits 100000
+why_send : IsSend why.the_row
+why_send = search (sendable, heap.crosses, name_send) depth 40 fits 100000
 
-outcome-send : IsSend outcome.the_row
-outcome-send = search (sendable, heap.crosses) depth 40 fits 100000
+outcome_send : IsSend outcome.the_row
+outcome_send = search (sendable, heap.crosses) depth 40 fits 100000
 
-answer-send : IsSend answer.the_row
-answer-send =
+answer_send : IsSend answer.the_row
+answer_send =
     variants_send answer.enum (
       tt,
       (
         (as_row_send u32-field (plain_send _ _ _ _ _), tt),
         (
-          (log-send, tt),
+          (log_send, tt),
           (
-            (why-send, tt),
+            (why_send, tt),
             (
-              (outcome-send, tt),
-              ((rule-send, tt), tt),
+              (outcome_send, tt),
+              ((rule_send, tt), tt),
             ),
           ),
         ),
       ),
     )
 
-bind-send : IsSend bind.the_row
-bind-send = search (sendable, heap.crosses, name-send) depth 40 fits 100000
+bind_send : IsSend bind.the_row
+bind_send = search (sendable, heap.crosses, name_send) depth 40 fits 100000
 
-event-send : IsSend event.the_row
-event-send =
-    search (sendable, heap.crosses, name-send, bind-send, description-send, description-sync, chart-send, chart-sync)
+event_send : IsSend event.the_row
+event_send =
+    search (sendable, heap.crosses, name_send, bind_send, description_send, description_sync, chart_send, chart_sync)
     depth 40 fits 100000
 
-entry-send : IsSend entry.the_row
-entry-send = declared_send entry.the_type (event-send, (answer-send, tt))
+entry_send : IsSend entry.the_row
+entry_send = declared_send entry.the_type (event_send, (answer_send, tt))
 
-controls-send : IsSend (lasts.the_row control.the_row)
-controls-send = search (sendable, heap.crosses, name-send, control-send) depth 40 fits 100000
+controls_send : IsSend (last_values.the_row control.the_row)
+controls_send = search (sendable, heap.crosses, name_send, control_send) depth 40 fits 100000
 
-values-send : IsSend (lasts.the_row value.the_row)
-values-send = search (sendable, heap.crosses, name-send, value-send) depth 40 fits 100000
+values_send : IsSend (last_values.the_row value.the_row)
+values_send = search (sendable, heap.crosses, name_send, value_send) depth 40 fits 100000
 
-told-send : IsSend told.the_row
-told-send = search (sendable, heap.crosses, controls-send, values-send) depth 40 fits 100000
+told_send : IsSend reported.the_row
+told_send = search (sendable, heap.crosses, controls_send, values_send) depth 40 fits 100000
 
-berth-send : IsSend berth.the_row
-berth-send = search (sendable, heap.crosses, told-send) depth 40 fits 100000
+berth_send : IsSend berth.the_row
+berth_send = search (sendable, heap.crosses, told_send) depth 40 fits 100000
 
-slot-send : IsSend slot.the_row
-slot-send =
+slot_send : IsSend slot.the_row
+slot_send =
     declared_send slot.the_type (
       heap.send,
       (
-        name-send,
+        name_send,
         (
-          heap.Arc-send description.the_row description-send description-sync,
-          (as_row_send u32-field (plain_send _ _ _ _ _), (berth-send, tt)),
+          heap.Arc-send description.the_row description_send description_sync,
+          (as_row_send u32-field (plain_send _ _ _ _ _), (berth_send, tt)),
         ),
       ),
     )
 
-run-send : IsSend run.the_row
-run-send = search (sendable, heap.crosses, chart-send, chart-sync) depth 40 fits 100000
+run_send : IsSend run.the_row
+run_send = search (sendable, heap.crosses, chart_send, chart_sync) depth 40 fits 100000
 
-pub plant-send : IsSend plant.the_row
-plant-send =
-    search (sendable, heap.crosses, name-send, entry-send, slot-send, run-send, chart-send, chart-sync) depth 40 fits 100000
+pub plant_send : IsSend plant.the_row
+plant_send =
+    search (sendable, heap.crosses, name_send, entry_send, slot_send, run_send, chart_send, chart_sync) depth 40 fits
+    100000
 
-pub site-send : IsSend site.the_row
-site-send =
-    search (sendable, heap.crosses, description-send, description-sync, chart-send, chart-sync) depth 40 fits 100000
+pub site_send : IsSend site.the_row
+site_send =
+    search (sendable, heap.crosses, description_send, description_sync, chart_send, chart_sync) depth 40 fits 100000
 
-pub site-sync : IsSync site.the_row
-site-sync =
-    search (sendable, heap.crosses, description-send, description-sync, chart-send, chart-sync) depth 40 fits 100000
+pub site_sync : IsSync site.the_row
+site_sync =
+    search (sendable, heap.crosses, description_send, description_sync, chart_send, chart_sync) depth 40 fits 100000
 
-sim-send : IsSend sim.the_row
-sim-send = search (sendable, heap.crosses, description-send, description-sync) depth 40 fits 100000
+sim_send : IsSend sim.the_row
+sim_send = search (sendable, heap.crosses, description_send, description_sync) depth 40 fits 100000
 
-pub unit-send : IsSend unit.the_row
-unit-send = search (sendable, heap.crosses, sim-send) depth 40 fits 100000
+pub unit_send : IsSend unit.the_row
+unit_send = search (sendable, heap.crosses, sim_send) depth 40 fits 100000
 
-pub placed-send : IsSend placed.the_row
-placed-send = declared_send placed.the_type (as_row_send u32-field (plain_send _ _ _ _ _), (answer-send, tt))
+pub placed_send : IsSend placed.the_row
+placed_send = declared_send placed.the_type (as_row_send u32-field (plain_send _ _ _ _ _), (answer_send, tt))

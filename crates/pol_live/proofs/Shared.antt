@@ -23,51 +23,51 @@ use Rattle.pol_actors.specs.contracts.unit.Unit as unit
 use Rattle.pol_live.specs.declared.job.Job as jobs
 use Rattle.pol_live.specs.contracts.acting.Crew as crew
 use Rattle.pol_live.specs.contracts.cast.Cast as cast
-use Rattle.pol_live.specs.contracts.cast.Cast.TheInside as cast-inside
+use Rattle.pol_live.specs.contracts.cast.Cast.TheInside as cast_inside
 use Rattle.pol_live.specs.contracts.live.LivePlant as live
 use Rattle.pol_live.specs.contracts.live.Under as under
 use Rattle.pol_live.specs.contracts.locked.LockedPlant as locked
-use Rattle.pol_live.specs.contracts.locked.LockedPlant.TheInside as locked-inside
+use Rattle.pol_live.specs.contracts.locked.LockedPlant.TheInside as locked_inside
 use Rattle.pol_live.specs.contracts.seat.ActorSeat as seat
-use Rattle.pol_live.specs.contracts.seat.ActorSeat.TheInside as seat-inside
+use Rattle.pol_live.specs.contracts.seat.ActorSeat.TheInside as seat_inside
 use Rattle.pol_live.specs.contracts.turned.Placed as placed
-use Rattle.pol_shown.proofs.Crossing.{display-send}
-use Rattle.pol_live.proofs.Sending.{placed-send, plant-send, site-send, site-sync, unit-send}
+use Rattle.pol_shown.proofs.Crossing.{display_send}
+use Rattle.pol_live.proofs.Sending.{placed_send, plant_send, site_send, site_sync, unit_send}
 
 -- ---- where the actors of a plant stand
 
-exchanger-send : IsSend exchanger.the_row
-exchanger-send = search (sendable, heap.crosses) depth 20
+exchanger_send : IsSend exchanger.the_row
+exchanger_send = search (sendable, heap.crosses) depth 20
 
-stage-send : IsSend stage.the_row
-stage-send = search (sendable, heap.crosses) depth 20
+stage_send : IsSend stage.the_row
+stage_send = search (sendable, heap.crosses) depth 20
 
-orders-send : IsSend orders.the_row
-orders-send = search (sendable, heap.crosses) depth 20
+orders_send : IsSend orders.the_row
+orders_send = search (sendable, heap.crosses) depth 20
 
 -- ---- a plant and its seats
 
 module _ (J C : RattleType) (job : jobs.Ghosts J.Denot) (ledger : ledgers.Ghosts J.Denot)
     (clock : clocks.Ghosts C.Denot) where
-  cast-send : IsSend J → IsSend C → IsSend (cast.the_row J C job ledger clock)
-  cast-send j c =
+  cast_send : IsSend J → IsSend C → IsSend (cast.the_row J C job ledger clock)
+  cast_send j c =
       view_send _ _ _ _ _
-      (declared_send (cast-inside.the_type J C job ledger clock) (
+      (declared_send (cast_inside.the_type J C job ledger clock) (
         heap.send,
         (
-          heap.Arc-send site.the_row site-send site-sync,
+          heap.Arc-send site.the_row site_send site_sync,
           (
-            plant-send,
+            plant_send,
             (
               as_row_send (row_field _) c,
               (
-                exchanger-send,
+                exchanger_send,
                 (
-                  heap.Vec-send unit.the_row unit-send,
+                  heap.Vec-send unit.the_row unit_send,
                   (
-                    heap.Vec-send stage.the_row stage-send,
+                    heap.Vec-send stage.the_row stage_send,
                     (
-                      orders-send,
+                      orders_send,
                       (
                         search (sendable, heap.crosses) depth 20,
                         (
@@ -84,16 +84,16 @@ module _ (J C : RattleType) (job : jobs.Ghosts J.Denot) (ledger : ledgers.Ghosts
         ),
       ))
 
-  locked-send : IsSend J → IsSend C → IsSend (locked.the_row J C job ledger clock)
-  locked-send j c =
+  locked_send : IsSend J → IsSend C → IsSend (locked.the_row J C job ledger clock)
+  locked_send j c =
       view_send _ _ _ _ _
-      (declared_send (locked-inside.the_type J C job ledger clock)
-      (as_row_send (row_field _) (cast-send j c), (display-send, tt)))
+      (declared_send (locked_inside.the_type J C job ledger clock)
+      (as_row_send (row_field _) (cast_send j c), (display_send, tt)))
 
-  under-send : IsSend J → IsSend C → IsSend (under.the_row J C job clock ledger)
-  under-send j c =
+  under_send : IsSend J → IsSend C → IsSend (under.the_row J C job clock ledger)
+  under_send j c =
       declared_send (under.the_type J C job clock ledger) (
-        as_row_send (row_field _) (locked-send j c),
+        as_row_send (row_field _) (locked_send j c),
         (
           search (sendable, heap.crosses, books.the_send) depth 20,
           (
@@ -103,16 +103,16 @@ module _ (J C : RattleType) (job : jobs.Ghosts J.Denot) (ledger : ledgers.Ghosts
         ),
       )
 
-  pub live-sync : IsSend J → IsSend C → IsSync (live.the_row J C job clock ledger)
-  live-sync j c =
-      let inner : IsSend (under.the_row J C job clock ledger) = under-send j c in
+  pub live_sync : IsSend J → IsSend C → IsSync (live.the_row J C job clock ledger)
+  live_sync j c =
+      let inner : IsSend (under.the_row J C job clock ledger) = under_send j c in
       declared_sync (live.the_type J C job clock ledger)
       (search (sendable, heap.crosses, inner) depth 20, (search (sendable, heap.crosses) depth 20, tt))
 
-  pub crew-sync : (life : NamedLft) (G : RattleType) → IsSend J → IsSend C → IsSync G →
+  pub crew_sync : (life : NamedLft) (G : RattleType) → IsSend J → IsSend C → IsSync G →
       IsSync (crew.the_row life J C G job clock ledger)
-  crew-sync life G j c shared =
-      let plant : IsSync (live.the_row J C job clock ledger) = live-sync j c in
+  crew_sync life G j c shared =
+      let plant : IsSync (live.the_row J C job clock ledger) = live_sync j c in
       declared_sync (crew.the_type life J C G job clock ledger) (
         as_row_sync (shr_ref_field life (live.the_row J C job clock ledger) tt)
             (shr_sync life.mir life.lft (live.the_row J C job clock ledger) plant),
@@ -122,23 +122,24 @@ module _ (J C : RattleType) (job : jobs.Ghosts J.Denot) (ledger : ledgers.Ghosts
         ),
       )
 
-pub seat-send : (J : RattleType) (job : jobs.Ghosts J.Denot) (ledger : ledgers.Ghosts J.Denot) →
+pub seat_send : (J : RattleType) (job : jobs.Ghosts J.Denot) (ledger : ledgers.Ghosts J.Denot) →
     IsSend (seat.the_row J job ledger)
-seat-send J job ledger =
+seat_send J job ledger =
     view_send _ _ _ _ _
-    (declared_send (seat-inside.the_type J job ledger) (
+    (declared_send (seat_inside.the_type J job ledger) (
       as_row_send u32-field (plain_send _ _ _ _ _),
       (
-        heap.Vec-send placed.the_row placed-send,
+        heap.Vec-send placed.the_row placed_send,
         (search (sendable, heap.crosses, shares.the_send) depth 20, tt),
       ),
     ))
 
 -- ---- what the closure of an actor's thread has
 
-pub captured-send : (name : List ℕ) (ty : Ty) (one other : NamedLft) (R C S : RattleType) → IsSync R → IsSync C →
-    IsSend S → IsSend (param 2 (arg ty no (TupleAt name (ShrRef one.mir one.lft R ∷ ShrRef other.mir other.lft C ∷ S ∷ []))))
-captured-send name ty one other R C S runtime shared own =
+pub captured_send : (name : List ℕ) (ty : Ty) (one other : NamedLft) (R C S : RattleType) → IsSync R → IsSync C →
+    IsSend S → IsSend (param 2
+    (arg ty no (TupleAt name (ShrRef one.mir one.lft R ∷ ShrRef other.mir other.lft C ∷ S ∷ []))))
+captured_send name ty one other R C S runtime shared own =
     param_send 2 (arg ty no (TupleAt name (ShrRef one.mir one.lft R ∷ ShrRef other.mir other.lft C ∷ S ∷ [])))
     (arg_send ty no (TupleAt name (ShrRef one.mir one.lft R ∷ ShrRef other.mir other.lft C ∷ S ∷ []))
     (declared_send (type_at name (ShrRef one.mir one.lft R ∷ ShrRef other.mir other.lft C ∷ S ∷ [])) (

@@ -1,13 +1,13 @@
 -- What the lists of seats are to the history that a run left.
-use Rattle.std.specs.Prelude.{ℕ, suc, ◌≡◌, ◌≢◌, ◌⊎◌, ◌==◌, ◌+◌, ◌++◌, Bool, true, false, List, [], ◌∷◌, length, nat_lt, Option, Some, None, slice_get, if◌then◌else◌}
+use Rattle.std.specs.Prelude.{ℕ, suc, ◌≡◌, ◌≢◌, ◌<◌, ◌⊎◌, ◌==◌, ◌+◌, ◌++◌, Bool, true, false, List, [], ◌∷◌, length, nat_lt, Option, Some, None, slice_get, if◌then◌else◌}
 use Rattle.std.specs.List.{AllByRecursion}
-use Rattle.pol_events.specs.Events.{history_view}
+use Rattle.pol_events.specs.Events.{plain_history}
 use Rattle.pol_events.specs.declared.answer.Answer.{Answer}
 use Rattle.pol_events.specs.declared.event.Entry.{Entry}
 use Rattle.pol_history.specs.Runs.{IsLegal, IsOrderly}
 use Rattle.pol_site.specs.Commanded.{IsCommanded}
 use Rattle.pol_site.specs.Following.{FollowsSite}
-use Rattle.pol_site.specs.Sites.{SiteForm}
+use Rattle.pol_site.specs.Sites.{PlainSite}
 use Rattle.pol_actors.specs.Kept.{AreOwners}
 use Rattle.pol_live.specs.Seats.{Seated}
 use Rattle.pol_live.specs.declared.turned.Placed.{Placed}
@@ -15,12 +15,12 @@ use Rattle.pol_live.specs.declared.turned.Placed.{Placed}
 -- ---- the history that a run left
 
 -- it is legal and orderly, follows the site, each change in it has its command, and these made its entries
-pub record IsRun (site : SiteForm) (entries : List Entry) (makers : List ℕ) : Type 0 where
-  pub legal : IsLegal (history_view entries)
-  pub orderly : IsOrderly (history_view entries)
-  pub follows : FollowsSite site (history_view entries)
-  pub commanded : IsCommanded (history_view entries)
-  pub owned : AreOwners site (history_view entries) makers
+pub record IsRun (site : PlainSite) (entries : List Entry) (makers : List ℕ) : Type 0 where
+  pub legal : IsLegal (plain_history entries)
+  pub orderly : IsOrderly (plain_history entries)
+  pub follows : FollowsSite site (plain_history entries)
+  pub commanded : IsCommanded (plain_history entries)
+  pub owned : AreOwners site (plain_history entries) makers
 
 -- ---- a list that is right
 
@@ -78,18 +78,22 @@ abbrev pub kept_at : ℕ → List ℕ → List Entry → ℕ → ℕ → Option 
 kept_at actor makers entries least place =
     if nat_lt place least then None else answer_by actor (slice_get makers place) (slice_get entries place)
 
--- an actor's list has a pair that the history doesn't have for it there
+-- an actor's list has a pair that the history doesn't have for it there, the first such pair
 pub record IsStrayIn (makers : List ℕ) (entries : List Entry) (actor : ℕ) (list : List Placed) (place : ℕ)
     (kept : Option Answer) (given : Answer) : Type 0 where
   pub before : List Placed
   pub behind : List Placed
   pub listed : list ≡ before ++ record { place = place; answer = given } ∷ behind
+  pub part : IsPart actor 0 makers entries before
   pub kept_is : kept ≡ kept_at actor makers entries (least_after 0 before) place
   pub differs : kept ≢ Some given
 
--- the seat of an actor has such a list
+-- the seat of an actor has such a list, the first such seat
 pub record IsStray (makers : List ℕ) (entries : List Entry) (seats : List Seated) (actor place : ℕ)
     (kept : Option Answer) (given : Answer) : Type 0 where
   pub seat : Seated
   pub who : slice_get seats actor ≡ Some seat
+  pub first :
+      (earlier : ℕ) (each : Seated) → earlier < actor → slice_get seats earlier ≡ Some each →
+      IsPart each.actor 0 makers entries each.list
   pub stray : IsStrayIn makers entries actor seat.list place kept given

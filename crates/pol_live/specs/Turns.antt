@@ -1,6 +1,6 @@
 -- What a turn at the locked plant does.
 use Rattle.std.specs.Prelude.{ℕ, suc, ◌≡◌, ◌+◌, ◌<◌, ◌++◌, ◌∷◌, List, [], length, ◌⊎◌, Bool, true, false, Option, Some, None, slice_get, slice_set, slice_index}
-use Rattle.pol_events.specs.Events.{EventForm, history_view}
+use Rattle.pol_events.specs.Events.{PlainEvent, plain_history}
 use Rattle.pol_events.specs.declared.event.Entry.{Entry}
 use Rattle.pol_history.specs.Answers.{answer_of, is_full}
 use Rattle.pol_history.specs.Looking.{History}
@@ -10,7 +10,7 @@ use Rattle.pol_shown.specs.Displays.{said_by}
 use Rattle.pol_site.specs.Actors.{Actor, a_module, actors, owner_of}
 use Rattle.pol_site.specs.Settled.{is_settled, is_settled_module}
 use Rattle.pol_site.specs.Shown.{board_word}
-use Rattle.pol_site.specs.Sites.{SiteForm, SiteModuleForm}
+use Rattle.pol_site.specs.Sites.{PlainSite, PlainSiteModule}
 use Rattle.pol_actors.specs.Stamps.{stamped}
 use Rattle.pol_actors.specs.Turning.{made_looked, made_of, next_found, simulated}
 use Rattle.pol_actors.specs.declared.made.Made.{Made as Simulation}
@@ -35,10 +35,11 @@ pub record Locked : Type 0 where
 
 -- the history of a locked plant, the newest entry first
 abbrev pub history_of : Locked → History
-history_of locked = history_view locked.entries
+history_of locked = plain_history locked.entries
 
--- the event entered the history at its end, with the stamp that the clock gave in this call, and with the defined answer
-pub record Enters (calls_before calls last : ℕ) (before after : History) (event : EventForm) (placed : Placed) :
+-- the event entered the history at its end, with the stamp that the clock gave in this call, and with the defined
+-- answer
+pub record Enters (calls_before calls last : ℕ) (before after : History) (event : PlainEvent) (placed : Placed) :
     Type 0 where
   pub place_is : placed.place ≡ length before
   pub answer_is : placed.answer ≡ answer_of before event
@@ -46,9 +47,9 @@ pub record Enters (calls_before calls last : ℕ) (before after : History) (even
   pub rose : Rose calls_before calls
 
 -- the history had room, and one event of the actor entered it, with the stamp that the clock gave in this turn
-pub record HasMade (site : SiteForm) (before after : Locked) (actor : ℕ) (placed : Placed) : Type 0 where
+pub record HasMade (site : PlainSite) (before after : Locked) (actor : ℕ) (placed : Placed) : Type 0 where
   pub room : is_full (history_of before) ≡ false
-  pub event : EventForm
+  pub event : PlainEvent
   pub owner : owner_of site event ≡ Some actor
   pub enters : Enters before.calls after.calls after.last (history_of before) (history_of after) event placed
   pub by_is : after.by ≡ before.by ++ actor ∷ []
@@ -77,10 +78,10 @@ pub data IsLook (found : Option Sent × ℕ) (before after : Simulation) : Type 
       after.sim ≡ ticked before.sim → IsLook found before after
 
 -- the actor is a docked module that isn't settled, its simulation looked, and nothing else changed
-pub record HasLooked (site : SiteForm) (before after : Locked) (actor : ℕ) : Type 0 where
+pub record HasLooked (site : PlainSite) (before after : Locked) (actor : ℕ) : Type 0 where
   pub calm : IsCalm before after
   pub room : is_full (history_of before) ≡ false
-  pub unit : SiteModuleForm
+  pub unit : PlainSiteModule
   pub who : slice_get (actors site) actor ≡ Some (a_module unit)
   pub count : ℕ
   pub is_docked : docking_of (history_of before) unit.tag ≡ docked count
@@ -96,7 +97,7 @@ pub record HasLooked (site : SiteForm) (before after : Locked) (actor : ℕ) : T
   pub actor_is : actor ≡ suc place
 
 -- the actor is settled, and the history stayed
-pub record HasRested (site : SiteForm) (before after : Locked) (actor : ℕ) : Type 0 where
+pub record HasRested (site : PlainSite) (before after : Locked) (actor : ℕ) : Type 0 where
   pub calm : IsCalm before after
   pub room : is_full (history_of before) ≡ false
   pub who : Actor
@@ -109,18 +110,18 @@ pub record WasFull (before after : Locked) : Type 0 where
   pub full : is_full (history_of before) ≡ true
 
 -- the words of a reader are what the history shows
-abbrev pub Tells : SiteForm → History → List ℕ → Type 0
+abbrev pub Tells : PlainSite → History → List ℕ → Type 0
 Tells site history words = (word : ℕ) → slice_index words word ≡ said_by (board_word site history word)
 
 -- what a turn of the actor did
-abbrev pub Turns : SiteForm → Locked → Locked → ℕ → Turned → Type 0
+abbrev pub Turns : PlainSite → Locked → Locked → ℕ → Turned → Type 0
 Turns site before after actor (Made placed) = HasMade site before after actor placed
 Turns site before after actor Looked = HasLooked site before after actor
 Turns site before after actor Rested = HasRested site before after actor
 Turns site before after actor Full = WasFull before after
 
 -- who the actor with this number is
-abbrev pub IsRole : SiteForm → ℕ → Role → Type 0
+abbrev pub IsRole : PlainSite → ℕ → Role → Type 0
 IsRole site actor role.Exchanger = actor ≡ 0
 IsRole site actor (role.Module place) = (actor ≡ suc place) × (place < length site.modules)
 IsRole site actor (role.Batch place) =

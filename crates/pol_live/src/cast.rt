@@ -4,7 +4,7 @@ ghost use Rattle.pol_history.specs.Runs.{IsLegal, IsOrderly};
 ghost use Rattle.pol_site.specs.Actors.{actors};
 ghost use Rattle.pol_site.specs.Commanded.{IsCommanded};
 ghost use Rattle.pol_site.specs.Following.{FollowsSite};
-ghost use Rattle.pol_site.specs.SiteView.{site_view};
+ghost use Rattle.pol_site.specs.PlainSite.{plain_site};
 ghost use Rattle.pol_history.specs.Answers.{is_full};
 ghost use Rattle.pol_actors.specs.Kept.{AreFirstStages, AreFirstUnits, AreOwners};
 ghost use Rattle.pol_live.specs.Turns.{Turns, history_of};
@@ -45,7 +45,7 @@ impl<J: Job, C: Clock> Model for Cast<J, C> {
     ghost use Rattle.pol_core.specs.Plants.{plant_history};
     ghost use Rattle.pol_actors.specs.contracts.unit.Unit as unit_type;
     ghost use Rattle.pol_events.specs.contracts.event.Entry as entry_type;
-    ghost use Rattle.pol_site.specs.SiteView.{site_view};
+    ghost use Rattle.pol_site.specs.PlainSite.{plain_site};
     ghost use Rattle.pol_actors.specs.Kept.{IsKept};
     ghost use Rattle.pol_live.specs.Turns.{Locked};
 
@@ -61,7 +61,7 @@ impl<J: Job, C: Clock> Model for Cast<J, C> {
       units = cast.units.items;
     } };
 
-    ghost invariant = { λ cast. (site_view cast.site.value ≡ J.site)
+    ghost invariant = { λ cast. (plain_site cast.site.value ≡ J.site)
         × IsKept J.site (plant_history cast.plant) cast.by.items cast.exchanger cast.units.items
         cast.stages.items cast.desk };
 }
@@ -95,9 +95,11 @@ impl<J: Job, C: Clock> Cast<J, C> {
     ///
     /// Where there is no memory.
     pub(crate) fn new(alloc: Global, site: Arc<Site>, clock: C) -> Result<Cast<J, C>, AllocError>
-        requires site { site_view site.value ≡ J.site }
+        requires site { plain_site site.value ≡ J.site }
         ensures history { IfOk result (λ plant. plant.entries ≡ []) }
         ensures by { IfOk result (λ plant. plant.by ≡ []) }
+        ensures clock { IfOk result (λ plant. (plant.last ≡ C.last clock) × (plant.calls ≡ C.calls clock)) }
+        ensures units { IfOk result (λ plant. AreFirstUnits (length J.site.modules) plant.units) }
     {
         let units = first_units(alloc, site.modules.len())?;
         let stages = first_stages(alloc, site.batches.len())?;
@@ -119,7 +121,7 @@ impl<J: Job, C: Clock> Cast<J, C> {
 
     /// The site.
     pub(crate) fn site(&self) -> &Site
-        ensures { site_view result.now ≡ J.site }
+        ensures { plain_site result.now ≡ J.site }
     {
         &self.site
     }

@@ -1,6 +1,6 @@
 //! One run of a site.
 ghost use Rattle.std.specs.Prelude.{[]};
-ghost use Rattle.pol_site.specs.Sites.{SiteForm};
+ghost use Rattle.pol_site.specs.Sites.{PlainSite};
 
 use std::marker::Brand;
 use std::sync::ledger::Ledger;
@@ -8,7 +8,7 @@ use std::sync::ledger::Ledger;
 /// One run: its ledger, and its site as contracts see it.
 pub trait Job: Ledger {
     /// The site of the run.
-    ghost site: { SiteForm };
+    ghost site: { PlainSite };
 }
 
 impl Job for Brand {

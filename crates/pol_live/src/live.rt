@@ -1,7 +1,7 @@
 //! A plant that threads share.
 ghost use Rattle.std.specs.Prelude.{◌≡◌, length, IfErr, IfOk, OnErr};
 ghost use Rattle.pol_site.specs.Actors.{actors};
-ghost use Rattle.pol_site.specs.SiteView.{site_view};
+ghost use Rattle.pol_site.specs.PlainSite.{plain_site};
 ghost use Rattle.pol_live.specs.Parts.{AreOwnParts, IsRun, IsStray, made_in_all};
 ghost use Rattle.pol_live.specs.Seats.{AreSeated, ListAfter};
 
@@ -77,7 +77,7 @@ pub struct LivePlant<J: Job, C: Clock + Send> {
 }
 
 impl<J: Job, C: Clock + Send> LivePlant<J, C> {
-    /// An empty plant of the site, and one seat for each actor, in the order of their numbers.
+    /// An empty plant of the site, and one seat for each actor, in the order of their numbers. No seat made anything yet.
     ///
     /// # Errors
     ///
@@ -89,8 +89,9 @@ impl<J: Job, C: Clock + Send> LivePlant<J, C> {
         blank: Blank,
     ) -> Result<(LivePlant<J, C>, Vec<ActorSeat<J>>), AllocError>
         requires blank { (blank.name ≡ J.name) × (blank.parts ≡ J.parts) × (J.parts ≡ length (actors J.site)) }
-        requires site { site_view site.value ≡ J.site }
-        ensures { IfOk result (λ both. AreSeated (length (actors J.site)) both.1.items) }
+        requires site { plain_site site.value ≡ J.site }
+        ensures seats { IfOk result (λ both. AreSeated (length (actors J.site)) both.1.items) }
+        ensures unmade { IfOk result (λ both. made_in_all both.1.items ≡ 0) }
     {
         let plant = LockedPlant::<J, C>::new(alloc, site, clock)?;
         let actors = plant.actors();
@@ -175,7 +176,8 @@ impl<J: Job, C: Clock + Send> LivePlant<J, C> {
     ///
     /// # Errors
     ///
-    /// Where the list of a seat has a pair that the history doesn't have for its actor.
+    /// Where the list of a seat has a pair that the history doesn't have for its actor: the first such pair of the first
+    /// such seat.
     pub fn close(self, seats: Vec<ActorSeat<J>>) -> Result<Ran, Strayed>
         requires parts { J.parts ≡ length (actors J.site) }
         requires seats { AreSeated (length (actors J.site)) seats.items }
@@ -185,6 +187,7 @@ impl<J: Job, C: Clock + Send> LivePlant<J, C> {
         ensures strayed_run { IfErr result (λ strayed. IsRun J.site strayed.ran.history.items strayed.ran.by.items) }
         ensures strayed { IfErr result (λ strayed. IsStray strayed.ran.by.items strayed.ran.history.items seats.items
             strayed.actor strayed.place strayed.kept strayed.given) }
+        ensures strayed_counted { IfErr result (λ strayed. made_in_all seats.items ≡ length strayed.ran.history.items) }
     {
         let LivePlant { under, .. } = self;
         let Under {

@@ -7,8 +7,8 @@ ghost use Rattle.pol_shown.specs.Followed.{before_newest};
 ghost use Rattle.pol_site.specs.Actors.{actors};
 ghost use Rattle.pol_site.specs.Commanded.{IsCommanded};
 ghost use Rattle.pol_site.specs.Following.{FollowsSite};
-ghost use Rattle.pol_site.specs.SiteView.{site_view};
-ghost use Rattle.pol_actors.specs.Kept.{AreOwners};
+ghost use Rattle.pol_site.specs.PlainSite.{plain_site};
+ghost use Rattle.pol_actors.specs.Kept.{AreFirstUnits, AreOwners};
 ghost use Rattle.pol_live.specs.Turns.{Tells, Turns, history_of};
 
 use crate::cast::Cast;
@@ -62,9 +62,11 @@ impl<J: Job, C: Clock> LockedPlant<J, C> {
     ///
     /// Where there is no memory.
     pub fn new(alloc: Global, site: Arc<Site>, clock: C) -> Result<LockedPlant<J, C>, AllocError>
-        requires site { site_view site.value ≡ J.site }
+        requires site { plain_site site.value ≡ J.site }
         ensures history { IfOk result (λ plant. plant.entries ≡ []) }
         ensures by { IfOk result (λ plant. plant.by ≡ []) }
+        ensures clock { IfOk result (λ plant. (plant.last ≡ C.last clock) × (plant.calls ≡ C.calls clock)) }
+        ensures units { IfOk result (λ plant. AreFirstUnits (length J.site.modules) plant.units) }
     {
         let display = Display::new(alloc, &site)?;
         let cast = Cast::new(alloc, site, clock)?;

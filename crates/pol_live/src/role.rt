@@ -1,7 +1,7 @@
 //! Which actor has a number.
 ghost use Rattle.std.specs.Prelude.{◌≡◌, ◌<◌, length};
 ghost use Rattle.pol_site.specs.Actors.{actors};
-ghost use Rattle.pol_site.specs.SiteView.{site_view};
+ghost use Rattle.pol_site.specs.PlainSite.{plain_site};
 ghost use Rattle.pol_live.specs.Turns.{IsRole};
 
 use pol_site::Site;
@@ -17,15 +17,15 @@ pub(crate) enum Role {
 
 /// How many actors the site has.
 pub(crate) fn actors_of(site: &Site) -> u32
-    ensures { result ≡ length (actors (site_view site.now)) }
+    ensures { result ≡ length (actors (plain_site site.now)) }
 {
     (site.modules.len() + site.batches.len() + 2) as u32
 }
 
 /// Who the actor with this number is.
 pub(crate) fn role_of(site: &Site, actor: u32) -> Role
-    requires { actor < length (actors (site_view site.now)) }
-    ensures { IsRole (site_view site.now) actor result }
+    requires { actor < length (actors (plain_site site.now)) }
+    ensures { IsRole (plain_site site.now) actor result }
 {
     let modules = site.modules.len();
     let batches = site.batches.len();

@@ -10,7 +10,8 @@ use pol_io::Clock;
 use std::alloc::AllocError;
 use std::sync::Wait;
 
-/// One turn of each actor. True where every actor rested, so that none has anything to do, or where the history is full.
+/// One turn of each actor. True where every actor rested, so that none has anything to do, or where the history is
+/// full.
 ///
 /// # Errors
 ///

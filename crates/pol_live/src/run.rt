@@ -1,13 +1,13 @@
 //! A site is run to its end, by threads or all turns in the thread of the caller.
 ghost use Rattle.std.specs.Prelude.{◌≡◌, length, IfOk};
 ghost use denote.Param.Send.{IsSend, IsSync};
-ghost use Rattle.pol_events.specs.Events.{history_view};
+ghost use Rattle.pol_events.specs.Events.{plain_history};
 ghost use Rattle.pol_history.specs.Runs.{IsLegal, IsOrderly};
 ghost use Rattle.pol_site.specs.Actors.{actors};
 ghost use Rattle.pol_site.specs.Commanded.{IsCommanded};
 ghost use Rattle.pol_site.specs.Following.{FollowsSite};
 ghost use Rattle.pol_site.specs.Settled.{IsSettled};
-ghost use Rattle.pol_site.specs.SiteView.{site_view};
+ghost use Rattle.pol_site.specs.PlainSite.{plain_site};
 ghost use Rattle.pol_actors.specs.Kept.{AreOwners};
 ghost use Rattle.pol_live.specs.Seats.{AreSeated};
 
@@ -54,12 +54,12 @@ pub fn run_site<R: Threads + Wait + Sync, C: Clock + Send, G: Gate>(
     clock: C,
     gate: &G,
 ) -> Result<Ran, AllocError>
-    ensures legal { IfOk result (λ ran. IsLegal (history_view ran.history.items)) }
-    ensures orderly { IfOk result (λ ran. IsOrderly (history_view ran.history.items)) }
-    ensures follows { IfOk result (λ ran. FollowsSite (site_view site) (history_view ran.history.items)) }
-    ensures commanded { IfOk result (λ ran. IsCommanded (history_view ran.history.items)) }
-    ensures owned { IfOk result (λ ran. AreOwners (site_view site) (history_view ran.history.items) ran.by.items) }
-    ensures settled { IfOk result (λ ran. IsSettled (site_view site) (history_view ran.history.items)) }
+    ensures legal { IfOk result (λ ran. IsLegal (plain_history ran.history.items)) }
+    ensures orderly { IfOk result (λ ran. IsOrderly (plain_history ran.history.items)) }
+    ensures follows { IfOk result (λ ran. FollowsSite (plain_site site) (plain_history ran.history.items)) }
+    ensures commanded { IfOk result (λ ran. IsCommanded (plain_history ran.history.items)) }
+    ensures owned { IfOk result (λ ran. AreOwners (plain_site site) (plain_history ran.history.items) ran.by.items) }
+    ensures settled { IfOk result (λ ran. IsSettled (plain_site site) (plain_history ran.history.items)) }
 {
     let blank = Blank::new(u64::from(actors_of(&site)));
     run_by_threads::<Brand, R, C, G>(rt, alloc, site, watchers, clock, gate, blank)
@@ -76,13 +76,13 @@ fn run_by_threads<J: Job + Send + Sync, R: Threads + Wait + Sync, C: Clock + Sen
     blank: Blank,
 ) -> Result<Ran, AllocError>
     requires blank { (blank.name ≡ J.name) × (blank.parts ≡ J.parts) × (J.parts ≡ length (actors J.site)) }
-    requires site { site_view site ≡ J.site }
-    ensures legal { IfOk result (λ ran. IsLegal (history_view ran.history.items)) }
-    ensures orderly { IfOk result (λ ran. IsOrderly (history_view ran.history.items)) }
-    ensures follows { IfOk result (λ ran. FollowsSite J.site (history_view ran.history.items)) }
-    ensures commanded { IfOk result (λ ran. IsCommanded (history_view ran.history.items)) }
-    ensures owned { IfOk result (λ ran. AreOwners J.site (history_view ran.history.items) ran.by.items) }
-    ensures settled { IfOk result (λ ran. IsSettled J.site (history_view ran.history.items)) }
+    requires site { plain_site site ≡ J.site }
+    ensures legal { IfOk result (λ ran. IsLegal (plain_history ran.history.items)) }
+    ensures orderly { IfOk result (λ ran. IsOrderly (plain_history ran.history.items)) }
+    ensures follows { IfOk result (λ ran. FollowsSite J.site (plain_history ran.history.items)) }
+    ensures commanded { IfOk result (λ ran. IsCommanded (plain_history ran.history.items)) }
+    ensures owned { IfOk result (λ ran. AreOwners J.site (plain_history ran.history.items) ran.by.items) }
+    ensures settled { IfOk result (λ ran. IsSettled J.site (plain_history ran.history.items)) }
 {
     let site = Arc::new(alloc, site)?;
     let (live, seats) = LivePlant::<J, C>::new(alloc, site, clock, blank)?;
@@ -111,12 +111,12 @@ pub fn run_in_turn<R: Wait, C: Clock + Send, G: Gate>(
     clock: C,
     gate: &G,
 ) -> Result<Ran, AllocError>
-    ensures legal { IfOk result (λ ran. IsLegal (history_view ran.history.items)) }
-    ensures orderly { IfOk result (λ ran. IsOrderly (history_view ran.history.items)) }
-    ensures follows { IfOk result (λ ran. FollowsSite (site_view site) (history_view ran.history.items)) }
-    ensures commanded { IfOk result (λ ran. IsCommanded (history_view ran.history.items)) }
-    ensures owned { IfOk result (λ ran. AreOwners (site_view site) (history_view ran.history.items) ran.by.items) }
-    ensures settled { IfOk result (λ ran. IsSettled (site_view site) (history_view ran.history.items)) }
+    ensures legal { IfOk result (λ ran. IsLegal (plain_history ran.history.items)) }
+    ensures orderly { IfOk result (λ ran. IsOrderly (plain_history ran.history.items)) }
+    ensures follows { IfOk result (λ ran. FollowsSite (plain_site site) (plain_history ran.history.items)) }
+    ensures commanded { IfOk result (λ ran. IsCommanded (plain_history ran.history.items)) }
+    ensures owned { IfOk result (λ ran. AreOwners (plain_site site) (plain_history ran.history.items) ran.by.items) }
+    ensures settled { IfOk result (λ ran. IsSettled (plain_site site) (plain_history ran.history.items)) }
 {
     let blank = Blank::new(u64::from(actors_of(&site)));
     run_by_turns::<Brand, R, C, G>(rt, alloc, site, clock, gate, blank)
@@ -132,13 +132,13 @@ fn run_by_turns<J: Job, R: Wait, C: Clock + Send, G: Gate>(
     blank: Blank,
 ) -> Result<Ran, AllocError>
     requires blank { (blank.name ≡ J.name) × (blank.parts ≡ J.parts) × (J.parts ≡ length (actors J.site)) }
-    requires site { site_view site ≡ J.site }
-    ensures legal { IfOk result (λ ran. IsLegal (history_view ran.history.items)) }
-    ensures orderly { IfOk result (λ ran. IsOrderly (history_view ran.history.items)) }
-    ensures follows { IfOk result (λ ran. FollowsSite J.site (history_view ran.history.items)) }
-    ensures commanded { IfOk result (λ ran. IsCommanded (history_view ran.history.items)) }
-    ensures owned { IfOk result (λ ran. AreOwners J.site (history_view ran.history.items) ran.by.items) }
-    ensures settled { IfOk result (λ ran. IsSettled J.site (history_view ran.history.items)) }
+    requires site { plain_site site ≡ J.site }
+    ensures legal { IfOk result (λ ran. IsLegal (plain_history ran.history.items)) }
+    ensures orderly { IfOk result (λ ran. IsOrderly (plain_history ran.history.items)) }
+    ensures follows { IfOk result (λ ran. FollowsSite J.site (plain_history ran.history.items)) }
+    ensures commanded { IfOk result (λ ran. IsCommanded (plain_history ran.history.items)) }
+    ensures owned { IfOk result (λ ran. AreOwners J.site (plain_history ran.history.items) ran.by.items) }
+    ensures settled { IfOk result (λ ran. IsSettled J.site (plain_history ran.history.items)) }
 {
     let site = Arc::new(alloc, site)?;
     let (live, mut seats) = LivePlant::<J, C>::new(alloc, site, clock, blank)?;
@@ -157,12 +157,12 @@ fn finish<J: Job, R: Wait, C: Clock + Send>(
     rt: &R,
     live: LivePlant<J, C>,
 ) -> Result<Ran, AllocError>
-    ensures legal { IfOk result (λ ran. IsLegal (history_view ran.history.items)) }
-    ensures orderly { IfOk result (λ ran. IsOrderly (history_view ran.history.items)) }
-    ensures follows { IfOk result (λ ran. FollowsSite J.site (history_view ran.history.items)) }
-    ensures commanded { IfOk result (λ ran. IsCommanded (history_view ran.history.items)) }
-    ensures owned { IfOk result (λ ran. AreOwners J.site (history_view ran.history.items) ran.by.items) }
-    ensures settled { IfOk result (λ ran. IsSettled J.site (history_view ran.history.items)) }
+    ensures legal { IfOk result (λ ran. IsLegal (plain_history ran.history.items)) }
+    ensures orderly { IfOk result (λ ran. IsOrderly (plain_history ran.history.items)) }
+    ensures follows { IfOk result (λ ran. FollowsSite J.site (plain_history ran.history.items)) }
+    ensures commanded { IfOk result (λ ran. IsCommanded (plain_history ran.history.items)) }
+    ensures owned { IfOk result (λ ran. AreOwners J.site (plain_history ran.history.items) ran.by.items) }
+    ensures settled { IfOk result (λ ran. IsSettled J.site (plain_history ran.history.items)) }
 {
     let mut plant = live.into_plant();
     settle(rt, &mut plant)?;

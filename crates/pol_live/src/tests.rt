@@ -2,7 +2,7 @@
 ghost use Rattle.std.specs.Prelude.{◌≡◌, ◌<◌, length, IfOk};
 ghost use denote.Param.Send.{IsSend, IsSync};
 ghost use Rattle.pol_site.specs.Actors.{actors};
-ghost use Rattle.pol_site.specs.SiteView.{site_view};
+ghost use Rattle.pol_site.specs.PlainSite.{plain_site};
 ghost use Rattle.pol_live.specs.Seats.{AreSeated, actors_of};
 
 use crate::job::Job;
@@ -185,7 +185,7 @@ fn two_threads<J: Job + Send + Sync, R: Threads + Wait + Sync>(
     blank: Blank,
 ) -> Result<String, Fail>
     requires blank { (blank.name ≡ J.name) × (blank.parts ≡ J.parts) × (J.parts ≡ length (actors J.site)) }
-    requires site { site_view site ≡ J.site }
+    requires site { plain_site site ≡ J.site }
 {
     let site = Arc::new(alloc, site)?;
     let clock = MemoryClock::new(vec![in alloc; 7u64, 8]?);

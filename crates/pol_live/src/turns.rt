@@ -1,7 +1,7 @@
 //! The turns of the four kinds of actor.
 ghost use Rattle.std.specs.Prelude.{◌≡◌, ◌<◌, ◌+◌, IfOk, OnErr, false, length, suc};
 ghost use Rattle.pol_history.specs.Answers.{is_full};
-ghost use Rattle.pol_events.specs.Events.{event_view};
+ghost use Rattle.pol_events.specs.Events.{plain_event};
 ghost use Rattle.pol_simulated.specs.Units.{report_event};
 ghost use Rattle.pol_history.specs.Modules.{docking_of};
 ghost use Rattle.pol_core.specs.Plants.{plant_history};
@@ -28,7 +28,7 @@ fn is_docked(plant: &Plant, tag: Name) -> bool
 
 // The event of a report, with the stamp 0.
 fn report_event(tag: Name, report: SimReport) -> Event
-    ensures { event_view result ≡ report_event 0 tag report }
+    ensures { plain_event result ≡ report_event 0 tag report }
 {
     match report {
         SimReport::Service { name, control } => Event::Report {
@@ -102,7 +102,8 @@ impl<J: Job, C: Clock> Cast<J, C> {
     pub(crate) fn batch_turn(&mut self, place: usize) -> Result<Turned, AllocError>
         requires place { place < length J.site.batches }
         requires room { is_full (history_of self.old) ≡ false }
-        ensures ok { IfOk result (λ turned. Turns J.site self.old self.new (suc (length J.site.modules + place)) turned) }
+        ensures ok { IfOk result
+            (λ turned. Turns J.site self.old self.new (suc (length J.site.modules + place)) turned) }
         ensures err { OnErr result ((self.new.entries ≡ self.old.entries) × (self.new.by ≡ self.old.by)) }
     {
         let batch = &self.site.batches[place];
@@ -120,7 +121,8 @@ impl<J: Job, C: Clock> Cast<J, C> {
     pub(crate) fn desk_turn(&mut self) -> Result<Turned, AllocError>
         requires room { is_full (history_of self.old) ≡ false }
         ensures ok { IfOk result
-            (λ turned. Turns J.site self.old self.new (suc (length J.site.modules + (length J.site.batches + 0))) turned) }
+            (λ turned. Turns J.site self.old self.new (suc (length J.site.modules + (length J.site.batches + 0)))
+            turned) }
         ensures err { OnErr result ((self.new.entries ≡ self.old.entries) × (self.new.by ≡ self.old.by)) }
     {
         let length = self.plant.history().len() as u32;

@@ -3,59 +3,63 @@ use Rattle.std.proofs.Common.{◌≡◌, ℕ, List, [], ◌∷◌, ◌++◌, ref
 use Rattle.std.specs.Prelude.{IsTrue, map}
 use Rattle.std.proofs.lemmas.List.{map-append}
 use Rattle.pol_io.specs.Pieces.{pieces, is_whole}
-use Rattle.pol_io.proofs.Pieces.{pieces-append}
-use Rattle.pol_events.specs.Events.{EventForm}
+use Rattle.pol_io.proofs.Pieces.{pieces_append}
+use Rattle.pol_events.specs.Events.{PlainEvent}
 use Rattle.pol_history.specs.Looking.{History}
 use Rattle.pol_history.specs.Runs.{entry_of, recorded, history_after}
-use Rattle.pol_record.specs.Lines.{Item, blank, faulty, happening, item_of, items_of, events_in, Row, rows_after, row_text, rows_text, answers_of, history_of, skipped, bad, answered}
+use Rattle.pol_record.specs.Lines.{InputLine, blank, faulty, happening, input_line_of, input_lines_of, events_in, AnsweredLine, answered_lines_after, answered_text, answered_texts, answers_of, history_of, skipped, bad, answered}
 
-events_in-append : (items others : List Item) → events_in (items ++ others) ≡ events_in items ++ events_in others
-events_in-append [] others = refl
-events_in-append (blank piece ∷ items) others = events_in-append items others
-events_in-append (faulty piece fault ∷ items) others = events_in-append items others
-events_in-append (happening piece event ∷ items) others = ap (λ events. event ∷ events) (events_in-append items others)
+events_in_append : (items others : List InputLine) → events_in (items ++ others) ≡ events_in items ++ events_in others
+events_in_append [] others = refl
+events_in_append (blank piece ∷ items) others = events_in_append items others
+events_in_append (faulty piece fault ∷ items) others = events_in_append items others
+events_in_append (happening piece event ∷ items) others = ap (λ events. event ∷ events) (events_in_append items others)
 
-history_after-append : (history : History) (events others : List EventForm)
+history_after_append : (history : History) (events others : List PlainEvent)
     → history_after history (events ++ others) ≡ history_after (history_after history events) others
-history_after-append history [] others = refl
-history_after-append history (event ∷ events) others = history_after-append (recorded (entry_of history event) history)
+history_after_append history [] others = refl
+history_after_append history (event ∷ events) others = history_after_append (recorded (entry_of history event) history)
     events others
 
-rows_after-append : (history : History) (items others : List Item) →
-    rows_after history (items ++ others) ≡ rows_after history items
-    ++ rows_after (history_after history (events_in items)) others
-rows_after-append history [] others = refl
-rows_after-append history (blank piece ∷ items) others = ap (λ rows. skipped piece ∷ rows)
-    (rows_after-append history items others)
-rows_after-append history (faulty piece fault ∷ items) others = ap (λ rows. bad piece fault ∷ rows)
-    (rows_after-append history items others)
-rows_after-append history (happening piece event ∷ items) others =
+rows_after_append : (history : History) (items others : List InputLine) →
+    answered_lines_after history (items ++ others) ≡ answered_lines_after history items
+    ++ answered_lines_after (history_after history (events_in items)) others
+rows_after_append history [] others = refl
+rows_after_append history (blank piece ∷ items) others = ap (λ rows. skipped piece ∷ rows)
+    (rows_after_append history items others)
+rows_after_append history (faulty piece fault ∷ items) others = ap (λ rows. bad piece fault ∷ rows)
+    (rows_after_append history items others)
+rows_after_append history (happening piece event ∷ items) others =
     ap (λ rows. answered piece (entry_of history event) ∷ rows)
-    (rows_after-append (recorded (entry_of history event) history) items others)
+    (rows_after_append (recorded (entry_of history event) history) items others)
 
-rows_text-append : (rows others : List Row) → rows_text (rows ++ others) ≡ rows_text rows ++ rows_text others
-rows_text-append [] others = refl
-rows_text-append (row ∷ rows) others =
-    ap (λ text. row_text row ++ text) (rows_text-append rows others)
-    ∙ sym (append_assoc (row_text row) (rows_text rows) (rows_text others))
+rows_text_append : (rows others : List AnsweredLine)
+    → answered_texts (rows ++ others) ≡ answered_texts rows ++ answered_texts others
+rows_text_append [] others = refl
+rows_text_append (row ∷ rows) others =
+    ap (λ text. answered_text row ++ text) (rows_text_append rows others)
+    ∙ sym (append_assoc (answered_text row) (answered_texts rows) (answered_texts others))
 
-items_of-append : (done more : List ℕ) → IsTrue (is_whole done) → items_of (done ++ more) ≡ items_of done
-    ++ items_of more
-items_of-append done more whole = ap (map item_of) (pieces-append done more whole) ∙ map-append item_of (pieces done)
+items_of_append : (done more : List ℕ) → IsTrue (is_whole done) → input_lines_of (done ++ more) ≡ input_lines_of done
+    ++ input_lines_of more
+items_of_append done more whole = ap (map input_line_of) (pieces_append done more whole)
+    ∙ map-append input_line_of (pieces done)
     (pieces more)
 
 -- the answers to more lines
-pub answers_of-append : (done more : List ℕ) → IsTrue (is_whole done) →
-    answers_of (done ++ more) ≡ answers_of done ++ rows_text (rows_after (history_of done) (items_of more))
-answers_of-append done more whole =
-    ap (λ items. rows_text (rows_after [] items)) (items_of-append done more whole)
-    ∙ ap rows_text (rows_after-append [] (items_of done) (items_of more))
-    ∙ rows_text-append (rows_after [] (items_of done)) (rows_after (history_of done) (items_of more))
+pub answers_of_append : (done more : List ℕ) → IsTrue (is_whole done) →
+    answers_of (done ++ more)
+    ≡ answers_of done ++ answered_texts (answered_lines_after (history_of done) (input_lines_of more))
+answers_of_append done more whole =
+    ap (λ items. answered_texts (answered_lines_after [] items)) (items_of_append done more whole)
+    ∙ ap answered_texts (rows_after_append [] (input_lines_of done) (input_lines_of more))
+    ∙ rows_text_append (answered_lines_after [] (input_lines_of done))
+    (answered_lines_after (history_of done) (input_lines_of more))
 
 -- and the history that they leave
-pub history_of-append : (done more : List ℕ) → IsTrue (is_whole done) → history_of (done ++ more)
-    ≡ history_after (history_of done) (events_in (items_of more))
-history_of-append done more whole =
-    ap (λ items. history_after [] (events_in items)) (items_of-append done more whole)
-    ∙ ap (history_after []) (events_in-append (items_of done) (items_of more))
-    ∙ history_after-append [] (events_in (items_of done)) (events_in (items_of more))
+pub history_of_append : (done more : List ℕ) → IsTrue (is_whole done) → history_of (done ++ more)
+    ≡ history_after (history_of done) (events_in (input_lines_of more))
+history_of_append done more whole =
+    ap (λ items. history_after [] (events_in items)) (items_of_append done more whole)
+    ∙ ap (history_after []) (events_in_append (input_lines_of done) (input_lines_of more))
+    ∙ history_after_append [] (events_in (input_lines_of done)) (events_in (input_lines_of more))

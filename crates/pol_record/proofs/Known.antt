@@ -4,8 +4,9 @@ use Rattle.std.specs.Prelude.{◌&&◌, filter_map}
 use Rattle.std.specs.List.{cons_option}
 use Rattle.std.specs.Option.{option_eq, option_or}
 use Rattle.std.specs.Str.{bytes_eq}
+use Rattle.std.proofs.Math.Bool.{and-false, and-true}
 use Rattle.std.proofs.lemmas.List.{map-append, reverse-append, take_more}
-use Rattle.pol_events.specs.Events.{EntryForm, entry_view, history_view}
+use Rattle.pol_events.specs.Events.{PlainEntry, plain_entry, plain_history}
 use Rattle.pol_events.specs.declared.event.Entry.{Entry}
 use Rattle.pol_events.specs.Subjects.{Subject, of_module, of_batch, of_recipe, subject}
 use Rattle.pol_history.specs.Looking.{History, is_batch, is_accepted, is_accepted_of_batch, past_of_batch}
@@ -21,8 +22,8 @@ brings None older = sym (append-nil (reverse older))
 brings (Some found) older = reverse-append (found ∷ []) older
 
 -- one more entry of the batch
-pub record-grows : (entry : EntryForm) (past : History) → record_by (entry ∷ past) ≡ with_entry entry (record_by past)
-record-grows entry past =
+pub record_grows : (entry : PlainEntry) (past : History) → record_by (entry ∷ past) ≡ with_entry entry (record_by past)
+record_grows entry past =
     ap (λ log. record {
       start = option_or (starting entry.event) (start_by past);
       log = log;
@@ -31,22 +32,12 @@ record-grows entry past =
     (brings (taken entry.answer) (filter_map (λ entry. taken entry.answer) past))
 
 -- the entry is an accepted event of the batch
-abbrev pub is_its : EntryForm → List ℕ → Bool
+abbrev pub is_its : PlainEntry → List ℕ → Bool
 is_its entry batch = option_eq bytes_eq (accepted_batch entry) (Some batch)
 
--- what is asked beside a truth
-and-true : (b : Bool) → (b && true) ≡ b
-and-true true = refl
-and-true false = refl
-
--- what is asked beside what is false
-and-false : (b : Bool) → (b && false) ≡ false
-and-false true = refl
-and-false false = refl
-
 -- the past takes it exactly where it is
-its-or-not : (entry : EntryForm) (batch : List ℕ) → is_accepted_of_batch batch entry ≡ is_its entry batch
-its-or-not entry batch = go (subject entry.event) (is_accepted entry.answer)
+its_or_not : (entry : PlainEntry) (batch : List ℕ) → is_accepted_of_batch batch entry ≡ is_its entry batch
+its_or_not entry batch = go (subject entry.event) (is_accepted entry.answer)
   where
     go : (of : Subject) (kept : Bool) →
         (is_batch batch of && kept) ≡ option_eq bytes_eq (cond kept (batch_in of) None) (Some batch)
@@ -58,50 +49,50 @@ its-or-not entry batch = go (subject entry.event) (is_accepted entry.answer)
     go (of_recipe name) false = refl
 
 -- the history of one entry more
-pub one-more : (entries : List Entry) (i : ℕ) (entry : Entry) → i < length entries → entry ≡ get_or entries i entry →
-    history_view (take (i + 1) entries) ≡ entry_view entry ∷ history_view (take i entries)
-one-more entries i entry inside same =
-    ap history_view (take_more entries i entry inside ∙ ap (λ read. take i entries ++ read ∷ []) (sym same))
-    ∙ ap reverse (map-append entry_view (take i entries) (entry ∷ []))
-    ∙ reverse-append (map entry_view (take i entries)) (entry_view entry ∷ [])
+pub one_more : (entries : List Entry) (i : ℕ) (entry : Entry) → i < length entries → entry ≡ get_or entries i entry →
+    plain_history (take (i + 1) entries) ≡ plain_entry entry ∷ plain_history (take i entries)
+one_more entries i entry inside same =
+    ap plain_history (take_more entries i entry inside ∙ ap (λ read. take i entries ++ read ∷ []) (sym same))
+    ∙ ap reverse (map-append plain_entry (take i entries) (entry ∷ []))
+    ∙ reverse-append (map plain_entry (take i entries)) (plain_entry entry ∷ [])
 
 -- where it is, it stands in the batch's past
-pub known-more : (history : History) (entry : EntryForm) (batch : List ℕ) (known : PlainRecord) →
+pub known_more : (history : History) (entry : PlainEntry) (batch : List ℕ) (known : PlainRecord) →
     known ≡ record_by (past_of_batch batch history) →
     is_its entry batch ≡ true → with_entry entry known ≡ record_by (past_of_batch batch (entry ∷ history))
-known-more history entry batch known is its =
+known_more history entry batch known is its =
     ap (with_entry entry) is
-    ∙ sym (record-grows entry (past_of_batch batch history))
+    ∙ sym (record_grows entry (past_of_batch batch history))
     ∙ ap (λ kept. record_by (cond kept (entry ∷ past_of_batch batch history) (past_of_batch batch history)))
-    (sym (its-or-not entry batch ∙ its))
+    (sym (its_or_not entry batch ∙ its))
 
 -- where it isn't, the past stays
-pub known-same : (history : History) (entry : EntryForm) (batch : List ℕ) (known : PlainRecord) →
+pub known_same : (history : History) (entry : PlainEntry) (batch : List ℕ) (known : PlainRecord) →
     known ≡ record_by (past_of_batch batch history) →
     is_its entry batch ≡ false → known ≡ record_by (past_of_batch batch (entry ∷ history))
-known-same history entry batch known is other =
+known_same history entry batch known is other =
     is
     ∙ ap (λ kept. record_by (cond kept (entry ∷ past_of_batch batch history) (past_of_batch batch history)))
-    (sym (its-or-not entry batch ∙ other))
+    (sym (its_or_not entry batch ∙ other))
 
 -- ---- all batches
 
 -- the batches that were started, after one more entry
-started-grows : (history : History) (entry : EntryForm) →
+started_grows : (history : History) (entry : PlainEntry) →
     batches (entry ∷ history) ≡ batches history ++ cons_option (newly_started entry) []
-started-grows history entry = brings (newly_started entry) (filter_map newly_started history)
+started_grows history entry = brings (newly_started entry) (filter_map newly_started history)
 
 -- each batch is known as the history says
 abbrev AreKnown : List (List ℕ × BatchRecord) → History → Type 0
 AreKnown records history = (other : List ℕ) → known_of records other ≡ record_by (past_of_batch other history)
 
 -- an accepted event of a batch is added to that batch's record
-all-more : (history : History) (entry : EntryForm) (batch : List ℕ) (old new : List (List ℕ × BatchRecord)) →
+all_more : (history : History) (entry : PlainEntry) (batch : List ℕ) (old new : List (List ℕ × BatchRecord)) →
     accepted_batch entry ≡ Some batch →
     ((other : List ℕ) → known_of new other
     ≡ cond (bytes_eq batch other) (with_entry entry (known_of old other)) (known_of old other)) →
     AreKnown old history → AreKnown new (entry ∷ history)
-all-more history entry batch old new is added known other = go (bytes_eq batch other) refl (added other)
+all_more history entry batch old new is added known other = go (bytes_eq batch other) refl (added other)
   where
     its : is_its entry other ≡ bytes_eq batch other
     its = ap (λ found. option_eq bytes_eq found (Some other)) is
@@ -109,41 +100,41 @@ all-more history entry batch old new is added known other = go (bytes_eq batch o
     go : (same : Bool) → bytes_eq batch other ≡ same →
         known_of new other ≡ cond same (with_entry entry (known_of old other)) (known_of old other) →
         known_of new other ≡ record_by (past_of_batch other (entry ∷ history))
-    go true same added = added ∙ known-more history entry other (known_of old other) (known other) (its ∙ same)
-    go false apart added = added ∙ known-same history entry other (known_of old other) (known other) (its ∙ apart)
+    go true same added = added ∙ known_more history entry other (known_of old other) (known other) (its ∙ same)
+    go false apart added = added ∙ known_same history entry other (known_of old other) (known other) (its ∙ apart)
 
 -- another entry is added to none
-all-same : (history : History) (entry : EntryForm) (records : List (List ℕ × BatchRecord)) →
+all_same : (history : History) (entry : PlainEntry) (records : List (List ℕ × BatchRecord)) →
     accepted_batch entry ≡ None →
     AreKnown records history → AreKnown records (entry ∷ history)
-all-same history entry records none known other =
-    known-same history entry other (known_of records other) (known other)
+all_same history entry records none known other =
+    known_same history entry other (known_of records other) (known other)
     (ap (λ found. option_eq bytes_eq found (Some other)) none)
 
 -- what was gathered, after an accepted event of a batch
-pub gathered-more : (history : History) (entry : EntryForm) (batch : List ℕ) (old new : BatchRecords) →
+pub gathered_more : (history : History) (entry : PlainEntry) (batch : List ℕ) (old new : BatchRecords) →
     new.started.items ≡ old.started.items ++ cons_option (newly_started entry) [] →
     accepted_batch entry ≡ Some batch →
     ((other : List ℕ) → known_of new.records.entries other
     ≡ cond (bytes_eq batch other) (with_entry entry (known_of old.records.entries other))
     (known_of old.records.entries other)) →
     IsGathered old history → IsGathered new (entry ∷ history)
-gathered-more history entry batch old new pushed is added gathered = record {
+gathered_more history entry batch old new pushed is added gathered = record {
   started = pushed
       ∙ ap (λ started. started ++ cons_option (newly_started entry) []) gathered.started
-      ∙ sym (started-grows history entry);
-  known = all-more history entry batch old.records.entries new.records.entries is added gathered.known;
+      ∙ sym (started_grows history entry);
+  known = all_more history entry batch old.records.entries new.records.entries is added gathered.known;
 }
 
 -- and after any other entry
-pub gathered-same : (history : History) (entry : EntryForm) (old new : BatchRecords) →
+pub gathered_same : (history : History) (entry : PlainEntry) (old new : BatchRecords) →
     new.started.items ≡ old.started.items ++ cons_option (newly_started entry) [] →
     accepted_batch entry ≡ None → new.records.entries ≡ old.records.entries →
     IsGathered old history → IsGathered new (entry ∷ history)
-gathered-same history entry old new pushed none same gathered = record {
+gathered_same history entry old new pushed none same gathered = record {
   started = pushed
       ∙ ap (λ started. started ++ cons_option (newly_started entry) []) gathered.started
-      ∙ sym (started-grows history entry);
+      ∙ sym (started_grows history entry);
   known = λ other. ap (λ records. known_of records other) same
-      ∙ all-same history entry old.records.entries none gathered.known other;
+      ∙ all_same history entry old.records.entries none gathered.known other;
 }

@@ -14,7 +14,7 @@ use Rattle.serde_json.specs.Written.{items_outline, members_outline}
 use Rattle.chart_core.specs.declared.entry.LogEntry.{LogEntry}
 use Rattle.chart_core.specs.declared.next.Outcome.{Outcome}
 use Rattle.mtp_codes.specs.declared.value.Reading.{Reading}
-use Rattle.pol_events.specs.Fields.{FieldForm}
+use Rattle.pol_events.specs.Fields.{PlainField}
 use Rattle.pol_events.specs.Written.{bind_members}
 use Rattle.pol_events.specs.declared.event.Bind.{Bind}
 use Rattle.pol_record.specs.Objects.{data_tokens, reading_data, members_in}
@@ -36,7 +36,7 @@ abbrev pub entries_tokens : List LogEntry → List Token
 entries_tokens entries = items_tokens (items_outline (items_of (map entry_data entries)))
 
 -- the tokens of the last fields of an object, and its bracket
-abbrev pub fields_tokens : List FieldForm → List Token
+abbrev pub fields_tokens : List PlainField → List Token
 fields_tokens fields = members_tokens (members_outline (members_in fields))
 
 -- the tokens of the last binds of an object, and its bracket

@@ -6,7 +6,7 @@ use Rattle.std.specs.Option.{option_map, option_map_or, option_or}
 use Rattle.std.specs.Str.{bytes_eq}
 use Rattle.chart_core.specs.declared.entry.LogEntry.{LogEntry}
 use Rattle.chart_core.specs.declared.next.Outcome.{Outcome}
-use Rattle.pol_events.specs.Events.{EntryForm}
+use Rattle.pol_events.specs.Events.{PlainEntry}
 use Rattle.pol_events.specs.Subjects.{Subject, of_module, of_batch, of_recipe, subject}
 use Rattle.pol_history.specs.Batches.{Started, starting, start_by, started_batch, taken, log_by, closing, outcome_by, batches}
 use Rattle.pol_history.specs.Looking.{History, is_accepted, past_of_batch}
@@ -28,7 +28,7 @@ abbrev pub record_by : History → PlainRecord
 record_by past = record { start = start_by past; log = log_by past; outcome = outcome_by past }
 
 -- the same, with one more entry of the batch
-abbrev pub with_entry : EntryForm → PlainRecord → PlainRecord
+abbrev pub with_entry : PlainEntry → PlainRecord → PlainRecord
 with_entry entry known = record {
   start = option_or (starting entry.event) known.start;
   log = known.log ++ cons_option (taken entry.answer) [];
@@ -60,11 +60,11 @@ batch_in (of_batch batch) = Some batch
 batch_in (of_recipe recipe) = None
 
 -- the batch of which an entry is an accepted event
-abbrev pub accepted_batch : EntryForm → Option (List ℕ)
+abbrev pub accepted_batch : PlainEntry → Option (List ℕ)
 accepted_batch entry = if is_accepted entry.answer then batch_in (subject entry.event) else None
 
 -- the batch that an entry starts
-abbrev pub newly_started : EntryForm → Option (List ℕ)
+abbrev pub newly_started : PlainEntry → Option (List ℕ)
 newly_started entry = if is_accepted entry.answer then started_batch entry.event else None
 
 -- ---- what is known of all batches

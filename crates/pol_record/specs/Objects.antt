@@ -8,7 +8,7 @@ use Rattle.serde_json.specs.View.{items_of}
 use Rattle.serde_json.specs.Written.{outline}
 use Rattle.mtp_codes.specs.declared.value.Reading.{Reading}
 use Rattle.mtp_codes.specs.declared.value.Reading.TheVariants.{Whole, Bit}
-use Rattle.pol_events.specs.Fields.{FieldForm, ValueForm, text, number, readings, in_order}
+use Rattle.pol_events.specs.Fields.{PlainField, PlainFieldValue, text, number, readings, in_order}
 
 -- a reading
 abbrev pub reading_data : Reading → Data
@@ -20,18 +20,18 @@ abbrev pub readings_data : List Reading → Data
 readings_data values = array (items_of (map reading_data values))
 
 -- the value of a field
-abbrev pub value_data : ValueForm → Data
+abbrev pub value_data : PlainFieldValue → Data
 value_data (text value) = string value
 value_data (number value) = number_data (unsigned value)
 value_data (readings values) = readings_data values
 
 -- fields as members
-abbrev pub members_in : List FieldForm → Members
+abbrev pub members_in : List PlainField → Members
 members_in [] = no_members
 members_in (field ∷ fields) = member field.key (value_data field.value) (members_in fields)
 
 -- an object of these fields, in byte order of their keys
-abbrev pub fields_data : List FieldForm → Data
+abbrev pub fields_data : List PlainField → Data
 fields_data fields = object (members_in (in_order fields))
 
 -- the tokens of a value

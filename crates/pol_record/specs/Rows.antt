@@ -7,20 +7,20 @@ use Rattle.chart_core.specs.declared.entry.LogEntry.{LogEntry}
 use Rattle.chart_core.specs.declared.entry.LogEntry.TheVariants.{Start, Finish, Reset, End, Chose, Turn, Leave, Stop, Broke, Left, StopAsked, Asked}
 use Rattle.chart_core.specs.declared.why.Why.{Why}
 use Rattle.chart_core.specs.declared.why.Why.TheVariants as why
-use Rattle.pol_events.specs.Fields.{FieldForm, fields_of, number_field, readings_field, text_field}
+use Rattle.pol_events.specs.Fields.{PlainField, fields_of, number_field, readings_field, text_field}
 use Rattle.pol_record.specs.declared.rows.Row.{Row}
 
 -- a name and fields
 pub record PlainRow : Type 0 where
   pub name : List ℕ
-  pub fields : List FieldForm
+  pub fields : List PlainField
 
 -- what is told under this name, with these fields
-abbrev pub row : List ℕ → List FieldForm → PlainRow
+abbrev pub row : List ℕ → List PlainField → PlainRow
 row name fields = record { name = name; fields = fields }
 
 -- the fields of a row, and its name under a key
-abbrev pub named_fields : List ℕ → PlainRow → List FieldForm
+abbrev pub named_fields : List ℕ → PlainRow → List PlainField
 named_fields key told = told.fields ++ text_field key told.name ∷ []
 
 -- a command to the service of a step
@@ -88,5 +88,5 @@ obstacle_row (why.Unmet step) = row (codes "Unmet") (text_field (codes "step") s
 obstacle_row (why.NoArm node) = row (codes "NoArm") (number_field (codes "node") node ∷ [])
 
 -- what contracts see of a row
-abbrev pub row_view : Row → PlainRow
-row_view told = row told.name.now (fields_of told.fields)
+abbrev pub plain_row : Row → PlainRow
+plain_row told = row told.name.now (fields_of told.fields)

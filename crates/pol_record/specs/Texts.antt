@@ -15,8 +15,8 @@ use Rattle.serde_json.specs.Written.{compact_text}
 use Rattle.mtp_json.specs.PathText.{path_text}
 use Rattle.mtp_json.specs.declared.fault.FaultKind.{FaultKind}
 use Rattle.mtp_json.specs.declared.fault.FaultKind.TheVariants.{NotJson, Missing, WrongKind, OutOfRange, Unknown, Repeated, Unsound, BadChart, TooLong as TooLongKind}
-use Rattle.pol_events.specs.Events.{EntryForm}
-use Rattle.pol_events.specs.Fields.{FieldForm, number_field, text_field}
+use Rattle.pol_events.specs.Events.{PlainEntry}
+use Rattle.pol_events.specs.Fields.{PlainField, number_field, text_field}
 use Rattle.pol_events.specs.Lines.{event_of}
 use Rattle.pol_events.specs.RuleTable.{rule_row}
 use Rattle.pol_events.specs.Written.{written_binds, written_event}
@@ -34,7 +34,7 @@ use Rattle.pol_record.specs.Rows.{entry_row, named_fields, obstacle_row}
 -- ---- answers
 
 -- a refusal: the rule's fields, its name and its number
-abbrev pub refusal_fields : Rule → List FieldForm
+abbrev pub refusal_fields : Rule → List PlainField
 refusal_fields rule =
     (rule_row rule).fields
     ++ text_field (codes "rule") (rule_row rule).name
@@ -42,11 +42,11 @@ refusal_fields rule =
     ∷ []
 
 -- an entry of a log: its fields and its name
-abbrev pub entry_fields : LogEntry → List FieldForm
+abbrev pub entry_fields : LogEntry → List PlainField
 entry_fields entry = named_fields (codes "do") (entry_row entry)
 
 -- an obstacle: its fields and its name
-abbrev pub obstacle_fields : Why → List FieldForm
+abbrev pub obstacle_fields : Why → List PlainField
 obstacle_fields obstacle = named_fields (codes "wait") (obstacle_row obstacle)
 
 -- the name of an outcome
@@ -91,11 +91,11 @@ entry_object answer event =
     object (member (codes "answer") answer (member (codes "event") event no_members))
 
 -- the line of an entry of a history
-abbrev pub entry_line_text : EntryForm → List ℕ
+abbrev pub entry_line_text : PlainEntry → List ℕ
 entry_line_text entry = line_text (entry_object (answer_data entry.answer) (written_event entry.event))
 
 -- what is written of an entry's event is read as that event
-abbrev pub IsReadBack : EntryForm → Type 0
+abbrev pub IsReadBack : PlainEntry → Type 0
 IsReadBack entry = event_of (compact_text (written_event entry.event)) ≡ Ok entry.event
 
 -- the last line of every output
@@ -175,11 +175,11 @@ kind_name BadChart = codes "BadChart"
 kind_name TooLongKind = codes "TooLong"
 
 -- a kind of fault and the text of its path
-abbrev pub path_fields : List ℕ → List ℕ → List FieldForm
+abbrev pub path_fields : List ℕ → List ℕ → List PlainField
 path_fields kind path = text_field (codes "bad") kind ∷ text_field (codes "path") path ∷ []
 
 -- a fault of a chart and its node
-abbrev pub node_fields : List ℕ → ℕ → List FieldForm
+abbrev pub node_fields : List ℕ → ℕ → List PlainField
 node_fields fault node =
     text_field (codes "bad") (codes "BadChart")
     ∷ text_field (codes "fault") fault
@@ -187,7 +187,7 @@ node_fields fault node =
     ∷ []
 
 -- a fault of a chart
-abbrev pub chart_fault_fields : ChartFault → List FieldForm
+abbrev pub chart_fault_fields : ChartFault → List PlainField
 chart_fault_fields (TooDeep node) = node_fields (codes "TooDeep") node
 chart_fault_fields (TooManySteps node) = node_fields (codes "TooManySteps") node
 chart_fault_fields (StepTwice node) = node_fields (codes "StepTwice") node

@@ -3,18 +3,18 @@ use Rattle.std.specs.Prelude.{ℕ, List, [], ◌∷◌, codes, decimal}
 use Rattle.json.specs.Token as token
 use Rattle.json.specs.Token.{Token}
 use Rattle.serde_json.specs.Data.{Data, number, string, unsigned, object, member, no_members}
-use Rattle.pol_events.specs.Fields.{FieldForm, number_field, text_field}
+use Rattle.pol_events.specs.Fields.{PlainField, number_field, text_field}
 use Rattle.pol_record.specs.Objects.{fields_data}
 use Rattle.pol_record.specs.Texts.{answer_data, line_text}
 use Rattle.pol_record.specs.declared.verdicts.Verdict.{Verdict}
 use Rattle.pol_record.specs.declared.verdicts.Verdict.TheVariants.{Good, WrongAnswer, TooMany, WrongTail}
 
 -- the fields of a good verdict
-abbrev pub good_fields : ℕ → List FieldForm
+abbrev pub good_fields : ℕ → List PlainField
 good_fields entries = text_field (codes "audit") (codes "good") ∷ number_field (codes "entries") entries ∷ []
 
 -- the fields of a bad one: the place, and what is wrong there
-abbrev pub bad_fields : ℕ → List ℕ → List FieldForm
+abbrev pub bad_fields : ℕ → List ℕ → List PlainField
 bad_fields place why =
     text_field (codes "audit") (codes "bad") ∷ number_field (codes "place") place ∷ text_field (codes "why") why ∷ []
 

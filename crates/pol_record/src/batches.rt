@@ -1,7 +1,7 @@
 //! Lines of batches: what a batch was started with, its log and its outcome.
 ghost use Rattle.std.specs.Prelude.{◌≡◌, ◌++◌, ◌∷◌, [], IfOk, OnOk};
 ghost use Rattle.json.specs.Token as token;
-ghost use Rattle.pol_events.specs.Events.{history_view};
+ghost use Rattle.pol_events.specs.Events.{plain_history};
 ghost use Rattle.pol_events.specs.Written.{written_binds};
 ghost use Rattle.pol_history.specs.Batches.{log_of};
 ghost use Rattle.pol_record.specs.Gathered.{known_of, plain_record, plain_start, record_text};
@@ -131,7 +131,7 @@ pub fn gathered_line(
 
 /// The batch's log, the oldest entry first.
 pub fn batch_log(alloc: Global, history: &[Entry], batch: Name) -> Result<Vec<LogEntry>, AllocError>
-    ensures { IfOk result (λ log. log.items ≡ log_of (history_view history.now) batch) }
+    ensures { IfOk result (λ log. log.items ≡ log_of (plain_history history.now) batch) }
 {
     Ok(record_of(alloc, history, batch)?.log)
 }
@@ -139,7 +139,7 @@ pub fn batch_log(alloc: Global, history: &[Entry], batch: Name) -> Result<Vec<Lo
 /// The line of a batch: its name, what plays each role, its log, its outcome (Running while it is open) and its recipe.
 /// No bytes for a batch that wasn't started.
 pub fn batch_line(alloc: Global, history: &[Entry], batch: Name) -> Result<Vec<u8>, AllocError>
-    ensures { IfOk result (λ line. line.items ≡ batch_text (history_view history.now) batch) }
+    ensures { IfOk result (λ line. line.items ≡ batch_text (plain_history history.now) batch) }
 {
     record_line(alloc, batch, &record_of(alloc, history, batch)?)
 }

@@ -1,7 +1,7 @@
 //! Lines of entries of a history: an answer and its event.
 ghost use Rattle.std.specs.Prelude.{◌≡◌, ◌++◌, IfOk, IsTrue, Ok, OnOk};
 ghost use Rattle.serde_json.specs.Written.{compact_text};
-ghost use Rattle.pol_events.specs.Events.{entry_view, event_view};
+ghost use Rattle.pol_events.specs.Events.{plain_entry, plain_event};
 ghost use Rattle.pol_events.specs.Lines.{event_of};
 ghost use Rattle.pol_events.specs.Orderly.{is_orderly};
 ghost use Rattle.pol_events.specs.Written.{written_event};
@@ -29,9 +29,9 @@ fn put_answer(buffer: Vec<u8>, answer: &Answer) -> Result<Vec<u8>, AllocError>
 }
 
 fn event_text(alloc: Global, event: &Event) -> Result<Vec<u8>, AllocError>
-    requires { IsTrue (is_orderly (event_view event.now)) }
-    ensures text { IfOk result (λ text. text.items ≡ compact_text (written_event (event_view event.now))) }
-    ensures reads_back { IfOk result (λ text. event_of text.items ≡ Ok (event_view event.now)) }
+    requires { IsTrue (is_orderly (plain_event event.now)) }
+    ensures text { IfOk result (λ text. text.items ≡ compact_text (written_event (plain_event event.now))) }
+    ensures reads_back { IfOk result (λ text. event_of text.items ≡ Ok (plain_event event.now)) }
 {
     let value = event_value(alloc, event)?;
     value.to_vec(alloc)
@@ -42,9 +42,9 @@ fn event_text(alloc: Global, event: &Event) -> Result<Vec<u8>, AllocError>
 /// written of it is read as the same event. The buffer is lost where there is no memory.
 #[tactic(auto, using(crate::proofs::Pieces::entry_pieces))]
 pub fn put_entry_line(alloc: Global, buffer: Vec<u8>, entry: &Entry) -> Result<Vec<u8>, AllocError>
-    requires { IsTrue (is_orderly (event_view entry.now.event)) }
-    ensures line { IfOk result (λ line. line.items ≡ buffer.items ++ entry_line_text (entry_view entry.now)) }
-    ensures reads_back { OnOk result (IsReadBack (entry_view entry.now)) }
+    requires { IsTrue (is_orderly (plain_event entry.now.event)) }
+    ensures line { IfOk result (λ line. line.items ≡ buffer.items ++ entry_line_text (plain_entry entry.now)) }
+    ensures reads_back { OnOk result (IsReadBack (plain_entry entry.now)) }
 {
     let event = event_text(alloc, &entry.event)?;
     let mut buffer = buffer;
@@ -58,8 +58,8 @@ pub fn put_entry_line(alloc: Global, buffer: Vec<u8>, entry: &Entry) -> Result<V
 
 /// The line of an entry of a history. The event has to be one that a line can say.
 pub fn entry_line(alloc: Global, entry: &Entry) -> Result<Vec<u8>, AllocError>
-    requires { IsTrue (is_orderly (event_view entry.now.event)) }
-    ensures { IfOk result (λ line. line.items ≡ entry_line_text (entry_view entry.now)) }
+    requires { IsTrue (is_orderly (plain_event entry.now.event)) }
+    ensures { IfOk result (λ line. line.items ≡ entry_line_text (plain_entry entry.now)) }
 {
     put_entry_line(alloc, Vec::new(alloc), entry)
 }

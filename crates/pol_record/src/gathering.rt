@@ -2,7 +2,7 @@
 ghost use Rattle.std.specs.Prelude.{◌≡◌, ℕ, ◌∷◌, ◌++◌, [], List, IfOk, OnOk, if◌then◌else◌};
 ghost use Rattle.std.specs.List.{cons_option};
 ghost use Rattle.std.specs.Str.{bytes_eq};
-ghost use Rattle.pol_events.specs.Events.{entry_view, history_view};
+ghost use Rattle.pol_events.specs.Events.{plain_entry, plain_history};
 ghost use Rattle.pol_history.specs.Looking.{History};
 ghost use Rattle.pol_record.specs.Gathered.{IsGathered, known_of, newly_started, with_entry};
 
@@ -29,7 +29,7 @@ fn add_to<'a>(
     entry: &'a Entry,
 ) -> Result<(), AllocError>
     ensures { OnOk result ((other : List ℕ) → known_of records.new.entries other ≡ (if bytes_eq batch other
-        then with_entry (entry_view entry.now) (known_of records.old.entries other)
+        then with_entry (plain_entry entry.now) (known_of records.old.entries other)
         else known_of records.old.entries other)) }
 {
     if let Some(known) = records.get_mut(&batch) {
@@ -44,7 +44,7 @@ fn add_to<'a>(
 // The batch that the entry starts, if it starts one, is the last that was started.
 fn add_start(started: &mut Vec<Name>, entry: &Entry) -> Result<(), AllocError>
     ensures { OnOk result (started.new.items
-        ≡ started.old.items ++ cons_option (newly_started (entry_view entry.now)) []) }
+        ≡ started.old.items ++ cons_option (newly_started (plain_entry entry.now)) []) }
 {
     if let Some(batch) = started_batch(entry) {
         started.push(batch)?;
@@ -59,7 +59,7 @@ fn gather_entry<'a>(
     entry: &'a Entry,
 ) -> Result<(), AllocError>
     ensures { OnOk result ((history : History) → IsGathered gathered.old history
-        → IsGathered gathered.new (entry_view entry.now ∷ history)) }
+        → IsGathered gathered.new (plain_entry entry.now ∷ history)) }
 {
     add_start(&mut gathered.started, entry)?;
     match accepted_batch(entry) {
@@ -70,7 +70,7 @@ fn gather_entry<'a>(
 
 /// What the history says of its batches. One pass; as much memory as the logs of all batches.
 pub fn gather(alloc: Global, history: &[Entry]) -> Result<BatchRecords<'_>, AllocError>
-    ensures { IfOk result (λ gathered. IsGathered gathered (history_view history.now)) }
+    ensures { IfOk result (λ gathered. IsGathered gathered (plain_history history.now)) }
 {
     let mut gathered = BatchRecords {
         started: Vec::new(alloc),

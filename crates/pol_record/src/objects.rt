@@ -1,7 +1,7 @@
 //! Fields as JSON objects, written token by token.
 ghost use Rattle.std.specs.Prelude.{◌≡◌, ◌∷◌, ◌++◌, [], OnOk, decimal};
 ghost use Rattle.json.specs.Token as token;
-ghost use Rattle.pol_events.specs.Fields.{fields_of, field_view, value_view};
+ghost use Rattle.pol_events.specs.Fields.{fields_of, plain_field, plain_field_value};
 ghost use Rattle.pol_record.specs.Objects.{data_tokens, fields_data, reading_data, readings_data, value_data};
 
 use json::Writer;
@@ -33,7 +33,7 @@ fn write_readings(writer: &mut Writer, readings: &[Reading]) -> Result<(), Alloc
 
 fn write_value(writer: &mut Writer, value: &FieldValue<'_>) -> Result<(), AllocError>
     ensures tokens { OnOk result (writer.new.tokens ≡ writer.old.tokens
-        ++ data_tokens (value_data (value_view value.now))) }
+        ++ data_tokens (value_data (plain_field_value value.now))) }
     ensures before { writer.new.before ≡ writer.old.before }
 {
     match value {
@@ -45,7 +45,7 @@ fn write_value(writer: &mut Writer, value: &FieldValue<'_>) -> Result<(), AllocE
 
 fn write_field(writer: &mut Writer, field: &Field<'_>) -> Result<(), AllocError>
     ensures tokens { OnOk result (writer.new.tokens ≡ writer.old.tokens
-        ++ token.key (field_view field.now).key ∷ data_tokens (value_data (field_view field.now).value)) }
+        ++ token.key (plain_field field.now).key ∷ data_tokens (value_data (plain_field field.now).value)) }
     ensures before { writer.new.before ≡ writer.old.before }
 {
     writer.key(field.key)?;

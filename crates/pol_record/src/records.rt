@@ -1,7 +1,7 @@
 //! What is known of one batch, entry by entry.
 ghost use Rattle.std.specs.Prelude.{◌≡◌, IfOk, OnOk, []};
 ghost use Rattle.std.specs.Option.{option_map};
-ghost use Rattle.pol_events.specs.Events.{entry_view, event_view, history_view};
+ghost use Rattle.pol_events.specs.Events.{plain_entry, plain_event, plain_history};
 ghost use Rattle.pol_history.specs.Batches.{starting, closing, taken};
 ghost use Rattle.pol_history.specs.Looking.{past_of_batch};
 ghost use Rattle.pol_record.specs.Gathered.{accepted_batch, newly_started, plain_record, plain_start, record_by, with_entry};
@@ -33,7 +33,7 @@ pub struct BatchRecord<'a> {
 
 /// The batch that an accepted start starts; None for any other entry.
 pub fn started_batch(entry: &Entry) -> Option<Name>
-    ensures { result ≡ newly_started (entry_view entry.now) }
+    ensures { result ≡ newly_started (plain_entry entry.now) }
 {
     match entry.event {
         Event::Start { batch, .. } if entry.answer.is_accepted() => Some(batch),
@@ -43,7 +43,7 @@ pub fn started_batch(entry: &Entry) -> Option<Name>
 
 /// The batch of which the entry is an accepted event; None for a refused one, and for one of a module or a recipe.
 pub fn accepted_batch(entry: &Entry) -> Option<Name>
-    ensures { result ≡ accepted_batch (entry_view entry.now) }
+    ensures { result ≡ accepted_batch (plain_entry entry.now) }
 {
     match entry.event.subject() {
         Subject::Batch(batch) if entry.answer.is_accepted() => Some(batch),
@@ -52,7 +52,7 @@ pub fn accepted_batch(entry: &Entry) -> Option<Name>
 }
 
 fn starting(event: &Event) -> Option<Start<'_>>
-    ensures { option_map plain_start result ≡ starting (event_view event.now) }
+    ensures { option_map plain_start result ≡ starting (plain_event event.now) }
 {
     match event {
         Event::Start { recipe, bind, .. } => Some(Start {
@@ -77,7 +77,7 @@ impl<'a> BatchRecord<'a> {
 
     /// Adds what one more entry of the batch says.
     pub(crate) fn add(&mut self, entry: &'a Entry) -> Result<(), AllocError>
-        ensures { OnOk result (plain_record self.new ≡ with_entry (entry_view entry.now) (plain_record self.old)) }
+        ensures { OnOk result (plain_record self.new ≡ with_entry (plain_entry entry.now) (plain_record self.old)) }
     {
         if let Some(start) = starting(&entry.event) {
             self.start = Some(start);
@@ -97,7 +97,7 @@ pub fn record_of(
     history: &[Entry],
     batch: Name,
 ) -> Result<BatchRecord<'_>, AllocError>
-    ensures { IfOk result (λ known. plain_record known ≡ record_by (past_of_batch batch (history_view history.now))) }
+    ensures { IfOk result (λ known. plain_record known ≡ record_by (past_of_batch batch (plain_history history.now))) }
 {
     let mut known = BatchRecord::new(alloc);
     for entry in history {

@@ -2,7 +2,7 @@
 ghost use Rattle.std.specs.Prelude.{◌≡◌, ◌<◌, ◌≤◌, length};
 ghost use Rattle.pol_events.specs.Fields.{fields_of};
 ghost use Rattle.pol_events.specs.declared.fields.TheConstants.{MOST_FIELDS};
-ghost use Rattle.pol_record.specs.Rows.{command_row, entry_row, forbid_name, named_fields, obstacle_row, row, row_view};
+ghost use Rattle.pol_record.specs.Rows.{command_row, entry_row, forbid_name, named_fields, obstacle_row, row, plain_row};
 
 use chart_core::{LogEntry, Why};
 use mtp_codes::{Forbid, Name};
@@ -20,21 +20,21 @@ pub struct Row<'a> {
 impl<'a> Row<'a> {
     /// The fields, and the name under this key.
     pub fn named_fields(self, key: &'static str) -> Fields<'a>
-        requires { length (row_view self).fields < MOST_FIELDS }
-        ensures { fields_of result ≡ named_fields key.now (row_view self.entry) }
+        requires { length (plain_row self).fields < MOST_FIELDS }
+        ensures { fields_of result ≡ named_fields key.now (plain_row self.entry) }
     {
         self.fields.text(key, self.name)
     }
 }
 
 fn named<'a>(name: &'static str, fields: Fields<'a>) -> Row<'a>
-    ensures { row_view result ≡ row name.now (fields_of fields.entry) }
+    ensures { plain_row result ≡ row name.now (fields_of fields.entry) }
 {
     Row { name, fields }
 }
 
 fn command_row<'a>(name: &'static str, step: &'a Name, tag: &'a Name, service: &'a Name) -> Row<'a>
-    ensures { row_view result ≡ command_row name.now step.now tag.now service.now }
+    ensures { plain_row result ≡ command_row name.now step.now tag.now service.now }
 {
     let fields = Fields::none()
         .name("step", step)
@@ -45,7 +45,7 @@ fn command_row<'a>(name: &'static str, step: &'a Name, tag: &'a Name, service: &
 
 /// The row of a log entry.
 pub fn entry_row(entry: &LogEntry) -> Row<'_>
-    ensures row { row_view result ≡ entry_row entry.now }
+    ensures row { plain_row result ≡ entry_row entry.now }
     ensures few { length (entry_row entry.now).fields ≤ 4 }
 {
     let none = Fields::none();
@@ -109,7 +109,7 @@ fn forbid_name(forbid: Forbid) -> &'static str
 
 /// The row of an obstacle that a batch waits for.
 pub fn obstacle_row(obstacle: &Why) -> Row<'_>
-    ensures row { row_view result ≡ obstacle_row obstacle.now }
+    ensures row { plain_row result ≡ obstacle_row obstacle.now }
     ensures few { length (obstacle_row obstacle.now).fields ≤ 4 }
 {
     let none = Fields::none();

@@ -5,17 +5,17 @@ use Rattle.std.specs.List.{AllByRecursion}
 use Rattle.std.proofs.lemmas.Bool.{and_parts}
 use Rattle.mtp_codes.specs.Names.{is_among}
 use Rattle.chart_core.specs.declared.next.Outcome.{Outcome}
-use Rattle.pol_events.specs.Events.{EventForm, start, EntryForm}
+use Rattle.pol_events.specs.Events.{PlainEvent, start, PlainEntry}
 use Rattle.pol_events.specs.Bound.{tags_of}
 use Rattle.pol_history.specs.Looking.{History, of_batch, subject, last_of, is_accepted, is_batch, is_accepted_of_batch, past, past_of_batch, recipes}
 use Rattle.pol_history.specs.Modules.{present_tags}
 use Rattle.pol_history.specs.Batches.{Started, starting, start_of, binds_in, outcome_by, outcome_of, taking, takes, if_open, holder_of, is_start}
-use Rattle.pol_history.proofs.Filters.{filter-filter, length-filter}
+use Rattle.pol_history.proofs.Filters.{filter_filter, length_filter}
 use Rattle.pol_removal.specs.Removal.{is_some_among, is_of, stays}
-use Rattle.pol_removal.proofs.Each.{all-kept, last_of-all}
-use Rattle.pol_removal.proofs.Sparing.{Covered, stays-parts, past-stays, other-batch, other-batch-apart, past-of-batch-stays, recipes-stay}
-use Rattle.pol_removal.proofs.Present.{fewer-present}
-use Rattle.pol_removal.proofs.Owned.{Owned, takes-parts}
+use Rattle.pol_removal.proofs.Each.{all_kept, last_of_all}
+use Rattle.pol_removal.proofs.Sparing.{Covered, stays_parts, past_stays, other_batch, other_batch_apart, past_of_batch_stays, recipes_stay}
+use Rattle.pol_removal.proofs.Present.{fewer_present}
+use Rattle.pol_removal.proofs.Owned.{Owned, takes_parts}
 
 -- after the smaller history nobody holds the module, or the batch that holds it after the whole one and isn't taken out
 abbrev pub HolderAlike : List (List ℕ) → History → History → List ℕ → Type 0
@@ -39,24 +39,25 @@ pub record Alike (tags bound : List (List ℕ)) (whole less : History) : Type 0 
 
 -- ---- holders
 
-taking-batch : (tag batch : List ℕ) (event : EventForm) → taking tag event ≡ Some batch → subject event ≡ of_batch batch
-taking-batch tag batch (start at other name binds) is = go (is_among (tags_of binds) tag) is
+taking_batch : (tag batch : List ℕ) (event : PlainEvent) → taking tag event ≡ Some batch
+    → subject event ≡ of_batch batch
+taking_batch tag batch (start at other name binds) is = go (is_among (tags_of binds) tag) is
   where
     go : (inside : Bool) → cond inside (Some other) None ≡ Some batch → of_batch other ≡ of_batch batch
     go true is = cc
     go false is = cc
-taking-batch tag batch _ is = cc
+taking_batch tag batch _ is = cc
 
-batch-outside : (tags bound : List (List ℕ)) (batch : List ℕ) (entry : EntryForm) → stays tags bound entry ≡ true
+batch_outside : (tags bound : List (List ℕ)) (batch : List ℕ) (entry : PlainEntry) → stays tags bound entry ≡ true
     → subject entry.event ≡ of_batch batch →
     is_among bound batch ≡ false
-batch-outside tags bound batch entry stay is = ap (is_of tags bound) (sym is) ∙ (stays-parts tags bound entry stay).0
+batch_outside tags bound batch entry stay is = ap (is_of tags bound) (sym is) ∙ (stays_parts tags bound entry stay).0
 
 -- a batch is closed, or holds what it held
-open-or-none : (less : History) (batch : List ℕ) (holder : Option (List ℕ))
+open_or_none : (less : History) (batch : List ℕ) (holder : Option (List ℕ))
     → (outcome_of less batch ≡ None → holder ≡ Some batch) →
     (if_open less (Some batch) ≡ None) ⊎ ((if_open less (Some batch) ≡ Some batch) × (holder ≡ Some batch))
-open-or-none less batch holder held = go (outcome_of less batch) refl
+open_or_none less batch holder held = go (outcome_of less batch) refl
   where
     go : (outcome : Option Outcome) → outcome_of less batch ≡ outcome →
         (cond (is_none (outcome_of less batch)) (Some batch) None ≡ None)
@@ -64,69 +65,69 @@ open-or-none less batch holder held = go (outcome_of less batch) refl
     go None is = inr (rw is, held is)
     go (Some outcome) is = inl (rw is)
 
-holder-found : (bound : List (List ℕ)) (whole less : History) (tag batch : List ℕ) → is_among bound batch ≡ false
+holder_found : (bound : List (List ℕ)) (whole less : History) (tag batch : List ℕ) → is_among bound batch ≡ false
     → last_of (takes tag) less ≡ Some batch →
     (if_open less (Some batch) ≡ None) ⊎ ((if_open less (Some batch) ≡ Some batch)
     × (holder_of whole tag ≡ Some batch)) → HolderAlike bound whole less tag
-holder-found bound whole less tag batch outside is (inl closed) = inl (ap (if_open less) is ∙ closed)
-holder-found bound whole less tag batch outside is (inr held) =
+holder_found bound whole less tag batch outside is (inl closed) = inl (ap (if_open less) is ∙ closed)
+holder_found bound whole less tag batch outside is (inr held) =
     inr (batch, outside, ap (if_open less) is ∙ held.0, held.1)
 
-holders-alike : (tags bound : List (List ℕ)) (history : History) → AllByRecursion (Covered tags bound) history
+holders_alike : (tags bound : List (List ℕ)) (history : History) → AllByRecursion (Covered tags bound) history
     → AllByRecursion (Owned history) history →
     (tag : List ℕ) → HolderAlike bound history (filter (stays tags bound) history) tag
-holders-alike tags bound history covered owned tag = go (last_of (takes tag) (filter (stays tags bound) history)) refl
+holders_alike tags bound history covered owned tag = go (last_of (takes tag) (filter (stays tags bound) history)) refl
   where
     go : (taken : Option (List ℕ)) → last_of (takes tag) (filter (stays tags bound) history) ≡ taken
         → HolderAlike bound history (filter (stays tags bound) history) tag
     go None is = inl (ap (if_open (filter (stays tags bound) history)) is)
     go (Some batch) is =
         let (entry, (holds, stay), took) =
-        last_of-all (λ entry. Owned history entry × (stays tags bound entry ≡ true)) (takes tag)
+        last_of_all (λ entry. Owned history entry × (stays tags bound entry ≡ true)) (takes tag)
         (filter (stays tags bound) history) batch
-        (all-kept (Owned history) (stays tags bound) history owned) is in
-        let parts = takes-parts (is_accepted entry.answer) (taking tag entry.event) batch took in
-        let outside = batch-outside tags bound batch entry stay (taking-batch tag batch entry.event parts.1) in
-        holder-found bound history (filter (stays tags bound) history) tag batch outside is
-        (open-or-none (filter (stays tags bound) history) batch (holder_of history tag)
+        (all_kept (Owned history) (stays tags bound) history owned) is in
+        let parts = takes_parts (is_accepted entry.answer) (taking tag entry.event) batch took in
+        let outside = batch_outside tags bound batch entry stay (taking_batch tag batch entry.event parts.1) in
+        holder_found bound history (filter (stays tags bound) history) tag batch outside is
+        (open_or_none (filter (stays tags bound) history) batch (holder_of history tag)
         (λ none. holds batch tag took (ap (λ past. outcome_by past)
-        (sym (past-of-batch-stays tags bound history covered batch outside)) ∙ none)))
+        (sym (past_of_batch_stays tags bound history covered batch outside)) ∙ none)))
 
 -- ---- starts
 
-start-binds : (event : EventForm) (started : Started) → starting event ≡ Some started → binds_in event ≡ started.binds
-start-binds (start at batch name binds) started is = cc
-start-binds _ started is = cc
+start_binds : (event : PlainEvent) (started : Started) → starting event ≡ Some started → binds_in event ≡ started.binds
+start_binds (start at batch name binds) started is = cc
+start_binds _ started is = cc
 
 -- a started batch that isn't taken out binds no module that is taken out
-starts-apart : (tags bound : List (List ℕ)) (history : History) → AllByRecursion (Covered tags bound) history
+starts_apart : (tags bound : List (List ℕ)) (history : History) → AllByRecursion (Covered tags bound) history
     → (batch : List ℕ) (started : Started) →
     is_among bound batch ≡ false → start_of history batch ≡ Some started
     → is_some_among tags (tags_of started.binds) ≡ false
-starts-apart tags bound history covered batch started outside is =
+starts_apart tags bound history covered batch started outside is =
     let (entry, (covers, of_it), said) =
-    last_of-all (λ entry. Covered tags bound entry × (is_accepted_of_batch batch entry ≡ true))
+    last_of_all (λ entry. Covered tags bound entry × (is_accepted_of_batch batch entry ≡ true))
     (λ entry. starting entry.event)
-    (past_of_batch batch history) started (all-kept (Covered tags bound)
+    (past_of_batch batch history) started (all_kept (Covered tags bound)
     (is_accepted_of_batch batch) history covered) is in
     let parts = and_parts (is_batch batch (subject entry.event)) (is_accepted entry.answer) of_it in
-    ap (λ binds. is_some_among tags (tags_of binds)) (sym (start-binds entry.event started said))
-    ∙ other-batch-apart tags bound entry covers (other-batch tags bound batch
+    ap (λ binds. is_some_among tags (tags_of binds)) (sym (start_binds entry.event started said))
+    ∙ other_batch_apart tags bound entry covers (other_batch tags bound batch
     (subject entry.event) parts.0 outside) parts.1
 
 -- ---- all of them
 
-pub alike-without : (tags bound : List (List ℕ)) (history : History) → AllByRecursion (Covered tags bound) history
+pub alike_without : (tags bound : List (List ℕ)) (history : History) → AllByRecursion (Covered tags bound) history
     → AllByRecursion (Owned history) history →
     Alike tags bound history (filter (stays tags bound) history)
-alike-without tags bound history covered owned = record {
-  pasts = past-stays tags bound history;
-  batch_pasts = past-of-batch-stays tags bound history covered;
-  same_recipes = recipes-stay tags bound history;
-  apart = starts-apart tags bound history covered;
-  holders = holders-alike tags bound history covered owned;
-  fewer_tags = fewer-present tags bound history;
-  fewer_starts = rw (filter-filter is_start (stays tags bound) history)
-      (length-filter (stays tags bound) (filter is_start history));
-  fewer = length-filter (stays tags bound) history;
+alike_without tags bound history covered owned = record {
+  pasts = past_stays tags bound history;
+  batch_pasts = past_of_batch_stays tags bound history covered;
+  same_recipes = recipes_stay tags bound history;
+  apart = starts_apart tags bound history covered;
+  holders = holders_alike tags bound history covered owned;
+  fewer_tags = fewer_present tags bound history;
+  fewer_starts = rw (filter_filter is_start (stays tags bound) history)
+      (length_filter (stays tags bound) (filter is_start history));
+  fewer = length_filter (stays tags bound) history;
 }

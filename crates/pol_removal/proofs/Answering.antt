@@ -5,15 +5,15 @@ use Rattle.std.proofs.Math.Path.{fun_ext}
 use Rattle.mtp_codes.specs.Faults.{when, first_of}
 use Rattle.mtp_codes.specs.Names.{is_among}
 use Rattle.mtp_codes.specs.declared.limits.TheConstants.{LONGEST_HISTORY, MOST_BATCHES, MOST_MODULES}
-use Rattle.mtp_desc.specs.Plain.{DescriptionForm}
-use Rattle.chart_core.specs.Roles.{ChartPlan, role_names}
+use Rattle.mtp_desc.specs.Plain.{PlainDescription}
+use Rattle.chart_core.specs.Roles.{PlainChart, role_names}
 use Rattle.chart_cursor.specs.Sights.{Sights}
 use Rattle.chart_cursor.specs.declared.sight.Sight.{Sight}
 use Rattle.chart_cursor.specs.declared.sight.ReadingSight.{ReadingSight}
 use Rattle.mtp_procs.specs.Covers.{cover_fault}
 use Rattle.chart_cursor.specs.Logs.{active}
 use Rattle.chart_cursor.specs.NextEntry.{next_by}
-use Rattle.pol_events.specs.Events.{EventForm, plug, unplug, report, variable, recipe, start, advance, freeze, thaw, stop_batch, abandon, desk, exchange_begin, exchange_end, exchange_cancel}
+use Rattle.pol_events.specs.Events.{PlainEvent, plug, unplug, report, variable, recipe, start, advance, freeze, thaw, stop_batch, abandon, desk, exchange_begin, exchange_end, exchange_cancel}
 use Rattle.pol_events.specs.declared.event.Bind.{Bind}
 use Rattle.pol_events.specs.declared.answer.Rule.TheVariants.{PlantFull, Held, BatchesFull, HistoryFull}
 use Rattle.pol_events.specs.declared.answer.Answer.TheVariants.{Ticket}
@@ -26,85 +26,85 @@ use Rattle.pol_history.specs.Rules.{plant_full, batches_full, module_rules, modu
 use Rattle.pol_history.specs.Answers.{start_rules, rules, advanced, stopped, otherwise, is_full, answer_of}
 use Rattle.pol_removal.specs.Removal.{is_refused_for_another, is_some_among, binds_one, is_of}
 use Rattle.pol_removal.proofs.Alike.{Alike}
-use Rattle.pol_removal.proofs.Roles.{played-outside}
-use Rattle.pol_removal.proofs.Falling.{Falls, AllFall, IsForAnother, first-falls, all-same, when-falls, fewer-reach, first-of-falls, map-another, then-another, holder-falls}
+use Rattle.pol_removal.proofs.Roles.{played_outside}
+use Rattle.pol_removal.proofs.Falling.{Falls, AllFall, IsForAnother, first_falls, all_same, when_falls, fewer_reach, first_of_falls, map_another, then_another, holder_falls}
 
 -- the rules of an active step and of an uncovered role are for another's sake
-active-another : (recipes : History) (tag batch : List ℕ) (past : History)
+active_another : (recipes : History) (tag batch : List ℕ) (past : History)
     → IsForAnother (active_step_on recipes tag batch past)
-active-another recipes tag batch past =
-    then-another _ (λ started. then-another _ (λ chart. map-another _ (λ step. refl)
+active_another recipes tag batch past =
+    then_another _ (λ started. then_another _ (λ chart. map_another _ (λ step. refl)
     (step_on started.binds tag (active chart (log_by past))))
     (chart_by recipes (Some started))) (start_by past)
 
-back-another : (recipes : History) (tag : List ℕ) (description : DescriptionForm) (batch : List ℕ) (past : History)
+back_another : (recipes : History) (tag : List ℕ) (description : PlainDescription) (batch : List ℕ) (past : History)
     → IsForAnother (uncovered_by recipes tag description batch past)
-back-another recipes tag description batch past =
-    then-another _ (λ started. then-another _ (λ chart. then-another _
-    (λ role. map-another _ (λ fault. refl) (cover_fault chart role description))
+back_another recipes tag description batch past =
+    then_another _ (λ started. then_another _ (λ chart. then_another _
+    (λ role. map_another _ (λ fault. refl) (cover_fault chart role description))
     (bound_role started.binds tag)) (chart_by recipes (Some started))) (start_by past)
 
 module _ (tags bound : List (List ℕ)) (whole less : History) (alike : Alike tags bound whole less) where
   -- ---- rules for another's sake
 
-  held-falls : (tag : List ℕ)
+  held_falls : (tag : List ℕ)
       → Falls (option_and_then (λ batch. Some (Held batch)) (holder_of whole tag))
       (option_and_then (λ batch. Some (Held batch)) (holder_of less tag))
-  held-falls tag = holder-falls bound whole less tag _ _ (λ batch. inl refl) (λ batch out. refl) (alike.holders tag)
+  held_falls tag = holder_falls bound whole less tag _ _ (λ batch. inl refl) (λ batch out. refl) (alike.holders tag)
 
-  active-falls : (tag : List ℕ) → Falls (active_step whole tag) (active_step less tag)
-  active-falls tag =
-      holder-falls bound whole less tag _ _ (λ batch. active-another (recipes whole) tag batch
+  active_falls : (tag : List ℕ) → Falls (active_step whole tag) (active_step less tag)
+  active_falls tag =
+      holder_falls bound whole less tag _ _ (λ batch. active_another (recipes whole) tag batch
       (past_of_batch batch whole))
       (λ batch out. rw (alike.batch_pasts batch out, alike.same_recipes)) (alike.holders tag)
 
-  back-falls : (tag : List ℕ) (description : DescriptionForm)
+  back_falls : (tag : List ℕ) (description : PlainDescription)
       → Falls (held_back whole tag description) (held_back less tag description)
-  back-falls tag description =
-      holder-falls bound whole less tag _ _ (λ batch. back-another (recipes whole) tag description batch
+  back_falls tag description =
+      holder_falls bound whole less tag _ _ (λ batch. back_another (recipes whole) tag description batch
       (past_of_batch batch whole))
       (λ batch out. rw (alike.batch_pasts batch out, alike.same_recipes)) (alike.holders tag)
 
-  plant-falls : Falls (plant_full whole) (plant_full less)
-  plant-falls = when-falls PlantFull refl (nat_le MOST_MODULES (length (present_tags whole)))
+  plant_falls : Falls (plant_full whole) (plant_full less)
+  plant_falls = when_falls PlantFull refl (nat_le MOST_MODULES (length (present_tags whole)))
       (nat_le MOST_MODULES (length (present_tags less)))
-      (fewer-reach MOST_MODULES (length (present_tags less)) (length (present_tags whole)) alike.fewer_tags)
+      (fewer_reach MOST_MODULES (length (present_tags less)) (length (present_tags whole)) alike.fewer_tags)
 
-  batches-fall : Falls (batches_full whole) (batches_full less)
-  batches-fall = when-falls BatchesFull refl (nat_le MOST_BATCHES (length (filter is_start whole)))
+  batches_fall : Falls (batches_full whole) (batches_full less)
+  batches_fall = when_falls BatchesFull refl (nat_le MOST_BATCHES (length (filter is_start whole)))
       (nat_le MOST_BATCHES (length (filter is_start less)))
-      (fewer-reach MOST_BATCHES (length (filter is_start less)) (length (filter is_start whole)) alike.fewer_starts)
+      (fewer_reach MOST_BATCHES (length (filter is_start less)) (length (filter is_start whole)) alike.fewer_starts)
 
   -- ---- starts
 
-  module-same : (chart : ChartPlan) (role : List ℕ) (played : Option (List ℕ))
+  module_same : (chart : PlainChart) (role : List ℕ) (played : Option (List ℕ))
       → ((tag : List ℕ) → played ≡ Some tag → is_among tags tag ≡ false) →
       module_rule less chart role played ≡ module_rule whole chart role played
-  module-same chart role None outside = refl
-  module-same chart role (Some tag) outside = ap (λ past. first_of (module_rules chart role tag past))
+  module_same chart role None outside = refl
+  module_same chart role (Some tag) outside = ap (λ past. first_of (module_rules chart role tag past))
       (alike.pasts tag (outside tag refl))
 
-  modules-same : (chart : ChartPlan) (binds : List Bind) → is_some_among tags (tags_of binds) ≡ false
+  modules_same : (chart : PlainChart) (binds : List Bind) → is_some_among tags (tags_of binds) ≡ false
       → (roles : List (List ℕ)) →
       modules_unfit less chart binds roles ≡ modules_unfit whole chart binds roles
-  modules-same chart binds apart roles =
+  modules_same chart binds apart roles =
       ap (λ rule. first_of (map rule roles))
-      (fun_ext (λ role. module-same chart role (bound_tag binds role)
-      (λ tag is. played-outside tags binds role tag apart is)))
+      (fun_ext (λ role. module_same chart role (bound_tag binds role)
+      (λ tag is. played_outside tags binds role tag apart is)))
 
-  busy-role-falls : (played : Option (List ℕ)) → Falls (busy_role whole played) (busy_role less played)
-  busy-role-falls None = inr refl
-  busy-role-falls (Some tag) = holder-falls bound whole less tag _ _ (λ batch. inl refl) (λ batch out. refl)
+  busy_role_falls : (played : Option (List ℕ)) → Falls (busy_role whole played) (busy_role less played)
+  busy_role_falls None = inr refl
+  busy_role_falls (Some tag) = holder_falls bound whole less tag _ _ (λ batch. inl refl) (λ batch out. refl)
       (alike.holders tag)
 
-  busy-falls : (binds : List Bind) (roles : List (List ℕ)) → Falls (busy whole binds roles) (busy less binds roles)
-  busy-falls binds roles = first-of-falls _ _ (λ role. busy-role-falls (bound_tag binds role)) roles
+  busy_falls : (binds : List Bind) (roles : List (List ℕ)) → Falls (busy whole binds roles) (busy less binds roles)
+  busy_falls binds roles = first_of_falls _ _ (λ role. busy_role_falls (bound_tag binds role)) roles
 
-  start-falls : (batch : List ℕ) (binds : List Bind) → is_among bound batch ≡ false
-      → is_some_among tags (tags_of binds) ≡ false → (chart : Option ChartPlan) →
+  start_falls : (batch : List ℕ) (binds : List Bind) → is_among bound batch ≡ false
+      → is_some_among tags (tags_of binds) ≡ false → (chart : Option PlainChart) →
       AllFall (start_rules whole batch binds chart) (start_rules less batch binds chart)
-  start-falls batch binds out apart None = (inr refl, tt)
-  start-falls batch binds out apart (Some chart) =
+  start_falls batch binds out apart None = (inr refl, tt)
+  start_falls batch binds out apart (Some chart) =
       rw (alike.batch_pasts batch out) (
         inr refl,
         (
@@ -114,8 +114,8 @@ module _ (tags bound : List (List ℕ)) (whole less : History) (alike : Alike ta
             (
               inr refl,
               (
-                inr (modules-same chart binds apart (role_names chart)),
-                (busy-falls binds (role_names chart), (batches-fall, tt)),
+                inr (modules_same chart binds apart (role_names chart)),
+                (busy_falls binds (role_names chart), (batches_fall, tt)),
               ),
             ),
           ),
@@ -127,32 +127,32 @@ module _ (tags bound : List (List ℕ)) (whole less : History) (alike : Alike ta
   sees : List Bind → (List ℕ → List ℕ → Sight) → (List ℕ → List ℕ → ReadingSight) → Sights
   sees binds views readings = record { tag = bound_tag binds; view = views; reading = readings }
 
-  sights-same : (binds : List Bind) → is_some_among tags (tags_of binds) ≡ false
+  sights_same : (binds : List Bind) → is_some_among tags (tags_of binds) ≡ false
       → sights_by binds (λ tag. past tag less) ≡ sights_by binds (λ tag. past tag whole)
   unfolding sees
-  sights-same binds apart =
+  sights_same binds apart =
       ap (λ views. sees binds views (λ role name. variable_sight (λ tag. past tag less) name (bound_tag binds role)))
-      (fun_ext (λ role. fun_ext (λ service. view-same service (bound_tag binds role)
-      (λ tag is. played-outside tags binds role tag apart is))))
+      (fun_ext (λ role. fun_ext (λ service. view_same service (bound_tag binds role)
+      (λ tag is. played_outside tags binds role tag apart is))))
       ∙ ap (λ readings. sees binds (λ role service. service_sight (λ tag. past tag whole) service
       (bound_tag binds role)) readings)
-      (fun_ext (λ role. fun_ext (λ name. reading-same name (bound_tag binds role)
-      (λ tag is. played-outside tags binds role tag apart is))))
+      (fun_ext (λ role. fun_ext (λ name. reading_same name (bound_tag binds role)
+      (λ tag is. played_outside tags binds role tag apart is))))
     where
-      view-same : (service : List ℕ) (played : Option (List ℕ))
+      view_same : (service : List ℕ) (played : Option (List ℕ))
           → ((tag : List ℕ) → played ≡ Some tag → is_among tags tag ≡ false) →
           service_sight (λ tag. past tag less) service played ≡ service_sight (λ tag. past tag whole) service played
-      view-same service None outside = refl
-      view-same service (Some tag) outside = rw (alike.pasts tag (outside tag refl))
+      view_same service None outside = refl
+      view_same service (Some tag) outside = rw (alike.pasts tag (outside tag refl))
 
-      reading-same : (name : List ℕ) (played : Option (List ℕ))
+      reading_same : (name : List ℕ) (played : Option (List ℕ))
           → ((tag : List ℕ) → played ≡ Some tag → is_among tags tag ≡ false) →
           variable_sight (λ tag. past tag less) name played ≡ variable_sight (λ tag. past tag whole) name played
-      reading-same name None outside = refl
-      reading-same name (Some tag) outside = rw (alike.pasts tag (outside tag refl))
+      reading_same name None outside = refl
+      reading_same name (Some tag) outside = rw (alike.pasts tag (outside tag refl))
 
-  next-same : (batch : List ℕ) → is_among bound batch ≡ false → next_of less batch ≡ next_of whole batch
-  next-same batch out = rw (alike.batch_pasts batch out, alike.same_recipes) (go (start_of whole batch) refl)
+  next_same : (batch : List ℕ) → is_among bound batch ≡ false → next_of less batch ≡ next_of whole batch
+  next_same batch out = rw (alike.batch_pasts batch out, alike.same_recipes) (go (start_of whole batch) refl)
     where
       go : (started : Option Started) → start_of whole batch ≡ started →
           option_and_then (next_of_started (recipes whole) (past_of_batch batch whole) (λ tag. past tag less)) started
@@ -163,50 +163,50 @@ module _ (tags bound : List (List ℕ)) (whole less : History) (alike : Alike ta
           ap (λ seen. option_map
           (λ chart. next_by chart (is_frozen_by (past_of_batch batch whole))
           (log_by (past_of_batch batch whole)) seen) (chart_by (recipes whole) (Some started)))
-          (sights-same started.binds (alike.apart batch started out is))
+          (sights_same started.binds (alike.apart batch started out is))
 
   -- ---- all kinds
 
-  rules-fall : (event : EventForm) → is_of tags bound (subject event) ≡ false → binds_one tags event ≡ false
+  rules_fall : (event : PlainEvent) → is_of tags bound (subject event) ≡ false → binds_one tags event ≡ false
       → AllFall (rules whole event) (rules less event)
-  rules-fall (plug at tag description) out apart = rw (alike.pasts tag out) (inr refl, (plant-falls, tt))
-  rules-fall (unplug at tag) out apart = rw (alike.pasts tag out) (inr refl, (inr refl, (held-falls tag, tt)))
-  rules-fall (report at tag service control) out apart = rw (alike.pasts tag out)
-      (all-same (rules whole (report at tag service control)))
-  rules-fall (variable at tag name value) out apart = rw (alike.pasts tag out)
-      (all-same (rules whole (variable at tag name value)))
-  rules-fall (recipe at name chart) out apart = rw alike.same_recipes (all-same (rules whole (recipe at name chart)))
-  rules-fall (start at batch name binds) out apart = rw alike.same_recipes
-      (start-falls batch binds out apart (chart_named name (recipes whole)))
-  rules-fall (advance at batch) out apart = rw (alike.batch_pasts batch out) (all-same (rules whole (advance at batch)))
-  rules-fall (freeze at batch) out apart = rw (alike.batch_pasts batch out) (all-same (rules whole (freeze at batch)))
-  rules-fall (thaw at batch) out apart = rw (alike.batch_pasts batch out) (all-same (rules whole (thaw at batch)))
-  rules-fall (stop_batch at batch) out apart = rw (alike.batch_pasts batch out)
-      (all-same (rules whole (stop_batch at batch)))
-  rules-fall (abandon at batch) out apart = rw (alike.batch_pasts batch out) (all-same (rules whole (abandon at batch)))
-  rules-fall (desk at tag service command) out apart = rw (alike.pasts tag out)
-      (all-same (rules whole (desk at tag service command)))
-  rules-fall (exchange_begin at tag) out apart = rw (alike.pasts tag out)
-      (inr refl, (inr refl, (active-falls tag, (inr refl, tt))))
-  rules-fall (exchange_end at tag ticket description) out apart =
-      rw (alike.pasts tag out) (inr refl, (inr refl, (inr refl, (back-falls tag description, tt))))
-  rules-fall (exchange_cancel at tag ticket) out apart = rw (alike.pasts tag out)
-      (all-same (rules whole (exchange_cancel at tag ticket)))
+  rules_fall (plug at tag description) out apart = rw (alike.pasts tag out) (inr refl, (plant_falls, tt))
+  rules_fall (unplug at tag) out apart = rw (alike.pasts tag out) (inr refl, (inr refl, (held_falls tag, tt)))
+  rules_fall (report at tag service control) out apart = rw (alike.pasts tag out)
+      (all_same (rules whole (report at tag service control)))
+  rules_fall (variable at tag name value) out apart = rw (alike.pasts tag out)
+      (all_same (rules whole (variable at tag name value)))
+  rules_fall (recipe at name chart) out apart = rw alike.same_recipes (all_same (rules whole (recipe at name chart)))
+  rules_fall (start at batch name binds) out apart = rw alike.same_recipes
+      (start_falls batch binds out apart (chart_named name (recipes whole)))
+  rules_fall (advance at batch) out apart = rw (alike.batch_pasts batch out) (all_same (rules whole (advance at batch)))
+  rules_fall (freeze at batch) out apart = rw (alike.batch_pasts batch out) (all_same (rules whole (freeze at batch)))
+  rules_fall (thaw at batch) out apart = rw (alike.batch_pasts batch out) (all_same (rules whole (thaw at batch)))
+  rules_fall (stop_batch at batch) out apart = rw (alike.batch_pasts batch out)
+      (all_same (rules whole (stop_batch at batch)))
+  rules_fall (abandon at batch) out apart = rw (alike.batch_pasts batch out) (all_same (rules whole (abandon at batch)))
+  rules_fall (desk at tag service command) out apart = rw (alike.pasts tag out)
+      (all_same (rules whole (desk at tag service command)))
+  rules_fall (exchange_begin at tag) out apart = rw (alike.pasts tag out)
+      (inr refl, (inr refl, (active_falls tag, (inr refl, tt))))
+  rules_fall (exchange_end at tag ticket description) out apart =
+      rw (alike.pasts tag out) (inr refl, (inr refl, (inr refl, (back_falls tag description, tt))))
+  rules_fall (exchange_cancel at tag ticket) out apart = rw (alike.pasts tag out)
+      (all_same (rules whole (exchange_cancel at tag ticket)))
 
-  otherwise-same : (event : EventForm) → is_of tags bound (subject event) ≡ false
+  otherwise_same : (event : PlainEvent) → is_of tags bound (subject event) ≡ false
       → otherwise less event ≡ otherwise whole event
-  otherwise-same (advance at batch) out = ap advanced (next-same batch out)
-  otherwise-same (stop_batch at batch) out = ap stopped (alike.batch_pasts batch out)
-  otherwise-same (exchange_begin at tag) out = ap (λ past. Ticket (next_ticket past)) (alike.pasts tag out)
-  otherwise-same _ out = refl
+  otherwise_same (advance at batch) out = ap advanced (next_same batch out)
+  otherwise_same (stop_batch at batch) out = ap stopped (alike.batch_pasts batch out)
+  otherwise_same (exchange_begin at tag) out = ap (λ past. Ticket (next_ticket past)) (alike.pasts tag out)
+  otherwise_same _ out = refl
 
-  pub answered-alike : (event : EventForm) → is_of tags bound (subject event) ≡ false → binds_one tags event ≡ false →
+  pub answered_alike : (event : PlainEvent) → is_of tags bound (subject event) ≡ false → binds_one tags event ≡ false →
       is_refused_for_another (answer_of whole event) ≡ false → answer_of less event ≡ answer_of whole event
-  answered-alike event out apart own =
-      first-falls (when (is_full whole) HistoryFull ∷ rules whole event)
+  answered_alike event out apart own =
+      first_falls (when (is_full whole) HistoryFull ∷ rules whole event)
       (when (is_full less) HistoryFull ∷ rules less event) (otherwise whole event) (otherwise less event) (
-        when-falls HistoryFull refl (is_full whole) (is_full less)
-            (fewer-reach LONGEST_HISTORY (length less) (length whole) alike.fewer),
-        rules-fall event out apart,
+        when_falls HistoryFull refl (is_full whole) (is_full less)
+            (fewer_reach LONGEST_HISTORY (length less) (length whole) alike.fewer),
+        rules_fall event out apart,
       )
-      (otherwise-same event out) own
+      (otherwise_same event out) own

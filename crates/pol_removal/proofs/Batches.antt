@@ -4,27 +4,27 @@ use Rattle.std.specs.Prelude.{filter, filter_map}
 use Rattle.std.specs.List.{AllByRecursion}
 use Rattle.std.proofs.lemmas.Bool.{not-true}
 use Rattle.mtp_codes.specs.Names.{is_among}
-use Rattle.pol_events.specs.Events.{EventForm, start, EntryForm}
+use Rattle.pol_events.specs.Events.{PlainEvent, start, PlainEntry}
 use Rattle.pol_history.specs.Looking.{History, of_batch, subject, is_accepted}
 use Rattle.pol_history.specs.Batches.{start_by, outcome_by, log_by, started_batch, batches}
 use Rattle.pol_history.specs.Runs.{recorded, recorded_all, run_of, history_after, AreOrderly}
 use Rattle.pol_record.specs.Texts.{started_text, batch_text, batch_lines, batches_text}
 use Rattle.pol_removal.specs.Removal.{is_of, bound_batches, stays, entries_without}
-use Rattle.pol_removal.proofs.Each.{all-map}
-use Rattle.pol_removal.proofs.Kept.{filter-reverse, filter_map-kept, flat_map-kept}
-use Rattle.pol_removal.proofs.Sparing.{Covered, unnamed-stays, other-batch-apart, past-of-batch-stays}
-use Rattle.pol_removal.proofs.Bound.{bound-covers, covered-recorded}
-use Rattle.pol_removal.proofs.Owned.{takes-parts}
-use Rattle.pol_removal.proofs.Induction.{dropped, grown, events-removed}
+use Rattle.pol_removal.proofs.Each.{all_map}
+use Rattle.pol_removal.proofs.Kept.{filter_reverse, filter_map_kept, flat_map_kept}
+use Rattle.pol_removal.proofs.Sparing.{Covered, unnamed_stays, other_batch_apart, past_of_batch_stays}
+use Rattle.pol_removal.proofs.Bound.{bound_covers, covered_recorded}
+use Rattle.pol_removal.proofs.Owned.{takes_parts}
+use Rattle.pol_removal.proofs.Induction.{dropped, grown, events_removed}
 
 -- ---- the history
 
-recorded-stay : (tags bound : List (List ℕ)) (entries : List EntryForm) (history : History) →
+recorded_stay : (tags bound : List (List ℕ)) (entries : List PlainEntry) (history : History) →
     recorded_all (filter (stays tags bound) history) (filter (stays tags bound) entries)
     ≡ filter (stays tags bound) (recorded_all history entries)
-recorded-stay tags bound [] history = refl
-recorded-stay tags bound (entry ∷ entries) history = go (stays tags bound entry) refl
-    (recorded-stay tags bound entries (recorded entry history))
+recorded_stay tags bound [] history = refl
+recorded_stay tags bound (entry ∷ entries) history = go (stays tags bound entry) refl
+    (recorded_stay tags bound entries (recorded entry history))
   where
     go : (stay : Bool) → stays tags bound entry ≡ stay →
         recorded_all (filter (stays tags bound) (recorded entry history)) (filter (stays tags bound) entries)
@@ -37,61 +37,62 @@ recorded-stay tags bound (entry ∷ entries) history = go (stays tags bound entr
         (sym (grown tags bound entry history is)) ∙ rest
 
 -- the history that the events that stay leave is the history without the concerned entries
-pub history-without : (tags : List (List ℕ)) (events : List EventForm) → AreOrderly events →
+pub history_without : (tags : List (List ℕ)) (events : List PlainEvent) → AreOrderly events →
     history_after [] (map (λ entry. entry.event) (entries_without tags events))
     ≡ filter (stays tags (bound_batches tags (run_of events))) (history_after [] events)
-history-without tags events orderly =
-    ap (recorded_all []) (events-removed tags events orderly)
-    ∙ recorded-stay tags (bound_batches tags (run_of events)) (run_of events) []
+history_without tags events orderly =
+    ap (recorded_all []) (events_removed tags events orderly)
+    ∙ recorded_stay tags (bound_batches tags (run_of events)) (run_of events) []
 
-covered-all : (tags bound : List (List ℕ)) (entries : List EntryForm) (history : History)
+covered_all : (tags bound : List (List ℕ)) (entries : List PlainEntry) (history : History)
     → AllByRecursion (Covered tags bound) entries →
     AllByRecursion (Covered tags bound) history → AllByRecursion (Covered tags bound) (recorded_all history entries)
-covered-all tags bound [] history covers covered = covered
-covered-all tags bound (entry ∷ entries) history covers covered =
-    covered-all tags bound entries (recorded entry history) covers.1
-    (covered-recorded tags bound entry history covers.0 covered)
+covered_all tags bound [] history covers covered = covered
+covered_all tags bound (entry ∷ entries) history covers covered =
+    covered_all tags bound entries (recorded entry history) covers.1
+    (covered_recorded tags bound entry history covers.0 covered)
 
-pub covered-after : (tags : List (List ℕ)) (events : List EventForm)
+pub covered_after : (tags : List (List ℕ)) (events : List PlainEvent)
     → AllByRecursion (Covered tags (bound_batches tags (run_of events))) (history_after [] events)
-covered-after tags events =
-    covered-all tags (bound_batches tags (run_of events)) (run_of events) [] (bound-covers tags (run_of events)) tt
+covered_after tags events =
+    covered_all tags (bound_batches tags (run_of events)) (run_of events) [] (bound_covers tags (run_of events)) tt
 
 -- ---- the batches
 
 -- the batch that an entry starts
-abbrev newly_started : EntryForm → Option (List ℕ)
+abbrev newly_started : PlainEntry → Option (List ℕ)
 newly_started entry = if is_accepted entry.answer then started_batch entry.event else None
 
-start-subject : (event : EventForm) (batch : List ℕ) → started_batch event ≡ Some batch → subject event ≡ of_batch batch
-start-subject (start at other name binds) batch is = cc
-start-subject _ batch is = cc
+start_subject : (event : PlainEvent) (batch : List ℕ) → started_batch event ≡ Some batch
+    → subject event ≡ of_batch batch
+start_subject (start at other name binds) batch is = cc
+start_subject _ batch is = cc
 
 -- an accepted start stays just if its batch isn't bound
-start-stays : (tags bound : List (List ℕ)) (entry : EntryForm) → Covered tags bound entry → (batch : List ℕ)
+start_stays : (tags bound : List (List ℕ)) (entry : PlainEntry) → Covered tags bound entry → (batch : List ℕ)
     → newly_started entry ≡ Some batch →
     stays tags bound entry ≡ not (is_among bound batch)
-start-stays tags bound entry covers batch started = go (is_among bound batch) refl
+start_stays tags bound entry covers batch started = go (is_among bound batch) refl
   where
     parts : (is_accepted entry.answer ≡ true) × (started_batch entry.event ≡ Some batch)
-    parts = takes-parts (is_accepted entry.answer) (started_batch entry.event) batch started
+    parts = takes_parts (is_accepted entry.answer) (started_batch entry.event) batch started
 
     named : is_of tags bound (subject entry.event) ≡ is_among bound batch
-    named = ap (is_of tags bound) (start-subject entry.event batch parts.1)
+    named = ap (is_of tags bound) (start_subject entry.event batch parts.1)
 
     go : (inside : Bool) → is_among bound batch ≡ inside → stays tags bound entry ≡ not inside
     go true is = rw (named, is)
-    go false is = unnamed-stays tags bound entry (named ∙ is)
-        (other-batch-apart tags bound entry covers (named ∙ is) parts.0) parts.0
+    go false is = unnamed_stays tags bound entry (named ∙ is)
+        (other_batch_apart tags bound entry covers (named ∙ is) parts.0) parts.0
 
-batches-stay : (tags bound : List (List ℕ)) (history : History) → AllByRecursion (Covered tags bound) history →
+batches_stay : (tags bound : List (List ℕ)) (history : History) → AllByRecursion (Covered tags bound) history →
     batches (filter (stays tags bound) history) ≡ filter (λ batch. not (is_among bound batch)) (batches history)
-batches-stay tags bound history covered =
-    ap reverse (filter_map-kept newly_started (stays tags bound) (λ batch. not (is_among bound batch)) history
-    (all-map (Covered tags bound) (λ entry. (batch : List ℕ) → newly_started entry ≡ Some batch
+batches_stay tags bound history covered =
+    ap reverse (filter_map_kept newly_started (stays tags bound) (λ batch. not (is_among bound batch)) history
+    (all_map (Covered tags bound) (λ entry. (batch : List ℕ) → newly_started entry ≡ Some batch
     → stays tags bound entry ≡ not (is_among bound batch))
-    (start-stays tags bound) history covered))
-    ∙ filter-reverse (λ batch. not (is_among bound batch)) (filter_map newly_started history)
+    (start_stays tags bound) history covered))
+    ∙ filter_reverse (λ batch. not (is_among bound batch)) (filter_map newly_started history)
 
 -- ---- their lines
 
@@ -100,12 +101,12 @@ abbrev text_by : List ℕ → History → List ℕ
 text_by batch past = started_text batch (start_by past) (log_by past) (outcome_by past)
 
 -- the lines of the batches that stay are those of the batches that aren't bound
-pub batch-lines-stay : (tags bound : List (List ℕ)) (history : History) → AllByRecursion (Covered tags bound) history →
+pub batch_lines_stay : (tags bound : List (List ℕ)) (history : History) → AllByRecursion (Covered tags bound) history →
     batches_text (filter (stays tags bound) history) ≡ batch_lines history
     (filter (λ batch. not (is_among bound batch)) (batches history))
-batch-lines-stay tags bound history covered =
-    ap (batch_lines (filter (stays tags bound) history)) (batches-stay tags bound history covered)
-    ∙ flat_map-kept (batch_text (filter (stays tags bound) history)) (batch_text history)
+batch_lines_stay tags bound history covered =
+    ap (batch_lines (filter (stays tags bound) history)) (batches_stay tags bound history covered)
+    ∙ flat_map_kept (batch_text (filter (stays tags bound) history)) (batch_text history)
     (λ batch. not (is_among bound batch))
-    (λ batch free. ap (text_by batch) (past-of-batch-stays tags bound history covered batch
+    (λ batch free. ap (text_by batch) (past_of_batch_stays tags bound history covered batch
     (not-true (is_among bound batch) free))) (batches history)

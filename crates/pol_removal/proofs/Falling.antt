@@ -28,47 +28,47 @@ AllFall (whole ∷ wholes) [] = ⊥
 AllFall [] (less ∷ lesses) = ⊥
 AllFall (whole ∷ wholes) (less ∷ lesses) = Falls whole less × AllFall wholes lesses
 
-pub first-falls : (wholes lesses : List (Option Rule)) (whole less : Answer) → AllFall wholes lesses → less ≡ whole →
+pub first_falls : (wholes lesses : List (Option Rule)) (whole less : Answer) → AllFall wholes lesses → less ≡ whole →
     is_refused_for_another (first_rule wholes whole) ≡ false → first_rule lesses less ≡ first_rule wholes whole
-first-falls [] [] whole less fall same own = same
-first-falls [] (y ∷ ys) whole less fall same own = absurd fall
-first-falls (x ∷ xs) [] whole less fall same own = absurd fall
-first-falls (Some rule ∷ xs) (y ∷ ys) whole less (inl another, fall) same own =
+first_falls [] [] whole less fall same own = same
+first_falls [] (y ∷ ys) whole less fall same own = absurd fall
+first_falls (x ∷ xs) [] whole less fall same own = absurd fall
+first_falls (Some rule ∷ xs) (y ∷ ys) whole less (inl another, fall) same own =
     absurd (both_ways (is_for_another rule) own another)
-first-falls (Some rule ∷ xs) (y ∷ ys) whole less (inr equal, fall) same own = rw equal
-first-falls (None ∷ xs) (y ∷ ys) whole less (inl another, fall) same own = cc
-first-falls (None ∷ xs) (y ∷ ys) whole less (inr equal, fall) same own =
-    rw equal (first-falls xs ys whole less fall same own)
+first_falls (Some rule ∷ xs) (y ∷ ys) whole less (inr equal, fall) same own = rw equal
+first_falls (None ∷ xs) (y ∷ ys) whole less (inl another, fall) same own = cc
+first_falls (None ∷ xs) (y ∷ ys) whole less (inr equal, fall) same own =
+    rw equal (first_falls xs ys whole less fall same own)
 
-pub all-same : (rules : List (Option Rule)) → AllFall rules rules
-all-same [] = tt
-all-same (rule ∷ rules) = (inr refl, all-same rules)
+pub all_same : (rules : List (Option Rule)) → AllFall rules rules
+all_same [] = tt
+all_same (rule ∷ rules) = (inr refl, all_same rules)
 
 -- ---- a rule with a test, and the first of some rules
 
-pub when-falls : (rule : Rule) → is_for_another rule ≡ true → (whole less : Bool) → (less ≡ true → whole ≡ true)
+pub when_falls : (rule : Rule) → is_for_another rule ≡ true → (whole less : Bool) → (less ≡ true → whole ≡ true)
     → Falls (when whole rule) (when less rule)
-when-falls rule another true less falls = inl another
-when-falls rule another false false falls = inr refl
-when-falls rule another false true falls = let clash : false ≡ true = falls refl in cc
+when_falls rule another true less falls = inl another
+when_falls rule another false false falls = inr refl
+when_falls rule another false true falls = let clash : false ≡ true = falls refl in cc
 
-pub fewer-reach : (limit less whole : ℕ) → less ≤ whole → nat_le limit less ≡ true → nat_le limit whole ≡ true
-fewer-reach limit less whole fewer reached = le-leb limit whole (let bound = leb-true limit less reached in omega arith)
+pub fewer_reach : (limit less whole : ℕ) → less ≤ whole → nat_le limit less ≡ true → nat_le limit whole ≡ true
+fewer_reach limit less whole fewer reached = le-leb limit whole (let bound = leb-true limit less reached in omega arith)
 
-or-falls : (whole less wholes lesses : Option Rule) → Falls whole less → Falls wholes lesses
+or_falls : (whole less wholes lesses : Option Rule) → Falls whole less → Falls wholes lesses
     → Falls (option_or whole wholes) (option_or less lesses)
-or-falls (Some rule) less wholes lesses (inl another) later = inl another
-or-falls (Some rule) less wholes lesses (inr equal) later = inr (rw equal)
-or-falls None less wholes lesses (inl another) later = cc
-or-falls None less wholes lesses (inr equal) later = rw equal later
+or_falls (Some rule) less wholes lesses (inl another) later = inl another
+or_falls (Some rule) less wholes lesses (inr equal) later = inr (rw equal)
+or_falls None less wholes lesses (inl another) later = cc
+or_falls None less wholes lesses (inr equal) later = rw equal later
 
-pub first-of-falls : (whole less : List ℕ → Option Rule) → ((name : List ℕ) → Falls (whole name) (less name))
+pub first_of_falls : (whole less : List ℕ → Option Rule) → ((name : List ℕ) → Falls (whole name) (less name))
     → (names : List (List ℕ)) →
     Falls (first_of (map whole names)) (first_of (map less names))
-first-of-falls whole less falls [] = inr refl
-first-of-falls whole less falls (name ∷ names) =
-    or-falls (whole name) (less name) (first_of (map whole names)) (first_of (map less names)) (falls name)
-    (first-of-falls whole less falls names)
+first_of_falls whole less falls [] = inr refl
+first_of_falls whole less falls (name ∷ names) =
+    or_falls (whole name) (less name) (first_of (map whole names)) (first_of (map less names)) (falls name)
+    (first_of_falls whole less falls names)
 
 -- ---- a rule of the holder
 
@@ -76,30 +76,30 @@ first-of-falls whole less falls (name ∷ names) =
 abbrev pub IsForAnother : Option Rule → Type 0
 IsForAnother rule = (is_for_another_if rule ≡ true) ⊎ (rule ≡ None)
 
-pub map-another : {A : Type 0} (rule : A → Rule) → ((x : A) → is_for_another (rule x) ≡ true) → (option : Option A)
+pub map_another : {A : Type 0} (rule : A → Rule) → ((x : A) → is_for_another (rule x) ≡ true) → (option : Option A)
     → IsForAnother (option_map rule option)
-map-another rule another None = inr refl
-map-another rule another (Some x) = inl (another x)
+map_another rule another None = inr refl
+map_another rule another (Some x) = inl (another x)
 
-pub then-another : {A : Type 0} (rule : A → Option Rule) → ((x : A) → IsForAnother (rule x)) → (option : Option A)
+pub then_another : {A : Type 0} (rule : A → Option Rule) → ((x : A) → IsForAnother (rule x)) → (option : Option A)
     → IsForAnother (option_and_then rule option)
-then-another rule another None = inr refl
-then-another rule another (Some x) = another x
+then_another rule another None = inr refl
+then_another rule another (Some x) = another x
 
-none-falls : (rule : Option Rule) → IsForAnother rule → Falls rule None
-none-falls rule (inl another) = inl another
-none-falls rule (inr none) = inr (sym none)
+none_falls : (rule : Option Rule) → IsForAnother rule → Falls rule None
+none_falls rule (inl another) = inl another
+none_falls rule (inr none) = inr (sym none)
 
-pub holder-falls : (bound : List (List ℕ)) (whole less : History) (tag : List ℕ)
+pub holder_falls : (bound : List (List ℕ)) (whole less : History) (tag : List ℕ)
     (whole_rule less_rule : List ℕ → Option Rule) →
     ((batch : List ℕ) → IsForAnother (whole_rule batch)) → ((batch : List ℕ) → is_among bound batch ≡ false
     → less_rule batch ≡ whole_rule batch) →
     HolderAlike bound whole less tag → Falls (option_and_then whole_rule (holder_of whole tag))
     (option_and_then less_rule (holder_of less tag))
-holder-falls bound whole less tag whole_rule less_rule another agree (inl none) = rw none (go (holder_of whole tag))
+holder_falls bound whole less tag whole_rule less_rule another agree (inl none) = rw none (go (holder_of whole tag))
   where
     go : (holder : Option (List ℕ)) → Falls (option_and_then whole_rule holder) None
     go None = inr refl
-    go (Some batch) = none-falls (whole_rule batch) (another batch)
-holder-falls bound whole less tag whole_rule less_rule another agree (inr (batch, outside, after, before)) =
+    go (Some batch) = none_falls (whole_rule batch) (another batch)
+holder_falls bound whole less tag whole_rule less_rule another agree (inr (batch, outside, after, before)) =
     rw (after, before) (inr (agree batch outside))

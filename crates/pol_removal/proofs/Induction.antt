@@ -2,7 +2,7 @@
 use Rattle.std.proofs.Common.{◌≡◌, ℕ, Bool, true, false, cond, List, [], ◌∷◌, map, refl, ap, ◌∙◌}
 use Rattle.std.specs.Prelude.{filter}
 use Rattle.std.specs.List.{AllByRecursion}
-use Rattle.pol_events.specs.Events.{EventForm, EntryForm}
+use Rattle.pol_events.specs.Events.{PlainEvent, PlainEntry}
 use Rattle.pol_events.specs.declared.answer.Rule.TheVariants.{HistoryFull}
 use Rattle.pol_events.specs.declared.answer.Answer.{Answer}
 use Rattle.pol_events.specs.declared.answer.Answer.TheVariants.{Refused}
@@ -10,18 +10,18 @@ use Rattle.pol_history.specs.Looking.{History}
 use Rattle.pol_history.specs.Runs.{entry_of, is_recorded, recorded, run_after, run_of, AreOrderly}
 use Rattle.pol_history.proofs.Accepted.{paired}
 use Rattle.pol_removal.specs.Removal.{is_refused_for_another, bound_batches, stays, RemovalOfEvents}
-use Rattle.pol_removal.proofs.Sparing.{Covered, stays-parts}
-use Rattle.pol_removal.proofs.Bound.{bound-covers, covered-recorded}
-use Rattle.pol_removal.proofs.Owned.{Owned, owned-recorded}
-use Rattle.pol_removal.proofs.Alike.{alike-without}
-use Rattle.pol_removal.proofs.Answering.{answered-alike}
+use Rattle.pol_removal.proofs.Sparing.{Covered, stays_parts}
+use Rattle.pol_removal.proofs.Bound.{bound_covers, covered_recorded}
+use Rattle.pol_removal.proofs.Owned.{Owned, owned_recorded}
+use Rattle.pol_removal.proofs.Alike.{alike_without}
+use Rattle.pol_removal.proofs.Answering.{answered_alike}
 
-own-recorded : (answer : Answer) → is_refused_for_another answer ≡ false → is_recorded answer ≡ true
-own-recorded (Refused HistoryFull) own = cc
-own-recorded _ own = refl
+own_recorded : (answer : Answer) → is_refused_for_another answer ≡ false → is_recorded answer ≡ true
+own_recorded (Refused HistoryFull) own = cc
+own_recorded _ own = refl
 
 -- a concerned entry leaves the entries that stay as they are
-pub dropped : (tags bound : List (List ℕ)) (entry : EntryForm) (history : History) → stays tags bound entry ≡ false →
+pub dropped : (tags bound : List (List ℕ)) (entry : PlainEntry) (history : History) → stays tags bound entry ≡ false →
     filter (stays tags bound) (recorded entry history) ≡ filter (stays tags bound) history
 dropped tags bound entry history gone = go (is_recorded entry.answer)
   where
@@ -31,39 +31,39 @@ dropped tags bound entry history gone = go (is_recorded entry.answer)
     go false = refl
 
 -- one that stays is recorded in both histories
-pub grown : (tags bound : List (List ℕ)) (entry : EntryForm) (history : History) → stays tags bound entry ≡ true →
+pub grown : (tags bound : List (List ℕ)) (entry : PlainEntry) (history : History) → stays tags bound entry ≡ true →
     filter (stays tags bound) (recorded entry history) ≡ recorded entry (filter (stays tags bound) history)
-grown tags bound entry history stay = rw (own-recorded entry.answer (stays-parts tags bound entry stay).2, stay)
+grown tags bound entry history stay = rw (own_recorded entry.answer (stays_parts tags bound entry stay).2, stay)
 
 -- and is the same entry
-same-entry : (tags bound : List (List ℕ)) (history : History) → AllByRecursion (Covered tags bound) history
+same_entry : (tags bound : List (List ℕ)) (history : History) → AllByRecursion (Covered tags bound) history
     → AllByRecursion (Owned history) history →
-    (event : EventForm) → stays tags bound (entry_of history event) ≡ true
+    (event : PlainEvent) → stays tags bound (entry_of history event) ≡ true
     → entry_of (filter (stays tags bound) history) event ≡ entry_of history event
-same-entry tags bound history covered owned event stay =
-    let parts = stays-parts tags bound (entry_of history event) stay in
+same_entry tags bound history covered owned event stay =
+    let parts = stays_parts tags bound (entry_of history event) stay in
     ap (paired event)
-    (answered-alike tags bound history (filter (stays tags bound) history)
-    (alike-without tags bound history covered owned) event parts.0 parts.1 parts.2)
+    (answered_alike tags bound history (filter (stays tags bound) history)
+    (alike_without tags bound history covered owned) event parts.0 parts.1 parts.2)
 
 -- an entry in front of those that stay, if it stays
-abbrev kept_first : Bool → EntryForm → List EntryForm → List EntryForm
+abbrev kept_first : Bool → PlainEntry → List PlainEntry → List PlainEntry
 kept_first stay entry rest = cond stay (entry ∷ rest) rest
 
-run-stays : (tags bound : List (List ℕ)) (events : List EventForm) (history : History) → AreOrderly events →
+run_stays : (tags bound : List (List ℕ)) (events : List PlainEvent) (history : History) → AreOrderly events →
     AllByRecursion (Covered tags bound) history → AllByRecursion (Owned history) history
     → AllByRecursion (Covered tags bound) (run_after history events) →
     run_after (filter (stays tags bound) history) (map (λ entry. entry.event)
     (filter (stays tags bound) (run_after history events)))
     ≡ filter (stays tags bound) (run_after history events)
-run-stays tags bound [] history orderly covered owned covers = refl
-run-stays tags bound (event ∷ events) history orderly covered owned covers =
+run_stays tags bound [] history orderly covered owned covers = refl
+run_stays tags bound (event ∷ events) history orderly covered owned covers =
     go (stays tags bound (entry_of history event)) refl
-    (run-stays tags bound events (recorded (entry_of history event) history) orderly.1
-    (covered-recorded tags bound (entry_of history event) history covers.0 covered)
-    (owned-recorded history event orderly.0 owned) covers.1)
+    (run_stays tags bound events (recorded (entry_of history event) history) orderly.1
+    (covered_recorded tags bound (entry_of history event) history covers.0 covered)
+    (owned_recorded history event orderly.0 owned) covers.1)
   where
-    rest : List EntryForm
+    rest : List PlainEntry
     rest = filter (stays tags bound) (run_after (recorded (entry_of history event) history) events)
 
     go : (stay : Bool) → stays tags bound (entry_of history event) ≡ stay →
@@ -76,10 +76,10 @@ run-stays tags bound (event ∷ events) history orderly covered owned covers =
     go true is later =
         ap (λ entry. entry ∷ run_after (recorded entry (filter (stays tags bound) history))
         (map (λ entry. entry.event) rest))
-        (same-entry tags bound history covered owned event is)
+        (same_entry tags bound history covered owned event is)
         ∙ ap (λ entries. entry_of history event ∷ entries) (rw
         (grown tags bound (entry_of history event) history is) at later)
 
-pub events-removed : RemovalOfEvents
-events-removed tags events orderly =
-    run-stays tags (bound_batches tags (run_of events)) events [] orderly tt tt (bound-covers tags (run_of events))
+pub events_removed : RemovalOfEvents
+events_removed tags events orderly =
+    run_stays tags (bound_batches tags (run_of events)) events [] orderly tt tt (bound_covers tags (run_of events))

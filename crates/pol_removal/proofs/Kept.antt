@@ -5,12 +5,12 @@ use Rattle.std.specs.List.{AllByRecursion, cons_option, flat_map}
 use Rattle.std.proofs.lemmas.List.{reverse-append}
 use Rattle.std.proofs.lemmas.List.Elements.{filter-append}
 
-pub filter-reverse : {X : Type 0} (keeps : X → Bool) (xs : List X)
+pub filter_reverse : {X : Type 0} (keeps : X → Bool) (xs : List X)
     → reverse (filter keeps xs) ≡ filter keeps (reverse xs)
-filter-reverse keeps [] = refl
-filter-reverse {X} keeps (x ∷ xs) =
+filter_reverse keeps [] = refl
+filter_reverse {X} keeps (x ∷ xs) =
     sym (ap (filter keeps) (reverse-append (x ∷ []) xs) ∙ filter-append keeps (reverse xs) (x ∷ [])
-    ∙ go (keeps x) (filter-reverse keeps xs))
+    ∙ go (keeps x) (filter_reverse keeps xs))
   where
     go : (kept : Bool) → reverse (filter keeps xs) ≡ filter keeps (reverse xs) →
         filter keeps (reverse xs) ++ cond kept (x ∷ []) [] ≡ reverse (cond kept (x ∷ filter keeps xs) (filter keeps xs))
@@ -18,12 +18,12 @@ filter-reverse {X} keeps (x ∷ xs) =
     go false same = append-nil (filter keeps (reverse xs)) ∙ sym same
 
 -- what is given by the elements that are kept, where each is kept just if what it gives passes a test
-pub filter_map-kept : {X Y : Type 0} (gives : X → Option Y) (keeps : X → Bool) (passes : Y → Bool) (xs : List X) →
+pub filter_map_kept : {X Y : Type 0} (gives : X → Option Y) (keeps : X → Bool) (passes : Y → Bool) (xs : List X) →
     AllByRecursion (λ x. (y : Y) → gives x ≡ Some y → keeps x ≡ passes y) xs
     → filter_map gives (filter keeps xs) ≡ filter passes (filter_map gives xs)
-filter_map-kept gives keeps passes [] all = refl
-filter_map-kept {X} {Y} gives keeps passes (x ∷ xs) all = go (keeps x) (gives x) refl refl
-    (filter_map-kept gives keeps passes xs all.1)
+filter_map_kept gives keeps passes [] all = refl
+filter_map_kept {X} {Y} gives keeps passes (x ∷ xs) all = go (keeps x) (gives x) refl refl
+    (filter_map_kept gives keeps passes xs all.1)
   where
     go : (kept : Bool) (given : Option Y) → keeps x ≡ kept → gives x ≡ given
         → filter_map gives (filter keeps xs) ≡ filter passes (filter_map gives xs) →
@@ -36,11 +36,11 @@ filter_map-kept {X} {Y} gives keeps passes (x ∷ xs) all = go (keeps x) (gives 
     go false (Some y) is gave same = let pass : passes y ≡ false = sym (all.0 y gave) ∙ is in rw pass same
 
 -- two functions that agree on what is kept give the same joined
-pub flat_map-kept : {X Y : Type 0} (one other : X → List Y) (keeps : X → Bool)
+pub flat_map_kept : {X Y : Type 0} (one other : X → List Y) (keeps : X → Bool)
     → ((x : X) → keeps x ≡ true → one x ≡ other x) → (xs : List X) →
     flat_map one (filter keeps xs) ≡ flat_map other (filter keeps xs)
-flat_map-kept one other keeps agree [] = refl
-flat_map-kept {X} {Y} one other keeps agree (x ∷ xs) = go (keeps x) refl (flat_map-kept one other keeps agree xs)
+flat_map_kept one other keeps agree [] = refl
+flat_map_kept {X} {Y} one other keeps agree (x ∷ xs) = go (keeps x) refl (flat_map_kept one other keeps agree xs)
   where
     go : (kept : Bool) → keeps x ≡ kept → flat_map one (filter keeps xs) ≡ flat_map other (filter keeps xs) →
         flat_map one (cond kept (x ∷ filter keeps xs) (filter keeps xs))

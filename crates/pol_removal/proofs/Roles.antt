@@ -9,12 +9,12 @@ use Rattle.pol_events.specs.Bound.{bound_tag, tags_of}
 use Rattle.pol_removal.specs.Removal.{is_some_among}
 
 -- a module that plays a role isn't taken out, where none of the bound ones is
-pub played-outside : (tags : List (List ℕ)) (binds : List Bind) (role tag : List ℕ)
+pub played_outside : (tags : List (List ℕ)) (binds : List Bind) (role tag : List ℕ)
     → is_some_among tags (tags_of binds) ≡ false →
     bound_tag binds role ≡ Some tag → is_among tags tag ≡ false
-played-outside tags [] role tag apart is = cc
-played-outside tags (bind ∷ binds) role tag apart is = go (bytes_eq bind.role role) is
-    (played-outside tags binds role tag parts.1)
+played_outside tags [] role tag apart is = cc
+played_outside tags (bind ∷ binds) role tag apart is = go (bytes_eq bind.role role) is
+    (played_outside tags binds role tag parts.1)
   where
     parts : (is_among tags bind.tag ≡ false) × (is_some_among tags (tags_of binds) ≡ false)
     parts = or_parts (is_among tags bind.tag) (is_some_among tags (tags_of binds)) apart

@@ -4,39 +4,39 @@ use Rattle.std.specs.Prelude.{filter}
 use Rattle.std.specs.List.{AllByRecursion}
 use Rattle.std.proofs.lemmas.Bool.{and_parts, and_from, or_from, or_parts, not_from_false, not-true, false_from_ne_true, both_ways}
 use Rattle.mtp_codes.specs.Names.{is_among}
-use Rattle.pol_events.specs.Events.{EventForm, start, EntryForm}
+use Rattle.pol_events.specs.Events.{PlainEvent, start, PlainEntry}
 use Rattle.pol_events.specs.declared.answer.Answer.{Answer}
 use Rattle.pol_events.specs.declared.answer.Answer.TheVariants.{Refused}
 use Rattle.pol_history.specs.Looking.{History, Subject, of_module, of_batch, of_recipe, subject, is_accepted, is_module, is_batch, is_recipe, is_accepted_of, is_accepted_of_batch, is_accepted_recipe, past, past_of_batch, recipes}
 use Rattle.pol_history.specs.Batches.{binds_in}
-use Rattle.pol_history.proofs.Names.{same-true}
-use Rattle.pol_history.proofs.Filters.{filter-kept, all-of}
+use Rattle.pol_history.proofs.Names.{same_true}
+use Rattle.pol_history.proofs.Filters.{filter_kept, all_of}
 use Rattle.pol_removal.specs.Removal.{is_refused_for_another, binds_one, is_of, is_named, is_concerned, stays}
-use Rattle.pol_removal.proofs.Each.{all-map}
+use Rattle.pol_removal.proofs.Each.{all_map}
 
 -- where the entry is an accepted start that binds one of the modules, it is of one of the batches
-abbrev pub Covered : List (List ℕ) → List (List ℕ) → EntryForm → Type 0
+abbrev pub Covered : List (List ℕ) → List (List ℕ) → PlainEntry → Type 0
 Covered tags bound entry = (binds_one tags entry.event && is_accepted entry.answer) ≡ true
     → is_of tags bound (subject entry.event) ≡ true
 
-accepted-own : (answer : Answer) → is_accepted answer ≡ true → is_refused_for_another answer ≡ false
-accepted-own (Refused rule) accepted = cc
-accepted-own _ accepted = refl
+accepted_own : (answer : Answer) → is_accepted answer ≡ true → is_refused_for_another answer ≡ false
+accepted_own (Refused rule) accepted = cc
+accepted_own _ accepted = refl
 
 -- an accepted entry that names none of the modules and none of the batches stays
-pub unnamed-stays : (tags bound : List (List ℕ)) (entry : EntryForm) → is_of tags bound (subject entry.event) ≡ false →
+pub unnamed_stays : (tags bound : List (List ℕ)) (entry : PlainEntry) → is_of tags bound (subject entry.event) ≡ false →
     binds_one tags entry.event ≡ false → is_accepted entry.answer ≡ true → stays tags bound entry ≡ true
-unnamed-stays tags bound entry out apart accepted =
+unnamed_stays tags bound entry out apart accepted =
     not_from_false (is_concerned tags bound entry) (or_from (is_named tags bound entry.event)
     (is_refused_for_another entry.answer)
     (or_from (is_of tags bound (subject entry.event)) (binds_one tags entry.event) out apart)
-    (accepted-own entry.answer accepted))
+    (accepted_own entry.answer accepted))
 
 -- what an entry that stays is
-pub stays-parts : (tags bound : List (List ℕ)) (entry : EntryForm) → stays tags bound entry ≡ true →
+pub stays_parts : (tags bound : List (List ℕ)) (entry : PlainEntry) → stays tags bound entry ≡ true →
     (is_of tags bound (subject entry.event) ≡ false) × (binds_one tags entry.event ≡ false)
     × (is_refused_for_another entry.answer ≡ false)
-stays-parts tags bound entry stay =
+stays_parts tags bound entry stay =
     let outer = or_parts (is_named tags bound entry.event) (is_refused_for_another entry.answer)
     (not-true (is_concerned tags bound entry) stay) in
     let inner = or_parts (is_of tags bound (subject entry.event)) (binds_one tags entry.event) outer.0 in
@@ -44,86 +44,86 @@ stays-parts tags bound entry stay =
 
 -- ---- modules
 
-module-binds-none : (tag : List ℕ) (event : EventForm) → is_module tag (subject event) ≡ true → binds_in event ≡ []
-module-binds-none tag (start at batch name binds) of_tag = cc
-module-binds-none tag _ of_tag = refl
+module_binds_none : (tag : List ℕ) (event : PlainEvent) → is_module tag (subject event) ≡ true → binds_in event ≡ []
+module_binds_none tag (start at batch name binds) of_tag = cc
+module_binds_none tag _ of_tag = refl
 
-other-module : (tags bound : List (List ℕ)) (tag : List ℕ) (of : Subject) → is_module tag of ≡ true
+other_module : (tags bound : List (List ℕ)) (tag : List ℕ) (of : Subject) → is_module tag of ≡ true
     → is_among tags tag ≡ false → is_of tags bound of ≡ false
-other-module tags bound tag (of_module other) same outside = rw (same-true other tag same) outside
-other-module tags bound tag (of_batch batch) same outside = cc
-other-module tags bound tag (of_recipe name) same outside = cc
+other_module tags bound tag (of_module other) same outside = rw (same_true other tag same) outside
+other_module tags bound tag (of_batch batch) same outside = cc
+other_module tags bound tag (of_recipe name) same outside = cc
 
 -- an accepted event of a module that isn't taken out stays
-pub of-module-stays : (tags bound : List (List ℕ)) (tag : List ℕ) → is_among tags tag ≡ false → (entry : EntryForm) →
+pub of_module_stays : (tags bound : List (List ℕ)) (tag : List ℕ) → is_among tags tag ≡ false → (entry : PlainEntry) →
     is_accepted_of tag entry ≡ true → stays tags bound entry ≡ true
-of-module-stays tags bound tag outside entry taken =
+of_module_stays tags bound tag outside entry taken =
     let parts = and_parts (is_module tag (subject entry.event)) (is_accepted entry.answer) taken in
-    let none = module-binds-none tag entry.event parts.0 in
-    unnamed-stays tags bound entry (other-module tags bound tag (subject entry.event) parts.0 outside) (rw none) parts.1
+    let none = module_binds_none tag entry.event parts.0 in
+    unnamed_stays tags bound entry (other_module tags bound tag (subject entry.event) parts.0 outside) (rw none) parts.1
 
-pub past-stays : (tags bound : List (List ℕ)) (history : History) (tag : List ℕ) → is_among tags tag ≡ false →
+pub past_stays : (tags bound : List (List ℕ)) (history : History) (tag : List ℕ) → is_among tags tag ≡ false →
     past tag (filter (stays tags bound) history) ≡ past tag history
-past-stays tags bound history tag outside =
-    filter-kept (is_accepted_of tag) (stays tags bound) history
-    (all-of (λ entry. is_accepted_of tag entry ≡ true → stays tags bound entry ≡ true)
-    (of-module-stays tags bound tag outside) history)
+past_stays tags bound history tag outside =
+    filter_kept (is_accepted_of tag) (stays tags bound) history
+    (all_of (λ entry. is_accepted_of tag entry ≡ true → stays tags bound entry ≡ true)
+    (of_module_stays tags bound tag outside) history)
 
 -- ---- batches
 
-pub other-batch : (tags bound : List (List ℕ)) (batch : List ℕ) (of : Subject) → is_batch batch of ≡ true
+pub other_batch : (tags bound : List (List ℕ)) (batch : List ℕ) (of : Subject) → is_batch batch of ≡ true
     → is_among bound batch ≡ false → is_of tags bound of ≡ false
-other-batch tags bound batch (of_module tag) same outside = cc
-other-batch tags bound batch (of_batch other) same outside = rw (same-true other batch same) outside
-other-batch tags bound batch (of_recipe name) same outside = cc
+other_batch tags bound batch (of_module tag) same outside = cc
+other_batch tags bound batch (of_batch other) same outside = rw (same_true other batch same) outside
+other_batch tags bound batch (of_recipe name) same outside = cc
 
 -- an accepted event of another batch binds none of the modules
-pub other-batch-apart : (tags bound : List (List ℕ)) (entry : EntryForm) → Covered tags bound entry
+pub other_batch_apart : (tags bound : List (List ℕ)) (entry : PlainEntry) → Covered tags bound entry
     → is_of tags bound (subject entry.event) ≡ false →
     is_accepted entry.answer ≡ true → binds_one tags entry.event ≡ false
-other-batch-apart tags bound entry covers out accepted =
+other_batch_apart tags bound entry covers out accepted =
     false_from_ne_true (binds_one tags entry.event)
     (λ one. both_ways (is_of tags bound (subject entry.event)) out
     (covers (and_from (binds_one tags entry.event) (is_accepted entry.answer) one accepted)))
 
-of-batch-stays : (tags bound : List (List ℕ)) (batch : List ℕ) → is_among bound batch ≡ false → (entry : EntryForm)
+of_batch_stays : (tags bound : List (List ℕ)) (batch : List ℕ) → is_among bound batch ≡ false → (entry : PlainEntry)
     → Covered tags bound entry →
     is_accepted_of_batch batch entry ≡ true → stays tags bound entry ≡ true
-of-batch-stays tags bound batch outside entry covers taken =
+of_batch_stays tags bound batch outside entry covers taken =
     let parts = and_parts (is_batch batch (subject entry.event)) (is_accepted entry.answer) taken in
-    let out = other-batch tags bound batch (subject entry.event) parts.0 outside in
-    unnamed-stays tags bound entry out (other-batch-apart tags bound entry covers out parts.1) parts.1
+    let out = other_batch tags bound batch (subject entry.event) parts.0 outside in
+    unnamed_stays tags bound entry out (other_batch_apart tags bound entry covers out parts.1) parts.1
 
-pub past-of-batch-stays : (tags bound : List (List ℕ)) (history : History)
+pub past_of_batch_stays : (tags bound : List (List ℕ)) (history : History)
     → AllByRecursion (Covered tags bound) history →
     (batch : List ℕ) → is_among bound batch ≡ false → past_of_batch batch (filter (stays tags bound) history)
     ≡ past_of_batch batch history
-past-of-batch-stays tags bound history covered batch outside =
-    filter-kept (is_accepted_of_batch batch) (stays tags bound) history
-    (all-map (Covered tags bound) (λ entry. is_accepted_of_batch batch entry ≡ true → stays tags bound entry ≡ true)
-    (of-batch-stays tags bound batch outside) history covered)
+past_of_batch_stays tags bound history covered batch outside =
+    filter_kept (is_accepted_of_batch batch) (stays tags bound) history
+    (all_map (Covered tags bound) (λ entry. is_accepted_of_batch batch entry ≡ true → stays tags bound entry ≡ true)
+    (of_batch_stays tags bound batch outside) history covered)
 
 -- ---- recipes
 
-recipe-binds-none : (event : EventForm) → is_recipe (subject event) ≡ true → binds_in event ≡ []
-recipe-binds-none (start at batch name binds) is = cc
-recipe-binds-none _ is = refl
+recipe_binds_none : (event : PlainEvent) → is_recipe (subject event) ≡ true → binds_in event ≡ []
+recipe_binds_none (start at batch name binds) is = cc
+recipe_binds_none _ is = refl
 
-recipe-unnamed : (tags bound : List (List ℕ)) (of : Subject) → is_recipe of ≡ true → is_of tags bound of ≡ false
-recipe-unnamed tags bound (of_module tag) is = cc
-recipe-unnamed tags bound (of_batch batch) is = cc
-recipe-unnamed tags bound (of_recipe name) is = refl
+recipe_unnamed : (tags bound : List (List ℕ)) (of : Subject) → is_recipe of ≡ true → is_of tags bound of ≡ false
+recipe_unnamed tags bound (of_module tag) is = cc
+recipe_unnamed tags bound (of_batch batch) is = cc
+recipe_unnamed tags bound (of_recipe name) is = refl
 
-recipe-stays : (tags bound : List (List ℕ)) (entry : EntryForm) → is_accepted_recipe entry ≡ true
+recipe_stays : (tags bound : List (List ℕ)) (entry : PlainEntry) → is_accepted_recipe entry ≡ true
     → stays tags bound entry ≡ true
-recipe-stays tags bound entry taken =
+recipe_stays tags bound entry taken =
     let parts = and_parts (is_recipe (subject entry.event)) (is_accepted entry.answer) taken in
-    let none = recipe-binds-none entry.event parts.0 in
-    unnamed-stays tags bound entry (recipe-unnamed tags bound (subject entry.event) parts.0) (rw none) parts.1
+    let none = recipe_binds_none entry.event parts.0 in
+    unnamed_stays tags bound entry (recipe_unnamed tags bound (subject entry.event) parts.0) (rw none) parts.1
 
-pub recipes-stay : (tags bound : List (List ℕ)) (history : History)
+pub recipes_stay : (tags bound : List (List ℕ)) (history : History)
     → recipes (filter (stays tags bound) history) ≡ recipes history
-recipes-stay tags bound history =
-    filter-kept is_accepted_recipe (stays tags bound) history
-    (all-of (λ entry. is_accepted_recipe entry ≡ true → stays tags bound entry ≡ true)
-    (recipe-stays tags bound) history)
+recipes_stay tags bound history =
+    filter_kept is_accepted_recipe (stays tags bound) history
+    (all_of (λ entry. is_accepted_recipe entry ≡ true → stays tags bound entry ≡ true)
+    (recipe_stays tags bound) history)

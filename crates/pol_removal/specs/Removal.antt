@@ -2,7 +2,7 @@
 use Rattle.std.specs.Prelude.{ℕ, Bool, true, false, not, ◌||◌, ◌&&◌, ◌≡◌, List, [], ◌++◌, filter, filter_map, map, Option, None, if◌then◌else◌}
 use Rattle.std.specs.List.{flat_map, list_any}
 use Rattle.mtp_codes.specs.Names.{is_among}
-use Rattle.pol_events.specs.Events.{EventForm, EntryForm}
+use Rattle.pol_events.specs.Events.{PlainEvent, PlainEntry}
 use Rattle.pol_events.specs.declared.answer.Rule.{Rule}
 use Rattle.pol_events.specs.declared.answer.Rule.TheVariants.{PlantFull, Held, Busy, BatchesFull, ActiveStep, HeldBack, HistoryFull}
 use Rattle.pol_events.specs.declared.answer.Answer.{Answer}
@@ -12,7 +12,7 @@ use Rattle.pol_history.specs.Looking.{Subject, of_module, of_batch, of_recipe, s
 use Rattle.pol_history.specs.Batches.{binds_in, started_batch, batches}
 use Rattle.pol_history.specs.Runs.{run_of, AreOrderly}
 use Rattle.pol_record.specs.Texts.{batch_lines, end_text}
-use Rattle.pol_record.specs.Lines.{Row, skipped, bad, answered, events_in, items_of, rows_after, rows_text, history_of, output_of}
+use Rattle.pol_record.specs.Lines.{AnsweredLine, skipped, bad, answered, events_in, input_lines_of, answered_lines_after, answered_texts, history_of, output_of}
 
 -- a rule that refuses an event for the sake of another
 abbrev pub is_for_another : Rule → Bool
@@ -35,16 +35,16 @@ abbrev pub is_some_among : List (List ℕ) → List (List ℕ) → Bool
 is_some_among names others = list_any (is_among names) others
 
 -- the event is a start that binds one of these modules
-abbrev pub binds_one : List (List ℕ) → EventForm → Bool
+abbrev pub binds_one : List (List ℕ) → PlainEvent → Bool
 binds_one tags event = is_some_among tags (tags_of (binds_in event))
 
 -- the batch of an accepted start that binds one of these modules
-abbrev pub bound_batch : List (List ℕ) → EntryForm → Option (List ℕ)
+abbrev pub bound_batch : List (List ℕ) → PlainEntry → Option (List ℕ)
 bound_batch tags entry = if binds_one tags entry.event && is_accepted entry.answer then started_batch
     entry.event else None
 
 -- the batches that are bound to one of these modules, in these entries
-abbrev pub bound_batches : List (List ℕ) → List EntryForm → List (List ℕ)
+abbrev pub bound_batches : List (List ℕ) → List PlainEntry → List (List ℕ)
 bound_batches tags entries = filter_map (bound_batch tags) entries
 
 -- the event is of one of these modules or of one of these batches
@@ -54,40 +54,40 @@ is_of tags bound (of_batch batch) = is_among bound batch
 is_of tags bound (of_recipe name) = false
 
 -- the event names one of these modules, or is of one of these batches
-abbrev pub is_named : List (List ℕ) → List (List ℕ) → EventForm → Bool
+abbrev pub is_named : List (List ℕ) → List (List ℕ) → PlainEvent → Bool
 is_named tags bound event = is_of tags bound (subject event) || binds_one tags event
 
 -- the entry names one of the modules, is of one of the batches, or is refused for another's sake
-abbrev pub is_concerned : List (List ℕ) → List (List ℕ) → EntryForm → Bool
+abbrev pub is_concerned : List (List ℕ) → List (List ℕ) → PlainEntry → Bool
 is_concerned tags bound entry = is_named tags bound entry.event || is_refused_for_another entry.answer
 
 -- the entry stays where the modules are taken out, and the batches that are bound to them
-abbrev pub stays : List (List ℕ) → List (List ℕ) → EntryForm → Bool
+abbrev pub stays : List (List ℕ) → List (List ℕ) → PlainEntry → Bool
 stays tags bound entry = not (is_concerned tags bound entry)
 
 -- the entries of a run that stay
-abbrev pub entries_without : List (List ℕ) → List EventForm → List EntryForm
+abbrev pub entries_without : List (List ℕ) → List PlainEvent → List PlainEntry
 entries_without tags events = filter (stays tags (bound_batches tags (run_of events))) (run_of events)
 
 -- the line stays where the modules are taken out, and the batches that are bound to them
-abbrev pub row_stays : List (List ℕ) → List (List ℕ) → Row → Bool
+abbrev pub row_stays : List (List ℕ) → List (List ℕ) → AnsweredLine → Bool
 row_stays tags bound (skipped piece) = true
 row_stays tags bound (bad piece fault) = true
 row_stays tags bound (answered piece entry) = stays tags bound entry
 
 -- the bytes of a row's line
-abbrev pub piece_of : Row → List ℕ
+abbrev pub piece_of : AnsweredLine → List ℕ
 piece_of (skipped piece) = piece
 piece_of (bad piece fault) = piece
 piece_of (answered piece entry) = piece
 
 -- the batches that are bound to one of the modules, in the run of an input
 abbrev pub bound_in : List (List ℕ) → List ℕ → List (List ℕ)
-bound_in tags bytes = bound_batches tags (run_of (events_in (items_of bytes)))
+bound_in tags bytes = bound_batches tags (run_of (events_in (input_lines_of bytes)))
 
 -- the rows of an input that stay
-abbrev pub rows_without : List (List ℕ) → List ℕ → List Row
-rows_without tags bytes = filter (row_stays tags (bound_in tags bytes)) (rows_after [] (items_of bytes))
+abbrev pub rows_without : List (List ℕ) → List ℕ → List AnsweredLine
+rows_without tags bytes = filter (row_stays tags (bound_in tags bytes)) (answered_lines_after [] (input_lines_of bytes))
 
 -- the input without the lines that concern the modules
 abbrev pub without : List (List ℕ) → List ℕ → List ℕ
@@ -100,12 +100,13 @@ batches_without tags bytes = filter (λ batch. not (is_among (bound_in tags byte
 -- the output without the answers to these lines and without the lines of the batches that are bound to the modules
 abbrev pub output_without : List (List ℕ) → List ℕ → List ℕ
 output_without tags bytes =
-    rows_text (rows_without tags bytes) ++ (batch_lines (history_of bytes) (batches_without tags bytes) ++ end_text)
+    answered_texts (rows_without tags bytes)
+    ++ (batch_lines (history_of bytes) (batches_without tags bytes) ++ end_text)
 
 -- where the events are orderly, the run of those that stay is the run of all of them without the concerned entries
 abbrev pub RemovalOfEvents : Type 0
 RemovalOfEvents =
-    (tags : List (List ℕ)) (events : List EventForm) → AreOrderly events →
+    (tags : List (List ℕ)) (events : List PlainEvent) → AreOrderly events →
     run_of (map (λ entry. entry.event) (entries_without tags events)) ≡ entries_without tags events
 
 -- taking out the lines that concern some modules takes out just their output lines

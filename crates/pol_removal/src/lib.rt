@@ -1,6 +1,6 @@
-//! Taking modules out of a journal: the lines of some modules, of the batches that are bound to them, and the lines that
-//! were refused for another's sake. What it means stands in `specs/Removal.antt`, and that it takes out just their output
-//! lines is the contract of functions with an empty body.
+//! Taking modules out of a journal: the lines of some modules, of the batches that are bound to them, and the lines
+//! that were refused for another's sake. What it means stands in `specs/Removal.antt`, and that it takes out just their
+//! output lines is the contract of functions with an empty body.
 //!
 //! It knows nothing of how an answer is found.
 #![tactic(auto)]

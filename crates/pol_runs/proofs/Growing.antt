@@ -4,11 +4,12 @@ use Rattle.std.proofs.Common.{◌≡◌, ℕ, ◌+◌, ◌≤◌, ◌<◌, Bool,
 use Rattle.std.specs.Prelude.{◌&&◌, ◌||◌, nat_le, filter}
 use Rattle.std.specs.List.{Contains}
 use Rattle.std.proofs.lemmas.Bool.{and_right, and_parts, le-leb, leb-true, leb-false, lt-leb}
+use Rattle.std.proofs.Math.Bool.{and-true}
 use Rattle.std.proofs.lemmas.Slice.Eq.{bytes_eq-Decides}
 use Rattle.mtp_codes.specs.Faults.{when}
 use Rattle.mtp_codes.specs.Names.{same_name}
 use Rattle.chart_core.specs.Active.{idle, phase_by, is_active, active_steps}
-use Rattle.chart_core.specs.Charts.{plan}
+use Rattle.chart_core.specs.Charts.{plain_chart}
 use Rattle.chart_core.specs.Entries.{chart_entry}
 use Rattle.chart_core.specs.Standing.{StandsFor}
 use Rattle.chart_core.specs.Trees.{Placed, steps, size}
@@ -20,83 +21,83 @@ use Rattle.chart_core.proofs.Validity.{Rise, steps_rise}
 use Rattle.chart_cursor.specs.Logs.{chart_entries, is_broke, is_stop_asked}
 use Rattle.chart_cursor.specs.Running.{running_step}
 use Rattle.chart_cursor.specs.declared.running.RunningStep.{RunningStep}
-use Rattle.pol_events.proofs.Lists.{member-first, member-later}
+use Rattle.pol_events.proofs.Lists.{member_first, member_later}
 use Rattle.pol_runs.specs.Logs.{Follows}
 use Rattle.pol_runs.specs.Runs.{PlainRun, from_of, is_breaking, is_stopping}
 use Rattle.pol_runs.specs.declared.course.Course.{Course}
 use Rattle.pol_runs.specs.declared.course.Course.TheVariants.{Running}
-use Rattle.pol_runs.proofs.Grown.{any-pushed, any-silent, run-grows, run-stays, run-quiet, active-by, active-pushed}
-use Rattle.pol_runs.proofs.Wanted.{first_step, from-zero}
+use Rattle.pol_runs.proofs.Grown.{any_pushed, any_silent, run_grows, run_stays, run_quiet, active_by, active_pushed}
+use Rattle.pol_runs.proofs.Wanted.{first_step, from_zero}
 
 -- ---- an entry of the chart's run
 
 -- the run whose marks stand for the entries with this one stands for the log with it
-pub by-run : (run : PlainRun) (log : List LogEntry) (entry : LogEntry) (marks : List Progress) → run.course ≡ Running →
+pub by_run : (run : PlainRun) (log : List LogEntry) (entry : LogEntry) (marks : List Progress) → run.course ≡ Running →
     is_some (chart_entry entry) ≡ true → Follows run log →
-    StandsFor (plan run.chart) marks (chart_entries log ++ entry ∷ []) →
+    StandsFor (plain_chart run.chart) marks (chart_entries log ++ entry ∷ []) →
     Follows (record run { marks = marks }) (log ++ entry ∷ [])
-by-run run log entry marks is of_run follows stands =
+by_run run log entry marks is of_run follows stands =
     record {
-      marks = subst (StandsFor (plan run.chart) marks) (sym (run-grows log entry of_run)) stands;
-      broke = any-silent is_broke log entry (run-quiet entry of_run).0 ∙ follows.broke;
-      stopped = any-silent is_stop_asked log entry (run-quiet entry of_run).1 ∙ follows.stopped;
+      marks = subst (StandsFor (plain_chart run.chart) marks) (sym (run_grows log entry of_run)) stands;
+      broke = any_silent is_broke log entry (run_quiet entry of_run).0 ∙ follows.broke;
+      stopped = any_silent is_stop_asked log entry (run_quiet entry of_run).1 ∙ follows.stopped;
       active = active;
     }
   where
     late : (placed : Placed) → nat_le (from_of run.course) placed.number ≡ true
-    late placed = ap (λ course. nat_le (from_of course) placed.number) is ∙ from-zero placed.number
+    late placed = ap (λ course. nat_le (from_of course) placed.number) is ∙ from_zero placed.number
 
-    same : (placed : Placed) → Contains (steps (plan run.chart).root 0) placed →
+    same : (placed : Placed) → Contains (steps (plain_chart run.chart).root 0) placed →
         is_active log placed ≡ is_active (chart_entries log) placed
     same placed inside =
         follows.active placed inside ∙ ap (λ late. late && is_active (chart_entries log) placed) (late placed)
 
-    active : (placed : Placed) → Contains (steps (plan run.chart).root 0) placed →
+    active : (placed : Placed) → Contains (steps (plain_chart run.chart).root 0) placed →
         is_active (log ++ entry ∷ []) placed
         ≡ nat_le (from_of run.course) placed.number && is_active (chart_entries (log ++ entry ∷ [])) placed
     active placed inside =
-        active-pushed log entry placed
-        ∙ ap (active-by (phase_by placed.step.name entry)) (same placed inside)
-        ∙ sym (active-pushed (chart_entries log) entry placed)
-        ∙ ap (λ word. is_active word placed) (sym (run-grows log entry of_run))
+        active_pushed log entry placed
+        ∙ ap (active_by (phase_by placed.step.name entry)) (same placed inside)
+        ∙ sym (active_pushed (chart_entries log) entry placed)
+        ∙ ap (λ word. is_active word placed) (sym (run_grows log entry of_run))
         ∙ ap (λ late. late && is_active (chart_entries (log ++ entry ∷ [])) placed) (sym (late placed))
 
 -- ---- the batch breaks, or is to be stopped
 
 -- an entry of no step turns the course of a batch that runs on, and leaves the active steps
-pub by-turn : (run : PlainRun) (log : List LogEntry) (entry : LogEntry) (course : Course) → run.course ≡ Running →
+pub by_turn : (run : PlainRun) (log : List LogEntry) (entry : LogEntry) (course : Course) → run.course ≡ Running →
     is_some (chart_entry entry) ≡ false → ((name : List ℕ) → phase_by name entry ≡ None) → from_of course ≡ 0 →
     is_broke entry ≡ is_breaking course → is_stop_asked entry ≡ is_stopping course → Follows run log →
     Follows (record run { course = course }) (log ++ entry ∷ [])
-by-turn run log entry course is other quiet from broke stopped follows =
+by_turn run log entry course is other quiet from broke stopped follows =
     record {
-      marks = subst (StandsFor (plan run.chart) run.marks) (sym (run-stays log entry other)) follows.marks;
-      broke = any-pushed is_broke log entry
+      marks = subst (StandsFor (plain_chart run.chart) run.marks) (sym (run_stays log entry other)) follows.marks;
+      broke = any_pushed is_broke log entry
           ∙ ap (λ before. before || is_broke entry) (follows.broke ∙ ap is_breaking is) ∙ broke;
-      stopped = any-pushed is_stop_asked log entry
+      stopped = any_pushed is_stop_asked log entry
           ∙ ap (λ before. before || is_stop_asked entry) (follows.stopped ∙ ap is_stopping is) ∙ stopped;
       active = λ placed inside.
-          active-pushed log entry placed
-          ∙ ap (λ said. active-by said (is_active log placed)) (quiet placed.step.name)
+          active_pushed log entry placed
+          ∙ ap (λ said. active_by said (is_active log placed)) (quiet placed.step.name)
           ∙ follows.active placed inside
           ∙ ap (λ from. nat_le from placed.number && is_active (chart_entries log) placed) (ap from_of is ∙ sym from)
           ∙ ap (λ word. nat_le (from_of course) placed.number && is_active word placed)
-          (sym (run-stays log entry other));
+          (sym (run_stays log entry other));
     }
 
 -- ---- a step is stopped or left
 
 -- a member of steps whose numbers rise has a number among theirs
-pub rise-member : (low high : ℕ) (each : List Placed) (placed : Placed) → Rise low high each → Contains each placed →
+pub rise_member : (low high : ℕ) (each : List Placed) (placed : Placed) → Rise low high each → Contains each placed →
     (low ≤ placed.number) × (placed.number < high)
-rise-member low high [] placed rise (k, l, e) = absurd (omega arith)
-rise-member low high (first ∷ each) placed (at_least, below, rise) inside =
+rise_member low high [] placed rise (k, l, e) = absurd (omega arith)
+rise_member low high (first ∷ each) placed (at_least, below, rise) inside =
     elim (member_cases first placed each inside) [
       | inl same ↦ (
         subst (λ placed. low ≤ placed.number) same at_least,
         subst (λ placed. placed.number < high) same below,
       )
-      | inr later ↦ let r = rise-member (first.number + 1) high each placed rise later in (omega arith, r.1)
+      | inr later ↦ let r = rise_member (first.number + 1) high each placed rise later in (omega arith, r.1)
     ]
 
 -- the first of these steps that passes the test: the others that pass stand behind it
@@ -109,12 +110,12 @@ pub record IsFirst (test : Placed → Bool) (each : List Placed) (found : Runnin
       (other ≡ placed) ⊎ (placed.number < other.number)
 
 -- what is found first is the first
-pub first-found : (test : Placed → Bool) (low high : ℕ) (each : List Placed) (found : RunningStep) →
+pub first_found : (test : Placed → Bool) (low high : ℕ) (each : List Placed) (found : RunningStep) →
     Rise low high each →
     first_step (filter test each) ≡ Some found → IsFirst test each found
-first-found test low high [] found rise is = cc
-first-found test low high (first ∷ each) found (at_least, below, rise) is =
-    go (test first) refl is (first-found test (first.number + 1) high each found rise)
+first_found test low high [] found rise is = cc
+first_found test low high (first ∷ each) found (at_least, below, rise) is =
+    go (test first) refl is (first_found test (first.number + 1) high each found rise)
   where
     go : (passes : Bool) → test first ≡ passes →
         first_step (cond passes (first ∷ filter test each) (filter test each)) ≡ Some found →
@@ -123,13 +124,13 @@ first-found test low high (first ∷ each) found (at_least, below, rise) is =
         let same : running_step first.number first.step ≡ found = cc in
         record {
           placed = first;
-          inside = member-first first each;
+          inside = member_first first each;
           passes = passes;
           is = same;
           before = λ other inside yes. elim (member_cases first other each inside) [
             | inl here ↦ inl (sym here)
             | inr later ↦
-                let r = rise-member (first.number + 1) high each other rise later in
+                let r = rise_member (first.number + 1) high each other rise later in
                 let behind : first.number < other.number = omega arith in inr behind
           ];
         }
@@ -137,7 +138,7 @@ first-found test low high (first ∷ each) found (at_least, below, rise) is =
         let r = rest is in
         record {
           placed = r.placed;
-          inside = member-later first r.placed each r.inside;
+          inside = member_later first r.placed each r.inside;
           passes = r.passes;
           is = r.is;
           before = λ other inside yes. elim (member_cases first other each inside) [
@@ -147,12 +148,12 @@ first-found test low high (first ∷ each) found (at_least, below, rise) is =
         }
 
 -- the first active step of a batch
-pub the-first : (run : PlainRun) (log : List LogEntry) (found : RunningStep) →
-    first_step (active_steps (plan run.chart) log) ≡ Some found →
-    IsFirst (is_active log) (steps (plan run.chart).root 0) found
-the-first run log found is =
-    first-found (is_active log) 0 (0 + size (plan run.chart).root) (steps (plan run.chart).root 0) found
-    (steps_rise (plan run.chart).root 0) is
+pub the_first : (run : PlainRun) (log : List LogEntry) (found : RunningStep) →
+    first_step (active_steps (plain_chart run.chart) log) ≡ Some found →
+    IsFirst (is_active log) (steps (plain_chart run.chart).root 0) found
+the_first run log found is =
+    first_found (is_active log) 0 (0 + size (plain_chart run.chart).root) (steps (plain_chart run.chart).root 0) found
+    (steps_rise (plain_chart run.chart).root 0) is
 
 -- an entry that stops or leaves the step with this name
 pub record Leaves (entry : LogEntry) (name : List ℕ) : Type 0 where
@@ -161,27 +162,25 @@ pub record Leaves (entry : LogEntry) (name : List ℕ) : Type 0 where
   pub stopped : is_stop_asked entry ≡ false
   pub says : (other : List ℕ) → phase_by other entry ≡ when (same_name name other) idle
 
-and-true : (passes : Bool) → passes && true ≡ passes
-and-true true = refl
-and-true false = refl
-
 -- a batch that is stopped, once its first active step is stopped or left: from the next number on
-pub by-leaving : (run : PlainRun) (log : List LogEntry) (entry : LogEntry) (found : RunningStep) (course : Course) →
-    IsValid (plan run.chart) → first_step (active_steps (plan run.chart) log) ≡ Some found → Leaves entry found.name →
+pub by_leaving : (run : PlainRun) (log : List LogEntry) (entry : LogEntry) (found : RunningStep) (course : Course) →
+    IsValid (plain_chart run.chart) → first_step (active_steps (plain_chart run.chart) log) ≡ Some found
+    → Leaves entry found.name →
     is_breaking course ≡ is_breaking run.course → is_stopping course ≡ is_stopping run.course →
     from_of course ≡ found.number + 1 → Follows run log → Follows (record run { course = course }) (log ++ entry ∷ [])
-by-leaving run log entry found course valid first leaves broke stopped from follows =
+by_leaving run log entry found course valid first leaves broke stopped from follows =
     record {
-      marks = subst (StandsFor (plan run.chart) run.marks) (sym (run-stays log entry leaves.other)) follows.marks;
-      broke = any-silent is_broke log entry leaves.broke ∙ follows.broke ∙ sym broke;
-      stopped = any-silent is_stop_asked log entry leaves.stopped ∙ follows.stopped ∙ sym stopped;
+      marks = subst (StandsFor (plain_chart run.chart) run.marks) (sym (run_stays log entry leaves.other))
+          follows.marks;
+      broke = any_silent is_broke log entry leaves.broke ∙ follows.broke ∙ sym broke;
+      stopped = any_silent is_stop_asked log entry leaves.stopped ∙ follows.stopped ∙ sym stopped;
       active = λ placed inside.
-          active-pushed log entry placed
-          ∙ ap (λ said. active-by said (is_active log placed)) (leaves.says placed.step.name)
+          active_pushed log entry placed
+          ∙ ap (λ said. active_by said (is_active log placed)) (leaves.says placed.step.name)
           ∙ go placed inside (same_name found.name placed.step.name) refl
           ∙ ap (λ from. nat_le from placed.number && runs placed) (sym from)
           ∙ ap (λ word. nat_le (from_of course) placed.number && is_active word placed)
-          (sym (run-stays log entry leaves.other));
+          (sym (run_stays log entry leaves.other));
     }
   where
     runs : Placed → Bool
@@ -190,8 +189,8 @@ by-leaving run log entry found course valid first leaves broke stopped from foll
     high : Placed → Bool
     high placed = nat_le (from_of run.course) placed.number
 
-    is : IsFirst (is_active log) (steps (plan run.chart).root 0) found
-    is = the-first run log found first
+    is : IsFirst (is_active log) (steps (plain_chart run.chart).root 0) found
+    is = the_first run log found first
 
     number : found.number ≡ is.placed.number
     number = ap (λ step. step.number) (sym is.is)
@@ -206,12 +205,12 @@ by-leaving run log entry found course valid first leaves broke stopped from foll
         let here = leb-true (from_of run.course) is.placed.number parts.0 in
         rw number here
 
-    go : (placed : Placed) → Contains (steps (plan run.chart).root 0) placed → (same : Bool) →
+    go : (placed : Placed) → Contains (steps (plain_chart run.chart).root 0) placed → (same : Bool) →
         same_name found.name placed.step.name ≡ same →
-        active-by (when same idle) (is_active log placed) ≡ nat_le (found.number + 1) placed.number && runs placed
+        active_by (when same idle) (is_active log placed) ≡ nat_le (found.number + 1) placed.number && runs placed
     go placed inside true same =
         let one : is.placed ≡ placed =
-        names_tell_steps (plan run.chart) is.placed placed valid is.inside inside
+        names_tell_steps (plain_chart run.chart) is.placed placed valid is.inside inside
         (sym named ∙ (bytes_eq-Decides found.name placed.step.name).0 same) in
         let at : found.number ≡ placed.number = number ∙ ap (λ placed. placed.number) one in
         let here : placed.number < found.number + 1 = omega arith in

@@ -2,6 +2,7 @@
 use Rattle.std.proofs.Common.{◌≡◌, Bool, true, false, cond, List, [], ◌∷◌, ◌++◌, Option, Some, None, is_some, refl, ap, ◌∙◌}
 use Rattle.std.specs.Prelude.{◌||◌}
 use Rattle.std.specs.List.{list_any}
+use Rattle.std.proofs.Math.Bool.{or-false}
 use Rattle.std.proofs.lemmas.List.{append-nil}
 use Rattle.std.proofs.lemmas.List.Elements.{filter-append}
 use Rattle.chart_core.specs.Active.{Phase, or_earlier, last_of, phase_by, or_idle, is_running, is_active}
@@ -11,31 +12,27 @@ use Rattle.chart_core.specs.declared.entry.LogEntry.{LogEntry}
 use Rattle.chart_core.specs.declared.entry.LogEntry.TheVariants.{Broke, StopAsked}
 use Rattle.chart_cursor.specs.Logs.{chart_entries, is_broke, is_stop_asked}
 
-says-last : {A : Type 0} (said : Option A) → or_earlier None said ≡ or_earlier said None
-says-last None = refl
-says-last (Some x) = refl
+says_last : {A : Type 0} (said : Option A) → or_earlier None said ≡ or_earlier said None
+says_last None = refl
+says_last (Some x) = refl
 
-earlier-apart : {A : Type 0} (one other third : Option A) →
+earlier_apart : {A : Type 0} (one other third : Option A) →
     or_earlier (or_earlier one other) third ≡ or_earlier one (or_earlier other third)
-earlier-apart None other third = refl
-earlier-apart (Some x) other third = refl
+earlier_apart None other third = refl
+earlier_apart (Some x) other third = refl
 
-last-pushed : {A B : Type 0} (says : A → Option B) (log : List A) (entry : A) →
+last_pushed : {A B : Type 0} (says : A → Option B) (log : List A) (entry : A) →
     last_of says (log ++ entry ∷ []) ≡ or_earlier (says entry) (last_of says log)
-last-pushed says [] entry = says-last (says entry)
-last-pushed says (first ∷ log) entry =
-    ap (λ found. or_earlier found (says first)) (last-pushed says log entry)
-    ∙ earlier-apart (says entry) (last_of says log) (says first)
+last_pushed says [] entry = says_last (says entry)
+last_pushed says (first ∷ log) entry =
+    ap (λ found. or_earlier found (says first)) (last_pushed says log entry)
+    ∙ earlier_apart (says entry) (last_of says log) (says first)
 
 -- some entry passes a test, where one of the log or the new one does
-pub any-pushed : {A : Type 0} (test : A → Bool) (log : List A) (entry : A) →
+pub any_pushed : {A : Type 0} (test : A → Bool) (log : List A) (entry : A) →
     list_any test (log ++ entry ∷ []) ≡ list_any test log || test entry
-any-pushed test [] entry = go (test entry)
-  where
-    go : (passes : Bool) → passes || false ≡ passes
-    go true = refl
-    go false = refl
-any-pushed test (first ∷ log) entry = go (test first) (any-pushed test log entry)
+any_pushed test [] entry = or-false (test entry)
+any_pushed test (first ∷ log) entry = go (test first) (any_pushed test log entry)
   where
     go : (passes : Bool) → list_any test (log ++ entry ∷ []) ≡ list_any test log || test entry →
         passes || list_any test (log ++ entry ∷ []) ≡ (passes || list_any test log) || test entry
@@ -43,51 +40,47 @@ any-pushed test (first ∷ log) entry = go (test first) (any-pushed test log ent
     go false rest = rest
 
 -- an entry that doesn't pass changes nothing
-pub any-silent : {A : Type 0} (test : A → Bool) (log : List A) (entry : A) → test entry ≡ false →
+pub any_silent : {A : Type 0} (test : A → Bool) (log : List A) (entry : A) → test entry ≡ false →
     list_any test (log ++ entry ∷ []) ≡ list_any test log
-any-silent test log entry silent =
-    any-pushed test log entry ∙ ap (λ said. list_any test log || said) silent ∙ go (list_any test log)
-  where
-    go : (passes : Bool) → passes || false ≡ passes
-    go true = refl
-    go false = refl
+any_silent test log entry silent =
+    any_pushed test log entry ∙ ap (λ said. list_any test log || said) silent ∙ or-false (list_any test log)
 
 -- the entries of the chart's run grow by an entry of it
-pub run-grows : (log : List LogEntry) (entry : LogEntry) → is_some (chart_entry entry) ≡ true →
+pub run_grows : (log : List LogEntry) (entry : LogEntry) → is_some (chart_entry entry) ≡ true →
     chart_entries (log ++ entry ∷ []) ≡ chart_entries log ++ entry ∷ []
-run-grows log entry of_run =
+run_grows log entry of_run =
     filter-append (λ entry. is_some (chart_entry entry)) log (entry ∷ [])
     ∙ ap (λ kept. chart_entries log ++ cond kept (entry ∷ []) []) of_run
 
 -- and stay by another one
-pub run-stays : (log : List LogEntry) (entry : LogEntry) → is_some (chart_entry entry) ≡ false →
+pub run_stays : (log : List LogEntry) (entry : LogEntry) → is_some (chart_entry entry) ≡ false →
     chart_entries (log ++ entry ∷ []) ≡ chart_entries log
-run-stays log entry other =
+run_stays log entry other =
     filter-append (λ entry. is_some (chart_entry entry)) log (entry ∷ [])
     ∙ ap (λ kept. chart_entries log ++ cond kept (entry ∷ []) []) other
     ∙ append-nil (chart_entries log)
 
 -- an entry of the chart's run says neither that the batch broke nor that it was to be stopped
-pub run-quiet : (entry : LogEntry) → is_some (chart_entry entry) ≡ true →
+pub run_quiet : (entry : LogEntry) → is_some (chart_entry entry) ≡ true →
     (is_broke entry ≡ false) × (is_stop_asked entry ≡ false)
-run-quiet (Broke step state) of_run = cc
-run-quiet StopAsked of_run = cc
-run-quiet _ of_run = (refl, refl)
+run_quiet (Broke step state) of_run = cc
+run_quiet StopAsked of_run = cc
+run_quiet _ of_run = (refl, refl)
 
 -- whether a step is active after one more entry, by what this says of it and whether it was active
-abbrev pub active-by : Option Phase → Bool → Bool
-active-by None before = before
-active-by (Some phase) before = is_running phase
+abbrev pub active_by : Option Phase → Bool → Bool
+active_by None before = before
+active_by (Some phase) before = is_running phase
 
 -- and so after the log with the entry
-pub active-pushed : (log : List LogEntry) (entry : LogEntry) (placed : Placed) →
-    is_active (log ++ entry ∷ []) placed ≡ active-by (phase_by placed.step.name entry) (is_active log placed)
-active-pushed log entry placed =
-    ap (λ found. is_running (or_idle found)) (last-pushed (phase_by placed.step.name) log entry)
+pub active_pushed : (log : List LogEntry) (entry : LogEntry) (placed : Placed) →
+    is_active (log ++ entry ∷ []) placed ≡ active_by (phase_by placed.step.name entry) (is_active log placed)
+active_pushed log entry placed =
+    ap (λ found. is_running (or_idle found)) (last_pushed (phase_by placed.step.name) log entry)
     ∙ go (phase_by placed.step.name entry)
   where
     go : (said : Option Phase) →
         is_running (or_idle (or_earlier said (last_of (phase_by placed.step.name) log)))
-        ≡ active-by said (is_active log placed)
+        ≡ active_by said (is_active log placed)
     go None = refl
     go (Some phase) = refl

@@ -3,4 +3,3 @@ pub mod Nexts
 pub mod Grown
 pub mod Growing
 pub mod Doing
-pub mod Paired

@@ -6,7 +6,7 @@ use Rattle.std.proofs.lemmas.Bool.{le-leb}
 use Rattle.chart_core.specs.Trees.{Placed}
 use Rattle.chart_cursor.specs.Running.{has_role, is_wanted, first_placed, running_step}
 use Rattle.chart_cursor.specs.declared.running.RunningStep.{RunningStep}
-use Rattle.pol_events.proofs.Lists.{member-first, member-later}
+use Rattle.pol_events.proofs.Lists.{member_first, member_later}
 
 -- the first of these steps
 abbrev pub first_step : List Placed → Option RunningStep
@@ -18,24 +18,24 @@ abbrev pub late : ℕ → (Placed → Bool) → List Placed → List Placed
 late from test each = filter (λ placed. nat_le from placed.number && test placed) each
 
 -- every number is one from 0 on
-pub from-zero : (n : ℕ) → nat_le 0 n ≡ true
-from-zero n = let low : 0 ≤ n = omega arith in le-leb 0 n low
+pub from_zero : (n : ℕ) → nat_le 0 n ≡ true
+from_zero n = let low : 0 ≤ n = omega arith in le-leb 0 n low
 
 -- two tests that agree on each member keep the same
-pub filter-same : {X : Type 0} (one other : X → Bool) (xs : List X) → ((x : X) → Contains xs x → one x ≡ other x) →
+pub filter_same : {X : Type 0} (one other : X → Bool) (xs : List X) → ((x : X) → Contains xs x → one x ≡ other x) →
     filter one xs ≡ filter other xs
-filter-same one other [] same = refl
-filter-same one other (x ∷ xs) same =
-    ap (λ kept. cond kept (x ∷ filter one xs) (filter one xs)) (same x (member-first x xs))
+filter_same one other [] same = refl
+filter_same one other (x ∷ xs) same =
+    ap (λ kept. cond kept (x ∷ filter one xs) (filter one xs)) (same x (member_first x xs))
     ∙ ap (λ rest. cond (other x) (x ∷ rest) rest)
-    (filter-same one other xs (λ y inside. same y (member-later x y xs inside)))
+    (filter_same one other xs (λ y inside. same y (member_later x y xs inside)))
 
 -- the first wanted one, from a number on, of those that pass a test is the first wanted one of those that pass both
-pub wanted-late : (from : ℕ) (role : Option (List ℕ)) (test : Placed → Bool) (each : List Placed) →
+pub wanted_late : (from : ℕ) (role : Option (List ℕ)) (test : Placed → Bool) (each : List Placed) →
     first_placed (is_wanted from role) (filter test each) ≡ first_placed (is_wanted 0 role) (late from test each)
-wanted-late from role test [] = refl
-wanted-late from role test (placed ∷ each) =
-    go (test placed) (nat_le from placed.number) refl (wanted-late from role test each)
+wanted_late from role test [] = refl
+wanted_late from role test (placed ∷ each) =
+    go (test placed) (nat_le from placed.number) refl (wanted_late from role test each)
   where
     own : Bool
     own = has_role role placed.step
@@ -43,8 +43,8 @@ wanted-late from role test (placed ∷ each) =
     found : Option RunningStep
     found = Some (running_step placed.number placed.step)
 
-    rest-late : List Placed
-    rest-late = late from test each
+    rest_late : List Placed
+    rest_late = late from test each
 
     go : (passes high : Bool) → nat_le from placed.number ≡ high →
         first_placed (is_wanted from role) (filter test each) ≡ first_placed (is_wanted 0 role) (late from test each) →
@@ -53,28 +53,28 @@ wanted-late from role test (placed ∷ each) =
         (cond (nat_le from placed.number && passes) (placed ∷ late from test each) (late from test each))
     go true true is rest =
         ap (λ high. cond (high && own) found (first_placed (is_wanted from role) (filter test each)))
-        (is ∙ sym (from-zero placed.number))
+        (is ∙ sym (from_zero placed.number))
         ∙ ap (cond (nat_le 0 placed.number && own) found) rest
-        ∙ ap (λ high. first_placed (is_wanted 0 role) (cond (high && true) (placed ∷ rest-late) rest-late)) (sym is)
+        ∙ ap (λ high. first_placed (is_wanted 0 role) (cond (high && true) (placed ∷ rest_late) rest_late)) (sym is)
     go true false is rest =
         ap (λ high. cond (high && own) found (first_placed (is_wanted from role) (filter test each))) is
         ∙ rest
-        ∙ ap (λ high. first_placed (is_wanted 0 role) (cond (high && true) (placed ∷ rest-late) rest-late)) (sym is)
+        ∙ ap (λ high. first_placed (is_wanted 0 role) (cond (high && true) (placed ∷ rest_late) rest_late)) (sym is)
     go false high is rest = rest ∙ ap (first_placed (is_wanted 0 role)) (sym (none (nat_le from placed.number)))
       where
-        none : (high : Bool) → cond (high && false) (placed ∷ rest-late) rest-late ≡ rest-late
+        none : (high : Bool) → cond (high && false) (placed ∷ rest_late) rest_late ≡ rest_late
         none true = refl
         none false = refl
 
 -- every step is wanted from 0 on
-all-wanted : (each : List Placed) → first_placed (is_wanted 0 None) each ≡ first_step each
-all-wanted [] = refl
-all-wanted (placed ∷ each) =
+all_wanted : (each : List Placed) → first_placed (is_wanted 0 None) each ≡ first_step each
+all_wanted [] = refl
+all_wanted (placed ∷ each) =
     ap (λ low.
     cond (low && true) (Some (running_step placed.number placed.step)) (first_placed (is_wanted 0 None) each))
-    (from-zero placed.number)
+    (from_zero placed.number)
 
 -- the first of those that pass a test, from a number on
-pub wanted-first : (from : ℕ) (test : Placed → Bool) (each : List Placed) →
+pub wanted_first : (from : ℕ) (test : Placed → Bool) (each : List Placed) →
     first_placed (is_wanted from None) (filter test each) ≡ first_step (late from test each)
-wanted-first from test each = wanted-late from None test each ∙ all-wanted (late from test each)
+wanted_first from test each = wanted_late from None test each ∙ all_wanted (late from test each)

@@ -2,7 +2,7 @@
 use Rattle.std.specs.Prelude.{◌≡◌, ◌&&◌, nat_le, List, [], ◌∷◌, ◌++◌, Option, Some, None}
 use Rattle.std.specs.List.{Contains}
 use Rattle.chart_core.specs.Active.{is_active}
-use Rattle.chart_core.specs.Charts.{plan}
+use Rattle.chart_core.specs.Charts.{plain_chart}
 use Rattle.chart_core.specs.Standing.{StandsFor}
 use Rattle.chart_core.specs.Trees.{Placed, steps}
 use Rattle.chart_core.specs.Valid.{IsValid}
@@ -18,15 +18,15 @@ use Rattle.pol_runs.specs.Runs.{PlainRun, from_of, is_breaking, is_stopping}
 -- broke or was to be stopped, and the active steps are those that the entries of the chart's run leave active, from a
 -- number on.
 pub record Follows (run : PlainRun) (log : List LogEntry) : Type 0 where
-  pub marks : StandsFor (plan run.chart) run.marks (chart_entries log)
+  pub marks : StandsFor (plain_chart run.chart) run.marks (chart_entries log)
   pub broke : has_broken log ≡ is_breaking run.course
   pub stopped : was_stopped log ≡ is_stopping run.course
-  pub active : (placed : Placed) → Contains (steps (plan run.chart).root 0) placed
+  pub active : (placed : Placed) → Contains (steps (plain_chart run.chart).root 0) placed
       → is_active log placed ≡ nat_le (from_of run.course) placed.number && is_active (chart_entries log) placed
 
 -- the chart is valid, each bind is found by its role and by its tag, and there is a log that the run stands for
 pub record IsSoundRun (run : PlainRun) : Type 0 where
-  pub valid : IsValid (plan run.chart)
+  pub valid : IsValid (plain_chart run.chart)
   pub paired : ArePaired run.binds
   pub log : List LogEntry
   pub follows : Follows run log

@@ -14,6 +14,3 @@ mod run;
 pub use course::Course;
 pub use next::stop_step;
 pub use run::Run;
-
-#[cfg(test)]
-mod tests;

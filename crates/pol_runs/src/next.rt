@@ -1,7 +1,7 @@
 //! What a batch does next, by its cursor.
 ghost use Rattle.std.specs.Prelude.{◌≡◌, ℕ, List, None};
 ghost use Rattle.chart_core.specs.Active.{active_steps};
-ghost use Rattle.chart_core.specs.Charts.{plan};
+ghost use Rattle.chart_core.specs.Charts.{plain_chart};
 ghost use Rattle.chart_core.specs.Valid.{IsValid};
 ghost use Rattle.chart_core.specs.Standing.{StandsFor};
 ghost use Rattle.chart_core.specs.declared.entry.LogEntry.{LogEntry};
@@ -73,9 +73,9 @@ fn run_next(next: CursorNext) -> Next
 
 /// What a batch that isn't stopped does next.
 pub fn go_on<S: Seen>(cursor: &Cursor, seen: &S) -> Next
-    ensures { (word : List LogEntry) → StandsFor (plan cursor.now.chart) cursor.now.marks word
-        → result ≡ broke_or (first_broken (S.sights seen.now) (active (plan cursor.now.chart) word))
-        (run_next (next_after (plan cursor.now.chart) word (S.sights seen.now))) }
+    ensures { (word : List LogEntry) → StandsFor (plain_chart cursor.now.chart) cursor.now.marks word
+        → result ≡ broke_or (first_broken (S.sights seen.now) (active (plain_chart cursor.now.chart) word))
+        (run_next (next_after (plain_chart cursor.now.chart) word (S.sights seen.now))) }
 {
     match cursor.first_broken(seen) {
         Some(entry) => Next::Did(entry),
@@ -85,10 +85,10 @@ pub fn go_on<S: Seen>(cursor: &Cursor, seen: &S) -> Next
 
 /// The number behind the node of the first active step from a number on; that number, where there is none.
 pub fn behind(cursor: &Cursor, from: u32) -> u32
-    requires valid { IsValid (plan cursor.now.chart) }
-    requires stands { (word : List LogEntry) × StandsFor (plan cursor.now.chart) cursor.now.marks word }
-    ensures { (word : List LogEntry) → StandsFor (plan cursor.now.chart) cursor.now.marks word
-        → result ≡ behind from (first_placed (is_wanted from None) (active_steps (plan cursor.now.chart) word)) }
+    requires valid { IsValid (plain_chart cursor.now.chart) }
+    requires stands { (word : List LogEntry) × StandsFor (plain_chart cursor.now.chart) cursor.now.marks word }
+    ensures { (word : List LogEntry) → StandsFor (plain_chart cursor.now.chart) cursor.now.marks word
+        → result ≡ behind from (first_placed (is_wanted from None) (active_steps (plain_chart cursor.now.chart) word)) }
 {
     match cursor.next_step(from, None) {
         Some(step) => step.number + 1,

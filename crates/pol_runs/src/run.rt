@@ -3,7 +3,7 @@ ghost use Rattle.std.specs.Prelude.{◌≡◌, ◌||◌, ◌++◌, ◌∷◌, []
 ghost use Rattle.std.specs.Option.{option_or};
 ghost use Rattle.mtp_codes.specs.Faults.{when, done_unless};
 ghost use Rattle.chart_core.specs.Active.{active_steps};
-ghost use Rattle.chart_core.specs.Charts.{plan};
+ghost use Rattle.chart_core.specs.Charts.{plain_chart};
 ghost use Rattle.chart_core.specs.Valid.{IsValid};
 ghost use Rattle.chart_core.specs.declared.entry.LogEntry.{LogEntry};
 ghost use Rattle.chart_core.specs.declared.entry.LogEntry.TheVariants.{StopAsked};
@@ -93,7 +93,7 @@ impl Run {
         chart: Arc<Chart>,
         binds: Vec<Bind>,
     ) -> Result<Run, AllocError>
-        requires valid { IsValid (plan chart.value) }
+        requires valid { IsValid (plain_chart chart.value) }
         requires paired { ArePaired binds.items }
         ensures batch { IfOk result (λ run. run.batch ≡ batch) }
         ensures chart { IfOk result (λ run. run.chart ≡ chart.value) }
@@ -116,7 +116,7 @@ impl Run {
     /// What the batch does next, while it is open. Walks the chart's nodes at most twice, and takes no memory.
     pub fn would<S: Seen>(&self, seen: &S) -> Next
         ensures { (log : List LogEntry) → Follows self.now log
-            → result ≡ next_by (plan self.now.chart) self.now.frozen log (S.sights seen.now) }
+            → result ≡ next_by (plain_chart self.now.chart) self.now.frozen log (S.sights seen.now) }
     {
         if self.frozen {
             return Next::Waiting(Why::Frozen);
@@ -131,7 +131,7 @@ impl Run {
     // Takes an entry into the log that was said to come next.
     fn did(&mut self, entry: LogEntry)
         requires { (seen : Sights) × ((log : List LogEntry) → Follows self.old log
-            → Did entry ≡ next_by (plan self.old.chart) self.old.frozen log seen) }
+            → Did entry ≡ next_by (plain_chart self.old.chart) self.old.frozen log seen) }
         ensures log { (log : List LogEntry) → Follows self.old log → Follows self.new (log ++ entry ∷ []) }
         ensures same_batch { SameBatch self.old self.new }
         ensures frozen { self.new.frozen ≡ self.old.frozen }
@@ -160,7 +160,7 @@ impl Run {
     /// memory.
     pub fn settle(&mut self, next: &Next)
         requires { (seen : Sights) × ((log : List LogEntry) → Follows self.old log
-            → next.now ≡ next_by (plan self.old.chart) self.old.frozen log seen) }
+            → next.now ≡ next_by (plain_chart self.old.chart) self.old.frozen log seen) }
         ensures log { (log : List LogEntry) → Follows self.old log → Follows self.new (log_after next.now log) }
         ensures same_batch { SameBatch self.old self.new }
         ensures frozen { self.new.frozen ≡ self.old.frozen }
@@ -178,7 +178,7 @@ impl Run {
     pub fn advance<S: Seen>(&mut self, seen: &S) -> Next
         requires open { self.old.outcome ≡ None }
         ensures next { (log : List LogEntry) → Follows self.old log
-            → result ≡ next_by (plan self.old.chart) self.old.frozen log (S.sights seen.now) }
+            → result ≡ next_by (plain_chart self.old.chart) self.old.frozen log (S.sights seen.now) }
         ensures log { (log : List LogEntry) → Follows self.old log → Follows self.new (log_after result log) }
         ensures same_batch { SameBatch self.old self.new }
         ensures frozen { self.new.frozen ≡ self.old.frozen }
@@ -257,7 +257,7 @@ impl Run {
     /// The chart of its recipe.
     pub fn chart(&self) -> &Arc<Chart>
         ensures chart { result.now.value ≡ self.now.chart }
-        ensures valid { IsValid (plan self.now.chart) }
+        ensures valid { IsValid (plain_chart self.now.chart) }
     {
         self.cursor.chart()
     }
@@ -274,7 +274,8 @@ impl Run {
     /// takes no memory.
     pub fn active_of(&self, role: Name) -> Option<Name>
         ensures { (log : List LogEntry) → Follows self.now log
-            → result ≡ name_of (first_placed (is_wanted 0 (Some role)) (active_steps (plan self.now.chart) log)) }
+            → result ≡ name_of (first_placed (is_wanted 0 (Some role))
+            (active_steps (plain_chart self.now.chart) log)) }
     {
         match self
             .cursor
@@ -289,7 +290,8 @@ impl Run {
     /// once, and takes no memory.
     pub fn active_on(&self, tag: Name) -> Option<Name>
         ensures { (log : List LogEntry) → Follows self.now log
-            → result ≡ option_map (λ step. step.name) (step_on self.now.binds tag (active (plan self.now.chart) log)) }
+            → result ≡ option_map (λ step. step.name)
+            (step_on self.now.binds tag (active (plain_chart self.now.chart) log)) }
     {
         match bound_role(&self.binds, tag) {
             Some(role) => self.active_of(role),

@@ -11,25 +11,25 @@ use Rattle.pol_board.specs.contracts.reader.Reader as reader
 use Rattle.pol_shown.specs.contracts.display.Display as display
 use Rattle.pol_shown.specs.contracts.watcher.Watcher as watcher
 
-name-send : IsSend name.the_row
-name-send = search (sendable, heap.crosses) depth 40 fits 100000
+name_send : IsSend name.the_row
+name_send = search (sendable, heap.crosses) depth 40 fits 100000
 
-board-send : IsSend board.the_row
-board-send = search (sendable, heap.crosses, tables.the_send, leases.the_send) depth 40 fits 100000
+board_send : IsSend board.the_row
+board_send = search (sendable, heap.crosses, tables.the_send, leases.the_send) depth 40 fits 100000
 
-board-sync : IsSync board.the_row
-board-sync = search (sendable, heap.crosses, tables.the_sync, leases.the_sync) depth 40 fits 100000
+board_sync : IsSync board.the_row
+board_sync = search (sendable, heap.crosses, tables.the_sync, leases.the_sync) depth 40 fits 100000
 
-publisher-send : IsSend publisher.the_row
-publisher-send = search (sendable, heap.crosses, seats.the_send) depth 40 fits 100000
+publisher_send : IsSend publisher.the_row
+publisher_send = search (sendable, heap.crosses, seats.the_send) depth 40 fits 100000
 
-reader-send : IsSend reader.the_row
-reader-send = search (sendable, heap.crosses, seats.the_send) depth 40 fits 100000
+reader_send : IsSend reader.the_row
+reader_send = search (sendable, heap.crosses, seats.the_send) depth 40 fits 100000
 
 -- a display may go to another thread
-pub display-send : IsSend display.the_row
-display-send = search (sendable, heap.crosses, name-send, board-send, board-sync, publisher-send) depth 40 fits 100000
+pub display_send : IsSend display.the_row
+display_send = search (sendable, heap.crosses, name_send, board_send, board_sync, publisher_send) depth 40 fits 100000
 
 -- a watcher too
-pub watcher-send : IsSend watcher.the_row
-watcher-send = search (sendable, heap.crosses, board-send, board-sync, reader-send) depth 40 fits 100000
+pub watcher_send : IsSend watcher.the_row
+watcher_send = search (sendable, heap.crosses, board_send, board_sync, reader_send) depth 40 fits 100000

@@ -4,7 +4,7 @@ use Rattle.std.specs.Prelude.{replicate, slice_get, slice_index_or}
 use Rattle.std.proofs.lemmas.Bool.{cases_lt}
 use Rattle.std.proofs.lemmas.List.{get_or-replicate, get_or_past, length-replicate}
 use Rattle.pol_site.specs.Shown.{word_of_module}
-use Rattle.pol_site.specs.Sites.{SiteForm, SiteModuleForm}
+use Rattle.pol_site.specs.Sites.{PlainSite, PlainSiteModule}
 use Rattle.pol_shown.specs.Displays.{Displayed, Shows, name_of_module, said_by}
 
 alike : {A : Type 0} (count place : ℕ) (item : A) → slice_index_or (replicate count item) place item ≡ item
@@ -14,26 +14,26 @@ alike count place item =
     (subst (λ long. long ≤ place) (sym (length-replicate count item)) past))
     (cases_lt place count)
 
-nothing-said : (found : Option SiteModuleForm) (place : ℕ) → said_by (word_of_module found place []) ≡ 0
-nothing-said None place = refl
-nothing-said (Some unit) place = refl
+nothing_said : (found : Option PlainSiteModule) (place : ℕ) → said_by (word_of_module found place []) ≡ 0
+nothing_said None place = refl
+nothing_said (Some unit) place = refl
 
-nothing-named : (found : Option SiteModuleForm) (place : ℕ) → name_of_module found place [] ≡ None
-nothing-named None place = refl
-nothing-named (Some unit) place = refl
+nothing_named : (found : Option PlainSiteModule) (place : ℕ) → name_of_module found place [] ≡ None
+nothing_named None place = refl
+nothing_named (Some unit) place = refl
 
 -- words that say nothing, without names, show the empty history
-pub shows-nothing : (site : SiteForm) (display : Displayed) (count : ℕ) → count ≡ 32 * length site.modules →
+pub shows_nothing : (site : PlainSite) (display : Displayed) (count : ℕ) → count ≡ 32 * length site.modules →
     display.board.words ≡ count → display.words ≡ replicate count 0 → display.names ≡ replicate count None →
     Shows site [] display
-shows-nothing site display count all board words names = record {
+shows_nothing site display count all board words names = record {
   of_board = board ∙ all;
   long = ap length words ∙ length-replicate count 0 ∙ all;
   named = ap length names ∙ length-replicate count None ∙ all;
   words = λ word.
       ap (λ words. slice_index_or words word 0) words ∙ alike count word 0
-      ∙ sym (nothing-said (slice_get site.modules (word / 32)) (word % 32));
+      ∙ sym (nothing_said (slice_get site.modules (word / 32)) (word % 32));
   names = λ word.
       ap (λ names. slice_index_or names word None) names ∙ alike count word None
-      ∙ sym (nothing-named (slice_get site.modules (word / 32)) (word % 32));
+      ∙ sym (nothing_named (slice_get site.modules (word / 32)) (word % 32));
 }

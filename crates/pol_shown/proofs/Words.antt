@@ -3,116 +3,116 @@ use Rattle.std.proofs.Common.{◌≡◌, ◌≤◌, ◌∙◌, ℕ, suc, ◌/◌
 use Rattle.std.specs.Prelude.{◌&&◌, if◌then◌else◌, slice_get}
 use Rattle.std.specs.Option.{option_or}
 use Rattle.std.proofs.Math.Bool.{and-true, and-false}
-use Rattle.mtp_desc.specs.Plain.{DescriptionForm}
+use Rattle.mtp_desc.specs.Plain.{PlainDescription}
 use Rattle.pol_board.specs.Words.{number_of}
-use Rattle.pol_board.proofs.Older.{number-said}
-use Rattle.pol_events.specs.Events.{EntryForm}
+use Rattle.pol_board.proofs.Older.{number_said}
+use Rattle.pol_events.specs.Events.{PlainEntry}
 use Rattle.pol_history.specs.Looking.{History, Subject, of_module, of_batch, of_recipe, is_module, is_accepted, is_accepted_of, past, subject}
 use Rattle.pol_history.specs.Modules.{described, description_by, description_of}
 use Rattle.pol_site.specs.Shown.{BoardWord, board_word, is_name_of, name_at, shown_by, shown_in, word_after, word_of, word_of_module}
-use Rattle.pol_site.specs.Sites.{SiteForm, SiteModuleForm}
+use Rattle.pol_site.specs.Sites.{PlainSite, PlainSiteModule}
 use Rattle.pol_shown.specs.Displays.{name_of_module, said_by, service_of_word}
 use Rattle.pol_shown.specs.Followed.{accepted_tag, name_after, name_or, tag_in}
 
 -- ---- numbers
 
-word-number-short : (tag : List ℕ) (place : ℕ) (history : History) → (word_of tag place history).number ≤ length history
-word-number-short tag place [] = omega arith
-word-number-short tag place (entry ∷ older) =
+word_number_short : (tag : List ℕ) (place : ℕ) (history : History) → (word_of tag place history).number ≤ length history
+word_number_short tag place [] = omega arith
+word_number_short tag place (entry ∷ older) =
     elim (shown_in tag place older entry)
     as (λ shown. (word_after shown (length older) (word_of tag place older)).number ≤ suc (length older)) [
-      | None ↦ omega (arith, word-number-short tag place older)
+      | None ↦ omega (arith, word_number_short tag place older)
       | Some state ↦ omega arith
     ]
 
 -- no word has a higher number than the history's length
-pub number-short : (site : SiteForm) (history : History) (word : ℕ) →
+pub number_short : (site : PlainSite) (history : History) (word : ℕ) →
     (board_word site history word).number ≤ length history
-number-short site history word =
+number_short site history word =
     elim (slice_get site.modules (word / 32))
     as (λ unit. (word_of_module unit (word % 32) history).number ≤ length history) [
       | None ↦ omega arith
-      | Some unit ↦ word-number-short unit.tag (word % 32) history
+      | Some unit ↦ word_number_short unit.tag (word % 32) history
     ]
 
 -- the number that is said is the word's
-pub said-number : (word : BoardWord) → number_of (said_by word) ≡ word.number
-said-number word = number-said word.number word.state
+pub said_number : (word : BoardWord) → number_of (said_by word) ≡ word.number
+said_number word = number_said word.number word.state
 
 -- ---- an entry that isn't an accepted one of the module
 
-quiet-found : (entry : EntryForm) (older : History) (place : ℕ) (found : Option SiteModuleForm) →
-    ((unit : SiteModuleForm) → found ≡ Some unit → is_accepted_of unit.tag entry ≡ false) →
+quiet_found : (entry : PlainEntry) (older : History) (place : ℕ) (found : Option PlainSiteModule) →
+    ((unit : PlainSiteModule) → found ≡ Some unit → is_accepted_of unit.tag entry ≡ false) →
     word_of_module found place (entry ∷ older) ≡ word_of_module found place older
-quiet-found entry older place None quiet = refl
-quiet-found entry older place (Some unit) quiet =
+quiet_found entry older place None quiet = refl
+quiet_found entry older place (Some unit) quiet =
     ap (λ accepted. word_after (if accepted then shown_by (name_at place (description_of older unit.tag)) entry.event
     else None) (length older) (word_of unit.tag place older)) (quiet unit refl)
 
-quiet-named : (entry : EntryForm) (older : History) (place : ℕ) (found : Option SiteModuleForm) →
-    ((unit : SiteModuleForm) → found ≡ Some unit → is_accepted_of unit.tag entry ≡ false) →
+quiet_named : (entry : PlainEntry) (older : History) (place : ℕ) (found : Option PlainSiteModule) →
+    ((unit : PlainSiteModule) → found ≡ Some unit → is_accepted_of unit.tag entry ≡ false) →
     name_of_module found place (entry ∷ older) ≡ name_of_module found place older
-quiet-named entry older place None quiet = refl
-quiet-named entry older place (Some unit) quiet =
+quiet_named entry older place None quiet = refl
+quiet_named entry older place (Some unit) quiet =
     ap (λ accepted. name_at place (description_by (cond accepted (entry ∷ past unit.tag older) (past unit.tag older))))
     (quiet unit refl)
 
 -- the entry is no accepted one of the module that the word belongs to, if there is one
-abbrev pub IsQuiet : SiteForm → EntryForm → ℕ → Type 0
+abbrev pub IsQuiet : PlainSite → PlainEntry → ℕ → Type 0
 IsQuiet site entry word =
-    (unit : SiteModuleForm) → slice_get site.modules (word / 32) ≡ Some unit → is_accepted_of unit.tag entry ≡ false
+    (unit : PlainSiteModule) → slice_get site.modules (word / 32) ≡ Some unit → is_accepted_of unit.tag entry ≡ false
 
 -- then the word stays
-pub quiet-word : (site : SiteForm) (entry : EntryForm) (older : History) (word : ℕ) → IsQuiet site entry word →
+pub quiet_word : (site : PlainSite) (entry : PlainEntry) (older : History) (word : ℕ) → IsQuiet site entry word →
     board_word site (entry ∷ older) word ≡ board_word site older word
-quiet-word site entry older word = quiet-found entry older (word % 32) (slice_get site.modules (word / 32))
+quiet_word site entry older word = quiet_found entry older (word % 32) (slice_get site.modules (word / 32))
 
 -- and the name at it
-pub quiet-name : (site : SiteForm) (entry : EntryForm) (older : History) (word : ℕ) → IsQuiet site entry word →
+pub quiet_name : (site : PlainSite) (entry : PlainEntry) (older : History) (word : ℕ) → IsQuiet site entry word →
     service_of_word site (entry ∷ older) word ≡ service_of_word site older word
-quiet-name site entry older word = quiet-named entry older (word % 32) (slice_get site.modules (word / 32))
+quiet_name site entry older word = quiet_named entry older (word % 32) (slice_get site.modules (word / 32))
 
 -- ---- an accepted entry of the module
 
 -- the word is what the event shows of its service, if anything
-pub word-followed : (site : SiteForm) (entry : EntryForm) (older : History) (word : ℕ) (unit : SiteModuleForm) →
+pub word_followed : (site : PlainSite) (entry : PlainEntry) (older : History) (word : ℕ) (unit : PlainSiteModule) →
     slice_get site.modules (word / 32) ≡ Some unit → is_accepted_of unit.tag entry ≡ true →
     board_word site (entry ∷ older) word
     ≡ word_after (shown_by (service_of_word site older word) entry.event) (length older) (board_word site older word)
-word-followed site entry older word unit there accepted =
+word_followed site entry older word unit there accepted =
     ap (λ found. word_of_module found (word % 32) (entry ∷ older)) there
     ∙ ap (λ accepted. word_after (if accepted then shown_by (name_at (word % 32) (description_of older unit.tag))
     entry.event else None) (length older) (word_of unit.tag (word % 32) older)) accepted
     ∙ ap (λ found. word_after (shown_by (name_of_module found (word % 32) older) entry.event) (length older)
     (word_of_module found (word % 32) older)) (sym there)
 
-name-described : (place : ℕ) (found before : Option DescriptionForm) →
+name_described : (place : ℕ) (found before : Option PlainDescription) →
     name_at place (option_or found before) ≡ name_or found place (name_at place before)
-name-described place None before = refl
-name-described place (Some description) before = refl
+name_described place None before = refl
+name_described place (Some description) before = refl
 
 -- the name is that in the description that the event brings, if it does
-pub name-followed : (site : SiteForm) (entry : EntryForm) (older : History) (word : ℕ) (unit : SiteModuleForm) →
+pub name_followed : (site : PlainSite) (entry : PlainEntry) (older : History) (word : ℕ) (unit : PlainSiteModule) →
     slice_get site.modules (word / 32) ≡ Some unit → is_accepted_of unit.tag entry ≡ true →
     service_of_word site (entry ∷ older) word ≡ name_after (word % 32) entry.event (service_of_word site older word)
-name-followed site entry older word unit there accepted =
+name_followed site entry older word unit there accepted =
     ap (λ found. name_of_module found (word % 32) (entry ∷ older)) there
     ∙ ap (λ accepted. name_at (word % 32) (description_by (cond accepted (entry ∷ past unit.tag older)
     (past unit.tag older)))) accepted
-    ∙ name-described (word % 32) (described entry.event) (description_of older unit.tag)
+    ∙ name_described (word % 32) (described entry.event) (description_of older unit.tag)
     ∙ ap (λ found. name_after (word % 32) entry.event (name_of_module found (word % 32) older)) (sym there)
 
 -- ---- whom an accepted entry is about
 
-tag-told : (tag : List ℕ) (told : Subject) (accepted : Bool) →
+tag_told : (tag : List ℕ) (told : Subject) (accepted : Bool) →
     (is_module tag told && accepted) ≡ is_name_of tag (if accepted then tag_in told else None)
-tag-told tag (of_module other) true = and-true _
-tag-told tag (of_module other) false = and-false _
-tag-told tag (of_batch batch) true = refl
-tag-told tag (of_batch batch) false = refl
-tag-told tag (of_recipe name) true = refl
-tag-told tag (of_recipe name) false = refl
+tag_told tag (of_module other) true = and-true _
+tag_told tag (of_module other) false = and-false _
+tag_told tag (of_batch batch) true = refl
+tag_told tag (of_batch batch) false = refl
+tag_told tag (of_recipe name) true = refl
+tag_told tag (of_recipe name) false = refl
 
 -- the entry is an accepted one of the module exactly where it is about the module's tag
-pub accepted-of : (tag : List ℕ) (entry : EntryForm) → is_accepted_of tag entry ≡ is_name_of tag (accepted_tag entry)
-accepted-of tag entry = tag-told tag (subject entry.event) (is_accepted entry.answer)
+pub accepted_of : (tag : List ℕ) (entry : PlainEntry) → is_accepted_of tag entry ≡ is_name_of tag (accepted_tag entry)
+accepted_of tag entry = tag_told tag (subject entry.event) (is_accepted entry.answer)

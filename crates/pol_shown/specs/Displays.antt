@@ -6,7 +6,7 @@ use Rattle.pol_board.specs.Words.{word_of}
 use Rattle.pol_history.specs.Looking.{History}
 use Rattle.pol_history.specs.Modules.{description_of}
 use Rattle.pol_site.specs.Shown.{BoardWord, board_word, name_at}
-use Rattle.pol_site.specs.Sites.{SiteForm, SiteModuleForm}
+use Rattle.pol_site.specs.Sites.{PlainSite, PlainSiteModule}
 
 -- which board it publishes on, the words that it published last, and at each word the name of its service, if there is
 -- one
@@ -39,17 +39,17 @@ abbrev pub name_in : List (Option (List ℕ)) → ℕ → Option (List ℕ)
 name_in names word = slice_index_or names word None
 
 -- the name of a module's service at a place, by the description that the history leaves it
-abbrev pub name_of_module : Option SiteModuleForm → ℕ → History → Option (List ℕ)
+abbrev pub name_of_module : Option PlainSiteModule → ℕ → History → Option (List ℕ)
 name_of_module None place history = None
 name_of_module (Some unit) place history = name_at place (description_of history unit.tag)
 
 -- the name of the service that a word of the board is about
-abbrev pub service_of_word : SiteForm → History → ℕ → Option (List ℕ)
+abbrev pub service_of_word : PlainSite → History → ℕ → Option (List ℕ)
 service_of_word site history word = name_of_module (slice_get site.modules (word / 32)) (word % 32) history
 
 -- each word is what a history shows there, and its name is that of the word's service; the history may be another one
 -- at each word
-pub record ShowsAt (site : SiteForm) (at : ℕ → History) (display : Displayed) : Type 0 where
+pub record ShowsAt (site : PlainSite) (at : ℕ → History) (display : Displayed) : Type 0 where
   pub of_board : display.board.words ≡ 32 * length site.modules
   pub long : length display.words ≡ 32 * length site.modules
   pub named : length display.names ≡ 32 * length site.modules
@@ -57,5 +57,5 @@ pub record ShowsAt (site : SiteForm) (at : ℕ → History) (display : Displayed
   pub names : (word : ℕ) → name_in display.names word ≡ service_of_word site (at word) word
 
 -- the display shows the history: the board has 32 words for each module, and each was published as the history has it
-abbrev pub Shows : SiteForm → History → Displayed → Type 0
+abbrev pub Shows : PlainSite → History → Displayed → Type 0
 Shows site history display = ShowsAt site (λ _. history) display

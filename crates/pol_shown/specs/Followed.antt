@@ -1,13 +1,13 @@
 -- How a display follows a history by one entry.
 use Rattle.std.specs.Prelude.{ℕ, List, [], ◌∷◌, Option, Some, None, nat_lt, slice_set, if◌then◌else◌}
 use Rattle.mtp_codes.specs.declared.state.State.{State}
-use Rattle.mtp_desc.specs.Plain.{DescriptionForm}
+use Rattle.mtp_desc.specs.Plain.{PlainDescription}
 use Rattle.pol_board.specs.Words.{word_of}
-use Rattle.pol_events.specs.Events.{EventForm, EntryForm}
+use Rattle.pol_events.specs.Events.{PlainEvent, PlainEntry}
 use Rattle.pol_history.specs.Looking.{History, Subject, of_module, of_batch, of_recipe, is_accepted, subject}
 use Rattle.pol_history.specs.Modules.{described}
 use Rattle.pol_site.specs.Shown.{name_at}
-use Rattle.pol_site.specs.Sites.{SiteForm}
+use Rattle.pol_site.specs.Sites.{PlainSite}
 use Rattle.pol_shown.specs.Displays.{Displayed, ShowsAt}
 
 -- the history before its newest entry
@@ -22,7 +22,7 @@ tag_in (of_batch batch) = None
 tag_in (of_recipe name) = None
 
 -- the tag of the module that an accepted entry is about
-abbrev pub accepted_tag : EntryForm → Option (List ℕ)
+abbrev pub accepted_tag : PlainEntry → Option (List ℕ)
 accepted_tag entry = if is_accepted entry.answer then tag_in (subject entry.event) else None
 
 -- the words after one is published, where an event shows something there
@@ -31,15 +31,15 @@ published None word number words = words
 published (Some state) word number words = slice_set words word (word_of number state)
 
 -- the name at a place of a description, or where there is none the name so far
-abbrev pub name_or : Option DescriptionForm → ℕ → Option (List ℕ) → Option (List ℕ)
+abbrev pub name_or : Option PlainDescription → ℕ → Option (List ℕ) → Option (List ℕ)
 name_or None place name = name
 name_or (Some description) place name = name_at place (Some description)
 
 -- the name of the service at a place, after an event of its module
-abbrev pub name_after : ℕ → EventForm → Option (List ℕ) → Option (List ℕ)
+abbrev pub name_after : ℕ → PlainEvent → Option (List ℕ) → Option (List ℕ)
 name_after place event name = name_or (described event) place name
 
 -- of the words below a bound it shows the history with the entry, and of the others the history before
-abbrev pub ShowsBelow : ℕ → SiteForm → EntryForm → History → Displayed → Type 0
+abbrev pub ShowsBelow : ℕ → PlainSite → PlainEntry → History → Displayed → Type 0
 ShowsBelow bound site entry older display =
     ShowsAt site (λ word. if nat_lt word bound then entry ∷ older else older) display

@@ -2,10 +2,10 @@
 ghost use Rattle.std.specs.Prelude.{◌≡◌, ◌<◌, ◌≤◌, ◌+◌, ◌*◌, ◌%◌, ◌^◌, ◌∷◌, [], length, slice_get, slice_index, slice_set, true, Some, IfOk, option_map};
 ghost use Rattle.mtp_codes.specs.declared.limits.TheConstants.{LONGEST_HISTORY, MOST_MODULES};
 ghost use Rattle.pol_board.specs.Words.{number_of};
-ghost use Rattle.pol_events.specs.Events.{entry_view, event_view, history_view};
+ghost use Rattle.pol_events.specs.Events.{plain_entry, plain_event, plain_history};
 ghost use Rattle.pol_history.specs.Looking.{is_accepted_of};
 ghost use Rattle.pol_site.specs.Shown.{shown_by};
-ghost use Rattle.pol_site.specs.SiteView.{site_view};
+ghost use Rattle.pol_site.specs.PlainSite.{plain_site};
 ghost use Rattle.pol_shown.specs.Displays.{Shows, name_in};
 ghost use Rattle.pol_shown.specs.Followed.{ShowsBelow, accepted_tag, before_newest, name_after, published};
 
@@ -56,7 +56,7 @@ impl Display {
     ///
     /// Where there is no memory.
     pub fn new(alloc: Global, site: &Site) -> Result<Display, AllocError>
-        ensures { IfOk result (λ display. Shows (site_view site.now) [] display) }
+        ensures { IfOk result (λ display. Shows (plain_site site.now) [] display) }
     {
         let count = WORDS * site.modules.len();
         let names = vec![in alloc; None; count]?;
@@ -89,9 +89,9 @@ impl Display {
         requires number { (number < 2 ^ 46) × (number_of (slice_index self.old.words word) < number) }
         ensures board { self.new.board ≡ self.old.board }
         ensures words { self.new.words
-            ≡ published (shown_by (name_in self.old.names word) (event_view event.now)) word number self.old.words }
+            ≡ published (shown_by (name_in self.old.names word) (plain_event event.now)) word number self.old.words }
         ensures names { self.new.names ≡ slice_set self.old.names word
-            (name_after (word % 32) (event_view event.now) (name_in self.old.names word)) }
+            (name_after (word % 32) (plain_event event.now) (name_in self.old.names word)) }
     {
         let shown = shown_by(self.names[word], event);
         if let Some(state) = shown {
@@ -105,14 +105,14 @@ impl Display {
     // Publishes what an accepted event of the module at a place shows at its words.
     fn follow_module(&mut self, site: &Site, older: &[Entry], entry: &Entry, place: usize)
         requires place { place < MOST_MODULES }
-        requires accepted { option_map (λ unit. is_accepted_of unit.tag (entry_view entry.now))
-            (slice_get (site_view site.now).modules place) ≡ Some true }
+        requires accepted { option_map (λ unit. is_accepted_of unit.tag (plain_entry entry.now))
+            (slice_get (plain_site site.now).modules place) ≡ Some true }
         requires short { length older.now < LONGEST_HISTORY }
-        requires shown { ShowsBelow (32 * place) (site_view site.now) (entry_view entry.now) (history_view older.now)
+        requires shown { ShowsBelow (32 * place) (plain_site site.now) (plain_entry entry.now) (plain_history older.now)
             self.old }
         ensures board { self.new.board ≡ self.old.board }
-        ensures shown { ShowsBelow (32 * (place + 1)) (site_view site.now) (entry_view entry.now)
-            (history_view older.now) self.new }
+        ensures shown { ShowsBelow (32 * (place + 1)) (plain_site site.now) (plain_entry entry.now)
+            (plain_history older.now) self.new }
     {
         let number = older.len() as u64 + 1;
         for word in WORDS * place..WORDS * (place + 1) {
@@ -122,11 +122,11 @@ impl Display {
 
     // Publishes what an accepted event of the module of a tag shows.
     fn follow_tag(&mut self, site: &Site, older: &[Entry], entry: &Entry, tag: Name)
-        requires tag { accepted_tag (entry_view entry.now) ≡ Some tag }
+        requires tag { accepted_tag (plain_entry entry.now) ≡ Some tag }
         requires short { length older.now < LONGEST_HISTORY }
-        requires shown { Shows (site_view site.now) (history_view older.now) self.old }
+        requires shown { Shows (plain_site site.now) (plain_history older.now) self.old }
         ensures board { self.new.board ≡ self.old.board }
-        ensures shown { Shows (site_view site.now) (entry_view entry.now ∷ history_view older.now) self.new }
+        ensures shown { Shows (plain_site site.now) (plain_entry entry.now ∷ plain_history older.now) self.new }
     {
         for place in 0..site.modules.len() {
             if tag == site.modules[place].tag {
@@ -141,9 +141,9 @@ impl Display {
     /// number. Nothing else is published. It takes no memory and never waits.
     pub fn follow(&mut self, site: &Site, history: &[Entry])
         requires short { length history.now ≤ LONGEST_HISTORY }
-        requires shown { Shows (site_view site.now) (before_newest (history_view history.now)) self.old }
+        requires shown { Shows (plain_site site.now) (before_newest (plain_history history.now)) self.old }
         ensures board { self.new.board ≡ self.old.board }
-        ensures shown { Shows (site_view site.now) (history_view history.now) self.new }
+        ensures shown { Shows (plain_site site.now) (plain_history history.now) self.new }
     {
         let Some((entry, older)) = history.split_last() else {
             return;

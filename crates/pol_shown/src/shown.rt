@@ -1,6 +1,6 @@
 //! What one event shows of one service.
 ghost use Rattle.std.specs.Prelude.{◌≡◌};
-ghost use Rattle.pol_events.specs.Events.{entry_view, event_view};
+ghost use Rattle.pol_events.specs.Events.{plain_entry, plain_event};
 ghost use Rattle.pol_shown.specs.Followed.{accepted_tag, name_after};
 ghost use Rattle.pol_site.specs.Shown.{shown_by};
 
@@ -9,7 +9,7 @@ use pol_events::{Entry, Event, Subject};
 
 /// The tag of the module that an accepted entry is about.
 pub(crate) fn accepted_tag(entry: &Entry) -> Option<Name>
-    ensures { result ≡ accepted_tag (entry_view entry.now) }
+    ensures { result ≡ accepted_tag (plain_entry entry.now) }
 {
     match entry.event.subject() {
         Subject::Module(tag) if entry.answer.is_accepted() => Some(tag),
@@ -20,7 +20,7 @@ pub(crate) fn accepted_tag(entry: &Entry) -> Option<Name>
 /// What an event shows of the service of this name: the state of a report of it; where an exchange begins, that none is
 /// reported.
 pub(crate) fn shown_by(name: Option<Name>, event: &Event) -> Option<Option<State>>
-    ensures { result ≡ shown_by name (event_view event.now) }
+    ensures { result ≡ shown_by name (plain_event event.now) }
 {
     let name = name?;
     match event {
@@ -36,7 +36,7 @@ pub(crate) fn shown_by(name: Option<Name>, event: &Event) -> Option<Option<State
 
 /// The name of the service at a place, after an event of its module: a description that the event brings tells it.
 pub(crate) fn name_after(place: usize, event: &Event, name: Option<Name>) -> Option<Name>
-    ensures { result ≡ name_after place (event_view event.now) name }
+    ensures { result ≡ name_after place (plain_event event.now) name }
 {
     match event {
         Event::Plug { desc, .. } | Event::ExchangeEnd { desc, .. } => {

@@ -5,23 +5,23 @@ use Rattle.std.specs.List.{list_any}
 use Rattle.std.specs.Str.{bytes_eq}
 use Rattle.std.proofs.lemmas.Option.{same_Some}
 use Rattle.mtp_json.specs.Form.{repeats_by}
-use Rattle.mtp_sim.proofs.Edges.{none-at}
+use Rattle.mtp_sim.proofs.Edges.{none_at}
 use Rattle.mtp_sim.proofs.Indexed.{neither}
 use Rattle.mtp_sim.specs.declared.service.SimService.{SimService}
-use Rattle.pol_history.proofs.Names.{same-true, same-refl}
+use Rattle.pol_history.proofs.Names.{same_true, same_refl}
 
 -- the name of a service
 abbrev pub service_name : SimService → List ℕ
 service_name service = service.name
 
 -- where the element at a place is replaced by one of its name, that one is found in its place
-pub called-set : {A : Type 0} (name_of : A → List ℕ) (xs : List A) (i : ℕ) (x y : A) (name : List ℕ)
+pub called_set : {A : Type 0} (name_of : A → List ℕ) (xs : List A) (i : ℕ) (x y : A) (name : List ℕ)
     → repeats_by (λ one other. bytes_eq (name_of one) (name_of other)) xs ≡ false → slice_get xs i ≡ Some x
     → name_of y ≡ name_of x
     → find (λ each. bytes_eq (name_of each) name) (slice_set xs i y)
     ≡ cond (bytes_eq (name_of x) name) (Some y) (find (λ each. bytes_eq (name_of each) name) xs)
-called-set name_of [] i x y name unlike at named = cc
-called-set {A} name_of (first ∷ others) zero x y name unlike at named =
+called_set name_of [] i x y name unlike at named = cc
+called_set {A} name_of (first ∷ others) zero x y name unlike at named =
     let same : first ≡ x = same_Some first x at in
     let names : name_of y ≡ name_of first = named ∙ ap name_of (sym same) in
     go (bytes_eq (name_of y) name) (bytes_eq (name_of x) name) (bytes_eq (name_of first) name)
@@ -34,12 +34,12 @@ called-set {A} name_of (first ∷ others) zero x y name unlike at named =
     go : (a b c : Bool) → a ≡ c → b ≡ c → cond a (Some y) rest ≡ cond b (Some y) (cond c (Some first) rest)
     go a b true e f = rw (e, f) refl
     go a b false e f = rw (e, f) refl
-called-set {A} name_of (first ∷ others) (suc i) x y name unlike at named =
+called_set {A} name_of (first ∷ others) (suc i) x y name unlike at named =
     let parts = neither (list_any (λ other. bytes_eq (name_of first) (name_of other)) others)
     (repeats_by (λ one other. bytes_eq (name_of one) (name_of other)) others) unlike in
     let other : bytes_eq (name_of first) (name_of x) ≡ false =
-    none-at (λ other. bytes_eq (name_of first) (name_of other)) others i x parts.0 at in
-    rw (called-set name_of others i x y name parts.1 at named)
+    none_at (λ other. bytes_eq (name_of first) (name_of other)) others i x parts.0 at in
+    rw (called_set name_of others i x y name parts.1 at named)
     (go (bytes_eq (name_of first) name) (bytes_eq (name_of x) name) refl refl other)
   where
     rest : Option A
@@ -49,58 +49,58 @@ called-set {A} name_of (first ∷ others) (suc i) x y name unlike at named =
         → bytes_eq (name_of first) (name_of x) ≡ false
         → cond b (Some first) (cond c (Some y) rest) ≡ cond c (Some y) (cond b (Some first) rest)
     go true true one two apart =
-        let same : name_of first ≡ name_of x = same-true (name_of first) name one ∙ sym (same-true (name_of x) name two)
+        let same : name_of first ≡ name_of x = same_true (name_of first) name one ∙ sym (same_true (name_of x) name two)
         in
-        let clash : false ≡ true = sym apart ∙ ap (λ n. bytes_eq n (name_of x)) same ∙ same-refl (name_of x) in cc
+        let clash : false ≡ true = sym apart ∙ ap (λ n. bytes_eq n (name_of x)) same ∙ same_refl (name_of x) in cc
     go true false one two apart = refl
     go false true one two apart = refl
     go false false one two apart = refl
 
 -- an item that is put where it stands leaves the list
-set-same : {A : Type 0} (xs : List A) (i : ℕ) (x : A) → slice_get xs i ≡ Some x → slice_set xs i x ≡ xs
-set-same [] i x at = cc
-set-same (first ∷ others) zero x at = ap (λ each. each ∷ others) (sym (same_Some first x at))
-set-same (first ∷ others) (suc i) x at = ap (λ xs. first ∷ xs) (set-same others i x at)
+set_same : {A : Type 0} (xs : List A) (i : ℕ) (x : A) → slice_get xs i ≡ Some x → slice_set xs i x ≡ xs
+set_same [] i x at = cc
+set_same (first ∷ others) zero x at = ap (λ each. each ∷ others) (sym (same_Some first x at))
+set_same (first ∷ others) (suc i) x at = ap (λ xs. first ∷ xs) (set_same others i x at)
 
 -- the element at a place is the one that is found by its name
-pub called-at : {A : Type 0} (name_of : A → List ℕ) (xs : List A) (i : ℕ) (x : A) (name : List ℕ)
+pub called_at : {A : Type 0} (name_of : A → List ℕ) (xs : List A) (i : ℕ) (x : A) (name : List ℕ)
     → repeats_by (λ one other. bytes_eq (name_of one) (name_of other)) xs ≡ false → slice_get xs i ≡ Some x
     → bytes_eq (name_of x) name ≡ true
     → find (λ each. bytes_eq (name_of each) name) xs ≡ Some x
-called-at name_of xs i x name unlike at named =
-    ap (find (λ each. bytes_eq (name_of each) name)) (sym (set-same xs i x at))
-    ∙ called-set name_of xs i x x name unlike at refl ∙ ap
+called_at name_of xs i x name unlike at named =
+    ap (find (λ each. bytes_eq (name_of each) name)) (sym (set_same xs i x at))
+    ∙ called_set name_of xs i x x name unlike at refl ∙ ap
     (λ b. cond b (Some x) (find (λ each. bytes_eq (name_of each) name) xs)) named
 
 -- an item that passes a test as the one in its place did leaves whether some item does
-any-set : {A : Type 0} (test : A → Bool) (xs : List A) (i : ℕ) (x y : A) → slice_get xs i ≡ Some x → test y ≡ test x
+any_set : {A : Type 0} (test : A → Bool) (xs : List A) (i : ℕ) (x y : A) → slice_get xs i ≡ Some x → test y ≡ test x
     → list_any test (slice_set xs i y) ≡ list_any test xs
-any-set test [] i x y at same = cc
-any-set test (first ∷ others) zero x y at same =
+any_set test [] i x y at same = cc
+any_set test (first ∷ others) zero x y at same =
     ap (λ b. b || list_any test others) (same ∙ ap test (sym (same_Some first x at)))
-any-set test (first ∷ others) (suc i) x y at same = ap (λ b. test first || b) (any-set test others i x y at same)
+any_set test (first ∷ others) (suc i) x y at same = ap (λ b. test first || b) (any_set test others i x y at same)
 
 -- elements of different names stay so where one is replaced by one of its name
-pub repeats-set : {A : Type 0} (name_of : A → List ℕ) (xs : List A) (i : ℕ) (x y : A) → slice_get xs i ≡ Some x
+pub repeats_set : {A : Type 0} (name_of : A → List ℕ) (xs : List A) (i : ℕ) (x y : A) → slice_get xs i ≡ Some x
     → name_of y ≡ name_of x
     → repeats_by (λ one other. bytes_eq (name_of one) (name_of other)) (slice_set xs i y) ≡ repeats_by
     (λ one other. bytes_eq (name_of one) (name_of other)) xs
-repeats-set name_of [] i x y at same = cc
-repeats-set name_of (first ∷ others) zero x y at same =
+repeats_set name_of [] i x y at same = cc
+repeats_set name_of (first ∷ others) zero x y at same =
     ap (λ n. list_any (λ other. bytes_eq n (name_of other)) others || repeats_by
     (λ one other. bytes_eq (name_of one) (name_of other)) others)
     (same ∙ ap name_of (sym (same_Some first x at)))
-repeats-set name_of (first ∷ others) (suc i) x y at same =
+repeats_set name_of (first ∷ others) (suc i) x y at same =
     rw (
-      any-set (λ other. bytes_eq (name_of first) (name_of other)) others i x y at
+      any_set (λ other. bytes_eq (name_of first) (name_of other)) others i x y at
           (ap (bytes_eq (name_of first)) same),
-      repeats-set name_of others i x y at same,
+      repeats_set name_of others i x y at same,
     ) refl
 
 -- an item that has the image of the one in its place leaves the images
-pub map-set : {A B : Type 0} (f : A → B) (xs : List A) (i : ℕ) (x y : A) → slice_get xs i ≡ Some x → f y ≡ f x
+pub map_set : {A B : Type 0} (f : A → B) (xs : List A) (i : ℕ) (x y : A) → slice_get xs i ≡ Some x → f y ≡ f x
     → map f (slice_set xs i y) ≡ map f xs
-map-set f [] i x y at same = cc
-map-set f (first ∷ others) zero x y at same =
+map_set f [] i x y at same = cc
+map_set f (first ∷ others) zero x y at same =
     ap (λ each. each ∷ map f others) (same ∙ ap f (sym (same_Some first x at)))
-map-set f (first ∷ others) (suc i) x y at same = ap (λ each. f first ∷ each) (map-set f others i x y at same)
+map_set f (first ∷ others) (suc i) x y at same = ap (λ each. f first ∷ each) (map_set f others i x y at same)

@@ -4,7 +4,7 @@ use Rattle.std.specs.Option.{option_or}
 use Rattle.mtp_codes.specs.declared.command.Command.{Command}
 use Rattle.chart_core.specs.declared.entry.LogEntry.{LogEntry}
 use Rattle.chart_cursor.specs.Commands.{sent_by}
-use Rattle.pol_events.specs.Events.{EntryForm}
+use Rattle.pol_events.specs.Events.{PlainEntry}
 use Rattle.pol_history.specs.Looking.{History}
 use Rattle.pol_history.specs.Batches.{taken}
 use Rattle.pol_history.specs.Modules.{is_moving}
@@ -21,7 +21,7 @@ pub record Found : Type 0 where
   pub place : ℕ
 
 -- what the answer at this place does, where it commands the module and the place isn't before the one to look from
-abbrev pub found_at : List ℕ → ℕ → ℕ → EntryForm → Option Found
+abbrev pub found_at : List ℕ → ℕ → ℕ → PlainEntry → Option Found
 found_at tag from place entry =
     if nat_le from place && is_some (sent_to tag entry)
     then option_map (λ did. record { did = did; place = place }) (taken entry.answer)

@@ -4,20 +4,20 @@ use Rattle.std.specs.Str.{bytes_eq}
 use Rattle.mtp_codes.specs.declared.command.Command.{Command}
 use Rattle.mtp_assembly.specs.declared.control.ServiceControl.{ServiceControl}
 use Rattle.mtp_json.specs.Form.{repeats_by}
-use Rattle.mtp_desc.specs.Plain.{DescriptionForm}
+use Rattle.mtp_desc.specs.Plain.{PlainDescription}
 use Rattle.mtp_desc.specs.Lookup.{self_completes}
 use Rattle.mtp_sim.specs.declared.service.SimService.{SimService}
 use Rattle.mtp_sim.specs.declared.drift.SimDrift.{SimDrift}
 use Rattle.mtp_sim.specs.declared.report.SimReport.{SimReport}
 use Rattle.mtp_sim.specs.declared.report.SimReport.TheVariants.{Service, Variable}
-use Rattle.mtp_sim.specs.Sims.{SimForm, PlanForm, drift_in}
+use Rattle.mtp_sim.specs.Sims.{PlainSim, PlainPlan, drift_in}
 use Rattle.mtp_sim.specs.Ticks.{control_now, is_untold}
 use Rattle.mtp_sim.specs.Told.{AreNext}
-use Rattle.pol_events.specs.Events.{EventForm, report, variable}
+use Rattle.pol_events.specs.Events.{PlainEvent, report, variable}
 use Rattle.pol_events.specs.declared.answer.Answer.TheVariants.{Done}
 use Rattle.pol_history.specs.Looking.{History}
 use Rattle.pol_history.specs.Modules.{since_docking, description_by, value_by}
-use Rattle.pol_site.specs.Sites.{SiteForm}
+use Rattle.pol_site.specs.Sites.{PlainSite}
 use Rattle.pol_site.specs.Stories.{times_sent, controls_in}
 use Rattle.pol_site.specs.Plans.{plan_by, whole_in}
 use Rattle.pol_site.specs.Commanded.{changes_by}
@@ -25,7 +25,7 @@ use Rattle.pol_site.specs.Commanded.{changes_by}
 -- ---- what was told
 
 -- the event of a report, with its stamp
-abbrev pub report_event : ℕ → List ℕ → SimReport → EventForm
+abbrev pub report_event : ℕ → List ℕ → SimReport → PlainEvent
 report_event at tag (Service name control) = report at tag name control
 report_event at tag (Variable name value) = variable at tag name value
 
@@ -42,17 +42,18 @@ newest (first ∷ others) = Some first
 -- ---- one service, one drift
 
 -- what the service told last is what it keeps; and where its state is told, that is what it reports now
-pub record IsTold (description : DescriptionForm) (service : SimService) (controls : List ServiceControl) : Type 0 where
-  pub last : option_map (λ control. control.state) (newest controls) ≡ service.last
-  pub now : is_untold service ≡ false → newest controls ≡ Some (control_now description service)
+pub record IsTold (description : PlainDescription) (service : SimService) (controls : List ServiceControl) : Type 0
+  where
+    pub last : option_map (λ control. control.state) (newest controls) ≡ service.last
+    pub now : is_untold service ≡ false → newest controls ≡ Some (control_now description service)
 
 -- a service that the module hasn't got told nothing
-abbrev pub IsServiceTold : DescriptionForm → Option SimService → List ServiceControl → Type 0
+abbrev pub IsServiceTold : PlainDescription → Option SimService → List ServiceControl → Type 0
 IsServiceTold description None controls = controls ≡ []
 IsServiceTold description (Some service) controls = IsTold description service controls
 
 -- what the service went through: what it told, and its state where that isn't told
-abbrev pub gone_through : DescriptionForm → SimService → List ServiceControl → List ServiceControl
+abbrev pub gone_through : PlainDescription → SimService → List ServiceControl → List ServiceControl
 gone_through description service controls =
     if is_untold service then control_now description service ∷ controls else controls
 
@@ -80,12 +81,12 @@ abbrev pub is_same_drift : SimDrift → SimDrift → Bool
 is_same_drift drift other = bytes_eq drift.name other.name
 
 -- the plan by which the module is simulated
-abbrev pub plan_in : SimForm → PlanForm
+abbrev pub plan_in : PlainSim → PlainPlan
 plan_in sim = record { ticks = sim.ticks; run = sim.run; drifts = map drift_in sim.drifts }
 
 -- the module is the one that is docked, as its site plans it; each of its services is where it may be; and what it
 -- keeps is what was told
-pub record IsInStep (site : SiteForm) (tag : List ℕ) (past : History) (sim : SimForm) : Type 0 where
+pub record IsInStep (site : PlainSite) (tag : List ℕ) (past : History) (sim : PlainSim) : Type 0 where
   pub described : description_by past ≡ Some sim.description
   pub planned : plan_by site tag past ≡ Some (plan_in sim)
   pub named : map (λ service. service.name) sim.services ≡ map (λ service. service.name) sim.description.services
@@ -98,25 +99,25 @@ pub record IsInStep (site : SiteForm) (tag : List ℕ) (past : History) (sim : S
   pub drifts : (name : List ℕ) → IsDriftTold (drift_called name sim.drifts) (whole_in (value_by name past))
 
 -- how often the service changed by the command, by what it went through
-abbrev pub changes_of : DescriptionForm → List ℕ → Command → SimService → List ServiceControl → ℕ
+abbrev pub changes_of : PlainDescription → List ℕ → Command → SimService → List ServiceControl → ℕ
 changes_of description name command service controls =
     changes_by (λ procedure. self_completes name procedure description) command
     (gone_through description service controls)
 
 -- a service went through at most as many changes by a command as were sent among what the module looked at
 abbrev pub IsServiceCounted :
-    DescriptionForm → List ℕ → Option SimService → List ServiceControl → (Command → ℕ) → Type 0
+    PlainDescription → List ℕ → Option SimService → List ServiceControl → (Command → ℕ) → Type 0
 IsServiceCounted description name None controls sent = Unit {0}
 IsServiceCounted description name (Some service) controls sent =
     (command : Command) → changes_of description name command service controls ≤ sent command
 
 -- each service did, where so many commands were sent to a service of a name
-abbrev pub IsCountedBy : (List ℕ → Command → ℕ) → History → SimForm → Type 0
+abbrev pub IsCountedBy : (List ℕ → Command → ℕ) → History → PlainSim → Type 0
 IsCountedBy sent past sim =
     (name : List ℕ) →
     IsServiceCounted sim.description name (service_called name sim.services) (controls_in name (since_docking past))
     (sent name)
 
 -- the commands are those of the part of the story that the module looked at
-abbrev pub IsCounted : List ℕ → History → History → SimForm → Type 0
+abbrev pub IsCounted : List ℕ → History → History → PlainSim → Type 0
 IsCounted tag past looked sim = IsCountedBy (λ name command. times_sent tag name command looked) past sim

@@ -3,7 +3,8 @@
 //! brings a module a plan brings it the site's. Each is a law over plain data, the contract of a function with an empty
 //! body.
 //!
-//! It knows nothing of batches, of threads or of who takes turns. What a module in step is stands in `specs/Units.antt`.
+//! It knows nothing of batches, of threads or of who takes turns. What a module in step is stands in
+//! `specs/Units.antt`.
 #![tactic(auto)]
 
 ghost use Rattle.pol_simulated.specs.Laws.{CommandsKeep, CountsGiveCommanded, FirstSimsAreInStep, ReportsAreAccepted, TicksKeep, UntouchedKeeps};

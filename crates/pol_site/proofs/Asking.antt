@@ -7,8 +7,8 @@ use Rattle.std.proofs.Math.Seq.{drop-cons}
 use Rattle.mtp_json.specs.declared.fault.JsonRefusal.{JsonRefusal}
 use Rattle.mtp_json.specs.declared.fault.JsonRefusal.TheVariants.{Fault, Memory}
 use Rattle.mtp_json.specs.declared.path.PathPart.TheVariants.{Place}
-use Rattle.mtp_json.specs.Gives.{Fails, Gives, Below}
-use Rattle.mtp_json.specs.Reading.{Reading, at}
+use Rattle.mtp_json.specs.ReadsAs.{IsFaultOrMemory, ReadsAs, ReadsUnder}
+use Rattle.mtp_json.specs.ReadResult.{ReadResult, at}
 use Rattle.mtp_json.proofs.Each.{gives_below}
 use Rattle.pol_site.specs.Rules.{each_ruled}
 
@@ -25,9 +25,10 @@ front plain items i item within is =
 
 -- one more item keeps the rule
 pub asks_next : {X Y : Type 0} (plain : X → Y) (rule : Y
-    → Reading ⊤) (items : List X) (i : ℕ) (item : X) (asked : Result ⊤ JsonRefusal)
-    (total : Reading ⊤) → i < length items → item ≡ get_or items i item → Gives (λ unit. unit) asked (rule (plain item))
-    → Below (Place i) asked (Ok tt) → each_ruled rule i (map plain (drop i items)) ≡ total
+    → ReadResult ⊤) (items : List X) (i : ℕ) (item : X) (asked : Result ⊤ JsonRefusal)
+    (total : ReadResult ⊤) → i < length items → item ≡ get_or items i item
+    → ReadsAs (λ unit. unit) asked (rule (plain item))
+    → ReadsUnder (Place i) asked (Ok tt) → each_ruled rule i (map plain (drop i items)) ≡ total
     → each_ruled rule (i + 1) (map plain (drop (i + 1) items)) ≡ total
 unfolding each_ruled
 asks_next plain rule items i item asked total within is gives below so_far =
@@ -40,10 +41,11 @@ asks_next plain rule items i item asked total within is gives below so_far =
 
 -- an item breaks the rule
 pub asks_stop : {X Y : Type 0} (plain : X → Y) (rule : Y
-    → Reading ⊤) (items : List X) (i : ℕ) (item : X) (asked : Result ⊤ JsonRefusal)
-    (refusal : JsonRefusal) (total : Reading ⊤) → i < length items → item ≡ get_or items i item
-    → Gives (λ unit. unit) asked (rule (plain item))
-    → Below (Place i) asked (Err refusal) → each_ruled rule i (map plain (drop i items)) ≡ total → Fails refusal total
+    → ReadResult ⊤) (items : List X) (i : ℕ) (item : X) (asked : Result ⊤ JsonRefusal)
+    (refusal : JsonRefusal) (total : ReadResult ⊤) → i < length items → item ≡ get_or items i item
+    → ReadsAs (λ unit. unit) asked (rule (plain item))
+    → ReadsUnder (Place i) asked (Err refusal) → each_ruled rule i (map plain (drop i items)) ≡ total
+    → IsFaultOrMemory refusal total
 unfolding each_ruled
 asks_stop plain rule items i item asked Memory total within is gives below so_far = tt
 asks_stop plain rule items i item asked (Fault fault) total within is gives below so_far =
@@ -54,7 +56,7 @@ asks_stop plain rule items i item asked (Fault fault) total within is gives belo
     sym so_far ∙ one
 
 -- all items keep the rule
-pub asks_done : {X Y : Type 0} (plain : X → Y) (rule : Y → Reading ⊤) (items : List X) (i : ℕ) (total : Reading ⊤)
+pub asks_done : {X Y : Type 0} (plain : X → Y) (rule : Y → ReadResult ⊤) (items : List X) (i : ℕ) (total : ReadResult ⊤)
     → length items ≤ i
     → each_ruled rule i (map plain (drop i items)) ≡ total → total ≡ Ok tt
 unfolding each_ruled

@@ -11,14 +11,14 @@ use Rattle.mtp_codes.specs.Numbers.{is_between, is_within, least_i32, greatest_i
 use Rattle.mtp_json.specs.declared.fault.FaultKind.{FaultKind}
 use Rattle.mtp_json.specs.declared.fault.FaultKind.TheVariants.{OutOfRange, Repeated, Unsound, BadChart}
 use Rattle.mtp_json.specs.declared.path.PathPart.TheVariants.{Key, Place}
-use Rattle.mtp_json.specs.Form.{need, inside, list, object_here, nothing_but, refused_if, repeats_by}
+use Rattle.mtp_json.specs.Form.{required, nested, list, object_here, nothing_but, refused_if, repeats_by}
 use Rattle.mtp_json.specs.Leaf.{code, count, items_in, name, whole, whole_in, whole_number}
-use Rattle.mtp_json.specs.Reading.{Reading, ◌>>=◌, in_place, under}
+use Rattle.mtp_json.specs.ReadResult.{ReadResult, ◌>>=◌, in_place, under}
 use Rattle.mtp_desc.specs.Form.{description_of}
-use Rattle.mtp_desc.specs.Plain.{DescriptionForm}
-use Rattle.mtp_sim.specs.Sims.{PlanForm}
+use Rattle.mtp_desc.specs.Plain.{PlainDescription}
+use Rattle.mtp_sim.specs.Sims.{PlainPlan}
 use Rattle.chart_core.specs.Form.{is_tree_formed}
-use Rattle.chart_core.specs.Roles.{RolePlan, is_chart_form}
+use Rattle.chart_core.specs.Roles.{PlainRole, is_chart_form}
 use Rattle.chart_core.specs.Trees.{Tree}
 use Rattle.chart_core.specs.Valid.{chart_fault}
 use Rattle.chart_core.specs.declared.fault.ChartFault.{ChartFault}
@@ -32,7 +32,7 @@ use Rattle.pol_events.proofs.Members.{AreOrderly, binds_orderly}
 use Rattle.pol_site.specs.Form.{drift_of, plan_of, module_of, recipe_of, batch_of, exchange_of, desk_of, site_in}
 use Rattle.pol_site.specs.declared.limits.TheConstants.{MOST_DRIFTS, MOST_EXCHANGES, MOST_ORDERS, MOST_TICKS}
 use Rattle.pol_site.specs.Rules.{each_ruled, has_module, is_drift_sound, known_tag, ruled_site, same_batch, same_drift, same_tag, sound_drift, sound_drifts, unlike_drifts, valid_chart}
-use Rattle.pol_site.specs.Sites.{SiteForm, SiteRecipeForm}
+use Rattle.pol_site.specs.Sites.{PlainSite, PlainSiteRecipe}
 use Rattle.pol_site.specs.Sound.{IsSite, is_drift_ranged, is_plan_ranged, is_plan_sound, is_plan_unlike}
 
 -- ---- what is read
@@ -62,14 +62,14 @@ told_drift : (value : Data) → IfOk (drift_of value) (λ drift. is_drift_ranged
 unfolding drift_of
 told_drift value =
     any_before _ (object_here value) _ (λ _.
-    any_before _ (need (codes "name") name value) _ (λ named.
-    told_before IsWord _ (need (codes "from") (whole least_i32 greatest_i32) value) _
+    any_before _ (required (codes "name") name value) _ (λ named.
+    told_before IsWord _ (required (codes "from") (whole least_i32 greatest_i32) value) _
     (told_need IsWord (codes "from") (whole least_i32 greatest_i32) (told_whole least_i32 greatest_i32) value)
     (λ from from_in.
-    told_before IsWord _ (need (codes "by") (whole least_i32 greatest_i32) value) _
+    told_before IsWord _ (required (codes "by") (whole least_i32 greatest_i32) value) _
     (told_need IsWord (codes "by") (whole least_i32 greatest_i32) (told_whole least_i32 greatest_i32) value)
     (λ by by_in.
-    told_before IsWord _ (need (codes "to") (whole least_i32 greatest_i32) value) _
+    told_before IsWord _ (required (codes "to") (whole least_i32 greatest_i32) value) _
     (told_need IsWord (codes "to") (whole least_i32 greatest_i32) (told_whole least_i32 greatest_i32) value)
     (λ to to_in.
     any_before _ (nothing_but (codes "name from by to") value) _ (λ _. rw (from_in, by_in, to_in) refl))))))
@@ -79,9 +79,9 @@ told_plan : (value : Data) → IfOk (plan_of value) (λ plan. is_plan_ranged pla
 unfolding plan_of
 told_plan value =
     any_before _ (object_here value) _ (λ _.
-    told_before (λ n. is_between 1 MOST_TICKS n ≡ true) _ (need (codes "ticks") (count 1 MOST_TICKS) value) _
+    told_before (λ n. is_between 1 MOST_TICKS n ≡ true) _ (required (codes "ticks") (count 1 MOST_TICKS) value) _
     (told_need _ (codes "ticks") (count 1 MOST_TICKS) (told_count 1 MOST_TICKS) value) (λ ticks ticks_in.
-    told_before (λ n. is_between 1 MOST_TICKS n ≡ true) _ (need (codes "run") (count 1 MOST_TICKS) value) _
+    told_before (λ n. is_between 1 MOST_TICKS n ≡ true) _ (required (codes "run") (count 1 MOST_TICKS) value) _
     (told_need _ (codes "run") (count 1 MOST_TICKS) (told_count 1 MOST_TICKS) value) (λ run run_in.
     told_before (IsListOf (is_between 0 MOST_DRIFTS) is_drift_ranged) _
     (list (codes "drift") 0 MOST_DRIFTS drift_of value) _
@@ -96,9 +96,9 @@ told_module : (value : Data) → IfOk (module_of value) (λ unit. is_plan_ranged
 unfolding module_of
 told_module value =
     any_before _ (object_here value) _ (λ _.
-    any_before _ (need (codes "tag") name value) _ (λ tag.
-    any_before _ (inside (codes "desc") description_of value) _ (λ description.
-    told_before (λ plan. is_plan_ranged plan ≡ true) _ (inside (codes "sim") plan_of value) _
+    any_before _ (required (codes "tag") name value) _ (λ tag.
+    any_before _ (nested (codes "desc") description_of value) _ (λ description.
+    told_before (λ plan. is_plan_ranged plan ≡ true) _ (nested (codes "sim") plan_of value) _
     (told_inside (λ plan. is_plan_ranged plan ≡ true) (codes "sim") plan_of told_plan value) (λ plan ranged.
     any_before _ (nothing_but (codes "tag desc sim") value) _ (λ _. ranged)))))
 
@@ -109,11 +109,12 @@ told_exchange : (value : Data) →
 unfolding exchange_of
 told_exchange value =
     any_before _ (object_here value) _ (λ _.
-    any_before _ (need (codes "tag") name value) _ (λ tag.
-    told_before (λ n. is_between 0 LONGEST_HISTORY n ≡ true) _ (need (codes "after") (count 0 LONGEST_HISTORY) value) _
+    any_before _ (required (codes "tag") name value) _ (λ tag.
+    told_before (λ n. is_between 0 LONGEST_HISTORY n ≡ true) _
+    (required (codes "after") (count 0 LONGEST_HISTORY) value) _
     (told_need _ (codes "after") (count 0 LONGEST_HISTORY) (told_count 0 LONGEST_HISTORY) value) (λ after after_in.
-    any_before _ (inside (codes "desc") description_of value) _ (λ description.
-    told_before (λ plan. is_plan_ranged plan ≡ true) _ (inside (codes "sim") plan_of value) _
+    any_before _ (nested (codes "desc") description_of value) _ (λ description.
+    told_before (λ plan. is_plan_ranged plan ≡ true) _ (nested (codes "sim") plan_of value) _
     (told_inside (λ plan. is_plan_ranged plan ≡ true) (codes "sim") plan_of told_plan value) (λ plan ranged.
     any_before _ (nothing_but (codes "tag after desc sim") value) _ (λ _. rw (after_in, ranged) refl))))))
 
@@ -122,10 +123,11 @@ told_desk : (value : Data) → IfOk (desk_of value) (λ order. is_between 0 LONG
 unfolding desk_of
 told_desk value =
     any_before _ (object_here value) _ (λ _.
-    any_before _ (need (codes "tag") name value) _ (λ tag.
-    any_before _ (need (codes "service") name value) _ (λ service.
-    any_before _ (need (codes "CommandOp") (code command_codes) value) _ (λ command.
-    told_before (λ n. is_between 0 LONGEST_HISTORY n ≡ true) _ (need (codes "after") (count 0 LONGEST_HISTORY) value) _
+    any_before _ (required (codes "tag") name value) _ (λ tag.
+    any_before _ (required (codes "service") name value) _ (λ service.
+    any_before _ (required (codes "CommandOp") (code command_codes) value) _ (λ command.
+    told_before (λ n. is_between 0 LONGEST_HISTORY n ≡ true) _
+    (required (codes "after") (count 0 LONGEST_HISTORY) value) _
     (told_need _ (codes "after") (count 0 LONGEST_HISTORY) (told_count 0 LONGEST_HISTORY) value) (λ after after_in.
     any_before _ (nothing_but (codes "tag service CommandOp after") value) _ (λ _. after_in))))))
 
@@ -135,24 +137,24 @@ told_batch : (value : Data) →
 unfolding batch_of
 told_batch value =
     any_before _ (object_here value) _ (λ _.
-    any_before _ (need (codes "batch") name value) _ (λ batch.
-    any_before _ (need (codes "recipe") name value) _ (λ named.
-    told_before AreOrderly _ (inside (codes "bind") binds_of value) _
+    any_before _ (required (codes "batch") name value) _ (λ batch.
+    any_before _ (required (codes "recipe") name value) _ (λ named.
+    told_before AreOrderly _ (nested (codes "bind") binds_of value) _
     (told_inside AreOrderly (codes "bind") binds_of binds_orderly value) (λ binds orderly.
     any_before _ (nothing_but (codes "batch recipe bind") value) _ (λ _. orderly)))))
 
 -- a chart of sized roles and a formed root is formed, where no role is named twice
-made-formed : (named : List ℕ) (roles : List RolePlan) (root : Tree) → are_roles_sized roles ≡ true
+made_formed : (named : List ℕ) (roles : List PlainRole) (root : Tree) → are_roles_sized roles ≡ true
     → is_tree_formed root ≡ true →
     IfOk (chart_from roles root >>= λ chart. Ok (record { recipe = named; chart = chart }))
-    (λ (each : SiteRecipeForm). is_chart_form each.chart ≡ true)
+    (λ (each : PlainSiteRecipe). is_chart_form each.chart ≡ true)
 unfolding chart_from
-made-formed named roles root sized formed = go (repeats_by same_role roles) refl
+made_formed named roles root sized formed = go (repeats_by same_role roles) refl
   where
     go : (broken : Bool) → repeats_by same_role roles ≡ broken →
         IfOk ((under (codes "roles") (refused_if broken Repeated) >>= λ _. Ok (record { roles = roles; root = root }))
         >>= λ chart. Ok (record { recipe = named; chart = chart }))
-        (λ (each : SiteRecipeForm). is_chart_form each.chart ≡ true)
+        (λ (each : PlainSiteRecipe). is_chart_form each.chart ≡ true)
     go true is = tt
     go false is = chart_formed roles root sized formed is
 
@@ -161,17 +163,17 @@ told_recipe : (value : Data) → IfOk (recipe_of value) (λ each. is_chart_form 
 unfolding recipe_of
 told_recipe value =
     any_before _ (object_here value) _ (λ _.
-    any_before _ (need (codes "recipe") name value) _ (λ named.
-    told_before (λ roles. are_roles_sized roles ≡ true) _ (inside (codes "roles") roles_of value) _
+    any_before _ (required (codes "recipe") name value) _ (λ named.
+    told_before (λ roles. are_roles_sized roles ≡ true) _ (nested (codes "roles") roles_of value) _
     (told_inside (λ roles. are_roles_sized roles ≡ true) (codes "roles") roles_of roles_sized value) (λ roles sized.
-    told_before (λ root. is_tree_formed root ≡ true) _ (inside (codes "chart") tree_of value) _
+    told_before (λ root. is_tree_formed root ≡ true) _ (nested (codes "chart") tree_of value) _
     (told_inside (λ root. is_tree_formed root ≡ true) (codes "chart") tree_of tree_formed value) (λ root formed.
-    any_before _ (nothing_but (codes "recipe roles chart") value) _ (λ _. made-formed named roles root sized formed)))))
+    any_before _ (nothing_but (codes "recipe roles chart") value) _ (λ _. made_formed named roles root sized formed)))))
 
 -- ---- what is asked
 
 -- where a rule was asked of each item without a fault, each passes the test
-told_each : {A : Type 0} (test : A → Bool) (rule : A → Reading ⊤)
+told_each : {A : Type 0} (test : A → Bool) (rule : A → ReadResult ⊤)
     → ((item : A) → IfOk (rule item) (λ _. test item ≡ true))
     → (place : ℕ) (items : List A) → IfOk (each_ruled rule place items) (λ _. list_all test items ≡ true)
 unfolding each_ruled
@@ -190,19 +192,19 @@ holds true kind = refl
 holds false kind = tt
 
 -- what is known once a rule was asked is known below a key as well
-asked_at : (known : Type 0) (key : List ℕ) (asked : Reading ⊤) → IfOk asked (λ _. known)
+asked_at : (known : Type 0) (key : List ℕ) (asked : ReadResult ⊤) → IfOk asked (λ _. known)
     → IfOk (under key asked) (λ _. known)
 asked_at known key asked told = told_at (λ _. known) (Key key) asked told
 
 -- the same of a rule that was asked of each item of the list at a key
-asked_each : {A : Type 0} (key : List ℕ) (test : A → Bool) (rule : A → Reading ⊤) (items : List A)
+asked_each : {A : Type 0} (key : List ℕ) (test : A → Bool) (rule : A → ReadResult ⊤) (items : List A)
     → ((item : A) → IfOk (rule item) (λ _. test item ≡ true))
     → IfOk (under key (each_ruled rule 0 items)) (λ _. list_all test items ≡ true)
 asked_each key test rule items told = asked_at (list_all test items ≡ true) key (each_ruled rule 0 items)
     (told_each test rule told 0 items)
 
 -- no variable drifts twice
-told_unlike : (plan : PlanForm) → IfOk (unlike_drifts plan) (λ _. is_plan_unlike plan ≡ true)
+told_unlike : (plan : PlainPlan) → IfOk (unlike_drifts plan) (λ _. is_plan_unlike plan ≡ true)
 told_unlike plan =
     let asked = refused_if (repeats_by same_drift plan.drifts) Repeated in
     asked_at (is_plan_unlike plan ≡ true) (codes "sim") (under (codes "drift") asked)
@@ -213,7 +215,7 @@ told_unlike plan =
     go false = refl
 
 -- each drift is sound
-told_sound : (description : DescriptionForm) (plan : PlanForm) →
+told_sound : (description : PlainDescription) (plan : PlainPlan) →
     IfOk (sound_drifts description plan) (λ _. is_plan_sound description plan ≡ true)
 told_sound description plan =
     let asked = each_ruled (sound_drift description) 0 plan.drifts in
@@ -223,7 +225,7 @@ told_sound description plan =
     (λ drift. holds (is_drift_sound description drift) Unsound) 0 plan.drifts))
 
 -- the chart is valid
-told_valid : (each : SiteRecipeForm) → IfOk (valid_chart each) (λ _. is_valid each.chart ≡ true)
+told_valid : (each : PlainSiteRecipe) → IfOk (valid_chart each) (λ _. is_valid each.chart ≡ true)
 told_valid each =
     asked_at (is_valid each.chart ≡ true) (codes "chart") (refused_if (is_some (chart_fault each.chart)) BadChart)
     (go (chart_fault each.chart))
@@ -233,19 +235,19 @@ told_valid each =
     go (Some fault) = tt
 
 -- a recipe whose chart is formed and valid is orderly
-all-orderly : (recipes : List SiteRecipeForm) → list_all (λ each. is_chart_form each.chart) recipes ≡ true
+all_orderly : (recipes : List PlainSiteRecipe) → list_all (λ each. is_chart_form each.chart) recipes ≡ true
     → list_all (λ each. is_valid each.chart) recipes ≡ true
     → list_all (λ each. is_orderly (recipe 0 each.recipe each.chart)) recipes ≡ true
-all-orderly [] formed valid = refl
-all-orderly (each ∷ others) formed valid =
+all_orderly [] formed valid = refl
+all_orderly (each ∷ others) formed valid =
     let one = and_parts (is_chart_form each.chart) (list_all (λ each. is_chart_form each.chart) others) formed in
     let two = and_parts (is_valid each.chart) (list_all (λ each. is_valid each.chart) others) valid in
-    rw (one.0, two.0, all-orderly others one.1 two.1) refl
+    rw (one.0, two.0, all_orderly others one.1 two.1) refl
 
 -- ---- a site
 
 -- what is known of a site's lists once they were read
-record AreRead (site : SiteForm) : Type 0 where
+record AreRead (site : PlainSite) : Type 0 where
   modules : IsListOf (is_between 1 MOST_MODULES) (λ unit. is_plan_ranged unit.plan) site.modules
   recipes : IsListOf (is_between 0 MOST_RECIPES) (λ each. is_chart_form each.chart) site.recipes
   batches : IsListOf (is_between 0 MOST_BATCHES) (λ batch. is_orderly (start 0 batch.batch batch.recipe batch.binds))
@@ -256,7 +258,7 @@ record AreRead (site : SiteForm) : Type 0 where
   desk : IsListOf (is_between 0 MOST_ORDERS) (λ order. is_between 0 LONGEST_HISTORY order.after) site.desk
 
 -- once its own rules were asked as well, it is a site
-told_ruled : (site : SiteForm) → AreRead site → IfOk (ruled_site site) IsSite
+told_ruled : (site : PlainSite) → AreRead site → IfOk (ruled_site site) IsSite
 unfolding ruled_site
 told_ruled site read =
     told_before (λ _. repeats_by same_tag site.modules ≡ false) IsSite
@@ -296,7 +298,7 @@ told_ruled site read =
       unlike_modules = unlike_modules;
       unlike_batches = unlike_batches;
       known_tags = known;
-      orderly_recipes = all-orderly site.recipes read.recipes.1 valid;
+      orderly_recipes = all_orderly site.recipes read.recipes.1 valid;
       orderly_starts = read.batches.1;
       ranged_modules = read.modules.1;
       unlike_drifts = unlike;
@@ -352,11 +354,11 @@ told_site value =
     }))))))))
 
 -- a site that is read keeps what every site keeps
-pub site_kept : (value : Data) (site : SiteForm) → site_in value ≡ Ok site → IsSite site
+pub site_kept : (value : Data) (site : PlainSite) → site_in value ≡ Ok site → IsSite site
 site_kept value site is = let told = told_site value in rw is at told
 
 -- members that were read one list after the other, of which the own rules were asked, make a site
-pub read_kept : (value : Data) (site : SiteForm) → object_here value ≡ Ok tt
+pub read_kept : (value : Data) (site : PlainSite) → object_here value ≡ Ok tt
     → list (codes "modules") 1 MOST_MODULES module_of value ≡ Ok site.modules
     → list (codes "recipes") 0 MOST_RECIPES recipe_of value ≡ Ok site.recipes
     → list (codes "batches") 0 MOST_BATCHES batch_of value ≡ Ok site.batches

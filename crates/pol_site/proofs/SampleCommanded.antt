@@ -19,40 +19,40 @@ abbrev given : History → Command → ℕ
 given history command = times_sent tag dose command (story tag history)
 
 -- a start that was sent, and the change that it made
-a-start-is-sent : given (sent ∷ started ∷ idle ∷ plugged ∷ known ∷ []) command.Start ≡ 1
-a-start-is-sent = refl
+a_start_is_sent : given (sent ∷ started ∷ idle ∷ plugged ∷ known ∷ []) command.Start ≡ 1
+a_start_is_sent = refl
 
-a-start-changes : changed (starting ∷ sent ∷ started ∷ idle ∷ plugged ∷ known ∷ []) command.Start ≡ 1
+a_start_changes : changed (starting ∷ sent ∷ started ∷ idle ∷ plugged ∷ known ∷ []) command.Start ≡ 1
 unfolding command_target own_target
-a-start-changes = refl
+a_start_changes = refl
 
 -- no command changes more often than it was sent
-each-has-its-command :
+each_has_its_command :
     AllByRecursion
     (λ command. nat_le (changed (executing ∷ starting ∷ sent ∷ started ∷ idle ∷ plugged ∷ known ∷ []) command)
     (given (executing ∷ starting ∷ sent ∷ started ∷ idle ∷ plugged ∷ known ∷ []) command) ≡ true) every_command
 unfolding command_target own_target
-each-has-its-command = search
+each_has_its_command = search
 
 -- without the command it does
-a-start-without-a-command : IsCommandedNow (starting ∷ started ∷ idle ∷ plugged ∷ known ∷ []) → ⊥
+a_start_without_a_command : IsCommandedNow (starting ∷ started ∷ idle ∷ plugged ∷ known ∷ []) → ⊥
 unfolding command_target own_target
-a-start-without-a-command commanded = let none : 1 ≤ 0 = commanded tag dose command.Start in omega (arith, none)
+a_start_without_a_command commanded = let none : 1 ≤ 0 = commanded tag dose command.Start in omega (arith, none)
 
 -- what a procedure completes by itself needs no command; what it doesn't, needs one
-completes-by-itself :
+completes_by_itself :
     changed (told state.Completing 280 1 ∷ executing ∷ starting ∷ sent ∷ started ∷ idle ∷ plugged ∷ known ∷ [])
     command.Complete ≡ 0
 unfolding command_target own_target
-completes-by-itself = refl
+completes_by_itself = refl
 
-completes-by-command :
+completes_by_command :
     changed (told state.Completing 280 2 ∷ told state.Execute 1880 2 ∷ told state.Starting 280 2 ∷ idle ∷ plugged
     ∷ known ∷ []) command.Complete
     ≡ 1
 unfolding command_target own_target
-completes-by-command = refl
+completes_by_command = refl
 
 -- of a module that is away nothing counts
-away-counts-nothing : changed (begun ∷ starting ∷ started ∷ idle ∷ plugged ∷ known ∷ []) command.Start ≡ 0
-away-counts-nothing = refl
+away_counts_nothing : changed (begun ∷ starting ∷ started ∷ idle ∷ plugged ∷ known ∷ []) command.Start ≡ 0
+away_counts_nothing = refl

@@ -8,10 +8,10 @@ use Rattle.mtp_codes.specs.declared.state.State.TheVariants.{Idle}
 use Rattle.mtp_codes.specs.declared.value.Value.{Value}
 use Rattle.mtp_codes.specs.declared.value.Value.TheVariants.{Whole}
 use Rattle.mtp_assembly.specs.declared.control.ServiceControl.{ServiceControl}
-use Rattle.mtp_desc.specs.Plain.{DescriptionForm}
+use Rattle.mtp_desc.specs.Plain.{PlainDescription}
 use Rattle.mtp_sim.specs.declared.plan.Drift.{Drift}
 use Rattle.mtp_sim.specs.Ticks.{control_in, next_value}
-use Rattle.pol_events.specs.Events.{EventForm, plug, unplug, report, variable, recipe, start, advance, freeze, thaw, stop_batch, abandon, desk, exchange_begin, exchange_end, exchange_cancel, EntryForm}
+use Rattle.pol_events.specs.Events.{PlainEvent, plug, unplug, report, variable, recipe, start, advance, freeze, thaw, stop_batch, abandon, desk, exchange_begin, exchange_end, exchange_cancel, PlainEntry}
 use Rattle.pol_events.specs.declared.event.Bind.{Bind}
 use Rattle.pol_events.specs.declared.answer.Answer.{Answer}
 use Rattle.pol_events.specs.declared.answer.Answer.TheVariants.{Ticket, Did, Closed, Refused}
@@ -19,20 +19,20 @@ use Rattle.pol_events.specs.declared.answer.Rule.{Rule}
 use Rattle.pol_events.specs.declared.answer.Rule.TheVariants.{NoModule, InExchange, NoRecipe, NotReported, NotIdle, Busy, HeldBack}
 use Rattle.pol_history.specs.Looking.{History, subject, is_accepted, is_batch, past, last_of}
 use Rattle.pol_history.specs.Modules.{control_by, value_by, description_by, completes_by}
-use Rattle.pol_site.specs.Sites.{SiteForm, SiteBatchForm, SiteExchangeForm}
+use Rattle.pol_site.specs.Sites.{PlainSite, PlainSiteBatch, PlainSiteExchange}
 use Rattle.pol_site.specs.Stories.{story, procedure_started}
 use Rattle.pol_site.specs.Plans.{plan_by, drifts_in, whole_in, begun_in}
 
 -- ---- recipes and modules
 
 -- the events by which the recipes of a site are made known and its modules plugged, in their order
-abbrev pub openings : SiteForm → List EventForm
+abbrev pub openings : PlainSite → List PlainEvent
 openings site =
     map (λ each. recipe 0 each.recipe each.chart) site.recipes
     ++ map (λ each. plug 0 each.tag each.description) site.modules
 
 -- the event makes a recipe known or plugs a module
-abbrev pub is_opening : EventForm → Bool
+abbrev pub is_opening : PlainEvent → Bool
 is_opening (recipe at name chart) = true
 is_opening (plug at tag description) = true
 is_opening _ = false
@@ -60,7 +60,7 @@ ended_with tag ticket (Refused (HeldBack batch missing)) = was_held tag ticket
 ended_with tag ticket _ = none_open
 
 -- where an event leaves the exchanges
-abbrev pub exchanging_after : EventForm → Answer → Option Exchanging
+abbrev pub exchanging_after : PlainEvent → Answer → Option Exchanging
 exchanging_after (exchange_begin at tag) answer = Some (begun_with tag answer)
 exchanging_after (exchange_end at tag ticket description) answer = Some (ended_with tag ticket answer)
 exchanging_after (exchange_cancel at tag ticket) answer = Some none_open
@@ -75,13 +75,13 @@ abbrev pub exchanging : History → Exchanging
 exchanging history = unwrap_or (last_exchanging history) none_open
 
 -- the next recipe or module of the site, before the first exchange; stamps are never compared
-pub record IsOpening (site : SiteForm) (older : History) (event : EventForm) : Type 0 where
+pub record IsOpening (site : PlainSite) (older : History) (event : PlainEvent) : Type 0 where
   pub listed : slice_get (openings site) (opened older) ≡ Some event
   pub unexchanged : last_exchanging older ≡ None
 
 -- the next exchange of the site begins: no exchange is open, and there are as many entries as it waits for
-pub record IsBegin (site : SiteForm) (older : History) (tag : List ℕ) (answer : Answer) : Type 0 where
-  pub exchange : SiteExchangeForm
+pub record IsBegin (site : PlainSite) (older : History) (tag : List ℕ) (answer : Answer) : Type 0 where
+  pub exchange : PlainSiteExchange
   pub listed : slice_get site.exchanges (begun_in older) ≡ Some exchange
   pub tag_is : tag ≡ exchange.tag
   pub waited : exchange.after ≤ length older
@@ -89,9 +89,9 @@ pub record IsBegin (site : SiteForm) (older : History) (tag : List ℕ) (answer 
   pub accepted : is_accepted answer ≡ true
 
 -- the exchange that was begun last ends, with its ticket and the listed description
-pub record IsEnd (site : SiteForm) (older : History) (tag : List ℕ) (ticket : ℕ) (description : DescriptionForm) :
+pub record IsEnd (site : PlainSite) (older : History) (tag : List ℕ) (ticket : ℕ) (description : PlainDescription) :
     Type 0 where
-  pub exchange : SiteExchangeForm
+  pub exchange : PlainSiteExchange
   pub listed : slice_get site.exchanges (pred (begun_in older)) ≡ Some exchange
   pub description_is : description ≡ exchange.description
   pub begun : exchanging older ≡ was_begun tag ticket
@@ -104,15 +104,15 @@ pub record IsCancel (older : History) (tag : List ℕ) (ticket : ℕ) (answer : 
 -- ---- batches
 
 -- the batch of the site with this name
-abbrev pub listed_batch : SiteForm → List ℕ → Option SiteBatchForm
+abbrev pub listed_batch : PlainSite → List ℕ → Option PlainSiteBatch
 listed_batch site name = find (λ batch. bytes_eq batch.batch name) site.batches
 
 -- an entry, where it is of the batch
-abbrev pub of_batch_named : List ℕ → EntryForm → Option EntryForm
+abbrev pub of_batch_named : List ℕ → PlainEntry → Option PlainEntry
 of_batch_named batch entry = if is_batch batch (subject entry.event) then Some entry else None
 
 -- the last entry of the batch, whatever its answer
-abbrev pub last_entry_of : List ℕ → History → Option EntryForm
+abbrev pub last_entry_of : List ℕ → History → Option PlainEntry
 last_entry_of batch history = last_of (of_batch_named batch) history
 
 -- a start waits while this rule holds: its modules aren't ready, or its recipe isn't known
@@ -137,7 +137,7 @@ is_stepped (Closed outcome) = true
 is_stepped _ = false
 
 -- the first event of a batch of the site: its start, which isn't put off
-pub record IsStart (site : SiteForm) (older : History) (batch recipe : List ℕ) (binds : List Bind) (answer : Answer) :
+pub record IsStart (site : PlainSite) (older : History) (batch recipe : List ℕ) (binds : List Bind) (answer : Answer) :
     Type 0 where
   pub listed : listed_batch site batch ≡ Some (record { batch = batch; recipe = recipe; binds = binds })
   pub first : last_entry_of batch older ≡ None
@@ -145,7 +145,7 @@ pub record IsStart (site : SiteForm) (older : History) (batch recipe : List ℕ)
 
 -- the batch did something, and the entry of it before was accepted: a start that was refused is its last
 pub record IsAdvance (older : History) (batch : List ℕ) (answer : Answer) : Type 0 where
-  pub before : EntryForm
+  pub before : PlainEntry
   pub last : last_entry_of batch older ≡ Some before
   pub accepted : is_accepted before.answer ≡ true
   pub stepped : is_stepped answer ≡ true
@@ -153,7 +153,7 @@ pub record IsAdvance (older : History) (batch : List ℕ) (answer : Answer) : Ty
 -- ---- the desk
 
 -- the event is a command of the desk
-abbrev pub is_order : EventForm → Bool
+abbrev pub is_order : PlainEvent → Bool
 is_order (desk at tag service command) = true
 is_order _ = false
 
@@ -162,7 +162,7 @@ abbrev pub ordered : History → ℕ
 ordered history = length (filter (λ entry. is_order entry.event) history)
 
 -- the next command of the desk, once there are as many entries as it waits for
-pub record IsOrder (site : SiteForm) (older : History) (tag service : List ℕ) (command : Command) : Type 0 where
+pub record IsOrder (site : PlainSite) (older : History) (tag service : List ℕ) (command : Command) : Type 0 where
   pub after : ℕ
   pub listed :
       slice_get site.desk (ordered older)
@@ -191,7 +191,7 @@ pub record IsReport (tag service : List ℕ) (past story : History) (control : S
   pub due : control ≡ control_due tag service past story control.state
 
 -- a value of a variable, by the module's past: the next one of a drift of its plan
-pub record IsValue (site : SiteForm) (tag name : List ℕ) (past : History) (value : Value) (answer : Answer) :
+pub record IsValue (site : PlainSite) (tag name : List ℕ) (past : History) (value : Value) (answer : Answer) :
     Type 0 where
   pub accepted : is_accepted answer ≡ true
   pub drift : Drift
@@ -202,7 +202,7 @@ pub record IsValue (site : SiteForm) (tag name : List ℕ) (past : History) (val
 -- ---- histories
 
 -- the site allows the event with this answer after these entries
-abbrev pub IsAllowed : SiteForm → History → EventForm → Answer → Type 0
+abbrev pub IsAllowed : PlainSite → History → PlainEvent → Answer → Type 0
 IsAllowed site older (plug at tag description) answer = IsOpening site older (plug 0 tag description)
 IsAllowed site older (unplug at tag) answer = ⊥
 IsAllowed site older (report at tag service control) answer =
@@ -221,6 +221,6 @@ IsAllowed site older (exchange_end at tag ticket description) answer = IsEnd sit
 IsAllowed site older (exchange_cancel at tag ticket) answer = IsCancel older tag ticket answer
 
 -- the history follows the site
-abbrev pub FollowsSite : SiteForm → History → Type 0
+abbrev pub FollowsSite : PlainSite → History → Type 0
 FollowsSite site [] = Unit {0}
 FollowsSite site (entry ∷ older) = IsAllowed site older entry.event entry.answer × FollowsSite site older

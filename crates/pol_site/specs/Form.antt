@@ -4,94 +4,94 @@ use Rattle.serde_json.specs.Data.{Data}
 use Rattle.mtp_codes.specs.Codes.{command_codes}
 use Rattle.mtp_codes.specs.declared.limits.TheConstants.{LONGEST_HISTORY, MOST_BATCHES, MOST_MODULES, MOST_RECIPES}
 use Rattle.mtp_codes.specs.Numbers.{least_i32, greatest_i32}
-use Rattle.mtp_json.specs.Form.{need, inside, list, object_here, nothing_but}
+use Rattle.mtp_json.specs.Form.{required, nested, list, object_here, nothing_but}
 use Rattle.mtp_json.specs.Leaf.{code, count, name, whole}
-use Rattle.mtp_json.specs.Reading.{Reading, ◌>>=◌}
+use Rattle.mtp_json.specs.ReadResult.{ReadResult, ◌>>=◌}
 use Rattle.mtp_desc.specs.Form.{description_of}
 use Rattle.mtp_sim.specs.declared.plan.Drift.{Drift}
-use Rattle.mtp_sim.specs.Sims.{PlanForm}
+use Rattle.mtp_sim.specs.Sims.{PlainPlan}
 use Rattle.chart_json.specs.Form.{chart_from, roles_of, tree_of}
 use Rattle.pol_events.specs.Binds.{binds_of}
 use Rattle.pol_site.specs.declared.limits.TheConstants.{MOST_DRIFTS, MOST_EXCHANGES, MOST_ORDERS, MOST_TICKS}
 use Rattle.pol_site.specs.Rules.{ruled_site}
-use Rattle.pol_site.specs.Sites.{SiteForm, SiteModuleForm, SiteRecipeForm, SiteBatchForm, SiteExchangeForm, SiteDeskForm}
+use Rattle.pol_site.specs.Sites.{PlainSite, PlainSiteModule, PlainSiteRecipe, PlainSiteBatch, PlainSiteExchange, PlainSiteDesk}
 
 -- a drift
-unfoldable pub drift_of : Data → Reading Drift
+unfoldable pub drift_of : Data → ReadResult Drift
 drift_of value =
     object_here value >>= λ _.
-    need (codes "name") name value >>= λ named.
-    need (codes "from") (whole least_i32 greatest_i32) value >>= λ from.
-    need (codes "by") (whole least_i32 greatest_i32) value >>= λ by.
-    need (codes "to") (whole least_i32 greatest_i32) value >>= λ to.
+    required (codes "name") name value >>= λ named.
+    required (codes "from") (whole least_i32 greatest_i32) value >>= λ from.
+    required (codes "by") (whole least_i32 greatest_i32) value >>= λ by.
+    required (codes "to") (whole least_i32 greatest_i32) value >>= λ to.
     nothing_but (codes "name from by to") value >>= λ _.
     Ok (record { name = named; from = from; by = by; to = to })
 
 -- how a module is simulated
-unfoldable pub plan_of : Data → Reading PlanForm
+unfoldable pub plan_of : Data → ReadResult PlainPlan
 plan_of value =
     object_here value >>= λ _.
-    need (codes "ticks") (count 1 MOST_TICKS) value >>= λ ticks.
-    need (codes "run") (count 1 MOST_TICKS) value >>= λ run.
+    required (codes "ticks") (count 1 MOST_TICKS) value >>= λ ticks.
+    required (codes "run") (count 1 MOST_TICKS) value >>= λ run.
     list (codes "drift") 0 MOST_DRIFTS drift_of value >>= λ drifts.
     nothing_but (codes "ticks run drift") value >>= λ _.
     Ok (record { ticks = ticks; run = run; drifts = drifts })
 
 -- a module
-unfoldable pub module_of : Data → Reading SiteModuleForm
+unfoldable pub module_of : Data → ReadResult PlainSiteModule
 module_of value =
     object_here value >>= λ _.
-    need (codes "tag") name value >>= λ tag.
-    inside (codes "desc") description_of value >>= λ description.
-    inside (codes "sim") plan_of value >>= λ plan.
+    required (codes "tag") name value >>= λ tag.
+    nested (codes "desc") description_of value >>= λ description.
+    nested (codes "sim") plan_of value >>= λ plan.
     nothing_but (codes "tag desc sim") value >>= λ _.
     Ok (record { tag = tag; description = description; plan = plan })
 
 -- a recipe: that no role is named twice is asked when all else of it was read
-unfoldable pub recipe_of : Data → Reading SiteRecipeForm
+unfoldable pub recipe_of : Data → ReadResult PlainSiteRecipe
 recipe_of value =
     object_here value >>= λ _.
-    need (codes "recipe") name value >>= λ named.
-    inside (codes "roles") roles_of value >>= λ roles.
-    inside (codes "chart") tree_of value >>= λ root.
+    required (codes "recipe") name value >>= λ named.
+    nested (codes "roles") roles_of value >>= λ roles.
+    nested (codes "chart") tree_of value >>= λ root.
     nothing_but (codes "recipe roles chart") value >>= λ _.
     chart_from roles root >>= λ chart.
     Ok (record { recipe = named; chart = chart })
 
 -- a batch
-unfoldable pub batch_of : Data → Reading SiteBatchForm
+unfoldable pub batch_of : Data → ReadResult PlainSiteBatch
 batch_of value =
     object_here value >>= λ _.
-    need (codes "batch") name value >>= λ batch.
-    need (codes "recipe") name value >>= λ named.
-    inside (codes "bind") binds_of value >>= λ binds.
+    required (codes "batch") name value >>= λ batch.
+    required (codes "recipe") name value >>= λ named.
+    nested (codes "bind") binds_of value >>= λ binds.
     nothing_but (codes "batch recipe bind") value >>= λ _.
     Ok (record { batch = batch; recipe = named; binds = binds })
 
 -- an exchange
-unfoldable pub exchange_of : Data → Reading SiteExchangeForm
+unfoldable pub exchange_of : Data → ReadResult PlainSiteExchange
 exchange_of value =
     object_here value >>= λ _.
-    need (codes "tag") name value >>= λ tag.
-    need (codes "after") (count 0 LONGEST_HISTORY) value >>= λ after.
-    inside (codes "desc") description_of value >>= λ description.
-    inside (codes "sim") plan_of value >>= λ plan.
+    required (codes "tag") name value >>= λ tag.
+    required (codes "after") (count 0 LONGEST_HISTORY) value >>= λ after.
+    nested (codes "desc") description_of value >>= λ description.
+    nested (codes "sim") plan_of value >>= λ plan.
     nothing_but (codes "tag after desc sim") value >>= λ _.
     Ok (record { tag = tag; after = after; description = description; plan = plan })
 
 -- a command of the desk
-unfoldable pub desk_of : Data → Reading SiteDeskForm
+unfoldable pub desk_of : Data → ReadResult PlainSiteDesk
 desk_of value =
     object_here value >>= λ _.
-    need (codes "tag") name value >>= λ tag.
-    need (codes "service") name value >>= λ service.
-    need (codes "CommandOp") (code command_codes) value >>= λ command.
-    need (codes "after") (count 0 LONGEST_HISTORY) value >>= λ after.
+    required (codes "tag") name value >>= λ tag.
+    required (codes "service") name value >>= λ service.
+    required (codes "CommandOp") (code command_codes) value >>= λ command.
+    required (codes "after") (count 0 LONGEST_HISTORY) value >>= λ after.
     nothing_but (codes "tag service CommandOp after") value >>= λ _.
     Ok (record { tag = tag; service = service; command = command; after = after })
 
 -- a site: its own rules are asked when all of it was read
-unfoldable pub site_in : Data → Reading SiteForm
+unfoldable pub site_in : Data → ReadResult PlainSite
 site_in value =
     object_here value >>= λ _.
     list (codes "modules") 1 MOST_MODULES module_of value >>= λ modules.

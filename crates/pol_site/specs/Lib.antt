@@ -1,6 +1,6 @@
 pub mod Sites
 pub mod Views
-pub mod SiteView
+pub mod PlainSite
 pub mod Form
 pub mod Rules
 pub mod Sound

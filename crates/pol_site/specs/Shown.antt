@@ -2,11 +2,11 @@
 use Rattle.std.specs.Prelude.{ℕ, suc, ◌/◌, ◌%◌, Bool, false, List, [], ◌∷◌, length, Option, Some, None, is_some, option_map, slice_get, if◌then◌else◌}
 use Rattle.std.specs.Str.{bytes_eq}
 use Rattle.mtp_codes.specs.declared.state.State.{State}
-use Rattle.mtp_desc.specs.Plain.{DescriptionForm}
-use Rattle.pol_events.specs.Events.{EventForm, report, exchange_begin, EntryForm}
+use Rattle.mtp_desc.specs.Plain.{PlainDescription}
+use Rattle.pol_events.specs.Events.{PlainEvent, report, exchange_begin, PlainEntry}
 use Rattle.pol_history.specs.Looking.{History, is_accepted_of}
 use Rattle.pol_history.specs.Modules.{description_of}
-use Rattle.pol_site.specs.Sites.{SiteForm, SiteModuleForm}
+use Rattle.pol_site.specs.Sites.{PlainSite, PlainSiteModule}
 
 -- a word of the board: a number that rises with the history, and a state, if one is reported
 pub record BoardWord : Type 0 where
@@ -14,7 +14,7 @@ pub record BoardWord : Type 0 where
   pub state : Option State
 
 -- the name of the service at this place of a description
-abbrev pub name_at : ℕ → Option DescriptionForm → Option (List ℕ)
+abbrev pub name_at : ℕ → Option PlainDescription → Option (List ℕ)
 name_at place None = None
 name_at place (Some description) = option_map (λ service. service.name) (slice_get description.services place)
 
@@ -25,7 +25,7 @@ is_name_of name (Some other) = bytes_eq other name
 
 -- what an event shows of the service of this name: the state of a report of it; where an exchange begins, that none is
 -- reported
-abbrev pub shown_by : Option (List ℕ) → EventForm → Option (Option State)
+abbrev pub shown_by : Option (List ℕ) → PlainEvent → Option (Option State)
 shown_by name (report at tag service control) = if is_name_of service name then Some (Some control.state) else None
 shown_by name (exchange_begin at tag) = if is_some name then Some None else None
 shown_by name _ = None
@@ -36,7 +36,7 @@ word_after None place word = word
 word_after (Some state) place word = record { number = suc place; state = state }
 
 -- what an entry shows of the service at this place of the module
-abbrev pub shown_in : List ℕ → ℕ → History → EntryForm → Option (Option State)
+abbrev pub shown_in : List ℕ → ℕ → History → PlainEntry → Option (Option State)
 shown_in tag place older entry =
     if is_accepted_of tag entry then shown_by (name_at place (description_of older tag)) entry.event else None
 
@@ -46,10 +46,10 @@ word_of tag place [] = record { number = 0; state = None }
 word_of tag place (entry ∷ older) = word_after (shown_in tag place older entry) (length older) (word_of tag place older)
 
 -- the word of a module, if there is one
-abbrev pub word_of_module : Option SiteModuleForm → ℕ → History → BoardWord
+abbrev pub word_of_module : Option PlainSiteModule → ℕ → History → BoardWord
 word_of_module None place history = record { number = 0; state = None }
 word_of_module (Some unit) place history = word_of unit.tag place history
 
 -- what a word of the board shows: each module has 32 words, one for each service
-abbrev pub board_word : SiteForm → History → ℕ → BoardWord
+abbrev pub board_word : PlainSite → History → ℕ → BoardWord
 board_word site history word = word_of_module (slice_get site.modules (word / 32)) (word % 32) history

@@ -4,14 +4,14 @@ use Rattle.std.specs.List.{list_all}
 use Rattle.mtp_codes.specs.declared.limits.TheConstants.{LONGEST_HISTORY, MOST_BATCHES, MOST_MODULES, MOST_RECIPES}
 use Rattle.mtp_codes.specs.Numbers.{is_between, is_within, least_i32, greatest_i32}
 use Rattle.mtp_json.specs.Form.{repeats_by}
-use Rattle.mtp_desc.specs.Plain.{DescriptionForm}
+use Rattle.mtp_desc.specs.Plain.{PlainDescription}
 use Rattle.mtp_sim.specs.declared.plan.Drift.{Drift}
-use Rattle.mtp_sim.specs.Sims.{PlanForm}
+use Rattle.mtp_sim.specs.Sims.{PlainPlan}
 use Rattle.pol_events.specs.Events.{recipe, start}
 use Rattle.pol_events.specs.Orderly.{is_orderly}
 use Rattle.pol_site.specs.declared.limits.TheConstants.{MOST_DRIFTS, MOST_EXCHANGES, MOST_ORDERS, MOST_TICKS}
 use Rattle.pol_site.specs.Rules.{same_tag, same_batch, same_drift, is_drift_sound, has_module}
-use Rattle.pol_site.specs.Sites.{SiteForm}
+use Rattle.pol_site.specs.Sites.{PlainSite}
 
 -- the numbers of a drift have 32 bits
 abbrev pub is_drift_ranged : Drift → Bool
@@ -20,22 +20,22 @@ is_drift_ranged drift =
     && (is_within least_i32 greatest_i32 drift.by && is_within least_i32 greatest_i32 drift.to)
 
 -- the numbers of a plan are in their ranges, and it has at most 64 drifts
-abbrev pub is_plan_ranged : PlanForm → Bool
+abbrev pub is_plan_ranged : PlainPlan → Bool
 is_plan_ranged plan =
     is_between 1 MOST_TICKS plan.ticks
     && (is_between 1 MOST_TICKS plan.run
     && (is_between 0 MOST_DRIFTS (length plan.drifts) && list_all is_drift_ranged plan.drifts))
 
 -- no variable drifts twice in the plan
-abbrev pub is_plan_unlike : PlanForm → Bool
+abbrev pub is_plan_unlike : PlainPlan → Bool
 is_plan_unlike plan = not (repeats_by same_drift plan.drifts)
 
 -- each drift of the plan is sound
-abbrev pub is_plan_sound : DescriptionForm → PlanForm → Bool
+abbrev pub is_plan_sound : PlainDescription → PlainPlan → Bool
 is_plan_sound description plan = list_all (is_drift_sound description) plan.drifts
 
 -- what every site keeps
-pub record IsSite (site : SiteForm) : Type 0 where
+pub record IsSite (site : PlainSite) : Type 0 where
   pub some_modules : is_between 1 MOST_MODULES (length site.modules) ≡ true
   pub few_recipes : is_between 0 MOST_RECIPES (length site.recipes) ≡ true
   pub few_batches : is_between 0 MOST_BATCHES (length site.batches) ≡ true

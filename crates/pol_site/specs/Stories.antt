@@ -7,12 +7,12 @@ use Rattle.mtp_codes.specs.declared.command.Command.{Command}
 use Rattle.mtp_codes.specs.declared.command.Command.TheVariants as command
 use Rattle.mtp_machine.specs.Machine.{same_command}
 use Rattle.mtp_assembly.specs.declared.control.ServiceControl.{ServiceControl}
-use Rattle.mtp_desc.specs.Plain.{DescriptionForm}
+use Rattle.mtp_desc.specs.Plain.{PlainDescription}
 use Rattle.mtp_sim.specs.Commands.{default_number}
 use Rattle.chart_core.specs.declared.entry.LogEntry.{LogEntry}
 use Rattle.chart_core.specs.declared.entry.LogEntry.TheVariants.{Start, Asked}
 use Rattle.chart_cursor.specs.Commands.{Sent}
-use Rattle.pol_events.specs.Events.{EntryForm}
+use Rattle.pol_events.specs.Events.{PlainEntry}
 use Rattle.pol_history.specs.Looking.{History, last_of, is_accepted_of}
 use Rattle.pol_history.specs.Modules.{since_docking, reported, description_by}
 use Rattle.pol_history.specs.Batches.{taken}
@@ -24,11 +24,11 @@ if_to tag None = None
 if_to tag (Some sent) = if bytes_eq sent.tag tag then Some sent else None
 
 -- the command that an entry sends to the module
-abbrev pub sent_to : List ℕ → EntryForm → Option Sent
+abbrev pub sent_to : List ℕ → PlainEntry → Option Sent
 sent_to tag entry = if_to tag (sent_command entry.answer)
 
 -- the entry is an accepted event of the module, or sends a command to it
-abbrev pub touches : List ℕ → EntryForm → Bool
+abbrev pub touches : List ℕ → PlainEntry → Bool
 touches tag entry = is_accepted_of tag entry || is_some (sent_to tag entry)
 
 -- the entries that touch the module: its story
@@ -51,7 +51,7 @@ times_sent tag service command story =
     length (filter (λ entry. is_given service command (sent_to tag entry)) (since_docking story))
 
 -- the procedure that an entry of a log starts; a start by the desk asks for the default one
-abbrev pub started_by : List ℕ → List ℕ → Option DescriptionForm → LogEntry → Option ℕ
+abbrev pub started_by : List ℕ → List ℕ → Option PlainDescription → LogEntry → Option ℕ
 started_by tag service description (Start step other named procedure) =
     if bytes_eq other tag && bytes_eq named service then Some procedure else None
 started_by tag service None (Asked other named given) = None
@@ -62,7 +62,7 @@ started_by tag service (Some description) (Asked other named given) =
 started_by tag service description _ = None
 
 -- the procedure that an answer starts
-abbrev pub started_in : List ℕ → List ℕ → Option DescriptionForm → Option LogEntry → Option ℕ
+abbrev pub started_in : List ℕ → List ℕ → Option PlainDescription → Option LogEntry → Option ℕ
 started_in tag service description None = None
 started_in tag service description (Some entry) = started_by tag service description entry
 
@@ -73,7 +73,7 @@ procedure_started tag service story =
     (last_of (λ entry. started_in tag service (description_by story) (taken entry.answer)) (since_docking story)) 0
 
 -- whether an entry answers the commands to the service: a report of it does, and one more command leaves one open
-abbrev pub answering : List ℕ → List ℕ → EntryForm → Option Bool
+abbrev pub answering : List ℕ → List ℕ → PlainEntry → Option Bool
 answering tag service entry =
     if is_some (reported service entry.event) then Some true
     else if is_for service (sent_to tag entry) then Some false

@@ -2,16 +2,16 @@
 use Rattle.std.specs.Prelude.{ℕ, ◌||◌, nat_lt, Bool, not, List, [], ◌∷◌, length, map, filter, Err, if◌then◌else◌}
 use Rattle.std.specs.List.{list_all}
 use Rattle.mtp_json.specs.Parse.{json_of}
-use Rattle.mtp_json.specs.Reading.{Reading, ◌>>=◌, here}
+use Rattle.mtp_json.specs.ReadResult.{ReadResult, ◌>>=◌, here}
 use Rattle.mtp_json.specs.declared.fault.FaultKind.TheVariants.{Missing, Unknown, TooLong}
 use Rattle.pol_io.specs.Pieces.{pieces, line_of}
 use Rattle.pol_io.specs.declared.limits.TheConstants.{LONGEST_LINE}
 use Rattle.pol_events.specs.Lines.{is_blank_byte}
 use Rattle.pol_site.specs.Form.{site_in}
-use Rattle.pol_site.specs.Sites.{SiteForm}
+use Rattle.pol_site.specs.Sites.{PlainSite}
 
 -- the site that a line says, or its first fault
-unfoldable pub site_on : List ℕ → Reading SiteForm
+unfoldable pub site_on : List ℕ → ReadResult PlainSite
 site_on line = here (json_of line) >>= site_in
 
 -- the line is longer than a line may be
@@ -28,11 +28,11 @@ filled_lines bytes = filter is_filled (map line_of (pieces bytes))
 
 -- the site of the one line of a text that isn't blank: none is Missing, two or more are Unknown, and one that is too
 -- long is TooLong
-abbrev pub site_among : List (List ℕ) → Reading SiteForm
+abbrev pub site_among : List (List ℕ) → ReadResult PlainSite
 site_among [] = here (Err Missing)
 site_among (line ∷ []) = if is_long line then here (Err TooLong) else site_on line
 site_among (line ∷ next ∷ lines) = here (Err Unknown)
 
 -- the site that a text says, or its first fault
-unfoldable pub site_of : List ℕ → Reading SiteForm
+unfoldable pub site_of : List ℕ → ReadResult PlainSite
 site_of bytes = site_among (filled_lines bytes)

@@ -1,11 +1,11 @@
 //! The members of a site's lists in JSON.
 ghost use Rattle.std.specs.Prelude.{◌≡◌};
 ghost use Rattle.serde_json.specs.View.{view};
-ghost use Rattle.mtp_json.specs.Gives.{Gives};
+ghost use Rattle.mtp_json.specs.ReadsAs.{ReadsAs};
 ghost use Rattle.pol_site.specs.Form.{batch_of, desk_of, exchange_of, module_of, recipe_of};
 ghost use Rattle.pol_site.specs.Rules.{same_batch, same_tag};
-ghost use Rattle.pol_site.specs.Sites.{SiteBatchForm, SiteDeskForm, SiteExchangeForm, SiteModuleForm, SiteRecipeForm};
-ghost use Rattle.pol_site.specs.Views.{batch_view, desk_view, exchange_view, module_view, recipe_view};
+ghost use Rattle.pol_site.specs.Sites.{PlainSiteBatch, PlainSiteDesk, PlainSiteExchange, PlainSiteModule, PlainSiteRecipe};
+ghost use Rattle.pol_site.specs.Views.{plain_batch, plain_desk, plain_exchange, plain_module, plain_recipe};
 
 use crate::parts::{SiteBatch, SiteDesk, SiteExchange, SiteModule, SiteRecipe};
 use crate::plans::PlanJson;
@@ -22,7 +22,7 @@ use std::sync::Arc;
 
 #[tactic(auto, unfolding(crate::specs::Form::module_of))]
 fn read_module(alloc: Global, value: &Value) -> Result<SiteModule, JsonRefusal>
-    ensures { Gives module_view result (module_of (view value.now)) }
+    ensures { ReadsAs plain_module result (module_of (view value.now)) }
 {
     object_here(alloc, value)?;
     let tag = name_at(alloc, value, "tag")?;
@@ -39,9 +39,9 @@ pub struct ModuleJson;
 impl FromJson for ModuleJson {
     type Item = SiteModule;
 
-    ghost Form = { SiteModuleForm };
+    ghost Form = { PlainSiteModule };
 
-    ghost plain = { module_view };
+    ghost plain = { plain_module };
 
     ghost form = { module_of };
 
@@ -53,9 +53,9 @@ impl FromJson for ModuleJson {
 impl Alike for ModuleJson {
     type Item = SiteModule;
 
-    ghost Form = { SiteModuleForm };
+    ghost Form = { PlainSiteModule };
 
-    ghost plain = { module_view };
+    ghost plain = { plain_module };
 
     ghost same = { same_tag };
 
@@ -66,7 +66,7 @@ impl Alike for ModuleJson {
 
 #[tactic(auto, unfolding(crate::specs::Form::recipe_of))]
 fn read_recipe(alloc: Global, value: &Value) -> Result<SiteRecipe, JsonRefusal>
-    ensures { Gives recipe_view result (recipe_of (view value.now)) }
+    ensures { ReadsAs plain_recipe result (recipe_of (view value.now)) }
 {
     object_here(alloc, value)?;
     let recipe = name_at(alloc, value, "recipe")?;
@@ -84,9 +84,9 @@ pub struct RecipeJson;
 impl FromJson for RecipeJson {
     type Item = SiteRecipe;
 
-    ghost Form = { SiteRecipeForm };
+    ghost Form = { PlainSiteRecipe };
 
-    ghost plain = { recipe_view };
+    ghost plain = { plain_recipe };
 
     ghost form = { recipe_of };
 
@@ -97,7 +97,7 @@ impl FromJson for RecipeJson {
 
 #[tactic(auto, unfolding(crate::specs::Form::batch_of))]
 fn read_batch(alloc: Global, value: &Value) -> Result<SiteBatch, JsonRefusal>
-    ensures { Gives batch_view result (batch_of (view value.now)) }
+    ensures { ReadsAs plain_batch result (batch_of (view value.now)) }
 {
     object_here(alloc, value)?;
     let batch = name_at(alloc, value, "batch")?;
@@ -117,9 +117,9 @@ pub struct BatchJson;
 impl FromJson for BatchJson {
     type Item = SiteBatch;
 
-    ghost Form = { SiteBatchForm };
+    ghost Form = { PlainSiteBatch };
 
-    ghost plain = { batch_view };
+    ghost plain = { plain_batch };
 
     ghost form = { batch_of };
 
@@ -131,9 +131,9 @@ impl FromJson for BatchJson {
 impl Alike for BatchJson {
     type Item = SiteBatch;
 
-    ghost Form = { SiteBatchForm };
+    ghost Form = { PlainSiteBatch };
 
-    ghost plain = { batch_view };
+    ghost plain = { plain_batch };
 
     ghost same = { same_batch };
 
@@ -144,7 +144,7 @@ impl Alike for BatchJson {
 
 #[tactic(auto, unfolding(crate::specs::Form::exchange_of))]
 fn read_exchange(alloc: Global, value: &Value) -> Result<SiteExchange, JsonRefusal>
-    ensures { Gives exchange_view result (exchange_of (view value.now)) }
+    ensures { ReadsAs plain_exchange result (exchange_of (view value.now)) }
 {
     object_here(alloc, value)?;
     let tag = name_at(alloc, value, "tag")?;
@@ -167,9 +167,9 @@ pub struct ExchangeJson;
 impl FromJson for ExchangeJson {
     type Item = SiteExchange;
 
-    ghost Form = { SiteExchangeForm };
+    ghost Form = { PlainSiteExchange };
 
-    ghost plain = { exchange_view };
+    ghost plain = { plain_exchange };
 
     ghost form = { exchange_of };
 
@@ -180,7 +180,7 @@ impl FromJson for ExchangeJson {
 
 #[tactic(auto, unfolding(crate::specs::Form::desk_of))]
 fn read_desk(alloc: Global, value: &Value) -> Result<SiteDesk, JsonRefusal>
-    ensures { Gives desk_view result (desk_of (view value.now)) }
+    ensures { ReadsAs plain_desk result (desk_of (view value.now)) }
 {
     object_here(alloc, value)?;
     let tag = name_at(alloc, value, "tag")?;
@@ -202,9 +202,9 @@ pub struct DeskJson;
 impl FromJson for DeskJson {
     type Item = SiteDesk;
 
-    ghost Form = { SiteDeskForm };
+    ghost Form = { PlainSiteDesk };
 
-    ghost plain = { desk_view };
+    ghost plain = { plain_desk };
 
     ghost form = { desk_of };
 

@@ -1,8 +1,8 @@
 //! Simulations in JSON.
 ghost use Rattle.std.specs.Prelude.{◌≡◌};
 ghost use Rattle.serde_json.specs.View.{view};
-ghost use Rattle.mtp_json.specs.Gives.{Gives};
-ghost use Rattle.mtp_sim.specs.Sims.{PlanForm, plan_view};
+ghost use Rattle.mtp_json.specs.ReadsAs.{ReadsAs};
+ghost use Rattle.mtp_sim.specs.Sims.{PlainPlan, plain_plan};
 ghost use Rattle.mtp_sim.specs.declared.plan.Drift.{Drift as drift_type};
 ghost use Rattle.pol_site.specs.Form.{drift_of, plan_of};
 ghost use Rattle.pol_site.specs.Rules.{same_drift};
@@ -20,7 +20,7 @@ pub struct DriftJson;
 
 #[tactic(auto, unfolding(crate::specs::Form::drift_of))]
 fn read_drift(alloc: Global, value: &Value) -> Result<Drift, JsonRefusal>
-    ensures { Gives (λ drift. drift) result (drift_of (view value.now)) }
+    ensures { ReadsAs (λ drift. drift) result (drift_of (view value.now)) }
 {
     object_here(alloc, value)?;
     let name = name_at(alloc, value, "name")?;
@@ -66,7 +66,7 @@ impl Alike for DriftJson {
 
 #[tactic(auto, unfolding(crate::specs::Form::plan_of))]
 fn read_plan(alloc: Global, value: &Value) -> Result<SimPlan, JsonRefusal>
-    ensures { Gives plan_view result (plan_of (view value.now)) }
+    ensures { ReadsAs plain_plan result (plan_of (view value.now)) }
 {
     object_here(alloc, value)?;
     let ticks = u16_at(alloc, value, "ticks", 1, MOST_TICKS)?;
@@ -82,9 +82,9 @@ pub struct PlanJson;
 impl FromJson for PlanJson {
     type Item = SimPlan;
 
-    ghost Form = { PlanForm };
+    ghost Form = { PlainPlan };
 
-    ghost plain = { plan_view };
+    ghost plain = { plain_plan };
 
     ghost form = { plan_of };
 

@@ -2,13 +2,13 @@
 ghost use Rattle.std.specs.Prelude.{◌≡◌, IsTrue, codes, map};
 ghost use Rattle.serde_json.specs.View.{view};
 ghost use Rattle.mtp_codes.specs.Names.{is_name};
-ghost use Rattle.mtp_json.specs.Gives.{Gives};
-ghost use Rattle.mtp_json.specs.Reading.{under};
+ghost use Rattle.mtp_json.specs.ReadsAs.{ReadsAs};
+ghost use Rattle.mtp_json.specs.ReadResult.{under};
 ghost use Rattle.pol_site.specs.Form.{site_in};
 ghost use Rattle.pol_site.specs.Rules.{each_ruled, known_tag, ruled_site, sound_drifts, unlike_drifts, valid_chart};
-ghost use Rattle.pol_site.specs.SiteView.{site_view};
+ghost use Rattle.pol_site.specs.PlainSite.{plain_site};
 ghost use Rattle.pol_site.specs.Texts.{site_on};
-ghost use Rattle.pol_site.specs.Views.{exchange_view, module_view, recipe_view, site_form};
+ghost use Rattle.pol_site.specs.Views.{plain_exchange, plain_module, plain_recipe, site_form};
 
 use crate::limits::{MOST_EXCHANGES, MOST_ORDERS};
 use crate::members::{BatchJson, DeskJson, ExchangeJson, ModuleJson, RecipeJson};
@@ -32,7 +32,7 @@ fn ask_under<T: OwnRule>(
     items: &[T::Item],
 ) -> Result<(), JsonRefusal>
     requires { IsTrue (is_name key.now) }
-    ensures { Gives (λ unit. unit) result (under key.now (each_ruled (T.rule rule.now) 0 (map T.plain items.now))) }
+    ensures { ReadsAs (λ unit. unit) result (under key.now (each_ruled (T.rule rule.now) 0 (map T.plain items.now))) }
 {
     under(key, ask_each(alloc, rule, items))
 }
@@ -47,7 +47,7 @@ fn ask_all(
     exchanges: &[SiteExchange],
     desk: &[SiteDesk],
 ) -> Result<(), JsonRefusal>
-    ensures { Gives (λ _. site_form modules.now recipes.now batches.now exchanges.now desk.now) result
+    ensures { ReadsAs (λ _. site_form modules.now recipes.now batches.now exchanges.now desk.now) result
         (ruled_site (site_form modules.now recipes.now batches.now exchanges.now desk.now)) }
 {
     unlike_under::<ModuleJson>(alloc, "modules", modules)?;
@@ -62,7 +62,7 @@ fn ask_all(
 
 #[tactic(auto, unfolding(crate::specs::Form::site_in))]
 fn read_value(alloc: Global, value: &Value) -> Result<Site, JsonRefusal>
-    ensures { Gives site_view result (site_in (view value.now)) }
+    ensures { ReadsAs plain_site result (site_in (view value.now)) }
 {
     object_here(alloc, value)?;
     let modules = list_of::<ModuleJson>(alloc, value, "modules", 1, MOST_MODULES)?;
@@ -85,7 +85,7 @@ fn read_value(alloc: Global, value: &Value) -> Result<Site, JsonRefusal>
 /// order, with its path: of the form, of the site's own rules, or that a chart isn't valid.
 #[tactic(auto, unfolding(crate::specs::Texts::site_on))]
 pub fn read_site(alloc: Global, line: &[u8]) -> Result<Site, JsonRefusal>
-    ensures { Gives site_view result (site_on line.now) }
+    ensures { ReadsAs plain_site result (site_on line.now) }
 {
     let value = parse(alloc, line)?;
     read_value(alloc, &value)

@@ -2,15 +2,15 @@
 ghost use Rattle.std.specs.Prelude.{◌≡◌, ⊤, codes, map};
 ghost use Rattle.std.specs.List.{list_any};
 ghost use Rattle.std.specs.Str.{bytes_eq};
-ghost use Rattle.mtp_assembly.specs.Plain.{variable_view};
-ghost use Rattle.mtp_desc.specs.DescriptionView.{description_view};
-ghost use Rattle.mtp_json.specs.Gives.{Gives};
-ghost use Rattle.mtp_json.specs.Reading.{Reading, under};
-ghost use Rattle.mtp_sim.specs.Sims.{plan_view};
+ghost use Rattle.mtp_assembly.specs.Plain.{plain_variable};
+ghost use Rattle.mtp_desc.specs.PlainDescription.{plain_description};
+ghost use Rattle.mtp_json.specs.ReadsAs.{ReadsAs};
+ghost use Rattle.mtp_json.specs.ReadResult.{ReadResult, under};
+ghost use Rattle.mtp_sim.specs.Sims.{plain_plan};
 ghost use Rattle.mtp_sim.specs.declared.plan.Drift.{Drift as drift_type};
 ghost use Rattle.pol_site.specs.Rules.{can_drift, each_ruled, has_module, is_drift_sound, known_tag, sound_drift, sound_drifts, unlike_drifts, valid_chart};
-ghost use Rattle.pol_site.specs.Sites.{SiteExchangeForm, SiteModuleForm, SiteRecipeForm};
-ghost use Rattle.pol_site.specs.Views.{exchange_view, module_view, recipe_view};
+ghost use Rattle.pol_site.specs.Sites.{PlainSiteExchange, PlainSiteModule, PlainSiteRecipe};
+ghost use Rattle.pol_site.specs.Views.{plain_exchange, plain_module, plain_recipe};
 
 use crate::parts::{SiteExchange, SiteModule, SiteRecipe};
 use crate::plans::DriftJson;
@@ -29,11 +29,11 @@ pub(crate) trait OwnRule {
 
     ghost plain: { Self.Item → Form };
 
-    ghost rule: { Self → Form → Reading ⊤ };
+    ghost rule: { Self → Form → ReadResult ⊤ };
 
     /// Asks the rule of an item.
     fn ask(&self, alloc: Global, item: &Self::Item) -> Result<(), JsonRefusal>
-        ensures { Gives (λ unit. unit) result (rule self.now (plain item.now)) };
+        ensures { ReadsAs (λ unit. unit) result (rule self.now (plain item.now)) };
 }
 
 /// Asks the rule of each item, from first to last; a fault has the place in front of its path.
@@ -42,7 +42,7 @@ pub(crate) fn ask_each<T: OwnRule>(
     rule: &T,
     items: &[T::Item],
 ) -> Result<(), JsonRefusal>
-    ensures { Gives (λ unit. unit) result (each_ruled (T.rule rule.now) 0 (map T.plain items.now)) }
+    ensures { ReadsAs (λ unit. unit) result (each_ruled (T.rule rule.now) 0 (map T.plain items.now)) }
 {
     for (place, item) in items.iter().enumerate() {
         in_place(place, rule.ask(alloc, item))?;
@@ -59,7 +59,7 @@ fn can_drift(kind: ViewKind) -> bool
 }
 
 fn is_drift_sound(description: &Description, drift: &Drift) -> bool
-    ensures { result ≡ is_drift_sound (description_view description.now) drift.now }
+    ensures { result ≡ is_drift_sound (plain_description description.now) drift.now }
 {
     match description.variable(drift.name) {
         Some(variable) => can_drift(variable.kind) && drift.by >= 1 && drift.from <= drift.to,
@@ -80,7 +80,7 @@ impl<'a> OwnRule for SoundDrift<'a> {
 
     ghost plain = { λ drift. drift };
 
-    ghost rule = { λ asked drift. sound_drift (description_view asked.description.now) drift };
+    ghost rule = { λ asked drift. sound_drift (plain_description asked.description.now) drift };
 
     fn ask(&self, alloc: Global, item: &Drift) -> Result<(), JsonRefusal> {
         refused_if(
@@ -97,8 +97,8 @@ fn drifts_under(
     description: &Description,
     drifts: &[Drift],
 ) -> Result<(), JsonRefusal>
-    ensures { Gives (λ unit. unit) result
-        (under (codes "drift") (each_ruled (sound_drift (description_view description.now)) 0 drifts.now)) }
+    ensures { ReadsAs (λ unit. unit) result
+        (under (codes "drift") (each_ruled (sound_drift (plain_description description.now)) 0 drifts.now)) }
 {
     let rule = SoundDrift { description };
     under("drift", ask_each(alloc, &rule, drifts))
@@ -106,14 +106,14 @@ fn drifts_under(
 
 #[tactic(auto, using(mtp_json::proofs::Each::gives_below))]
 fn sound_drifts(alloc: Global, description: &Description, plan: &SimPlan) -> Result<(), JsonRefusal>
-    ensures { Gives (λ unit. unit) result (sound_drifts (description_view description.now) (plan_view plan.now)) }
+    ensures { ReadsAs (λ unit. unit) result (sound_drifts (plain_description description.now) (plain_plan plan.now)) }
 {
     under("sim", drifts_under(alloc, description, &plan.drifts))
 }
 
 #[tactic(auto, using(mtp_json::proofs::Each::gives_below))]
 fn unlike_drifts(alloc: Global, plan: &SimPlan) -> Result<(), JsonRefusal>
-    ensures { Gives (λ unit. unit) result (unlike_drifts (plan_view plan.now)) }
+    ensures { ReadsAs (λ unit. unit) result (unlike_drifts (plain_plan plan.now)) }
 {
     under(
         "sim",
@@ -128,9 +128,9 @@ pub(crate) struct UnlikeOfModule;
 impl OwnRule for UnlikeOfModule {
     type Item = SiteModule;
 
-    ghost Form = { SiteModuleForm };
+    ghost Form = { PlainSiteModule };
 
-    ghost plain = { module_view };
+    ghost plain = { plain_module };
 
     ghost rule = { λ _ unit. unlike_drifts unit.plan };
 
@@ -146,9 +146,9 @@ pub(crate) struct UnlikeOfExchange;
 impl OwnRule for UnlikeOfExchange {
     type Item = SiteExchange;
 
-    ghost Form = { SiteExchangeForm };
+    ghost Form = { PlainSiteExchange };
 
-    ghost plain = { exchange_view };
+    ghost plain = { plain_exchange };
 
     ghost rule = { λ _ exchange. unlike_drifts exchange.plan };
 
@@ -164,9 +164,9 @@ pub(crate) struct SoundOfModule;
 impl OwnRule for SoundOfModule {
     type Item = SiteModule;
 
-    ghost Form = { SiteModuleForm };
+    ghost Form = { PlainSiteModule };
 
-    ghost plain = { module_view };
+    ghost plain = { plain_module };
 
     ghost rule = { λ _ unit. sound_drifts unit.description unit.plan };
 
@@ -182,9 +182,9 @@ pub(crate) struct SoundOfExchange;
 impl OwnRule for SoundOfExchange {
     type Item = SiteExchange;
 
-    ghost Form = { SiteExchangeForm };
+    ghost Form = { PlainSiteExchange };
 
-    ghost plain = { exchange_view };
+    ghost plain = { plain_exchange };
 
     ghost rule = { λ _ exchange. sound_drifts exchange.description exchange.plan };
 
@@ -203,7 +203,7 @@ fn any_with_tag(modules: &[SiteModule], tag: Name) -> bool
 
 #[tactic(auto, using(crate::proofs::Asking::any_viewed))]
 fn has_module(modules: &[SiteModule], tag: Name) -> bool
-    ensures { result ≡ has_module (map module_view modules.now) tag }
+    ensures { result ≡ has_module (map plain_module modules.now) tag }
 {
     any_with_tag(modules, tag)
 }
@@ -217,11 +217,11 @@ pub(crate) struct KnownTag<'a> {
 impl<'a> OwnRule for KnownTag<'a> {
     type Item = SiteExchange;
 
-    ghost Form = { SiteExchangeForm };
+    ghost Form = { PlainSiteExchange };
 
-    ghost plain = { exchange_view };
+    ghost plain = { plain_exchange };
 
-    ghost rule = { λ asked exchange. known_tag (map module_view asked.modules.now) exchange };
+    ghost rule = { λ asked exchange. known_tag (map plain_module asked.modules.now) exchange };
 
     fn ask(&self, alloc: Global, item: &SiteExchange) -> Result<(), JsonRefusal> {
         refused_if(
@@ -239,9 +239,9 @@ pub(crate) struct ValidChart;
 impl OwnRule for ValidChart {
     type Item = SiteRecipe;
 
-    ghost Form = { SiteRecipeForm };
+    ghost Form = { PlainSiteRecipe };
 
-    ghost plain = { recipe_view };
+    ghost plain = { plain_recipe };
 
     ghost rule = { λ _ each. valid_chart each };
 

@@ -2,14 +2,14 @@
 use Rattle.std.proofs.Common.{◌≡◌, Option, Some, None, Ok, refl, ◌∙◌, ap}
 use Rattle.std.specs.Prelude.{option_and_then, option_map}
 use Rattle.mtp_codes.specs.Faults.{done_unless}
-use Rattle.mtp_desc.specs.Plain.{DescriptionForm}
-use Rattle.pol_slots.specs.Told.{ToldNothing, ForgetsAll}
-use Rattle.pol_slots.specs.Berths.{ticket_in, told_in, IsBack}
+use Rattle.mtp_desc.specs.Plain.{PlainDescription}
+use Rattle.pol_slots.specs.Reported.{ReportedNothing, ForgetsAll}
+use Rattle.pol_slots.specs.Berths.{ticket_in, reported_in, IsBack}
 use Rattle.pol_slots.specs.Slots.{slot_tag, slot_description, slot_begins, last_control, last_value, IsDocked}
 use Rattle.pol_slots.specs.declared.berth.Berth.{Berth}
 use Rattle.pol_slots.specs.declared.berth.Berth.TheVariants.{Docked, Away}
 use Rattle.pol_slots.specs.declared.slot.Slot.{Slot}
-use Rattle.pol_slots.specs.declared.told.Told.{Told}
+use Rattle.pol_slots.specs.declared.reported.Reported.{Reported}
 
 -- where the answer is Ok, there is no fault
 pub no_fault : {E : Type 0} (fault : Option E) → done_unless fault ≡ Ok tt → fault ≡ None
@@ -23,24 +23,25 @@ nothing_left nothing is None = refl
 nothing_left nothing is (Some last) = is
 
 -- what is forgotten leaves nothing told
-forgotten_nothing : (old new : Told) → ForgetsAll old new → ToldNothing new
+forgotten_nothing : (old new : Reported) → ForgetsAll old new → ReportedNothing new
 forgotten_nothing old new forgets = record {
   controls = λ name. ap (λ found. option_and_then (λ last. last) found) (forgets.controls name)
       ∙ nothing_left None refl _;
   values = λ name. ap (λ found. option_and_then (λ last. last) found) (forgets.values name) ∙ nothing_left None refl _;
 }
 
-docked_told : (berth : Berth) → ticket_in berth ≡ None → berth ≡ Docked (told_in berth)
-docked_told (Docked told) is = refl
-docked_told (Away kept) is = cc
+docked_reported : (berth : Berth) → ticket_in berth ≡ None → berth ≡ Docked (reported_in berth)
+docked_reported (Docked reported) is = refl
+docked_reported (Away kept) is = cc
 
 -- a module that told nothing is docked
 pub docked_fresh :
-    (old new : Slot) (described : DescriptionForm) (told : Told) → new.berth ≡ Docked told → ToldNothing told
+    (old new : Slot) (described : PlainDescription) (reported : Reported) → new.berth ≡ Docked reported
+    → ReportedNothing reported
     → slot_tag new ≡ slot_tag old
     → slot_description new ≡ described → slot_begins new ≡ slot_begins old → IsDocked old new described
 unfolding last_control last_value
-docked_fresh old new described told is nothing tag description begins = record {
+docked_fresh old new described reported is nothing tag description begins = record {
   tag = tag;
   description = description;
   begins = begins;
@@ -54,9 +55,9 @@ docked_fresh old new described told is nothing tag description begins = record {
 
 -- a module is docked again
 pub docked_again :
-    (old new : Slot) (described : DescriptionForm) (berth : Berth) → IsBack berth new.berth
+    (old new : Slot) (described : PlainDescription) (berth : Berth) → IsBack berth new.berth
     → slot_tag new ≡ slot_tag old
     → slot_description new ≡ described → slot_begins new ≡ slot_begins old → IsDocked old new described
 docked_again old new described berth back tag description begins =
-    docked_fresh old new described (told_in new.berth) (docked_told new.berth back.docked)
-    (forgotten_nothing (told_in berth) (told_in new.berth) back.forgotten) tag description begins
+    docked_fresh old new described (reported_in new.berth) (docked_reported new.berth back.docked)
+    (forgotten_nothing (reported_in berth) (reported_in new.berth) back.forgotten) tag description begins

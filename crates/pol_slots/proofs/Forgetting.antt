@@ -17,10 +17,10 @@ module _ {K X : Type 0} where
   forgotten (suc count) [] = []
   forgotten (suc count) (entry ∷ entries) = (entry.0, None) ∷ forgotten count entries
 
-  pub length-forgotten : (count : ℕ) (entries : List (K × Option X)) → length (forgotten count entries) ≡ length entries
-  length-forgotten zero entries = refl
-  length-forgotten (suc count) [] = refl
-  length-forgotten (suc count) (entry ∷ entries) = ap suc (length-forgotten count entries)
+  pub length_forgotten : (count : ℕ) (entries : List (K × Option X)) → length (forgotten count entries) ≡ length entries
+  length_forgotten zero entries = refl
+  length_forgotten (suc count) [] = refl
+  length_forgotten (suc count) (entry ∷ entries) = ap suc (length_forgotten count entries)
 
   next : (entries : List (K × Option X)) (place : ℕ) → set_value_at (forgotten place entries) place None
       ≡ forgotten (suc place) entries

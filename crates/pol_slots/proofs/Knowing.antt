@@ -34,6 +34,6 @@ nothing_if true last is = is
 nothing_if false last is = refl
 
 -- and was told nothing
-pub told_nothing_where : {A : Type 0} (any : Bool) (found : Option (Option A))
+pub reported_nothing_where : {A : Type 0} (any : Bool) (found : Option (Option A))
     → found ≡ (if any then Some None else None) → option_and_then (λ last. last) found ≡ None
-told_nothing_where any found is = ap (λ each. option_and_then (λ last. last) each) is ∙ nothing_if any None refl
+reported_nothing_where any found is = ap (λ each. option_and_then (λ last. last) each) is ∙ nothing_if any None refl

@@ -1,5 +1,5 @@
-pub mod Lasts
-pub mod Told
+pub mod LastValues
+pub mod Reported
 pub mod Berths
 pub mod Slots
 pub mod Sights

@@ -2,10 +2,10 @@
 use Rattle.std.specs.Prelude.{ℕ, ◌≡◌, List, Option, None, option_and_then}
 use Rattle.mtp_assembly.specs.declared.control.ServiceControl.{ServiceControl}
 use Rattle.mtp_codes.specs.declared.value.Value.{Value}
-use Rattle.mtp_desc.specs.Plain.{DescriptionForm}
-use Rattle.mtp_desc.specs.DescriptionView.{description_view}
+use Rattle.mtp_desc.specs.Plain.{PlainDescription}
+use Rattle.mtp_desc.specs.PlainDescription.{plain_description}
 use Rattle.pol_slots.specs.Berths.{ticket_in, docked_in}
-use Rattle.pol_slots.specs.Lasts.{last_in}
+use Rattle.pol_slots.specs.LastValues.{last_in}
 use Rattle.pol_slots.specs.declared.slot.Slot.{Slot}
 
 -- the tag of its module
@@ -13,8 +13,8 @@ abbrev pub slot_tag : Slot → List ℕ
 slot_tag slot = slot.tag
 
 -- the description of its module; while the module is away, the old one
-abbrev pub slot_description : Slot → DescriptionForm
-slot_description slot = description_view slot.description.value
+abbrev pub slot_description : Slot → PlainDescription
+slot_description slot = plain_description slot.description.value
 
 -- how often its module began an exchange
 abbrev pub slot_begins : Slot → ℕ
@@ -26,11 +26,11 @@ slot_ticket slot = ticket_in slot.berth
 
 -- what the service reported last since docking
 unfoldable pub last_control : Slot → List ℕ → Option ServiceControl
-last_control slot service = option_and_then (λ told. last_in service told.controls) (docked_in slot.berth)
+last_control slot service = option_and_then (λ reported. last_in service reported.controls) (docked_in slot.berth)
 
 -- the value that the variable was reported with last since docking
 unfoldable pub last_value : Slot → List ℕ → Option Value
-last_value slot name = option_and_then (λ told. last_in name told.values) (docked_in slot.berth)
+last_value slot name = option_and_then (λ reported. last_in name reported.values) (docked_in slot.berth)
 
 -- the slot has the module of this tag as before: with its description, as often in exchange, and docked or away
 pub record SameModule (old new : Slot) : Type 0 where
@@ -60,7 +60,7 @@ pub record IsUnreported (slot : Slot) : Type 0 where
 
 -- the slot has a module of this description docked under the same tag, as often in exchange, and nothing was reported
 -- of it
-pub record IsDocked (old new : Slot) (described : DescriptionForm) : Type 0 where
+pub record IsDocked (old new : Slot) (described : PlainDescription) : Type 0 where
   pub tag : slot_tag new ≡ slot_tag old
   pub description : slot_description new ≡ described
   pub begins : slot_begins new ≡ slot_begins old

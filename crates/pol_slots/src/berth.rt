@@ -4,11 +4,11 @@ ghost use Rattle.std.specs.Map.{lookup};
 ghost use Rattle.std.specs.Str.{bytes_eq};
 ghost use Rattle.mtp_codes.specs.Faults.{done_unless};
 ghost use Rattle.pol_events.specs.Refusals.{wrong_ticket};
-ghost use Rattle.pol_slots.specs.Lasts.{report_rule};
-ghost use Rattle.pol_slots.specs.Berths.{ticket_in, told_in, docked_in, IsBack};
-ghost use Rattle.pol_slots.specs.Told.{TellsControl, TellsSame, TellsValue};
+ghost use Rattle.pol_slots.specs.LastValues.{report_rule};
+ghost use Rattle.pol_slots.specs.Berths.{ticket_in, reported_in, docked_in, IsBack};
+ghost use Rattle.pol_slots.specs.Reported.{ReportsControl, ReportsSame, ReportsValue};
 
-use super::told::Told;
+use super::reported::Reported;
 use mtp_assembly::ServiceControl;
 use mtp_codes::{Name, Value};
 use pol_events::Rule;
@@ -18,8 +18,8 @@ use std::alloc::Global;
 /// A module that is docked, or away for exchange, with what it told.
 #[derive(Drop)]
 pub(crate) enum Berth {
-    Docked(Docked<Told>),
-    Away(Away<Told>),
+    Docked(Docked<Reported>),
+    Away(Away<Reported>),
 }
 
 fn ticket_rule(wrong: WrongTicket) -> Rule
@@ -34,14 +34,14 @@ fn ticket_rule(wrong: WrongTicket) -> Rule
 impl Berth {
     /// A berth of no module, to stand in a slot while its own berth changes. Takes no memory.
     pub(crate) fn empty(alloc: Global) -> Berth {
-        Berth::docked(Told::empty(alloc))
+        Berth::docked(Reported::empty(alloc))
     }
 
     /// A docked module that told this.
-    pub(crate) fn docked(told: Told) -> Berth
-        ensures { result ≡ Berth.Docked told }
+    pub(crate) fn docked(reported: Reported) -> Berth
+        ensures { result ≡ Berth.Docked reported }
     {
-        Berth::Docked(Docked::new(told))
+        Berth::Docked(Docked::new(reported))
     }
 
     /// The ticket under which the module is away.
@@ -56,7 +56,8 @@ impl Berth {
 
     /// What the service of the docked module reported last; None where the module has no such service, or is away.
     pub(crate) fn control(&self, service: Name) -> Option<Option<ServiceControl>>
-        ensures { result ≡ option_and_then (λ told. lookup (bytes_eq service) told.controls) (docked_in self.now) }
+        ensures { result ≡ option_and_then (λ reported. lookup (bytes_eq service) reported.controls)
+            (docked_in self.now) }
     {
         match self {
             Berth::Docked(docked) => docked.part().controls.last(service),
@@ -66,7 +67,7 @@ impl Berth {
 
     /// What the variable of the docked module was reported with last, likewise.
     pub(crate) fn value(&self, name: Name) -> Option<Option<Value>>
-        ensures { result ≡ option_and_then (λ told. lookup (bytes_eq name) told.values) (docked_in self.now) }
+        ensures { result ≡ option_and_then (λ reported. lookup (bytes_eq name) reported.values) (docked_in self.now) }
     {
         match self {
             Berth::Docked(docked) => docked.part().values.last(name),
@@ -80,10 +81,10 @@ impl Berth {
     pub(crate) fn report(&mut self, service: Name, control: ServiceControl) -> Result<(), Rule>
         requires { ticket_in self.old ≡ None }
         ensures answer { result ≡ done_unless (report_rule control.state
-            (lookup (bytes_eq service) (told_in self.old).controls)) }
+            (lookup (bytes_eq service) (reported_in self.old).controls)) }
         ensures docked { ticket_in self.new ≡ None }
-        ensures told { OnOk result (TellsControl service control (told_in self.old) (told_in self.new)) }
-        ensures unchanged { OnErr result (TellsSame (told_in self.old) (told_in self.new)) }
+        ensures reported { OnOk result (ReportsControl service control (reported_in self.old) (reported_in self.new)) }
+        ensures unchanged { OnErr result (ReportsSame (reported_in self.old) (reported_in self.new)) }
     {
         match self {
             Berth::Docked(docked) => docked.part_mut().controls.report(service, control),
@@ -92,10 +93,10 @@ impl Berth {
     }
 
     /// Keeps the value that a variable of the docked module is reported with.
-    pub(crate) fn tell_value(&mut self, name: Name, value: Value)
+    pub(crate) fn report_value(&mut self, name: Name, value: Value)
         requires { ticket_in self.old ≡ None }
         ensures docked { ticket_in self.new ≡ None }
-        ensures told { TellsValue name value (told_in self.old) (told_in self.new) }
+        ensures reported { ReportsValue name value (reported_in self.old) (reported_in self.new) }
     {
         match self {
             Berth::Docked(docked) => docked.part_mut().values.put(name, value),
@@ -107,7 +108,7 @@ impl Berth {
     pub(crate) fn begin(self, ticket: u32) -> Berth
         requires { ticket_in self ≡ None }
         ensures away { ticket_in result ≡ Some ticket }
-        ensures told { told_in result ≡ told_in self }
+        ensures reported { reported_in result ≡ reported_in self }
     {
         match self {
             Berth::Docked(docked) => Berth::Away(docked.begin(ticket)),
@@ -115,20 +116,21 @@ impl Berth {
         }
     }
 
-    /// Docks another module, which told this, in place of the one that is away; or, with a wrong ticket, leaves it away.
-    pub(crate) fn finish(self, ticket: u32, told: Told) -> (Berth, Result<(), Rule>)
+    /// Docks another module, which told this, in place of the one that is away; or, with a wrong ticket, leaves it
+    /// away.
+    pub(crate) fn finish(self, ticket: u32, reported: Reported) -> (Berth, Result<(), Rule>)
         requires { IsSome (ticket_in self) }
         ensures answer { result.1 ≡ done_unless (wrong_ticket ticket (ticket_in self)) }
-        ensures docked { OnOk result.1 (result.0 ≡ Berth.Docked told) }
+        ensures docked { OnOk result.1 (result.0 ≡ Berth.Docked reported) }
         ensures unchanged { OnErr result.1 (result.0 ≡ self) }
     {
         let away = match self {
             Berth::Docked(_) => unreachable!(),
             Berth::Away(away) => away,
         };
-        match away.finish(ticket, told) {
+        match away.finish(ticket, reported) {
             Ok((docked, _old)) => (Berth::Docked(docked), Ok(())),
-            Err((away, _told, wrong)) => (Berth::Away(away), Err(ticket_rule(wrong))),
+            Err((away, _reported, wrong)) => (Berth::Away(away), Err(ticket_rule(wrong))),
         }
     }
 

@@ -1,15 +1,15 @@
 //! Docking, and the exchange of a module for another.
 ghost use Rattle.std.specs.Prelude.{◌≡◌, ℕ, ◌+◌, ◌<◌, Some, None, IsSome, IfOk, IfErr, OnOk, OnErr};
 ghost use Rattle.mtp_codes.specs.Faults.{done_unless};
-ghost use Rattle.mtp_desc.specs.DescriptionView.{description_view};
+ghost use Rattle.mtp_desc.specs.PlainDescription.{plain_description};
 ghost use Rattle.pol_events.specs.Refusals.{wrong_ticket};
 ghost use Rattle.pol_slots.specs.Refused.{refusal_by};
 ghost use Rattle.pol_slots.specs.Slots.{slot_tag, slot_description, slot_begins, slot_ticket, IsDocked, IsUnchanged, IsUnreported};
 
 use super::berth::Berth;
 use super::refusal::SlotRefusal;
+use super::reported::Reported;
 use super::slot::Slot;
-use super::told::Told;
 use mtp_codes::Name;
 use mtp_desc::Description;
 use pol_events::Rule;
@@ -18,29 +18,29 @@ use std::mem;
 use std::sync::Arc;
 
 impl Slot {
-    /// A module with this description, docked under a tag: nothing was reported yet, and no exchange was begun. It takes
-    /// all room that later reports need.
+    /// A module with this description, docked under a tag: nothing was reported yet, and no exchange was begun. It
+    /// takes all room that later reports need.
     #[tactic(auto, unfolding(crate::specs::Slots::last_control, crate::specs::Slots::last_value))]
     pub fn new(alloc: Global, description: Arc<Description>, tag: Name) -> Result<Slot, AllocError>
         ensures tag { IfOk result (λ slot. slot_tag slot ≡ tag) }
-        ensures description { IfOk result (λ slot. slot_description slot ≡ description_view description.value) }
+        ensures description { IfOk result (λ slot. slot_description slot ≡ plain_description description.value) }
         ensures begins { IfOk result (λ slot. slot_begins slot ≡ 0) }
         ensures docked { IfOk result (λ slot. slot_ticket slot ≡ None) }
         ensures unreported { IfOk result IsUnreported }
     {
-        let told = Told::new(alloc, &description)?;
+        let reported = Reported::new(alloc, &description)?;
         Ok(Slot {
             alloc,
             tag,
             description,
             begins: 0,
-            berth: Berth::docked(told),
+            berth: Berth::docked(reported),
         })
     }
 
     /// The description of the module; while it is away, the old one.
     pub fn description(&self) -> &Arc<Description>
-        ensures { description_view result.now.value ≡ slot_description self.now }
+        ensures { plain_description result.now.value ≡ slot_description self.now }
     {
         &self.description
     }
@@ -72,8 +72,8 @@ impl Slot {
         }
     }
 
-    /// Sends the module away for exchange. The answer is the ticket, by which the exchange is ended or cancelled: one more
-    /// than the exchanges that were begun before. What was reported is forgotten.
+    /// Sends the module away for exchange. The answer is the ticket, by which the exchange is ended or cancelled: one
+    /// more than the exchanges that were begun before. What was reported is forgotten.
     #[tactic(auto, unfolding(crate::specs::Slots::last_control, crate::specs::Slots::last_value))]
     pub fn begin(&mut self) -> u32
         requires docked { slot_ticket self.old ≡ None }
@@ -91,25 +91,25 @@ impl Slot {
         self.begins
     }
 
-    /// Ends the exchange: another module, with this description, is docked in place of the one that is away. Nothing was
-    /// reported of it yet.
+    /// Ends the exchange: another module, with this description, is docked in place of the one that is away. Nothing
+    /// was reported of it yet.
     ///
-    /// `WrongTicket` with both tickets where the given one isn't that of the exchange; else `Memory` for want of memory.
-    /// After either the slot is unchanged.
+    /// `WrongTicket` with both tickets where the given one isn't that of the exchange; else `Memory` for want of
+    /// memory. After either the slot is unchanged.
     #[tactic(auto, unfolding(crate::specs::Slots::last_control, crate::specs::Slots::last_value))]
     pub fn finish(&mut self, ticket: u32, description: Arc<Description>) -> Result<(), SlotRefusal>
         requires { IsSome (slot_ticket self.old) }
         ensures accepted { OnOk result (wrong_ticket ticket (slot_ticket self.old) ≡ None) }
-        ensures docked { OnOk result (IsDocked self.old self.new (description_view description.value)) }
+        ensures docked { OnOk result (IsDocked self.old self.new (plain_description description.value)) }
         ensures refused { IfErr result (λ refusal. refusal ≡ refusal_by (wrong_ticket ticket (slot_ticket self.old))) }
         ensures unchanged { OnErr result (IsUnchanged self.old self.new) }
     {
         if let Err(rule) = self.check_ticket(ticket) {
             return Err(SlotRefusal::Rule(rule));
         }
-        let told = Told::new(self.alloc, &description)?;
+        let reported = Reported::new(self.alloc, &description)?;
         let berth = mem::replace(&mut self.berth, Berth::empty(self.alloc));
-        let (berth, answer) = berth.finish(ticket, told);
+        let (berth, answer) = berth.finish(ticket, reported);
         self.berth = berth;
         match answer {
             Ok(()) => {
@@ -120,7 +120,8 @@ impl Slot {
         }
     }
 
-    /// Cancels the exchange: the module that is away is docked again, with its old description. Nothing was reported since.
+    /// Cancels the exchange: the module that is away is docked again, with its old description. Nothing was reported
+    /// since.
     ///
     /// `WrongTicket` with both tickets where the given one isn't that of the exchange; then the slot is unchanged.
     #[tactic(auto, unfolding(crate::specs::Slots::last_control, crate::specs::Slots::last_value))]

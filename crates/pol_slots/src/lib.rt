@@ -7,12 +7,12 @@
 
 mod berth;
 mod exchange;
-mod lasts;
+mod last_values;
 mod refusal;
+mod reported;
 mod reports;
 mod seen;
 mod slot;
-mod told;
 
 pub use refusal::SlotRefusal;
 pub use slot::Slot;

@@ -47,8 +47,8 @@ impl Slot {
     /// Takes what a service reports.
     ///
     /// `InExchange` with the tag and the ticket while the module is away; `NoService` where its description lacks the
-    /// service; `NotAnEdge` where the state is neither the one reported last since docking nor one to which an edge leads
-    /// from it. After a refusal the slot is unchanged.
+    /// service; `NotAnEdge` where the state is neither the one reported last since docking nor one to which an edge
+    /// leads from it. After a refusal the slot is unchanged.
     #[tactic(auto, unfolding(crate::specs::Slots::last_control, crate::specs::Slots::last_value))]
     pub fn report(&mut self, service: Name, control: ServiceControl) -> Result<(), Rule>
         ensures answer { result ≡ done_unless (first_of (report_rules (slot_tag self.old) service control.state
@@ -78,7 +78,7 @@ impl Slot {
         ensures unchanged { OnErr result (SameValues self.old self.new) }
     {
         self.check_value(name, &value)?;
-        self.berth.tell_value(name, value);
+        self.berth.report_value(name, value);
         Ok(())
     }
 }

@@ -41,8 +41,8 @@ impl Slot {
         }
     }
 
-    /// What the service reported last since docking, with whether its current procedure completes by itself. It serves the
-    /// operator's desk, which tells a service that isn't there from one that wasn't reported.
+    /// What the service reported last since docking, with whether its current procedure completes by itself. It serves
+    /// the operator's desk, which tells a service that isn't there from one that wasn't reported.
     ///
     /// `InExchange` with the tag and the ticket while the module is away; `NoService` where its description lacks the
     /// service; `NotReported` with the tag and the service.

@@ -1,7 +1,7 @@
 //! A module of a plant.
-ghost use Rattle.mtp_desc.specs.DescriptionView.{description_view};
-ghost use Rattle.pol_slots.specs.Berths.{told_in};
-ghost use Rattle.pol_slots.specs.Told.{KnowsServices, KnowsVariables};
+ghost use Rattle.mtp_desc.specs.PlainDescription.{plain_description};
+ghost use Rattle.pol_slots.specs.Berths.{reported_in};
+ghost use Rattle.pol_slots.specs.Reported.{KnowsServices, KnowsVariables};
 
 use super::berth::Berth;
 use mtp_codes::Name;
@@ -18,6 +18,6 @@ pub struct Slot {
     pub(crate) description: Arc<Description>,
     pub(crate) begins: u32,
     pub(crate) berth: Berth,
-    ghost services: { KnowsServices (description_view description.value) (told_in berth) },
-    ghost variables: { KnowsVariables (description_view description.value) (told_in berth) },
+    ghost services: { KnowsServices (plain_description description.value) (reported_in berth) },
+    ghost variables: { KnowsVariables (plain_description description.value) (reported_in berth) },
 }

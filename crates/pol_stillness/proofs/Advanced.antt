@@ -17,9 +17,9 @@ use Rattle.mtp_machine.proofs.EveryState.{of_each_state}
 use Rattle.mtp_modes.specs.declared.view.ServiceView.{ServiceView}
 use Rattle.chart_core.specs.Active.{Phase, idle, started, finished, was_reset, or_earlier, last_of as last_said, phase_by, or_idle, phase_after, is_running, is_active}
 use Rattle.chart_core.specs.Entries.{chart_entry}
-use Rattle.chart_core.specs.Roles.{ChartPlan, role_names}
+use Rattle.chart_core.specs.Roles.{PlainChart, role_names}
 use Rattle.chart_core.specs.Runs.{IsPartial}
-use Rattle.chart_core.specs.Trees.{StepPlan, Placed, steps}
+use Rattle.chart_core.specs.Trees.{PlainStep, Placed, steps}
 use Rattle.chart_core.specs.Valid.{IsValid}
 use Rattle.chart_core.specs.declared.entry.LogEntry.{LogEntry}
 use Rattle.chart_core.specs.declared.entry.LogEntry.TheVariants.{Start, Finish, Reset, End, Chose, Turn, Leave, Stop, Broke, Left, StopAsked, Asked}
@@ -29,7 +29,7 @@ use Rattle.chart_cursor.specs.Next.{next_after}
 use Rattle.chart_cursor.specs.Sights.{Sights, tag_of}
 use Rattle.chart_cursor.specs.declared.next.CursorNext.TheVariants.{Entry}
 use Rattle.chart_cursor.proofs.Commanding.{next_of_run, steps_of_chart}
-use Rattle.pol_events.specs.Events.{EventForm, start, advance}
+use Rattle.pol_events.specs.Events.{PlainEvent, start, advance}
 use Rattle.pol_events.specs.declared.answer.Answer.TheVariants.{Did}
 use Rattle.chart_core.specs.declared.next.Next.TheVariants as next
 use Rattle.pol_history.specs.Looking.{History, past, past_of_batch, recipes}
@@ -38,22 +38,22 @@ use Rattle.pol_history.specs.Batches.{Started, start_of, chart_named, outcome_by
 use Rattle.pol_history.specs.Following.{sights_by}
 use Rattle.pol_history.specs.Runs.{IsLegal, IsOrderly}
 use Rattle.pol_history.proofs.Accepted.{paired}
-use Rattle.pol_history.proofs.Names.{same-true, same-refl}
-use Rattle.pol_conduct.specs.Permitted.{WasPermitted}
-use Rattle.pol_conduct.proofs.Courses.{all-follow, log-grows}
-use Rattle.pol_conduct.proofs.Nexts.{HasNext}
-use Rattle.pol_conduct.proofs.Seen.{seen-of, tag-of-bound}
-use Rattle.pol_conduct.proofs.Sending.{sent_was_permitted}
-use Rattle.pol_conduct.proofs.Starts.{sound, running-fits, start-same}
+use Rattle.pol_history.proofs.Names.{same_true, same_refl}
+use Rattle.pol_safety.specs.Permitted.{WasPermitted}
+use Rattle.pol_safety.proofs.Courses.{all_follow, log_grows}
+use Rattle.pol_safety.proofs.Nexts.{HasNext}
+use Rattle.pol_safety.proofs.Seen.{seen_of, tag_of_bound}
+use Rattle.pol_safety.proofs.Sending.{sent_was_permitted}
+use Rattle.pol_safety.proofs.Starts.{sound, running_fits, start_same}
 use Rattle.pol_site.specs.Stories.{if_to, is_for}
 use Rattle.pol_stillness.specs.Apart.{is_due, waits_in, IsAlone, IsOwed}
-use Rattle.pol_stillness.proofs.Owed.{sends-step, sent-of-step}
+use Rattle.pol_stillness.proofs.Owed.{sends_step, sent_of_step}
 use Rattle.pol_stillness.proofs.Alone.{steps_alone}
 use Rattle.pol_stillness.specs.Plain.{is_plain, IsPlain}
-use Rattle.pol_stillness.proofs.Plain.{view-plain, did-runs}
-use Rattle.pol_stillness.proofs.Ended.{end-idle}
-use Rattle.pol_events.proofs.Options.{some-same}
-use Rattle.pol_events.proofs.Lists.{among-member, kept-member, member-kept}
+use Rattle.pol_stillness.proofs.Plain.{view_plain, did_runs}
+use Rattle.pol_stillness.proofs.Ended.{end_idle}
+use Rattle.pol_events.proofs.Options.{some_same}
+use Rattle.pol_events.proofs.Lists.{among_member, kept_member, member_kept}
 use Rattle.pol_history.proofs.Binds.{IsFitting}
 use Rattle.chart_cursor.specs.Logs.{chart_entries}
 use Rattle.pol_events.specs.Bound.{bound_tag}
@@ -61,40 +61,40 @@ use Rattle.pol_events.specs.Bound.{bound_tag}
 -- ---- a log that grows
 
 -- by an entry of the run
-run-grows : (log : List LogEntry) (entry : LogEntry) → is_some (chart_entry entry) ≡ true
+run_grows : (log : List LogEntry) (entry : LogEntry) → is_some (chart_entry entry) ≡ true
     → chart_entries (log ++ entry ∷ []) ≡ chart_entries log ++ entry ∷ []
-run-grows log entry of_run =
+run_grows log entry of_run =
     filter-append (λ entry. is_some (chart_entry entry)) log (entry ∷ [])
     ∙ ap (λ kept. chart_entries log ++ cond kept (entry ∷ []) []) of_run
 
 -- the later of a thing and nothing is that thing
-says-last : {A : Type 0} (said : Option A) → or_earlier None said ≡ or_earlier said None
-says-last None = refl
-says-last (Some x) = refl
+says_last : {A : Type 0} (said : Option A) → or_earlier None said ≡ or_earlier said None
+says_last None = refl
+says_last (Some x) = refl
 
 -- the later of three, whichever two come first
-earlier-apart : {A : Type 0} (one other third : Option A)
+earlier_apart : {A : Type 0} (one other third : Option A)
     → or_earlier (or_earlier one other) third ≡ or_earlier one (or_earlier other third)
-earlier-apart None other third = refl
-earlier-apart (Some x) other third = refl
+earlier_apart None other third = refl
+earlier_apart (Some x) other third = refl
 
 -- what a log with one more entry says last
-last-pushed : {A B : Type 0} (says : A → Option B) (log : List A) (entry : A)
+last_pushed : {A B : Type 0} (says : A → Option B) (log : List A) (entry : A)
     → last_said says (log ++ entry ∷ []) ≡ or_earlier (says entry) (last_said says log)
-last-pushed says [] entry = says-last (says entry)
-last-pushed says (first ∷ log) entry =
-    ap (λ found. or_earlier found (says first)) (last-pushed says log entry) ∙ earlier-apart (says entry)
+last_pushed says [] entry = says_last (says entry)
+last_pushed says (first ∷ log) entry =
+    ap (λ found. or_earlier found (says first)) (last_pushed says log entry) ∙ earlier_apart (says entry)
     (last_said says log) (says first)
 
 -- where a step stands after one more entry
-phase-pushed : (log : List LogEntry) (entry : LogEntry) (name : List ℕ)
+phase_pushed : (log : List LogEntry) (entry : LogEntry) (name : List ℕ)
     → phase_after (log ++ entry ∷ []) name ≡ or_idle (or_earlier (phase_by name entry) (last_said (phase_by name) log))
-phase-pushed log entry name = ap or_idle (last-pushed (phase_by name) log entry)
+phase_pushed log entry name = ap or_idle (last_pushed (phase_by name) log entry)
 
 -- the run of the batch after one more entry of it
-run-after : (past : History) (event : EventForm) (entry : LogEntry) → is_some (chart_entry entry) ≡ true
+run_after : (past : History) (event : PlainEvent) (entry : LogEntry) → is_some (chart_entry entry) ≡ true
     → chart_entries (log_by (paired event (Did entry) ∷ past)) ≡ chart_entries (log_by past) ++ entry ∷ []
-run-after past event entry of_run = ap chart_entries (log-grows past event entry) ∙ run-grows (log_by past) entry of_run
+run_after past event entry of_run = ap chart_entries (log_grows past event entry) ∙ run_grows (log_by past) entry of_run
 
 -- ---- states in which a command is sent
 
@@ -107,65 +107,65 @@ abbrev is_the : State → State → Bool
 is_the one other = same_state one other
 
 -- Start leaves Idle alone
-every-start : AllByRecursion (λ one. is_from command.Start one ≡ is_the one state.Idle) every_state
+every_start : AllByRecursion (λ one. is_from command.Start one ≡ is_the one state.Idle) every_state
 unfolding command_target
-every-start = search
+every_start = search
 
 -- Complete leaves Execute alone
-every-complete : AllByRecursion (λ one. is_from command.Complete one ≡ is_the one state.Execute) every_state
+every_complete : AllByRecursion (λ one. is_from command.Complete one ≡ is_the one state.Execute) every_state
 unfolding command_target
-every-complete = search
+every_complete = search
 
 -- Reset leaves Completed alone, among plain states
-every-reset : AllByRecursion (λ one. is_from command.Reset one ≡ is_the one state.Completed) every_state
+every_reset : AllByRecursion (λ one. is_from command.Reset one ≡ is_the one state.Completed) every_state
 unfolding command_target
-every-reset = search
+every_reset = search
 
 -- a state that is Idle by its test is Idle
-the-idle : (one : State) → is_the one state.Idle ≡ true → state.Idle ≡ one
-the-idle state.Idle is = refl
-the-idle _ is = cc
+the_idle : (one : State) → is_the one state.Idle ≡ true → state.Idle ≡ one
+the_idle state.Idle is = refl
+the_idle _ is = cc
 
 -- the same of Execute
-the-execute : (one : State) → is_the one state.Execute ≡ true → state.Execute ≡ one
-the-execute state.Execute is = refl
-the-execute _ is = cc
+the_execute : (one : State) → is_the one state.Execute ≡ true → state.Execute ≡ one
+the_execute state.Execute is = refl
+the_execute _ is = cc
 
 -- the same of Completed
-the-completed : (one : State) → is_the one state.Completed ≡ true → state.Completed ≡ one
-the-completed state.Completed is = refl
-the-completed _ is = cc
+the_completed : (one : State) → is_the one state.Completed ≡ true → state.Completed ≡ one
+the_completed state.Completed is = refl
+the_completed _ is = cc
 
 -- a command that leads somewhere leaves its state
-from-plain : (given : Command) (one : State) → is_plain one ≡ true → is_some (command_target one given) ≡ true
+from_plain : (given : Command) (one : State) → is_plain one ≡ true → is_some (command_target one given) ≡ true
     → is_from given one ≡ true
-from-plain given one plain leads = rw (plain, leads) refl
+from_plain given one plain leads = rw (plain, leads) refl
 
 -- a service that takes Start is Idle
-pub start-from : (one : State) → is_plain one ≡ true → is_some (command_target one command.Start) ≡ true
+pub start_from : (one : State) → is_plain one ≡ true → is_some (command_target one command.Start) ≡ true
     → state.Idle ≡ one
-start-from one plain leads =
-    the-idle one (sym (of_each_state (λ one. is_from command.Start one ≡ is_the one state.Idle) every-start one) ∙
-    from-plain command.Start one plain leads)
+start_from one plain leads =
+    the_idle one (sym (of_each_state (λ one. is_from command.Start one ≡ is_the one state.Idle) every_start one) ∙
+    from_plain command.Start one plain leads)
 
 -- one that takes Complete executes
-pub complete-from : (one : State) → is_plain one ≡ true → is_some (command_target one command.Complete) ≡ true
+pub complete_from : (one : State) → is_plain one ≡ true → is_some (command_target one command.Complete) ≡ true
     → state.Execute ≡ one
-complete-from one plain leads =
-    the-execute one (sym (of_each_state (λ one. is_from command.Complete one ≡ is_the one state.Execute) every-complete
-    one) ∙ from-plain command.Complete one plain leads)
+complete_from one plain leads =
+    the_execute one (sym (of_each_state (λ one. is_from command.Complete one ≡ is_the one state.Execute) every_complete
+    one) ∙ from_plain command.Complete one plain leads)
 
 -- one that takes Reset is completed, where it is in a plain state
-pub reset-from : (one : State) → is_plain one ≡ true → is_some (command_target one command.Reset) ≡ true
+pub reset_from : (one : State) → is_plain one ≡ true → is_some (command_target one command.Reset) ≡ true
     → state.Completed ≡ one
-reset-from one plain leads =
-    the-completed one (sym (of_each_state (λ one. is_from command.Reset one ≡ is_the one state.Completed) every-reset
-    one) ∙ from-plain command.Reset one plain leads)
+reset_from one plain leads =
+    the_completed one (sym (of_each_state (λ one. is_from command.Reset one ≡ is_the one state.Completed) every_reset
+    one) ∙ from_plain command.Reset one plain leads)
 
 -- ---- a batch that goes on
 
 -- what is known of an open batch that does an entry next
-pub record Facts (older : History) (batch : List ℕ) (begun : Started) (chart : ChartPlan)
+pub record Facts (older : History) (batch : List ℕ) (begun : Started) (chart : PlainChart)
     (entry : LogEntry) : Type 0 where
   start_is : start_of older batch ≡ Some begun
   chart_is : chart_named begun.recipe (recipes older) ≡ Some chart
@@ -183,7 +183,7 @@ pub facts : (older : History) (batch : List ℕ) (entry : LogEntry) → IsLegal 
     → outcome_of older batch ≡ None
     → (has : HasNext older batch (next.Did entry)) → Facts older batch has.started has.chart entry
 facts older batch entry legal orderly plain unclosed has =
-    let runs = did-runs older batch entry plain has in
+    let runs = did_runs older batch entry plain has in
     record {
       start_is = has.start_is;
       chart_is = has.chart_is;
@@ -191,91 +191,91 @@ facts older batch entry legal orderly plain unclosed has =
       plain = plain;
       runs = runs;
       valid = (sound older legal orderly has.started.recipe has.chart has.chart_is).valid;
-      partial = (all-follow older legal orderly batch has.started has.chart has.start_is has.chart_is).partial;
-      fits = running-fits older batch has.started has.chart legal orderly
+      partial = (all_follow older legal orderly batch has.started has.chart has.start_is has.chart_is).partial;
+      fits = running_fits older batch has.started has.chart legal orderly
           (record { start_is = has.start_is; chart_is = has.chart_is; unclosed = unclosed });
       of_run = next_of_run has.chart (chart_entries (log_of older batch))
           (sights_by has.started.binds (λ tag. past tag older)) entry runs;
     }
 
 -- the past of a batch that did an entry
-own-past : (older : History) (at : ℕ) (other batch : List ℕ) (entry : LogEntry) → bytes_eq other batch ≡ true
+own_past : (older : History) (at : ℕ) (other batch : List ℕ) (entry : LogEntry) → bytes_eq other batch ≡ true
     → past_of_batch batch (paired (advance at other) (Did entry) ∷ older) ≡ paired (advance at other) (Did entry)
     ∷ past_of_batch batch older
-own-past older at other batch entry same =
+own_past older at other batch entry same =
     ap (λ b. cond (b && true) (paired (advance at other) (Did entry) ∷ past_of_batch batch older)
     (past_of_batch batch older)) same
 
 -- and its run
-own-run : (older : History) (at : ℕ) (other batch : List ℕ) (entry : LogEntry) → bytes_eq other batch ≡ true
+own_run : (older : History) (at : ℕ) (other batch : List ℕ) (entry : LogEntry) → bytes_eq other batch ≡ true
     → is_some (chart_entry entry) ≡ true
     → chart_entries (log_of (paired (advance at other) (Did entry) ∷ older) batch) ≡ chart_entries (log_of older batch)
     ++ entry ∷ []
-own-run older at other batch entry same of_run =
-    ap (λ p. chart_entries (log_by p)) (own-past older at other batch entry same) ∙ run-after
+own_run older at other batch entry same of_run =
+    ap (λ p. chart_entries (log_by p)) (own_past older at other batch entry same) ∙ run_after
     (past_of_batch batch older) (advance at other) entry of_run
 
 -- ---- a command that is sent now
 
 -- one name is the same as itself
-name-same : (a b : List ℕ) → a ≡ b → same_name a b ≡ true
-name-same a b same = ap (same_name a) (sym same) ∙ same-refl a
+name_same : (a b : List ℕ) → a ≡ b → same_name a b ≡ true
+name_same a b same = ap (same_name a) (sym same) ∙ same_refl a
 
 -- where the step stands after it, and the state in which it was sent
-record Sends (step : StepPlan) (entry : LogEntry) (one : State) : Type 0 where
+record Sends (step : PlainStep) (entry : LogEntry) (one : State) : Type 0 where
   phase : Phase
   says : phase_by step.name entry ≡ Some phase
   running : is_running phase ≡ true
   waits : waits_in phase ≡ Some one
 
 -- an entry of a step that sends a command leaves the step waiting for a report
-sends-phase : (seen : Sights) (step : StepPlan) (entry : LogEntry) (sent : Sent) (one : State)
+sends_phase : (seen : Sights) (step : PlainStep) (entry : LogEntry) (sent : Sent) (one : State)
     → IsOfStep seen step entry → sent_by entry ≡ Some sent
     → is_plain one ≡ true → is_some (command_target one sent.command) ≡ true → Sends step entry one
-sends-phase seen step (Start name tag service procedure) sent one own sends plain leads =
+sends_phase seen step (Start name tag service procedure) sent one own sends plain leads =
     let given : command.Start ≡ sent.command = ap (λ (s : Sent). s.command) (same_Some _ sent sends) in
     record {
       phase = started;
-      says = ap (λ b. when b started) (name-same name step.name own.0);
+      says = ap (λ b. when b started) (name_same name step.name own.0);
       running = refl;
-      waits = ap Some (start-from one plain (ap (λ c. is_some (command_target one c)) given ∙ leads));
+      waits = ap Some (start_from one plain (ap (λ c. is_some (command_target one c)) given ∙ leads));
     }
-sends-phase seen step (Finish name tag service) sent one own sends plain leads =
+sends_phase seen step (Finish name tag service) sent one own sends plain leads =
     let given : command.Complete ≡ sent.command = ap (λ (s : Sent). s.command) (same_Some _ sent sends) in
     record {
       phase = finished;
-      says = ap (λ b. when b finished) (name-same name step.name own.0);
+      says = ap (λ b. when b finished) (name_same name step.name own.0);
       running = refl;
-      waits = ap Some (complete-from one plain (ap (λ c. is_some (command_target one c)) given ∙ leads));
+      waits = ap Some (complete_from one plain (ap (λ c. is_some (command_target one c)) given ∙ leads));
     }
-sends-phase seen step (Reset name tag service) sent one own sends plain leads =
+sends_phase seen step (Reset name tag service) sent one own sends plain leads =
     let given : command.Reset ≡ sent.command = ap (λ (s : Sent). s.command) (same_Some _ sent sends) in
     record {
       phase = was_reset;
-      says = ap (λ b. when b was_reset) (name-same name step.name own.0);
+      says = ap (λ b. when b was_reset) (name_same name step.name own.0);
       running = refl;
-      waits = ap Some (reset-from one plain (ap (λ c. is_some (command_target one c)) given ∙ leads));
+      waits = ap Some (reset_from one plain (ap (λ c. is_some (command_target one c)) given ∙ leads));
     }
-sends-phase seen step (End name) sent one own sends plain leads = cc
-sends-phase seen step _ sent one own sends plain leads = absurd own
+sends_phase seen step (End name) sent one own sends plain leads = cc
+sends_phase seen step _ sent one own sends plain leads = absurd own
 
 -- a service that is commanded now is owed a report by the batch that does it
-pub new-owed : (older : History) (at : ℕ) (batch : List ℕ) (begun : Started) (chart : ChartPlan) (entry : LogEntry)
+pub new_owed : (older : History) (at : ℕ) (batch : List ℕ) (begun : Started) (chart : PlainChart) (entry : LogEntry)
     (sent : Sent) → Facts older batch begun chart entry
     → IsLegal (paired (advance at batch) (Did entry) ∷ older) → sent_by entry ≡ Some sent
     → IsOwed (paired (advance at batch) (Did entry) ∷ older) sent.tag sent.service
-new-owed older at batch begun chart entry sent known legal sends =
+new_owed older at batch begun chart entry sent known legal sends =
     record {
       batch = batch;
       started = begun;
       chart = chart;
       placed = of.0;
-      start_is = start-same older (paired (advance at batch) (Did entry)) batch refl ∙ known.start_is;
+      start_is = start_same older (paired (advance at batch) (Did entry)) batch refl ∙ known.start_is;
       chart_is = known.chart_is;
-      unclosed = ap outcome_by (own-past older at batch batch entry (same-refl batch)) ∙ known.unclosed;
-      inside = kept-member (is_active (chart_entries (log_of now batch))) (steps chart.root 0) of.0 of.1
+      unclosed = ap outcome_by (own_past older at batch batch entry (same_refl batch)) ∙ known.unclosed;
+      inside = kept_member (is_active (chart_entries (log_of now batch))) (steps chart.root 0) of.0 of.1
           (ap is_running stands ∙ it.running);
-      bound = tag.1 ∙ ap Some (sym (tag-of-bound older begun.binds of.0.step.role tag.0 tag.1) ∙ sym to.0);
+      bound = tag.1 ∙ ap Some (sym (tag_of_bound older begun.binds of.0.step.role tag.0 tag.1) ∙ sym to.0);
       service_is = sym to.1;
       view = was.view;
       seen = was.seen;
@@ -292,56 +292,56 @@ new-owed older at batch begun chart entry sent known legal sends =
     sights = sights_by begun.binds (λ tag. past tag older)
 
     of : (placed : Placed) × Contains (steps chart.root 0) placed × IsOfStep sights placed.step entry
-    of = steps_of_chart chart log sights entry known.runs (sends-step entry sent known.of_run sends)
+    of = steps_of_chart chart log sights entry known.runs (sends_step entry sent known.of_run sends)
 
     to : (sent.tag ≡ tag_of sights of.0.step.role) × (sent.service ≡ of.0.step.service)
-    to = sent-of-step sights of.0.step entry sent of.2 sends
+    to = sent_of_step sights of.0.step entry sent of.2 sends
 
     tag : (tag : List ℕ) × (bound_tag begun.binds of.0.step.role ≡ Some tag)
-    tag = known.fits.bound of.0.step.role (among-member (role_names chart) of.0.step.role
+    tag = known.fits.bound of.0.step.role (among_member (role_names chart) of.0.step.role
         (roles_of_steps chart of.0 known.valid of.1))
 
     was : WasPermitted older sent
     was = sent_was_permitted older (paired (advance at batch) (Did entry)) sent legal sends
 
     it : Sends of.0.step entry was.view.control.state
-    it = sends-phase sights of.0.step entry sent was.view.control.state of.2 sends
-        (view-plain older sent.tag sent.service was.view known.plain was.seen) was.permitted.leads
+    it = sends_phase sights of.0.step entry sent was.view.control.state of.2 sends
+        (view_plain older sent.tag sent.service was.view known.plain was.seen) was.permitted.leads
 
     stands : phase_after (chart_entries (log_of now batch)) of.0.step.name ≡ it.phase
     stands =
-        ap (λ l. phase_after l of.0.step.name) (own-run older at batch batch entry (same-refl batch) known.of_run)
-        ∙ phase-pushed log entry of.0.step.name
+        ap (λ l. phase_after l of.0.step.name) (own_run older at batch batch entry (same_refl batch) known.of_run)
+        ∙ phase_pushed log entry of.0.step.name
         ∙ ap (λ said. or_idle (or_earlier said (last_said (phase_by of.0.step.name) log))) it.says
 
 -- ---- a report that stays owed where its batch goes on
 
 -- nothing is said where it isn't meant
-unless-here : (here : Bool) (phase : Phase) → (here ≡ true → ⊥) → when here phase ≡ None
-unless-here true phase not_here = absurd (not_here refl)
-unless-here false phase not_here = refl
+unless_here : (here : Bool) (phase : Phase) → (here ≡ true → ⊥) → when here phase ≡ None
+unless_here true phase not_here = absurd (not_here refl)
+unless_here false phase not_here = refl
 
 -- a start is not due where a step waits for a report
-start-due : (phase : Phase) (step tag service : List ℕ) (procedure : ℕ) (one : State)
+start_due : (phase : Phase) (step tag service : List ℕ) (procedure : ℕ) (one : State)
     → is_due phase (Start step tag service procedure) ≡ true → waits_in phase ≡ Some one → ⊥
-start-due idle step tag service procedure one due waits = cc
-start-due started step tag service procedure one due waits = cc
-start-due finished step tag service procedure one due waits = cc
-start-due was_reset step tag service procedure one due waits = cc
+start_due idle step tag service procedure one due waits = cc
+start_due started step tag service procedure one due waits = cc
+start_due finished step tag service procedure one due waits = cc
+start_due was_reset step tag service procedure one due waits = cc
 
 -- an end is due only where the service is idle
-end-due : (phase : Phase) (step : List ℕ) (one : State) → is_due phase (End step) ≡ true → waits_in phase ≡ Some one
+end_due : (phase : Phase) (step : List ℕ) (one : State) → is_due phase (End step) ≡ true → waits_in phase ≡ Some one
     → is_idle one ≡ false
-end-due idle step one due waits = cc
-end-due started step one due waits = cc
-end-due finished step one due waits = cc
-end-due was_reset step one due waits = ap is_idle (sym (same_Some state.Completed one waits))
+end_due idle step one due waits = cc
+end_due started step one due waits = cc
+end_due finished step one due waits = cc
+end_due was_reset step one due waits = ap is_idle (sym (same_Some state.Completed one waits))
 
 -- a command to a service of a module is for it
-is-for : (t s tag service : List ℕ) (sent : Sent) → sent.service ≡ s → t ≡ tag → s ≡ service
+is_for_service : (t s tag service : List ℕ) (sent : Sent) → sent.service ≡ s → t ≡ tag → s ≡ service
     → is_for service (if bytes_eq t tag then Some sent else None) ≡ true
-is-for t s tag service sent sent_is tag_is service_is =
-    ap (λ b. is_for service (if b then Some sent else None)) (name-same t tag tag_is) ∙ name-same sent.service service
+is_for_service t s tag service sent sent_is tag_is service_is =
+    ap (λ b. is_for service (if b then Some sent else None)) (name_same t tag tag_is) ∙ name_same sent.service service
     (sent_is ∙ service_is)
 
 -- an entry that sends the service nothing says nothing of the step that is owed
@@ -357,10 +357,10 @@ silent older tag service owed entry known other = by entry known other
     sights = sights_by owed.started.binds (λ tag. past tag older)
 
     within : Contains (steps owed.chart.root 0) owed.placed
-    within = (member-kept (is_active log) (steps owed.chart.root 0) owed.placed owed.inside).0
+    within = (member_kept (is_active log) (steps owed.chart.root 0) owed.placed owed.inside).0
 
-    of-tag : tag_of sights owed.placed.step.role ≡ tag
-    of-tag = tag-of-bound older owed.started.binds owed.placed.step.role tag owed.bound
+    of_tag : tag_of sights owed.placed.step.role ≡ tag
+    of_tag = tag_of_bound older owed.started.binds owed.placed.step.role tag owed.bound
 
     -- an entry of a step with the name is of this step, and due
     one : (entry : LogEntry) (known : Facts older owed.batch owed.started owed.chart entry) → is_step_entry entry ≡ true
@@ -374,53 +374,55 @@ silent older tag service owed entry known other = by entry known other
         ap (λ (p : Placed). p.step)
         (names_tell_steps owed.chart (record { number = alone.number; step = alone.step }) owed.placed valid
         alone.within within
-        (sym is ∙ same-true named owed.placed.step.name here))
+        (sym is ∙ same_true named owed.placed.step.name here))
 
     due : (entry : LogEntry) → (alone : IsAlone owed.chart log sights entry) → alone.step ≡ owed.placed.step
         → is_due (phase_after log owed.placed.step.name) entry ≡ true
-    due entry alone is = (alone.alone owed.placed owed.inside (ap (λ (s : StepPlan). s.role) (sym is))
-        (ap (λ (s : StepPlan). s.service) (sym is))).1
+    due entry alone is = (alone.alone owed.placed owed.inside (ap (λ (s : PlainStep). s.role) (sym is))
+        (ap (λ (s : PlainStep). s.service) (sym is))).1
 
     by : (entry : LogEntry) → Facts older owed.batch owed.started owed.chart entry
         → is_for service (if_to tag (sent_by entry)) ≡ false → phase_by owed.placed.step.name entry ≡ None
     by (Start step t s procedure) known other =
-        unless-here (same_name step owed.placed.step.name) started (λ here.
+        unless_here (same_name step owed.placed.step.name) started (λ here.
         let alone = one (Start step t s procedure) known refl in
-        start-due (phase_after log owed.placed.step.name) step t s procedure owed.view.control.state
+        start_due (phase_after log owed.placed.step.name) step t s procedure owed.view.control.state
         (due (Start step t s procedure) alone (same (Start step t s procedure) known.valid alone step alone.own.0 here))
         owed.waits)
     by (Finish step t s) known other =
-        unless-here (same_name step owed.placed.step.name) finished (λ here.
+        unless_here (same_name step owed.placed.step.name) finished (λ here.
         let alone = one (Finish step t s) known refl in
         let is = same (Finish step t s) known.valid alone step alone.own.0 here in
-        let to = is-for t s tag service _ refl (alone.own.1 ∙ ap (λ (p : StepPlan). tag_of sights p.role) is ∙ of-tag)
-        (alone.own.2 ∙ ap (λ (p : StepPlan). p.service) is ∙ owed.service_is) in
+        let to = is_for_service t s tag service _ refl (alone.own.1 ∙ ap (λ (p : PlainStep). tag_of sights p.role) is
+        ∙ of_tag)
+        (alone.own.2 ∙ ap (λ (p : PlainStep). p.service) is ∙ owed.service_is) in
         let clash : false ≡ true = sym other ∙ to in cc)
     by (Reset step t s) known other =
-        unless-here (same_name step owed.placed.step.name) was_reset (λ here.
+        unless_here (same_name step owed.placed.step.name) was_reset (λ here.
         let alone = one (Reset step t s) known refl in
         let is = same (Reset step t s) known.valid alone step alone.own.0 here in
-        let to = is-for t s tag service _ refl (alone.own.1 ∙ ap (λ (p : StepPlan). tag_of sights p.role) is ∙ of-tag)
-        (alone.own.2 ∙ ap (λ (p : StepPlan). p.service) is ∙ owed.service_is) in
+        let to = is_for_service t s tag service _ refl (alone.own.1 ∙ ap (λ (p : PlainStep). tag_of sights p.role) is
+        ∙ of_tag)
+        (alone.own.2 ∙ ap (λ (p : PlainStep). p.service) is ∙ owed.service_is) in
         let clash : false ≡ true = sym other ∙ to in cc)
     by (End step) known other =
-        unless-here (same_name step owed.placed.step.name) idle (λ here.
+        unless_here (same_name step owed.placed.step.name) idle (λ here.
         let alone = one (End step) known refl in
         let is = same (End step) known.valid alone step alone.own here in
-        let not_idle = end-due (phase_after log owed.placed.step.name) step owed.view.control.state
+        let not_idle = end_due (phase_after log owed.placed.step.name) step owed.view.control.state
         (due (End step) alone is) owed.waits in
-        let ended = end-idle owed.chart log sights step known.runs in
+        let ended = end_idle owed.chart log sights step known.runs in
         let its : ended.placed ≡ owed.placed
         = names_tell_steps owed.chart ended.placed owed.placed known.valid ended.inside within
-        (sym ended.name_is ∙ same-true step owed.placed.step.name here) in
+        (sym ended.name_is ∙ same_true step owed.placed.step.name here) in
         let sees = ap (λ (p : Placed). sights.view p.step.role p.step.service) (sym its) ∙ ended.seen_as in
-        let found = seen-of older owed.started.binds owed.placed.step.role owed.placed.step.service ended.view sees in
-        let tag_is : found.0.tag ≡ tag = some-same (bound_tag owed.started.binds owed.placed.step.role) found.0.tag tag
+        let found = seen_of older owed.started.binds owed.placed.step.role owed.placed.step.service ended.view sees in
+        let tag_is : found.0.tag ≡ tag = some_same (bound_tag owed.started.binds owed.placed.step.role) found.0.tag tag
         found.0.bound owed.bound in
         let at : view_of older tag service ≡ Some ended.view
         = ap (λ t. view_of older t service) (sym tag_is) ∙ ap (view_of older found.0.tag) (sym owed.service_is) ∙
         found.0.live.seen ∙ ap Some found.1 in
-        let view_is : ended.view ≡ owed.view = some-same (view_of older tag service) ended.view owed.view at owed.seen
+        let view_is : ended.view ≡ owed.view = some_same (view_of older tag service) ended.view owed.view at owed.seen
         in
         let clash : false ≡ true = sym not_idle ∙ ap (λ (v : ServiceView). is_idle v.control.state) (sym view_is) ∙
         ended.is_idle in cc)
@@ -434,21 +436,21 @@ silent older tag service owed entry known other = by entry known other
     by (Asked t s given) known other = refl
 
 -- a service that was owed a report, and isn't commanded now, is owed it still
-pub stay-owed : (older : History) (at : ℕ) (other : List ℕ) (tag service : List ℕ) (owed : IsOwed older tag service)
+pub stay_owed : (older : History) (at : ℕ) (other : List ℕ) (tag service : List ℕ) (owed : IsOwed older tag service)
     (entry : LogEntry)
     → bytes_eq other owed.batch ≡ true → Facts older owed.batch owed.started owed.chart entry
     → is_for service (if_to tag (sent_by entry)) ≡ false
     → IsOwed (paired (advance at other) (Did entry) ∷ older) tag service
-stay-owed older at other tag service owed entry same known apart =
+stay_owed older at other tag service owed entry same known apart =
     record {
       batch = owed.batch;
       started = owed.started;
       chart = owed.chart;
       placed = owed.placed;
-      start_is = start-same older (paired (advance at other) (Did entry)) owed.batch refl ∙ owed.start_is;
+      start_is = start_same older (paired (advance at other) (Did entry)) owed.batch refl ∙ owed.start_is;
       chart_is = owed.chart_is;
-      unclosed = ap outcome_by (own-past older at other owed.batch entry same) ∙ owed.unclosed;
-      inside = kept-member (is_active (chart_entries (log_of now owed.batch))) (steps owed.chart.root 0) owed.placed
+      unclosed = ap outcome_by (own_past older at other owed.batch entry same) ∙ owed.unclosed;
+      inside = kept_member (is_active (chart_entries (log_of now owed.batch))) (steps owed.chart.root 0) owed.placed
           member.0 (ap is_running stands ∙ member.1);
       bound = owed.bound;
       service_is = owed.service_is;
@@ -464,12 +466,12 @@ stay-owed older at other tag service owed entry same known apart =
     log = chart_entries (log_of older owed.batch)
 
     member : Contains (steps owed.chart.root 0) owed.placed × (is_active log owed.placed ≡ true)
-    member = member-kept (is_active log) (steps owed.chart.root 0) owed.placed owed.inside
+    member = member_kept (is_active log) (steps owed.chart.root 0) owed.placed owed.inside
 
     stands : phase_after (chart_entries (log_of now owed.batch)) owed.placed.step.name ≡ phase_after log
         owed.placed.step.name
     stands =
-        ap (λ l. phase_after l owed.placed.step.name) (own-run older at other owed.batch entry same known.of_run)
-        ∙ phase-pushed log entry owed.placed.step.name
+        ap (λ l. phase_after l owed.placed.step.name) (own_run older at other owed.batch entry same known.of_run)
+        ∙ phase_pushed log entry owed.placed.step.name
         ∙ ap (λ said. or_idle (or_earlier said (last_said (phase_by owed.placed.step.name) log)))
         (silent older tag service owed entry known apart)

@@ -4,10 +4,10 @@ use Rattle.std.specs.Prelude.{◌||◌, is_some, option_map, unwrap_or, if◌the
 use Rattle.std.specs.List.{Contains}
 use Rattle.std.specs.Option.{option_or}
 use Rattle.mtp_assembly.specs.declared.control.ServiceControl.{ServiceControl}
-use Rattle.mtp_desc.specs.Plain.{DescriptionForm}
+use Rattle.mtp_desc.specs.Plain.{PlainDescription}
 use Rattle.chart_core.specs.Active.{phase_after, active_steps}
-use Rattle.chart_core.specs.Roles.{ChartPlan}
-use Rattle.pol_events.specs.Events.{EventForm, plug, exchange_end, EntryForm}
+use Rattle.chart_core.specs.Roles.{PlainChart}
+use Rattle.pol_events.specs.Events.{PlainEvent, plug, exchange_end, PlainEntry}
 use Rattle.pol_history.specs.Looking.{History, past, past_of_batch, recipes, last_of, is_accepted_of}
 use Rattle.pol_history.specs.Modules.{is_moving, since_docking, reported, described, control_by, description_by, seen_with, view_by, view_of}
 use Rattle.pol_history.specs.Batches.{Started, start_by, start_of, chart_named, outcome_by, log_by}
@@ -19,20 +19,20 @@ use Rattle.chart_cursor.specs.Logs.{chart_entries}
 -- ---- the story and the view after one more entry
 
 -- the entry changes neither whether the module is docked nor what its service reported
-abbrev pub Leaves : List ℕ → List ℕ → EntryForm → Type 0
+abbrev pub Leaves : List ℕ → List ℕ → PlainEntry → Type 0
 Leaves tag service entry = is_accepted_of tag entry ≡ true
     → (is_moving entry.event ≡ false) × (reported service entry.event ≡ None)
 
 -- an unanswered command was sent now, or before, and then the entry leaves its service as it was
-pub data StoryCase (tag service : List ℕ) (entry : EntryForm) (older : History) : Type 0 where
+pub data StoryCase (tag service : List ℕ) (entry : PlainEntry) (older : History) : Type 0 where
   sends_now : is_for service (sent_to tag entry) ≡ true → StoryCase tag service entry older
   before : is_answered tag (story tag older) service ≡ false → is_for service (sent_to tag entry) ≡ false
       → Leaves tag service entry → StoryCase tag service entry older
 
 -- a service that is unanswered after one more entry was commanded by it, or was so before and the entry leaves it
-pub story-case : (tag service : List ℕ) (entry : EntryForm) (older : History)
+pub story_case : (tag service : List ℕ) (entry : PlainEntry) (older : History)
     → is_answered tag (story tag (entry ∷ older)) service ≡ false → StoryCase tag service entry older
-story-case tag service entry older un = own (is_accepted_of tag entry) refl (sent_to tag entry) refl un
+story_case tag service entry older un = own (is_accepted_of tag entry) refl (sent_to tag entry) refl un
   where
     Case : Type 0
     Case = StoryCase tag service entry older
@@ -71,15 +71,15 @@ story-case tag service entry older un = own (is_accepted_of tag entry) refl (sen
         (λ accepted. let clash : false ≡ true = sym mine ∙ accepted in cc)
 
 -- an event that moves no module describes none
-pub undescribed : (event : EventForm) → is_moving event ≡ false → described event ≡ None
+pub undescribed : (event : PlainEvent) → is_moving event ≡ false → described event ≡ None
 undescribed (plug at tag description) moves = cc
 undescribed (exchange_end at tag ticket description) moves = cc
 undescribed _ moves = refl
 
 -- then the view is as it was
-view-same : (tag service : List ℕ) (entry : EntryForm) (older : History) → Leaves tag service entry
+view_same : (tag service : List ℕ) (entry : PlainEntry) (older : History) → Leaves tag service entry
     → view_of (entry ∷ older) tag service ≡ view_of older tag service
-view-same tag service entry older leaves = go (is_accepted_of tag entry) refl
+view_same tag service entry older leaves = go (is_accepted_of tag entry) refl
   where
     go : (mine : Bool) → is_accepted_of tag entry ≡ mine
         → view_by service (cond mine (entry ∷ past tag older) (past tag older)) ≡ view_of older tag service
@@ -91,9 +91,9 @@ view-same tag service entry older leaves = go (is_accepted_of tag entry) refl
         (if b then [] else entry ∷ since_docking (past tag older))) l.0
         ∙ ap (λ (t : Option ServiceControl). option_or t (control_by service (past tag older))) l.1 in
         let description : description_by (entry ∷ past tag older) ≡ description_by (past tag older)
-        = ap (λ (d : Option DescriptionForm). option_or d (description_by (past tag older)))
+        = ap (λ (d : Option PlainDescription). option_or d (description_by (past tag older)))
         (undescribed entry.event l.0) in
-        ap (λ (d : Option DescriptionForm). option_map (seen_with service d)
+        ap (λ (d : Option PlainDescription). option_map (seen_with service d)
         (control_by service (entry ∷ past tag older))) description
         ∙ ap (λ (c : Option ServiceControl). option_map (seen_with service (description_by (past tag older))) c)
         controls
@@ -129,13 +129,13 @@ Owing history = (tag service : List ℕ) → is_answered tag (story tag history)
     → IsOwed history tag service
 
 -- an entry that sends nothing and changes no batch that was started
-pub quiet-owing : (older : History) (entry : EntryForm) → sent_command entry.answer ≡ None
+pub quiet_owing : (older : History) (entry : PlainEntry) → sent_command entry.answer ≡ None
     → ((batch : List ℕ) (started : Started) → start_of older batch ≡ Some started
     → past_of_batch batch (entry ∷ older) ≡ past_of_batch batch older)
-    → ((name : List ℕ) (chart : ChartPlan) → chart_named name (recipes older) ≡ Some chart
+    → ((name : List ℕ) (chart : PlainChart) → chart_named name (recipes older) ≡ Some chart
     → chart_named name (recipes (entry ∷ older)) ≡ Some chart)
     → Owing older → Owing (entry ∷ older)
-quiet-owing older entry silent same charts again tag service un = go (story-case tag service entry older un)
+quiet_owing older entry silent same charts again tag service un = go (story_case tag service entry older un)
   where
     go : StoryCase tag service entry older → IsOwed (entry ∷ older) tag service
     go (sends_now is) = let clash : false ≡ true = ap (λ s. is_for service (if_to tag s)) (sym silent) ∙ is in cc
@@ -143,4 +143,4 @@ quiet-owing older entry silent same charts again tag service un = go (story-case
         let owed = again tag service old in
         carry older (entry ∷ older) tag service owed (same owed.batch owed.started owed.start_is)
         (charts owed.started.recipe owed.chart owed.chart_is)
-        (view-same tag service entry older leaves)
+        (view_same tag service entry older leaves)

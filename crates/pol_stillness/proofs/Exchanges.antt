@@ -6,12 +6,12 @@ use Rattle.std.specs.Str.{bytes_eq}
 use Rattle.std.proofs.lemmas.Bool.Decides.{nat_tests}
 use Rattle.std.proofs.lemmas.Option.{same_Some}
 use Rattle.mtp_codes.specs.Faults.{when}
-use Rattle.mtp_desc.specs.Plain.{DescriptionForm}
+use Rattle.mtp_desc.specs.Plain.{PlainDescription}
 use Rattle.mtp_procs.specs.Covers.{cover_fault, missing_by}
 use Rattle.pol_events.specs.Bound.{bound_role}
 use Rattle.pol_history.specs.Batches.{chart_by, holder_of, start_by}
 use Rattle.mtp_codes.specs.declared.cover.CoverFault.{CoverFault}
-use Rattle.pol_events.specs.Events.{EventForm, EntryForm, plug, unplug, report, variable, desk, exchange_begin, exchange_end, exchange_cancel}
+use Rattle.pol_events.specs.Events.{PlainEvent, PlainEntry, plug, unplug, report, variable, desk, exchange_begin, exchange_end, exchange_cancel}
 use Rattle.pol_events.specs.Refusals.{wrong_ticket}
 use Rattle.pol_events.specs.declared.answer.Answer.{Answer}
 use Rattle.pol_events.specs.declared.answer.Answer.TheVariants.{Done, Refused, Ticket}
@@ -22,10 +22,10 @@ use Rattle.pol_history.specs.Looking.{History, is_accepted, last_of, past, past_
 use Rattle.pol_history.specs.Modules.{Docking, absent, docked, away, docking_after, docking_by, next_ticket, ticket_of}
 use Rattle.pol_history.specs.Rules.{held_back, no_module, not_in_exchange, uncovered_by}
 use Rattle.pol_history.specs.Runs.{is_recorded, IsLegal}
-use Rattle.pol_history.proofs.Accepted.{accepted-otherwise, paired}
-use Rattle.pol_history.proofs.Names.{same-true}
+use Rattle.pol_history.proofs.Accepted.{accepted_otherwise, paired}
+use Rattle.pol_history.proofs.Names.{same_true}
 use Rattle.pol_site.specs.Following.{FollowsSite, IsAllowed, Exchanging, ended_with, exchanging, last_exchanging, none_open, was_begun, was_held}
-use Rattle.pol_site.specs.Sites.{SiteForm}
+use Rattle.pol_site.specs.Sites.{PlainSite}
 use Rattle.pol_stillness.specs.Exchanges.{open_ticket, OpenIsAway}
 
 -- ---- tickets
@@ -36,11 +36,11 @@ tickets whole entries =
     ticket_of (unwrap_or (last_of (λ entry. docking_after whole entry.event entry.answer) entries) absent)
 
 -- the dockings before don't matter for it
-tickets-same : (one other entries : History) → tickets one entries ≡ tickets other entries
-tickets-same one other [] = refl
-tickets-same one other (entry ∷ entries) = go entry.event entry.answer (tickets-same one other entries)
+tickets_same : (one other entries : History) → tickets one entries ≡ tickets other entries
+tickets_same one other [] = refl
+tickets_same one other (entry ∷ entries) = go entry.event entry.answer (tickets_same one other entries)
   where
-    go : (event : EventForm) (answer : Answer) → tickets one entries ≡ tickets other entries →
+    go : (event : PlainEvent) (answer : Answer) → tickets one entries ≡ tickets other entries →
         tickets one (record { event = event; answer = answer } ∷ entries)
         ≡ tickets other (record { event = event; answer = answer } ∷ entries)
     go (plug at tag description) answer again = refl
@@ -51,10 +51,10 @@ tickets-same one other (entry ∷ entries) = go entry.event entry.answer (ticket
     go event answer again = again
 
 -- a module with a ticket is away
-away-of : (docking : Docking) (ticket : ℕ) → ticket_of docking ≡ Some ticket → docking ≡ away ticket
-away-of absent ticket is = cc
-away-of (docked count) ticket is = cc
-away-of (away other) ticket is = ap away (same_Some other ticket is)
+away_of : (docking : Docking) (ticket : ℕ) → ticket_of docking ≡ Some ticket → docking ≡ away ticket
+away_of absent ticket is = cc
+away_of (docked count) ticket is = cc
+away_of (away other) ticket is = ap away (same_Some other ticket is)
 
 -- ---- the end of an exchange
 
@@ -70,15 +70,15 @@ record IsGone {A B : Type 0} (f : A → Option B) (x : Option A) (y : B) : Type 
   goes : f with ≡ Some y
 
 -- where something came of it, it was there
-went-on : {A B : Type 0} (goes_on : A → Option B) (found : Option A) (answer : B) →
+went_on : {A B : Type 0} (goes_on : A → Option B) (found : Option A) (answer : B) →
     option_and_then goes_on found ≡ Some answer → IsGone goes_on found answer
-went-on goes_on None answer is = cc
-went-on goes_on (Some item) answer is = record { with = item; there = refl; goes = is }
+went_on goes_on None answer is = cc
+went_on goes_on (Some item) answer is = record { with = item; there = refl; goes = is }
 
 -- what holds an end back is told so
-held-rule : (history : History) (tag : List ℕ) (ticket : ℕ) (description : DescriptionForm) (rule : Rule) →
+held_rule : (history : History) (tag : List ℕ) (ticket : ℕ) (description : PlainDescription) (rule : Rule) →
     held_back history tag description ≡ Some rule → ended_with tag ticket (Refused rule) ≡ was_held tag ticket
-held-rule history tag ticket description rule is = by (holder_of history tag) is
+held_rule history tag ticket description rule is = by (holder_of history tag) is
   where
     told : (batch role : List ℕ) (fault : Option CoverFault) →
         option_map (λ fault. HeldBack batch (missing_by role fault)) fault ≡ Some rule →
@@ -93,33 +93,33 @@ held-rule history tag ticket description rule is = by (holder_of history tag) is
         ≡ Some rule → ended_with tag ticket (Refused rule) ≡ was_held tag ticket
     by None e = cc
     by (Some batch) e =
-        let one = went-on (λ started. option_and_then
+        let one = went_on (λ started. option_and_then
         (λ chart. option_and_then
         (λ role. option_map (λ fault. HeldBack batch (missing_by role fault)) (cover_fault chart role description))
         (bound_role started.binds tag)) (chart_by (recipes history) (Some started)))
         (start_by (past_of_batch batch history)) rule e in
-        let two = went-on (λ chart. option_and_then
+        let two = went_on (λ chart. option_and_then
         (λ role. option_map (λ fault. HeldBack batch (missing_by role fault)) (cover_fault chart role description))
         (bound_role one.with.binds tag)) (chart_by (recipes history) (Some one.with)) rule one.goes in
-        let three = went-on
+        let three = went_on
         (λ role. option_map (λ fault. HeldBack batch (missing_by role fault)) (cover_fault two.with role description))
         (bound_role one.with.binds tag) rule two.goes in
         told batch three.with (cover_fault two.with three.with description) three.goes
 
 -- a number is itself
-self-same : (n : ℕ) → (n == n) ≡ true
-self-same n = grind (arith, nat_tests)
+self_same : (n : ℕ) → (n == n) ≡ true
+self_same n = grind (arith, nat_tests)
 
 -- the end of the exchange that is open is accepted or held back
-end-is : (older : History) (at : ℕ) (tag : List ℕ) (ticket : ℕ) (description : DescriptionForm) (answer : Answer) →
+end_is : (older : History) (at : ℕ) (tag : List ℕ) (ticket : ℕ) (description : PlainDescription) (answer : Answer) →
     answer ≡ answer_of older (exchange_end at tag ticket description) → is_recorded answer ≡ true →
     docking_by (past tag older) ≡ away ticket → Ends tag ticket answer
-end-is older at tag ticket description answer legal recorded is_away =
+end_is older at tag ticket description answer legal recorded is_away =
     by (is_full older) (held_back older tag description) refl answer recorded (legal ∙ computed)
   where
     computed : answer_of older (exchange_end at tag ticket description)
         ≡ first_rule (when (is_full older) HistoryFull ∷ held_back older tag description ∷ []) Done
-    computed = rw (is_away, self-same ticket) (skipped (when (is_full older) HistoryFull))
+    computed = rw (is_away, self_same ticket) (skipped (when (is_full older) HistoryFull))
       where
         skipped : (full : Option Rule) →
             first_rule (full ∷ None ∷ None ∷ None ∷ held_back older tag description ∷ []) Done
@@ -136,7 +136,7 @@ end-is older at tag ticket description answer legal recorded is_away =
         closes (ap is_accepted e) (ap (ended_with tag ticket) e)
     by false (Some rule) holds answer recorded e =
         waits (ap is_accepted e)
-        (ap (ended_with tag ticket) e ∙ held-rule older tag ticket description rule holds)
+        (ap (ended_with tag ticket) e ∙ held_rule older tag ticket description rule holds)
 
 -- ---- histories
 
@@ -146,7 +146,7 @@ open_away site [] tag legal follows = refl
 open_away site (entry ∷ older) tag legal follows =
     go entry.event entry.answer follows.0 legal.0 legal.1 (open_away site older tag legal.2 follows.1)
   where
-    Goal : EventForm → Answer → Type 0
+    Goal : PlainEvent → Answer → Type 0
     Goal event answer =
         ticket_of (docking_by (past tag (record { event = event; answer = answer } ∷ older)))
         ≡ open_ticket tag (exchanging (record { event = event; answer = answer } ∷ older))
@@ -155,7 +155,7 @@ open_away site (entry ∷ older) tag legal follows =
     Old = ticket_of (docking_by (past tag older)) ≡ open_ticket tag (exchanging older)
 
     -- an entry that leaves both
-    other : (entry : EntryForm) (own : Bool) →
+    other : (entry : PlainEntry) (own : Bool) →
         ((whole : History) → docking_after whole entry.event entry.answer ≡ None) →
         tickets (cond own (entry ∷ past tag older) (past tag older))
         (cond own (entry ∷ past tag older) (past tag older))
@@ -164,7 +164,7 @@ open_away site (entry ∷ older) tag legal follows =
     other entry true none =
         ap (λ found. ticket_of (unwrap_or (option_or found
         (last_of (λ each. docking_after (entry ∷ past tag older) each.event each.answer) (past tag older))) absent))
-        (none (entry ∷ past tag older)) ∙ tickets-same (entry ∷ past tag older) (past tag older) (past tag older)
+        (none (entry ∷ past tag older)) ∙ tickets_same (entry ∷ past tag older) (past tag older) (past tag older)
 
     begins : (at : ℕ) (named : List ℕ) (answer : Answer) (ticket : ℕ) → answer ≡ Ticket ticket →
         exchanging older ≡ none_open → Old → Goal (exchange_begin at named) answer
@@ -178,22 +178,22 @@ open_away site (entry ∷ older) tag legal follows =
         own true = refl
         own false = old ∙ ap (open_ticket tag) closed
 
-    ends : (at : ℕ) (named : List ℕ) (ticket : ℕ) (description : DescriptionForm) (answer : Answer) →
+    ends : (at : ℕ) (named : List ℕ) (ticket : ℕ) (description : PlainDescription) (answer : Answer) →
         answer ≡ answer_of older (exchange_end at named ticket description) → is_recorded answer ≡ true →
         exchanging older ≡ was_begun named ticket → Old → Goal (exchange_end at named ticket description) answer
     ends at named ticket description answer is recorded begun old = own (bytes_eq named tag) refl
       where
-        event : EventForm
+        event : PlainEvent
         event = exchange_end at named ticket description
 
         before : ticket_of (docking_by (past tag older)) ≡ (if bytes_eq named tag then Some ticket else None)
         before = old ∙ ap (open_ticket tag) begun
 
-        other-tag : bytes_eq named tag ≡ false → (ended : Exchanging) → ended_with named ticket answer ≡ ended →
+        other_tag : bytes_eq named tag ≡ false → (ended : Exchanging) → ended_with named ticket answer ≡ ended →
             (ended ≡ none_open) ⊎ (ended ≡ was_held named ticket) →
             open_ticket tag (ended_with named ticket answer) ≡ None
-        other-tag apart ended e (inl none) = ap (open_ticket tag) (e ∙ none)
-        other-tag apart ended e (inr held) =
+        other_tag apart ended e (inl none) = ap (open_ticket tag) (e ∙ none)
+        other_tag apart ended e (inr held) =
             ap (open_ticket tag) (e ∙ held) ∙ ap (λ b. if b then Some ticket else None) apart
 
         either : (answer : Answer) →
@@ -201,11 +201,11 @@ open_away site (entry ∷ older) tag legal follows =
         either (Refused (HeldBack batch missing)) = inr refl
         either _ = inl refl
 
-        here-by : bytes_eq named tag ≡ true → Ends named ticket answer →
+        here_by : bytes_eq named tag ≡ true → Ends named ticket answer →
             ticket_of (docking_by (cond (true && is_accepted answer) (paired event answer ∷ past tag older)
             (past tag older))) ≡ open_ticket tag (ended_with named ticket answer)
-        here-by mine (closes accepted ended) = rw (accepted, ended) refl
-        here-by mine (waits accepted ended) =
+        here_by mine (closes accepted ended) = rw (accepted, ended) refl
+        here_by mine (waits accepted ended) =
             rw (accepted, ended, mine) (before ∙ ap (λ b. if b then Some ticket else None) mine)
 
         own : (here : Bool) → bytes_eq named tag ≡ here →
@@ -213,17 +213,17 @@ open_away site (entry ∷ older) tag legal follows =
             (paired event answer ∷ past tag older)
             (past tag older))) ≡ open_ticket tag (ended_with named ticket answer)
         own true mine =
-            let same = same-true named tag mine in
-            let is_away = away-of (docking_by (past tag older)) ticket
+            let same = same_true named tag mine in
+            let is_away = away_of (docking_by (past tag older)) ticket
             (before ∙ ap (λ b. if b then Some ticket else None) mine) in
             ap (λ b. ticket_of (docking_by (cond (b && is_accepted answer) (paired event answer ∷ past tag older)
             (past tag older)))) mine
-            ∙ here-by mine (end-is older at named ticket description answer is recorded
+            ∙ here_by mine (end_is older at named ticket description answer is recorded
             (ap (λ t. docking_by (past t older)) same ∙ is_away))
         own false apart =
             ap (λ b. ticket_of (docking_by (cond (b && is_accepted answer) (paired event answer ∷ past tag older)
             (past tag older)))) apart ∙ before ∙ ap (λ b. if b then Some ticket else None) apart
-            ∙ sym (other-tag apart (ended_with named ticket answer) refl (either answer))
+            ∙ sym (other_tag apart (ended_with named ticket answer) refl (either answer))
 
     cancels : (at : ℕ) (named : List ℕ) (ticket : ℕ) (answer : Answer) → is_accepted answer ≡ true →
         exchanging older ≡ was_held named ticket → Old → Goal (exchange_cancel at named ticket) answer
@@ -238,7 +238,8 @@ open_away site (entry ∷ older) tag legal follows =
         own true before = refl
         own false before = before
 
-    plugs : (at : ℕ) (named : List ℕ) (description : DescriptionForm) (answer : Answer) → last_exchanging older ≡ None →
+    plugs : (at : ℕ) (named : List ℕ) (description : PlainDescription) (answer : Answer)
+        → last_exchanging older ≡ None →
         Old → Goal (plug at named description) answer
     plugs at named description answer none old = own (bytes_eq named tag && is_accepted answer)
       where
@@ -251,14 +252,14 @@ open_away site (entry ∷ older) tag legal follows =
         own true = sym (ap (open_ticket tag) closed)
         own false = old
 
-    go : (event : EventForm) (answer : Answer) → IsAllowed site older event answer → answer ≡ answer_of older event →
+    go : (event : PlainEvent) (answer : Answer) → IsAllowed site older event answer → answer ≡ answer_of older event →
         is_recorded answer ≡ true → Old → Goal event answer
     go (plug at named description) answer allowed is recorded old =
         plugs at named description answer allowed.unexchanged old
     go (unplug at named) answer allowed is recorded old = absurd allowed
     go (exchange_begin at named) answer allowed is recorded old =
         begins at named answer (next_ticket (past named older))
-        (is ∙ accepted-otherwise older (exchange_begin at named) (ap is_accepted (sym is) ∙ allowed.accepted))
+        (is ∙ accepted_otherwise older (exchange_begin at named) (ap is_accepted (sym is) ∙ allowed.accepted))
         allowed.closed old
     go (exchange_end at named ticket description) answer allowed is recorded old =
         ends at named ticket description answer is recorded allowed.begun old

@@ -1,6 +1,5 @@
 pub mod Apart
 pub mod Clear
-pub mod Among
 pub mod Alone
 pub mod Owed
 pub mod Desks

@@ -1,7 +1,6 @@
 -- While a service is owed a report, no batch goes on with an entry that sends it a command.
 use Rattle.std.proofs.Common.{◌≡◌, ℕ, true, List, Option, Some, None, refl, ap, sym, ◌∙◌, subst}
-use Rattle.std.specs.Prelude.{is_some, find, option_map, IsSome}
-use Rattle.std.specs.Str.{bytes_eq}
+use Rattle.std.specs.Prelude.{is_some, IsSome}
 use Rattle.std.specs.List.{Contains}
 use Rattle.std.proofs.lemmas.Option.{same_Some}
 use Rattle.mtp_codes.specs.declared.command.Command.{Command}
@@ -13,8 +12,8 @@ use Rattle.mtp_machine.specs.Machine.{command_target}
 use Rattle.mtp_modes.specs.declared.view.ServiceView.{ServiceView}
 use Rattle.chart_core.specs.Active.{Phase, idle, started, finished, was_reset, phase_after, active_steps}
 use Rattle.chart_core.specs.Entries.{chart_entry}
-use Rattle.chart_core.specs.Roles.{ChartPlan, role_names}
-use Rattle.chart_core.specs.Trees.{StepPlan, Placed}
+use Rattle.chart_core.specs.Roles.{PlainChart, role_names}
+use Rattle.chart_core.specs.Trees.{PlainStep, Placed}
 use Rattle.chart_core.specs.declared.entry.LogEntry.{LogEntry}
 use Rattle.chart_core.specs.declared.entry.LogEntry.TheVariants.{Start, Finish, Reset, End, Stop, Asked}
 use Rattle.chart_core.proofs.Lawful.{roles_of_steps}
@@ -26,75 +25,75 @@ use Rattle.chart_cursor.proofs.Commanding.{next_of_run, commands_permitted, step
 use Rattle.pol_history.specs.Looking.{History, past, recipes}
 use Rattle.pol_history.specs.Batches.{Started, start_of, chart_named, outcome_of, holder_of, log_of}
 use Rattle.pol_history.specs.Following.{sights_by}
-use Rattle.pol_conduct.proofs.Forbidding.{unforbidden}
+use Rattle.pol_safety.proofs.Forbidding.{unforbidden}
 use Rattle.pol_events.specs.declared.event.Bind.{Bind}
 use Rattle.pol_history.specs.Runs.{IsLegal, IsOrderly}
 use Rattle.pol_history.specs.Modules.{view_of}
-use Rattle.pol_history.proofs.Names.{same-true}
-use Rattle.pol_conduct.proofs.Seen.{seen-of, tag-of-bound}
-use Rattle.pol_conduct.proofs.Starts.{sound, IsRunning, running-fits}
-use Rattle.pol_conduct.proofs.Courses.{all-follow}
-use Rattle.pol_conduct.proofs.Holding.{holds}
+use Rattle.pol_safety.proofs.Seen.{seen_of, tag_of_bound}
+use Rattle.pol_safety.proofs.Starts.{sound, IsRunning, running_fits}
+use Rattle.pol_safety.proofs.Courses.{all_follow}
+use Rattle.pol_safety.proofs.Holding.{holds}
 use Rattle.pol_stillness.specs.Apart.{is_due, waits_in, OwedIsNotSent}
 use Rattle.pol_stillness.proofs.Alone.{steps_alone}
-use Rattle.pol_events.proofs.Lists.{among-member, found-member}
-use Rattle.pol_events.proofs.Options.{some-same}
+use Rattle.pol_events.proofs.Lists.{among_member}
+use Rattle.pol_events.proofs.Options.{some_same}
 use Rattle.pol_history.proofs.Binds.{IsFitting}
 use Rattle.chart_cursor.specs.Logs.{chart_entries}
 use Rattle.pol_events.specs.Bound.{bound_role, bound_tag}
+use Rattle.pol_events.proofs.Played.{bind_for}
 
 -- ---- an entry that sends a command
 
 -- an entry of a run that sends a command is one of a step
-pub sends-step : (entry : LogEntry) (sent : Sent) → is_some (chart_entry entry) ≡ true → sent_by entry ≡ Some sent
+pub sends_step : (entry : LogEntry) (sent : Sent) → is_some (chart_entry entry) ≡ true → sent_by entry ≡ Some sent
     → is_step_entry entry ≡ true
-sends-step (Start step tag service procedure) sent run sends = refl
-sends-step (Finish step tag service) sent run sends = refl
-sends-step (Reset step tag service) sent run sends = refl
-sends-step (End step) sent run sends = refl
-sends-step (Stop step tag service) sent run sends = cc
-sends-step (Asked tag service given) sent run sends = cc
-sends-step _ sent run sends = cc
+sends_step (Start step tag service procedure) sent run sends = refl
+sends_step (Finish step tag service) sent run sends = refl
+sends_step (Reset step tag service) sent run sends = refl
+sends_step (End step) sent run sends = refl
+sends_step (Stop step tag service) sent run sends = cc
+sends_step (Asked tag service given) sent run sends = cc
+sends_step _ sent run sends = cc
 
 -- it goes to the step's module and service
-pub sent-of-step : (seen : Sights) (step : StepPlan) (entry : LogEntry) (sent : Sent) → IsOfStep seen step entry
+pub sent_of_step : (seen : Sights) (step : PlainStep) (entry : LogEntry) (sent : Sent) → IsOfStep seen step entry
     → sent_by entry ≡ Some sent →
     (sent.tag ≡ tag_of seen step.role) × (sent.service ≡ step.service)
-sent-of-step seen step (Start name tag service procedure) sent own sends =
+sent_of_step seen step (Start name tag service procedure) sent own sends =
     let same = sym (same_Some _ sent sends) in (
       ap (λ (s : Sent). s.tag) same ∙ own.1,
       ap (λ (s : Sent). s.service) same
           ∙ own.2,
     )
-sent-of-step seen step (Finish name tag service) sent own sends =
+sent_of_step seen step (Finish name tag service) sent own sends =
     let same = sym (same_Some _ sent sends) in (
       ap (λ (s : Sent). s.tag) same ∙ own.1,
       ap (λ (s : Sent). s.service) same
           ∙ own.2,
     )
-sent-of-step seen step (Reset name tag service) sent own sends =
+sent_of_step seen step (Reset name tag service) sent own sends =
     let same = sym (same_Some _ sent sends) in (
       ap (λ (s : Sent). s.tag) same ∙ own.1,
       ap (λ (s : Sent). s.service) same
           ∙ own.2,
     )
-sent-of-step seen step (End name) sent own sends = cc
-sent-of-step seen step _ sent own sends = absurd own
+sent_of_step seen step (End name) sent own sends = cc
+sent_of_step seen step _ sent own sends = absurd own
 
 -- in Idle and in Execute, where a start or a finish waits to be answered, what is due next leads nowhere
-idle-complete : command_target state.Idle command.Complete ≡ None
+idle_complete : command_target state.Idle command.Complete ≡ None
 unfolding command_target
-idle-complete = refl
+idle_complete = refl
 
 -- so it is of a reset in Idle
-idle-reset : command_target state.Idle command.Reset ≡ None
+idle_reset : command_target state.Idle command.Reset ≡ None
 unfolding command_target
-idle-reset = refl
+idle_reset = refl
 
 -- and in Execute
-execute-reset : command_target state.Execute command.Reset ≡ None
+execute_reset : command_target state.Execute command.Reset ≡ None
 unfolding command_target
-execute-reset = refl
+execute_reset = refl
 
 -- so it is in the state and by the command that are meant
 there : (one now : State) (given : Command) (sent : Sent) → one ≡ now → given ≡ sent.command
@@ -103,55 +102,42 @@ there one now given sent at is none = subst (λ n. command_target n sent.command
     (subst (λ c. command_target one c ≡ None) is none)
 
 -- a due entry sends no command that leaves the state in which the step's service waits
-no-command : (phase : Phase) (entry : LogEntry) (sent : Sent) (now : State) → waits_in phase ≡ Some now
+no_command : (phase : Phase) (entry : LogEntry) (sent : Sent) (now : State) → waits_in phase ≡ Some now
     → is_due phase entry ≡ true → sent_by entry ≡ Some sent
     → command_target now sent.command ≡ None
-no-command idle entry sent now waits due sends = cc
-no-command started (Finish name tag service) sent now waits due sends =
+no_command idle entry sent now waits due sends = cc
+no_command started (Finish name tag service) sent now waits due sends =
     there state.Idle now command.Complete sent (same_Some _ now waits)
-    (ap (λ (s : Sent). s.command) (same_Some _ sent sends)) idle-complete
-no-command started (Reset name tag service) sent now waits due sends =
+    (ap (λ (s : Sent). s.command) (same_Some _ sent sends)) idle_complete
+no_command started (Reset name tag service) sent now waits due sends =
     there state.Idle now command.Reset sent (same_Some _ now waits)
-    (ap (λ (s : Sent). s.command) (same_Some _ sent sends)) idle-reset
-no-command started _ sent now waits due sends = cc
-no-command finished (Reset name tag service) sent now waits due sends =
+    (ap (λ (s : Sent). s.command) (same_Some _ sent sends)) idle_reset
+no_command started _ sent now waits due sends = cc
+no_command finished (Reset name tag service) sent now waits due sends =
     there state.Execute now command.Reset sent (same_Some _ now waits)
-    (ap (λ (s : Sent). s.command) (same_Some _ sent sends)) execute-reset
-no-command finished _ sent now waits due sends = cc
-no-command was_reset (End name) sent now waits due sends = cc
-no-command was_reset _ sent now waits due sends = cc
+    (ap (λ (s : Sent). s.command) (same_Some _ sent sends)) execute_reset
+no_command finished _ sent now waits due sends = cc
+no_command was_reset (End name) sent now waits due sends = cc
+no_command was_reset _ sent now waits due sends = cc
 
 -- ---- roles and tags
 
--- the bind of a role that has a tag
-bind-of : (binds : List Bind) (role tag : List ℕ) → bound_tag binds role ≡ Some tag
-    → (bind : Bind) × Contains binds bind × (bind.tag ≡ tag) × (bind.role ≡ role)
-bind-of binds role tag bound = go (find (λ bind. bytes_eq bind.role role) binds) refl bound
-  where
-    go : (found : Option Bind) → find (λ bind. bytes_eq bind.role role) binds ≡ found
-        → option_map (λ bind. bind.tag) found ≡ Some tag →
-        (bind : Bind) × Contains binds bind × (bind.tag ≡ tag) × (bind.role ≡ role)
-    go None is bound = cc
-    go (Some bind) is bound =
-        let member = found-member (λ bind. bytes_eq bind.role role) binds bind is in
-        (bind, member.0, cc, same-true bind.role role member.1)
-
 -- two roles that have one tag are one role
-one-role : (chart : ChartPlan) (binds : List Bind) (one other tag : List ℕ) → IsFitting chart binds
+one_role : (chart : PlainChart) (binds : List Bind) (one other tag : List ℕ) → IsFitting chart binds
     → bound_tag binds one ≡ Some tag → bound_tag binds other ≡ Some tag → one ≡ other
-one-role chart binds one other tag fits first second =
-    let (a, inside, tag_a, role_a) = bind-of binds one tag first in
-    let (b, within, tag_b, role_b) = bind-of binds other tag second in
+one_role chart binds one other tag fits first second =
+    let (a, inside, tag_a, role_a) = bind_for binds one tag first in
+    let (b, within, tag_b, role_b) = bind_for binds other tag second in
     let x : bound_role binds tag ≡ Some a.role = ap (bound_role binds) (sym tag_a) ∙ fits.paired.by_tag a inside in
     let y : bound_role binds tag ≡ Some b.role = ap (bound_role binds) (sym tag_b) ∙ fits.paired.by_tag b within in
-    sym role_a ∙ some-same (bound_role binds tag) a.role b.role x y ∙ role_b
+    sym role_a ∙ some_same (bound_role binds tag) a.role b.role x y ∙ role_b
 
 -- a batch that is open and binds the tag holds it
-holds-tag : (history : History) (batch : List ℕ) (begun : Started) (role tag : List ℕ) → IsLegal history
+holds_tag : (history : History) (batch : List ℕ) (begun : Started) (role tag : List ℕ) → IsLegal history
     → IsOrderly history → start_of history batch ≡ Some begun
     → outcome_of history batch ≡ None → bound_tag begun.binds role ≡ Some tag → holder_of history tag ≡ Some batch
-holds-tag history batch begun role tag legal orderly start_is unclosed bound =
-    let (bind, inside, tag_is, role_is) = bind-of begun.binds role tag bound in
+holds_tag history batch begun role tag legal orderly start_is unclosed bound =
+    let (bind, inside, tag_is, role_is) = bind_for begun.binds role tag bound in
     ap (holder_of history) (sym tag_is) ∙ holds history batch begun legal orderly start_is unclosed bind inside
 
 -- ---- the law
@@ -161,11 +147,11 @@ leads : (history : History) (binds : List Bind) (sent : Sent) (view : ServiceVie
     → IsPermittedIn (sights_by binds (λ tag. past tag history)) sent →
     view_of history sent.tag sent.service ≡ Some view → command_target view.control.state sent.command ≡ None → ⊥
 leads history binds sent view (by_recipe, (role, now, tag_is, at, free)) seen none =
-    let (live, view_is) = seen-of history binds role sent.service now at in
-    let same : live.tag ≡ sent.tag = sym (tag-of-bound history binds role live.tag live.bound) ∙ tag_is in
+    let (live, view_is) = seen_of history binds role sent.service now at in
+    let same : live.tag ≡ sent.tag = sym (tag_of_bound history binds role live.tag live.bound) ∙ tag_is in
     let its : view_of history sent.tag sent.service ≡ Some now =
     ap (λ tag. view_of history tag sent.service) (sym same) ∙ live.live.seen ∙ ap Some view_is in
-    let one : now ≡ view = some-same (view_of history sent.tag sent.service) now view its seen in
+    let one : now ≡ view = some_same (view_of history sent.tag sent.service) now view its seen in
     let permitted = unforbidden now Recipe sent.command free in
     led (command_target view.control.state sent.command) none
     (subst (λ v. IsSome (command_target v.control.state sent.command)) one permitted.leads)
@@ -175,7 +161,7 @@ leads history binds sent view (by_recipe, (role, now, tag_is, at, free)) seen no
     led (Some state) none is = cc
 
 -- the batch that is owed goes on itself
-same-batch : (history : History) (tag service batch : List ℕ) (begun : Started) (chart : ChartPlan) (entry : LogEntry)
+same_batch : (history : History) (tag service batch : List ℕ) (begun : Started) (chart : PlainChart) (entry : LogEntry)
     (sent : Sent) (placed : Placed) (view : ServiceView) →
     IsLegal history → IsOrderly history → start_of history batch ≡ Some begun
     → chart_named begun.recipe (recipes history) ≡ Some chart → outcome_of history batch ≡ None →
@@ -186,67 +172,67 @@ same-batch : (history : History) (tag service batch : List ℕ) (begun : Started
     next_after chart (chart_entries (log_of history batch)) (sights_by begun.binds (λ tag. past tag history)) ≡ Entry
     entry →
     sent_by entry ≡ Some sent → sent.tag ≡ tag → sent.service ≡ service → ⊥
-same-batch history tag service batch begun chart entry sent placed view legal orderly start_is chart_is unclosed inside
+same_batch history tag service batch begun chart entry sent placed view legal orderly start_is chart_is unclosed inside
     bound service_owed seen waits next sends tag_is service_is =
     let log = chart_entries (log_of history batch) in
     let sights = sights_by begun.binds (λ tag. past tag history) in
     let running : IsRunning history batch begun chart =
     record { start_is = start_is; chart_is = chart_is; unclosed = unclosed } in
-    let fits = running-fits history batch begun chart legal orderly running in
+    let fits = running_fits history batch begun chart legal orderly running in
     let valid = (sound history legal orderly begun.recipe chart chart_is).valid in
-    let partial = (all-follow history legal orderly batch begun chart start_is chart_is).partial in
-    let stepped = sends-step entry sent (next_of_run chart log sights entry next) sends in
+    let partial = (all_follow history legal orderly batch begun chart start_is chart_is).partial in
+    let stepped = sends_step entry sent (next_of_run chart log sights entry next) sends in
     let one = steps_alone chart log sights entry valid partial next stepped in
-    let to = sent-of-step sights one.step entry sent one.own sends in
-    let own = fits.bound one.step.role (among-member (role_names chart) one.step.role
+    let to = sent_of_step sights one.step entry sent one.own sends in
+    let own = fits.bound one.step.role (among_member (role_names chart) one.step.role
     (roles_of_steps chart (record { number = one.number; step = one.step }) valid one.within)) in
-    let its : own.0 ≡ tag = sym (tag-of-bound history begun.binds one.step.role own.0 own.1) ∙ sym to.0 ∙ tag_is in
+    let its : own.0 ≡ tag = sym (tag_of_bound history begun.binds one.step.role own.0 own.1) ∙ sym to.0 ∙ tag_is in
     let role : placed.step.role ≡ one.step.role =
-    one-role chart begun.binds placed.step.role one.step.role tag fits bound (own.1 ∙ ap Some its) in
+    one_role chart begun.binds placed.step.role one.step.role tag fits bound (own.1 ∙ ap Some its) in
     let due = one.alone placed inside role (service_owed ∙ sym service_is ∙ to.1) in
-    let none = no-command (phase_after log placed.step.name) entry sent view.control.state waits due.1 sends in
+    let none = no_command (phase_after log placed.step.name) entry sent view.control.state waits due.1 sends in
     let at : view_of history sent.tag sent.service ≡ Some view
     = ap (λ t. view_of history t sent.service) tag_is ∙ ap (view_of history tag) service_is ∙ seen in
     leads history begun.binds sent view (commands_permitted chart log sights entry sent next sends) at none
 
 -- a batch that sends a command binds its module
-sends-bound : (history : History) (batch : List ℕ) (begun : Started) (chart : ChartPlan) (entry : LogEntry)
+sends_bound : (history : History) (batch : List ℕ) (begun : Started) (chart : PlainChart) (entry : LogEntry)
     (sent : Sent) →
     IsLegal history → IsOrderly history → start_of history batch ≡ Some begun
     → chart_named begun.recipe (recipes history) ≡ Some chart → outcome_of history batch ≡ None →
     next_after chart (chart_entries (log_of history batch)) (sights_by begun.binds (λ tag. past tag history)) ≡ Entry
     entry → sent_by entry ≡ Some sent →
     (role : List ℕ) × (bound_tag begun.binds role ≡ Some sent.tag)
-sends-bound history batch begun chart entry sent legal orderly start_is chart_is unclosed next sends =
+sends_bound history batch begun chart entry sent legal orderly start_is chart_is unclosed next sends =
     let log = chart_entries (log_of history batch) in
     let sights = sights_by begun.binds (λ tag. past tag history) in
     let running : IsRunning history batch begun chart =
     record { start_is = start_is; chart_is = chart_is; unclosed = unclosed } in
-    let fits = running-fits history batch begun chart legal orderly running in
+    let fits = running_fits history batch begun chart legal orderly running in
     let valid = (sound history legal orderly begun.recipe chart chart_is).valid in
-    let stepped = sends-step entry sent (next_of_run chart log sights entry next) sends in
+    let stepped = sends_step entry sent (next_of_run chart log sights entry next) sends in
     let (placed, inside, own) = steps_of_chart chart log sights entry next stepped in
-    let to = sent-of-step sights placed.step entry sent own sends in
-    let tag = fits.bound placed.step.role (among-member (role_names chart) placed.step.role
+    let to = sent_of_step sights placed.step entry sent own sends in
+    let tag = fits.bound placed.step.role (among_member (role_names chart) placed.step.role
     (roles_of_steps chart placed valid inside)) in
-    (placed.step.role, tag.1 ∙ ap Some (sym (tag-of-bound history begun.binds placed.step.role tag.0 tag.1) ∙ sym to.0))
+    (placed.step.role, tag.1 ∙ ap Some (sym (tag_of_bound history begun.binds placed.step.role tag.0 tag.1) ∙ sym to.0))
 
 -- while a service is owed a report
 pub owed_not_sent : OwedIsNotSent
 owed_not_sent history tag service batch begun chart entry sent legal orderly owed start_is chart_is unclosed next sends
     tag_is service_is =
-    let bound = sends-bound history batch begun chart entry sent legal orderly start_is chart_is unclosed next sends in
+    let bound = sends_bound history batch begun chart entry sent legal orderly start_is chart_is unclosed next sends in
     let one : holder_of history tag ≡ Some batch
-    = holds-tag history batch begun bound.0 tag legal orderly start_is unclosed (bound.1 ∙ ap Some tag_is) in
+    = holds_tag history batch begun bound.0 tag legal orderly start_is unclosed (bound.1 ∙ ap Some tag_is) in
     let other : holder_of history tag ≡ Some owed.batch
-    = holds-tag history owed.batch owed.started owed.placed.step.role tag legal orderly owed.start_is owed.unclosed
+    = holds_tag history owed.batch owed.started owed.placed.step.role tag legal orderly owed.start_is owed.unclosed
     owed.bound in
-    let same : batch ≡ owed.batch = some-same (holder_of history tag) batch owed.batch one other in
+    let same : batch ≡ owed.batch = some_same (holder_of history tag) batch owed.batch one other in
     let begun_is : begun ≡ owed.started
-    = some-same (start_of history owed.batch) begun owed.started (ap (start_of history) (sym same) ∙ start_is)
+    = some_same (start_of history owed.batch) begun owed.started (ap (start_of history) (sym same) ∙ start_is)
     owed.start_is in
     let plan : chart ≡ owed.chart
-    = some-same (chart_named owed.started.recipe (recipes history)) chart owed.chart
+    = some_same (chart_named owed.started.recipe (recipes history)) chart owed.chart
     (ap (λ (s : Started). chart_named s.recipe (recipes history)) (sym begun_is) ∙ chart_is) owed.chart_is in
     let its : next_after owed.chart (chart_entries (log_of history owed.batch))
     (sights_by owed.started.binds (λ tag. past tag history)) ≡ Entry entry
@@ -256,6 +242,6 @@ owed_not_sent history tag service batch begun chart entry sent legal orderly owe
     (sights_by owed.started.binds (λ tag. past tag history))) (sym same)
     ∙ ap (λ (s : Started). next_after chart (chart_entries (log_of history batch))
     (sights_by s.binds (λ tag. past tag history))) (sym begun_is) ∙ next in
-    same-batch history tag service owed.batch owed.started owed.chart entry sent owed.placed owed.view legal orderly
+    same_batch history tag service owed.batch owed.started owed.chart entry sent owed.placed owed.view legal orderly
     owed.start_is owed.chart_is owed.unclosed
     owed.inside owed.bound owed.service_is owed.seen owed.waits its sends tag_is service_is

@@ -11,7 +11,7 @@ use Rattle.mtp_codes.specs.declared.state.State.{State}
 use Rattle.mtp_machine.specs.Machine.{command_target, own_target, same_command}
 use Rattle.mtp_assembly.specs.declared.control.ServiceControl.{ServiceControl}
 use Rattle.mtp_modes.specs.declared.view.ServiceView.{ServiceView}
-use Rattle.mtp_desc.specs.Plain.{DescriptionForm}
+use Rattle.mtp_desc.specs.Plain.{PlainDescription}
 use Rattle.mtp_desc.specs.Lookup.{self_completes}
 use Rattle.mtp_sim.specs.declared.service.SimService.{SimService}
 use Rattle.mtp_sim.specs.Ticks.{control_in, control_now, is_untold, changes, changes_in, runs_through, moved_on, told, counted, service_ticked, is_reported}
@@ -26,39 +26,40 @@ use Rattle.pol_history.specs.Looking.{History, past, last_of}
 use Rattle.pol_history.specs.Modules.{since_docking, control_by, description_by, completes_by, seen_with}
 use Rattle.pol_history.specs.Batches.{taken}
 use Rattle.pol_history.proofs.Accepted.{paired}
-use Rattle.pol_history.proofs.Names.{same-refl}
+use Rattle.pol_history.proofs.Names.{same_refl}
 use Rattle.pol_site.specs.Stories.{story, if_to, is_for, started_in, procedure_started, answering, is_answered, controls_in}
 use Rattle.pol_simulated.specs.Units.{newest}
-use Rattle.pol_simulated.proofs.Taking.{moved-untold, told-state}
-use Rattle.mtp_sim.proofs.Edges.{told-last, name-ticked}
+use Rattle.pol_simulated.proofs.Taking.{moved_untold, told_state}
+use Rattle.mtp_sim.proofs.Edges.{told_last, name_ticked}
 use Rattle.pol_stillness.specs.Phases.{asked_in, is_changed, IsSettled, IsGiven, IsPhase, told_after, TicksKeepPhases, TakesSettle, SendsGive, OthersKeepPhases}
-use Rattle.pol_stillness.proofs.Desks.{view-control}
-use Rattle.pol_simulated.proofs.Reports.{last-newest}
+use Rattle.pol_stillness.proofs.Desks.{view_control}
+use Rattle.pol_simulated.proofs.Reports.{last_newest}
 use Rattle.pol_stillness.proofs.Plain.{}
 use Rattle.pol_stillness.proofs.Carried.{undescribed}
-use Rattle.mtp_sim.proofs.Edges.{state-refl}
+use Rattle.mtp_sim.proofs.Edges.{state_refl}
 
 -- ---- ticks
 
 -- a service that tells or moves on is told
-told-now : (s : SimService) → is_changed (told s) ≡ false
-told-now s = ap (λ b. not b && true) (state-refl s.state)
+told_now : (s : SimService) → is_changed (told s) ≡ false
+told_now s = ap (λ b. not b && true) (state_refl s.state)
 
 -- a change of its own is told with it
-moved-now : (s : SimService) (state : State) → is_changed (moved_on s (Some state)) ≡ false
-moved-now s state = ap (λ b. not b && true) (state-refl state)
+moved_now : (s : SimService) (state : State) → is_changed (moved_on s (Some state)) ≡ false
+moved_now s state = ap (λ b. not b && true) (state_refl state)
 
 -- a report of the service answers
 answers : (tag : List ℕ) (name : List ℕ) (control : ServiceControl) (old : History)
     → is_answered tag (paired (report 0 tag name control) Done ∷ old) name ≡ true
 answers tag name control old =
     ap (λ b. unwrap_or (option_or (if is_some (if b then Some control else None) then Some true else None)
-    (last_of (answering tag name) (since_docking old))) true) (same-refl name)
+    (last_of (answering tag name) (since_docking old))) true) (same_refl name)
 
 -- a tick keeps a service settled
-settled-ticked : (d : DescriptionForm) (tag : List ℕ) (limit : ℕ) (s : SimService) (old : History) → IsSettled tag old s
+settled_ticked : (d : PlainDescription) (tag : List ℕ) (limit : ℕ) (s : SimService) (old : History)
+    → IsSettled tag old s
     → IsSettled tag (told_after d tag limit s old) (service_ticked d limit s)
-settled-ticked d tag limit s old is = go (is_untold s) (changes d s) (nat_le limit (s.count + 1)) (own_target s.state)
+settled_ticked d tag limit s old is = go (is_untold s) (changes d s) (nat_le limit (s.count + 1)) (own_target s.state)
     refl refl refl
   where
     After : Bool → Bool → Bool → Option State → SimService
@@ -77,7 +78,7 @@ settled-ticked d tag limit s old is = go (is_untold s) (changes d s) (nat_le lim
         ∷ old) old)
         (cond untold (told s) (cond changing (cond ripe (moved_on s target) (counted s)) s))
     go true changing ripe target u e f = record
-        { runs = is.runs; answered = answers tag s.name (control_now d (told s)) old ∙ ap not (sym (told-now s)) }
+        { runs = is.runs; answered = answers tag s.name (control_now d (told s)) old ∙ ap not (sym (told_now s)) }
     go false false ripe target u e f = is
     go false true false target u e f = record { runs = is.runs; answered = is.answered }
     go false true true None u e f = let clash : false ≡ true = sym (rw f refl) ∙ e in cc
@@ -85,18 +86,18 @@ settled-ticked d tag limit s old is = go (is_untold s) (changes d s) (nat_le lim
         record {
           runs = is.runs;
           answered = answers tag s.name (control_now d (moved_on s (Some state))) old ∙ ap not
-              (sym (moved-now s state));
+              (sym (moved_now s state));
         }
 
 -- with a command ahead the service doesn't change
-given-unreported : (d : DescriptionForm) (limit : ℕ) (s : SimService) → is_untold s ≡ false → changes d s ≡ false
+given_unreported : (d : PlainDescription) (limit : ℕ) (s : SimService) → is_untold s ≡ false → changes d s ≡ false
     → (is_reported d limit s ≡ false) × (service_ticked d limit s ≡ s)
-given-unreported d limit s tells still = (rw (tells, still) refl, rw (tells, still) refl)
+given_unreported d limit s tells still = (rw (tells, still) refl, rw (tells, still) refl)
 
 -- a tick leaves the procedure
-ticked-procedure : (d : DescriptionForm) (limit : ℕ) (s : SimService)
+ticked_procedure : (d : PlainDescription) (limit : ℕ) (s : SimService)
     → (service_ticked d limit s).procedure ≡ s.procedure
-ticked-procedure d limit s = go (is_untold s) (changes d s) (nat_le limit (s.count + 1)) (own_target s.state)
+ticked_procedure d limit s = go (is_untold s) (changes d s) (nat_le limit (s.count + 1)) (own_target s.state)
   where
     go : (untold changing ripe : Bool) (target : Option State)
         → (cond untold (told s) (cond changing (cond ripe (moved_on s target) (counted s)) s)).procedure ≡ s.procedure
@@ -110,11 +111,11 @@ ticked-procedure d limit s = go (is_untold s) (changes d s) (nat_le limit (s.cou
 pub ticks_phased : TicksKeepPhases
 ticks_phased d tag limit s old None is =
     record {
-      phase = settled-ticked d tag limit s old is;
+      phase = settled_ticked d tag limit s old is;
       due = λ reports past described.
           let runs : (service_ticked d limit s).procedure ≡ procedure_started tag s.name old =
-          ticked-procedure d limit s ∙ sym is.runs in
-          let name = name-ticked d limit s in
+          ticked_procedure d limit s ∙ sym is.runs in
+          let name = name_ticked d limit s in
           ap (λ n. control_in (self_completes n (service_ticked d limit s).procedure d)
           (service_ticked d limit s).procedure (service_ticked d limit s).state) name
           ∙ ap (λ p. control_in (self_completes s.name p d) p (service_ticked d limit s).state) runs
@@ -122,7 +123,7 @@ ticks_phased d tag limit s old None is =
           (procedure_started tag s.name old) (service_ticked d limit s).state) (sym described);
     }
 ticks_phased d tag limit s old (Some entry) is =
-    let none = given-unreported d limit s is.tells is.still in
+    let none = given_unreported d limit s is.tells is.still in
     record {
       phase =
           subst (λ b. IsGiven d tag (if b then record
@@ -135,11 +136,11 @@ ticks_phased d tag limit s old (Some entry) is =
 -- ---- a command that is taken
 
 -- a service that was told is changed by a command that leads somewhere
-taken-changed : (s : SimService) (target : State) (given : Command) (procedure : ℕ) → is_untold s ≡ false
+taken_changed : (s : SimService) (target : State) (given : Command) (procedure : ℕ) → is_untold s ≡ false
     → command_target s.state given ≡ Some target
     → is_changed (sent_to s target procedure) ≡ true
-taken-changed s target given procedure tells leads =
-    rw (moved-untold s.state target s.last given (told-state s tells) leads) (ap is_some (told-last s tells))
+taken_changed s target given procedure tells leads =
+    rw (moved_untold s.state target s.last given (told_state s tells) leads) (ap is_some (told_last s tells))
 
 -- a service takes the command that is ahead
 pub takes_settled : TakesSettle
@@ -158,7 +159,7 @@ takes_settled d tag s old entry given =
         runs = refl;
         answered =
             given.unanswered
-            ∙ ap not (sym (taken-changed s given.target given.sent.command (procedure_started tag s.name old)
+            ∙ ap not (sym (taken_changed s given.target given.sent.command (procedure_started tag s.name old)
             given.tells given.leads));
       };
     }
@@ -170,7 +171,7 @@ pub others_phased : OthersKeepPhases
 others_phased d tag s old ahead entry moves silent starts is = go ahead is
   where
     description : description_by (entry ∷ old) ≡ description_by old
-    description = ap (λ (f : Option DescriptionForm). option_or f (description_by old)) (undescribed entry.event moves)
+    description = ap (λ (f : Option PlainDescription). option_or f (description_by old)) (undescribed entry.event moves)
 
     runs : procedure_started tag s.name (entry ∷ old) ≡ procedure_started tag s.name old
     runs =
@@ -205,31 +206,31 @@ others_phased d tag s old ahead entry moves silent starts is = go ahead is
 -- ---- a command that is sent
 
 -- what is seen of a service was reported, with what the description says
-view-self : (service : List ℕ) (description : Option DescriptionForm) (found : Option ServiceControl)
+view_self : (service : List ℕ) (description : Option PlainDescription) (found : Option ServiceControl)
     (view : ServiceView) → option_map (seen_with service description) found ≡ Some view
     → view.self_completes ≡ completes_by service view.control.procedure description
-view-self service description None view is = cc
-view-self service description (Some control) view is =
+view_self service description None view is = cc
+view_self service description (Some control) view is =
     let same = same_Some (seen_with service description control) view is in
     subst (λ (v : ServiceView). v.self_completes ≡ completes_by service v.control.procedure description) same refl
 
 -- a service that told a state, and took no command since, has told the state in which it is
-told-one : (s : SimService) (one : State) → s.last ≡ Some one → is_changed s ≡ false → is_untold s ≡ false
-told-one s one last unchanged = go (is_untold s) (ap (λ b. is_untold s && is_some b) (sym last) ∙ unchanged)
+told_one : (s : SimService) (one : State) → s.last ≡ Some one → is_changed s ≡ false → is_untold s ≡ false
+told_one s one last unchanged = go (is_untold s) (ap (λ b. is_untold s && is_some b) (sym last) ∙ unchanged)
   where
     go : (b : Bool) → (b && true) ≡ false → b ≡ false
     go true is = cc
     go false is = refl
 
 -- what is there is something
-some-of : {A : Type 0} (found : Option A) → is_some found ≡ true → (x : A) × (found ≡ Some x)
-some-of None is = cc
-some-of (Some x) is = (x, refl)
+some_of : {A : Type 0} (found : Option A) → is_some found ≡ true → (x : A) × (found ≡ Some x)
+some_of None is = cc
+some_of (Some x) is = (x, refl)
 
 -- what is the contrary of false is true, the other way round
-not-true : (b : Bool) → true ≡ not b → b ≡ false
-not-true true is = cc
-not-true false is = refl
+not_true : (b : Bool) → true ≡ not b → b ≡ false
+not_true true is = cc
+not_true false is = refl
 
 -- a command that is sent
 pub sends_given : SendsGive
@@ -253,23 +254,23 @@ sends_given d s older at batch did sent run sends named law is_described step st
     control : control_by s.name (past sent.tag older) ≡ Some law.view.control
     control =
         ap (λ n. control_by n (past sent.tag older)) (sym named)
-        ∙ view-control (control_by sent.service (past sent.tag older)) law.view
+        ∙ view_control (control_by sent.service (past sent.tag older)) law.view
         (seen_with sent.service (description_by (past sent.tag older))) (λ c. refl) law.seen
 
     newest_is : newest (controls_in s.name (since_docking (past sent.tag older))) ≡ Some law.view.control
-    newest_is = sym (last-newest s.name (since_docking (past sent.tag older))) ∙ control
+    newest_is = sym (last_newest s.name (since_docking (past sent.tag older))) ∙ control
 
     tells : is_untold s ≡ false
     tells =
-        told-one s law.view.control.state (sym step.last ∙ ap (option_map (λ (c : ServiceControl). c.state)) newest_is)
-        (not-true (is_changed s) (sym law.answered ∙ ap (λ n. is_answered sent.tag old n) named ∙ settled.answered))
+        told_one s law.view.control.state (sym step.last ∙ ap (option_map (λ (c : ServiceControl). c.state)) newest_is)
+        (not_true (is_changed s) (sym law.answered ∙ ap (λ n. is_answered sent.tag old n) named ∙ settled.answered))
 
     now : law.view.control ≡ control_now d s
     now = same_Some law.view.control (control_now d s) (sym newest_is ∙ step.now tells)
 
     self : law.view.self_completes ≡ runs_through d s
     self =
-        view-self sent.service (description_by (past sent.tag older)) (control_by sent.service (past sent.tag older))
+        view_self sent.service (description_by (past sent.tag older)) (control_by sent.service (past sent.tag older))
         law.view law.seen
         ∙ ap (λ f. completes_by sent.service law.view.control.procedure f) is_described
         ∙ ap (λ n. self_completes n law.view.control.procedure d) named
@@ -277,18 +278,18 @@ sends_given d s older at batch did sent run sends named law is_described step st
 
     leads : (target : State) × (command_target s.state sent.command ≡ Some target)
     leads =
-        let there = some-of (command_target law.view.control.state sent.command) law.permitted.leads in
+        let there = some_of (command_target law.view.control.state sent.command) law.permitted.leads in
         (there.0, ap (λ (c : ServiceControl). command_target c.state sent.command) (sym now) ∙ there.1)
 
-    for-it : is_for s.name (if_to sent.tag (sent_by did)) ≡ true
-    for-it =
+    for_it : is_for s.name (if_to sent.tag (sent_by did)) ≡ true
+    for_it =
         ap (λ found. is_for s.name (if_to sent.tag found)) sends
-        ∙ ap (λ b. is_for s.name (if b then Some sent else None)) (same-refl sent.tag)
-        ∙ ap (λ n. bytes_eq n s.name) named ∙ same-refl s.name
+        ∙ ap (λ b. is_for s.name (if b then Some sent else None)) (same_refl sent.tag)
+        ∙ ap (λ n. bytes_eq n s.name) named ∙ same_refl s.name
 
     unanswered : is_answered sent.tag (paired (advance at batch) (Did did) ∷ old) s.name ≡ false
     unanswered = ap (λ b. unwrap_or (option_or (if b then Some false else None)
-        (last_of (answering sent.tag s.name) (since_docking old))) true) for-it
+        (last_of (answering sent.tag s.name) (since_docking old))) true) for_it
 
     Runs : LogEntry → Type 0
     Runs did = procedure_after d s sent.command (asked_in did) ≡ Some
@@ -300,9 +301,9 @@ sends_given d s older at batch did sent run sends named law is_described step st
     runs (Start step tag service procedure) run sends starts =
         let its = same_Some _ sent sends in
         let tag_is : bytes_eq tag sent.tag ≡ true =
-        ap (λ (x : Sent). bytes_eq x.tag sent.tag) its ∙ same-refl sent.tag in
+        ap (λ (x : Sent). bytes_eq x.tag sent.tag) its ∙ same_refl sent.tag in
         let service_is : bytes_eq service s.name ≡ true =
-        ap (λ (x : Sent). bytes_eq x.service s.name) its ∙ ap (λ n. bytes_eq n s.name) named ∙ same-refl s.name in
+        ap (λ (x : Sent). bytes_eq x.service s.name) its ∙ ap (λ n. bytes_eq n s.name) named ∙ same_refl s.name in
         ap (λ (x : Sent). procedure_after d s x.command procedure) (sym its) ∙ starts step tag service procedure refl
         ∙ ap (λ b. Some (unwrap_or (option_or (if b then Some procedure else None)
         (last_of (λ each. started_in sent.tag s.name (description_by old) (taken each.answer)) (since_docking old)))

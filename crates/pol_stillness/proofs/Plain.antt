@@ -17,8 +17,8 @@ use Rattle.mtp_assembly.specs.declared.control.ServiceControl.{ServiceControl}
 use Rattle.mtp_modes.specs.declared.view.ServiceView.{ServiceView}
 use Rattle.mtp_sim.specs.Ticks.{changes_in, is_state}
 use Rattle.chart_core.specs.Entries.{chart_entry}
-use Rattle.chart_core.specs.Roles.{ChartPlan}
-use Rattle.chart_core.specs.Trees.{StepPlan}
+use Rattle.chart_core.specs.Roles.{PlainChart}
+use Rattle.chart_core.specs.Trees.{PlainStep}
 use Rattle.chart_core.specs.declared.entry.LogEntry.{LogEntry}
 use Rattle.chart_core.specs.declared.why.Why.TheVariants as why
 use Rattle.chart_core.specs.declared.entry.LogEntry.TheVariants.{Start, Finish, Reset, Stop, Broke, StopAsked, Asked}
@@ -30,7 +30,7 @@ use Rattle.chart_cursor.specs.declared.next.CursorNext.TheVariants.{Entry, Wait,
 use Rattle.chart_cursor.specs.declared.sight.Sight.{Sight}
 use Rattle.chart_cursor.specs.declared.sight.Sight.TheVariants as sight
 use Rattle.chart_cursor.proofs.Commanding.{next_of_run}
-use Rattle.pol_events.specs.Events.{EventForm, plug, unplug, report, advance, stop_batch, abandon, desk, exchange_begin, exchange_end, exchange_cancel, EntryForm}
+use Rattle.pol_events.specs.Events.{PlainEvent, plug, unplug, report, advance, stop_batch, abandon, desk, exchange_begin, exchange_end, exchange_cancel, PlainEntry}
 use Rattle.pol_events.specs.Refusals.{may_follow, not_an_edge}
 use Rattle.pol_events.specs.declared.answer.Answer.{Answer}
 use Rattle.pol_events.specs.declared.answer.Answer.TheVariants.{Done, Ticket, Did, Waiting, Closed, Refused}
@@ -45,18 +45,18 @@ use Rattle.pol_history.specs.Batches.{is_frozen, taken, log_by, log_of}
 use Rattle.pol_history.specs.Commands.{sent_command}
 use Rattle.pol_history.specs.Following.{sights_by, next_of}
 use Rattle.pol_history.specs.Answers.{advanced, otherwise, answer_of}
-use Rattle.pol_history.proofs.Accepted.{accepted-none, accepted-otherwise, paired}
-use Rattle.pol_history.proofs.Names.{same-refl}
-use Rattle.pol_conduct.proofs.Courses.{log-grows, log-stays}
-use Rattle.pol_conduct.proofs.Nexts.{HasNext, has-next}
-use Rattle.pol_conduct.proofs.Seen.{seen-of}
-use Rattle.pol_site.specs.Sites.{SiteForm}
+use Rattle.pol_history.proofs.Accepted.{accepted_none, accepted_otherwise, paired}
+use Rattle.pol_history.proofs.Names.{same_refl}
+use Rattle.pol_safety.proofs.Courses.{log_grows, log_stays}
+use Rattle.pol_safety.proofs.Nexts.{HasNext, has_next}
+use Rattle.pol_safety.proofs.Seen.{seen_of}
+use Rattle.pol_site.specs.Sites.{PlainSite}
 use Rattle.pol_site.specs.Stories.{sent_to, if_to, touches, story, is_given, times_sent, controls_in}
 use Rattle.pol_site.specs.Following.{FollowsSite, IsAllowed, IsReport, IsNewState}
 use Rattle.pol_site.specs.Commanded.{is_change_by, changes_by, times_changed, IsCommandedNow}
-use Rattle.pol_simulated.proofs.Reports.{last-newest}
+use Rattle.pol_simulated.proofs.Reports.{last_newest}
 use Rattle.pol_simulated.specs.Units.{newest}
-use Rattle.pol_stillness.proofs.Desks.{view-control, desks_refused}
+use Rattle.pol_stillness.proofs.Desks.{view_control, desks_refused}
 use Rattle.pol_stillness.specs.Plain.{is_plain, is_plain_command, is_completed_outcome, is_plain_answer, IsPlain, PlantsArePlain}
 use Rattle.chart_cursor.specs.NextEntry.{broke_or, broken_step, first_broken, is_broken_state, next_by, run_next, stop_next}
 use Rattle.chart_cursor.specs.Logs.{active, chart_entries, has_broken, is_broke, is_stop_asked, was_stopped}
@@ -76,40 +76,40 @@ is_kept_plain completes old new =
     every_command)
 
 -- so it is of each two states, where the procedure completes by itself
-every-plain : AllByRecursion (λ old. AllByRecursion (λ new. is_kept_plain true old new ≡ true) every_state) every_state
+every_plain : AllByRecursion (λ old. AllByRecursion (λ new. is_kept_plain true old new ≡ true) every_state) every_state
 unfolding command_target own_target is_edge
-every-plain = search
+every_plain = search
 
 -- and where it doesn't
-every-plain-waiting : AllByRecursion (λ old. AllByRecursion (λ new. is_kept_plain false old new ≡ true) every_state)
+every_plain_waiting : AllByRecursion (λ old. AllByRecursion (λ new. is_kept_plain false old new ≡ true) every_state)
     every_state
 unfolding command_target own_target is_edge
-every-plain-waiting = search
+every_plain_waiting = search
 
 -- so it is of any two
-kept-plain : (completes : Bool) (old new : State) → is_kept_plain completes old new ≡ true
-kept-plain true old new =
+kept_plain : (completes : Bool) (old new : State) → is_kept_plain completes old new ≡ true
+kept_plain true old new =
     of_each_state (λ new. is_kept_plain true old new ≡ true)
-    (of_each_state (λ old. AllByRecursion (λ new. is_kept_plain true old new ≡ true) every_state) every-plain old) new
-kept-plain false old new =
+    (of_each_state (λ old. AllByRecursion (λ new. is_kept_plain true old new ≡ true) every_state) every_plain old) new
+kept_plain false old new =
     of_each_state (λ new. is_kept_plain false old new ≡ true)
-    (of_each_state (λ old. AllByRecursion (λ new. is_kept_plain false old new ≡ true) every_state) every-plain-waiting
+    (of_each_state (λ old. AllByRecursion (λ new. is_kept_plain false old new ≡ true) every_state) every_plain_waiting
     old) new
 
 -- where no item passes a test, none of the list does
-none-any : {X : Type 0} (test : X → Bool) (xs : List X) → ((x : X) → test x ≡ false) → list_any test xs ≡ false
-none-any test [] none = refl
-none-any test (x ∷ xs) none = rw (none x) (none-any test xs none)
+none_any : {X : Type 0} (test : X → Bool) (xs : List X) → ((x : X) → test x ≡ false) → list_any test xs ≡ false
+none_any test [] none = refl
+none_any test (x ∷ xs) none = rw (none x) (none_any test xs none)
 
 -- a plain state is followed by a plain one, or by one to which no plain command led
-plain-next : (completes : Bool) (old new : State) → is_plain old ≡ true → may_follow old new ≡ true
+plain_next : (completes : Bool) (old new : State) → is_plain old ≡ true → may_follow old new ≡ true
     → ((given : Command) → is_plain_command given ≡ false → escapes completes old new given ≡ false)
     → is_plain new ≡ true
-plain-next completes old new plain follows none =
-    let fact = kept-plain completes old new in
+plain_next completes old new plain follows none =
+    let fact = kept_plain completes old new in
     go (is_plain new)
     (list_any (λ given. not (is_plain_command given) && escapes completes old new given) every_command)
-    (none-any (λ given. not (is_plain_command given) && escapes completes old new given) every_command
+    (none_any (λ given. not (is_plain_command given) && escapes completes old new given) every_command
     (λ given. one given (is_plain_command given) refl))
     (rw (plain, follows) at fact)
   where
@@ -122,27 +122,27 @@ plain-next completes old new plain follows none =
     go false any is kept = let clash : false ≡ true = sym is ∙ kept in cc
 
 -- a plain state isn't Stopped or Aborted
-whole-state : (one : State) → is_plain one ≡ true → is_broken_state one ≡ false
-whole-state state.Stopped is = cc
-whole-state state.Aborted is = cc
-whole-state _ is = refl
+whole_state : (one : State) → is_plain one ≡ true → is_broken_state one ≡ false
+whole_state state.Stopped is = cc
+whole_state state.Aborted is = cc
+whole_state _ is = refl
 
 -- ---- commands
 
 -- a command that isn't plain is none of the three
-same-not : (given : Command) → is_plain_command given ≡ false
+same_not : (given : Command) → is_plain_command given ≡ false
     → (same_command command.Start given ≡ false) × (same_command command.Complete given ≡ false)
     × (same_command command.Reset given ≡ false)
-same-not command.Start is = cc
-same-not command.Complete is = cc
-same-not command.Reset is = cc
-same-not _ is = (refl, refl, refl)
+same_not command.Start is = cc
+same_not command.Complete is = cc
+same_not command.Reset is = cc
+same_not _ is = (refl, refl, refl)
 
 -- a plain answer gives no other command
-given-none : (tag service : List ℕ) (given : Command) (answer : Answer) → is_plain_command given ≡ false
+given_none : (tag service : List ℕ) (given : Command) (answer : Answer) → is_plain_command given ≡ false
     → is_plain_answer answer ≡ true
     → is_given service given (if_to tag (sent_command answer)) ≡ false
-given-none tag service given (Did entry) odd plain = by entry plain
+given_none tag service given (Did entry) odd plain = by entry plain
   where
     to : (sent : Sent) → same_command sent.command given ≡ false → (here : Bool)
         → is_given service given (if here then Some sent else None) ≡ false
@@ -155,27 +155,27 @@ given-none tag service given (Did entry) odd plain = by entry plain
 
     by : (entry : LogEntry) → is_some (chart_entry entry) ≡ true
         → is_given service given (if_to tag (sent_by entry)) ≡ false
-    by (Start step other named procedure) run = to _ (same-not given odd).0 (bytes_eq other tag)
-    by (Finish step other named) run = to _ (same-not given odd).1 (bytes_eq other tag)
-    by (Reset step other named) run = to _ (same-not given odd).2 (bytes_eq other tag)
+    by (Start step other named procedure) run = to _ (same_not given odd).0 (bytes_eq other tag)
+    by (Finish step other named) run = to _ (same_not given odd).1 (bytes_eq other tag)
+    by (Reset step other named) run = to _ (same_not given odd).2 (bytes_eq other tag)
     by (Stop step other named) run = cc
     by (Asked other named asked) run = cc
     by _ run = refl
-given-none tag service given _ odd plain = refl
+given_none tag service given _ odd plain = refl
 
 -- so no other command is ever sent
-sent-none : (tag service : List ℕ) (given : Command) → is_plain_command given ≡ false → (history : History)
+sent_none : (tag service : List ℕ) (given : Command) → is_plain_command given ≡ false → (history : History)
     → AllByRecursion (λ entry. is_plain_answer entry.answer ≡ true) history
     → times_sent tag service given (story tag history) ≡ 0
-sent-none tag service given odd [] plain = refl
-sent-none tag service given odd (entry ∷ older) plain =
-    go (touches tag entry) (sent-none tag service given odd older plain.1)
+sent_none tag service given odd [] plain = refl
+sent_none tag service given odd (entry ∷ older) plain =
+    go (touches tag entry) (sent_none tag service given odd older plain.1)
   where
     moved : (moving : Bool) → times_sent tag service given (story tag older) ≡ 0
         → length (filter (λ entry. is_given service given (sent_to tag entry))
         (if moving then [] else entry ∷ since_docking (story tag older))) ≡ 0
     moved true again = refl
-    moved false again = rw (given-none tag service given entry.answer odd plain.0) again
+    moved false again = rw (given_none tag service given entry.answer odd plain.0) again
 
     go : (own : Bool) → times_sent tag service given (story tag older) ≡ 0
         → times_sent tag service given (cond own (entry ∷ story tag older) (story tag older)) ≡ 0
@@ -195,21 +195,21 @@ uncounted completes given new old older none = go (is_change_by completes given 
     go true none = absurd (omega (arith, none))
 
 -- a state that isn't refused as no edge may follow
-may-free : (last : ServiceControl) (new : State) → not_an_edge new (Some last) ≡ None → may_follow last.state new ≡ true
-may-free last new free = go (may_follow last.state new) free
+may_free : (last : ServiceControl) (new : State) → not_an_edge new (Some last) ≡ None → may_follow last.state new ≡ true
+may_free last new free = go (may_follow last.state new) free
   where
     go : (b : Bool) → when (not b) (NotAnEdge last.state new) ≡ None → b ≡ true
     go true free = refl
     go false free = cc
 
 -- a report of a service tells a plain state
-told-plain : (older : History) (at : ℕ) (tag service : List ℕ) (told : ServiceControl) (answer : Answer) → IsPlain older
+told_plain : (older : History) (at : ℕ) (tag service : List ℕ) (told : ServiceControl) (answer : Answer) → IsPlain older
     → IsReport tag service (past tag older) (story tag older) told answer
     → answer ≡ answer_of older (report at tag service told)
     → AllByRecursion (λ entry. is_plain_answer entry.answer ≡ true) (paired (report at tag service told) answer ∷ older)
     → IsCommandedNow (paired (report at tag service told) answer ∷ older) → is_plain told.state ≡ true
-told-plain older at tag service told answer plain allowed is all commanded =
-    go (controls_in service (since_docking (past tag older))) (last-newest service (since_docking (past tag older)))
+told_plain older at tag service told answer plain allowed is all commanded =
+    go (controls_in service (since_docking (past tag older))) (last_newest service (since_docking (past tag older)))
     counted
   where
     now : History
@@ -217,7 +217,7 @@ told-plain older at tag service told answer plain allowed is all commanded =
 
     own : past tag now ≡ paired (report at tag service told) answer ∷ past tag older
     own = ap (λ b. cond (b && is_accepted answer) (paired (report at tag service told) answer ∷ past tag older)
-        (past tag older)) (same-refl tag)
+        (past tag older)) (same_refl tag)
         ∙ ap (λ b. cond b (paired (report at tag service told) answer ∷ past tag older) (past tag older))
         allowed.accepted
 
@@ -228,13 +228,13 @@ told-plain older at tag service told answer plain allowed is all commanded =
         → changes_by completes given (told ∷ controls_in service (since_docking (past tag older))) ≤ 0
     counted given odd =
         subst (λ b. changes_by completes given (cons_option (if b then Some told else None)
-        (controls_in service (since_docking (past tag older)))) ≤ 0) (same-refl service)
+        (controls_in service (since_docking (past tag older)))) ≤ 0) (same_refl service)
         (subst (λ p. times_changed service given p ≤ 0) own
-        (subst (λ n. times_changed service given (past tag now) ≤ n) (sent-none tag service given odd now all)
+        (subst (λ n. times_changed service given (past tag now) ≤ n) (sent_none tag service given odd now all)
         (commanded tag service given)))
 
     free : not_an_edge told.state (control_by service (past tag older)) ≡ None
-    free = (accepted-none older (report at tag service told) (ap is_accepted (sym is) ∙ allowed.accepted)).1.1.1.0
+    free = (accepted_none older (report at tag service told) (ap is_accepted (sym is) ∙ allowed.accepted)).1.1.1.0
 
     go : (controls : List ServiceControl) → control_by service (past tag older) ≡ newest controls
         → ((given : Command) → is_plain_command given ≡ false → changes_by completes given (told ∷ controls) ≤ 0)
@@ -242,25 +242,25 @@ told-plain older at tag service told answer plain allowed is all commanded =
     go [] head counted = let first : told.state ≡ state.Idle =
         subst (λ c. IsNewState c told.state) head allowed.new in ap is_plain first
     go (old ∷ rest) head counted =
-        plain-next (completes old.procedure) old.state told.state (plain.controls tag service old head)
-        (may-free old told.state (ap (not_an_edge told.state) (sym head) ∙ free))
+        plain_next (completes old.procedure) old.state told.state (plain.controls tag service old head)
+        (may_free old told.state (ap (not_an_edge told.state) (sym head) ∙ free))
         (λ given odd. uncounted completes given told old rest (counted given odd))
 
 -- after any event each service is in a plain state
-event-plain : (site : SiteForm) (older : History) (tag service : List ℕ) (event : EventForm) (answer : Answer)
+event_plain : (site : PlainSite) (older : History) (tag service : List ℕ) (event : PlainEvent) (answer : Answer)
     (control : ServiceControl)
     → IsAllowed site older event answer → IsPlain older → answer ≡ answer_of older event
     → AllByRecursion (λ entry. is_plain_answer entry.answer ≡ true) (paired event answer ∷ older)
     → IsCommandedNow (paired event answer ∷ older)
     → control_by service (paired event answer ∷ past tag older) ≡ Some control → is_plain control.state ≡ true
-event-plain site older tag service (plug at other description) answer control allowed plain is all commanded found = cc
-event-plain site older tag service (unplug at other) answer control allowed plain is all commanded found = cc
-event-plain site older tag service (exchange_begin at other) answer control allowed plain is all commanded found = cc
-event-plain site older tag service (exchange_end at other ticket description) answer control allowed plain is all
+event_plain site older tag service (plug at other description) answer control allowed plain is all commanded found = cc
+event_plain site older tag service (unplug at other) answer control allowed plain is all commanded found = cc
+event_plain site older tag service (exchange_begin at other) answer control allowed plain is all commanded found = cc
+event_plain site older tag service (exchange_end at other ticket description) answer control allowed plain is all
     commanded found = cc
-event-plain site older tag service (exchange_cancel at other ticket) answer control allowed plain is all commanded found
+event_plain site older tag service (exchange_cancel at other ticket) answer control allowed plain is all commanded found
     = cc
-event-plain site older tag service (report at other named told) answer control allowed plain is all commanded found =
+event_plain site older tag service (report at other named told) answer control allowed plain is all commanded found =
     go (bytes_eq named service) found
   where
     go : (here : Bool) → option_or (if here then Some told else None) (control_by service (past tag older)) ≡ Some
@@ -269,8 +269,8 @@ event-plain site older tag service (report at other named told) answer control a
     go true found =
         let same : told ≡ control = same_Some told control found in
         subst (λ (c : ServiceControl). is_plain c.state ≡ true) same
-        (told-plain older at other named told answer plain allowed is all commanded)
-event-plain site older tag service _ answer control allowed plain is all commanded found =
+        (told_plain older at other named told answer plain allowed is all commanded)
+event_plain site older tag service _ answer control allowed plain is all commanded found =
     plain.controls tag service control found
 
 -- ---- one more answer
@@ -286,13 +286,13 @@ quiet test none batch (entry ∷ older) plain =
   where
     stays : (answer : Answer) → taken answer ≡ None → list_any test (log_of older batch) ≡ false
         → list_any test (log_by (paired entry.event answer ∷ past_of_batch batch older)) ≡ false
-    stays answer silent again = ap (list_any test) (log-stays (past_of_batch batch older) entry.event answer silent) ∙
+    stays answer silent again = ap (list_any test) (log_stays (past_of_batch batch older) entry.event answer silent) ∙
         again
 
     by : (answer : Answer) → is_plain_answer answer ≡ true → list_any test (log_of older batch) ≡ false
         → list_any test (log_by (paired entry.event answer ∷ past_of_batch batch older)) ≡ false
     by (Did one) plain again =
-        ap (list_any test) (log-grows (past_of_batch batch older) entry.event one)
+        ap (list_any test) (log_grows (past_of_batch batch older) entry.event one)
         ∙ list_any-append test (log_of older batch) (one ∷ []) ∙ (rw (again, none one plain) refl)
     by Done plain again = stays Done refl again
     by (Ticket ticket) plain again = stays (Ticket ticket) refl again
@@ -306,39 +306,39 @@ quiet test none batch (entry ∷ older) plain =
     go true again = by entry.answer plain.0 again
 
 -- no entry of a run says that the batch broke
-run-no-broke : (entry : LogEntry) → is_some (chart_entry entry) ≡ true → is_broke entry ≡ false
-run-no-broke (Broke step state) run = cc
-run-no-broke _ run = refl
+run_no_broke : (entry : LogEntry) → is_some (chart_entry entry) ≡ true → is_broke entry ≡ false
+run_no_broke (Broke step state) run = cc
+run_no_broke _ run = refl
 
 -- nor that it was stopped
-run-no-stop : (entry : LogEntry) → is_some (chart_entry entry) ≡ true → is_stop_asked entry ≡ false
-run-no-stop StopAsked run = cc
-run-no-stop _ run = refl
+run_no_stop : (entry : LogEntry) → is_some (chart_entry entry) ≡ true → is_stop_asked entry ≡ false
+run_no_stop StopAsked run = cc
+run_no_stop _ run = refl
 
 -- so no log says it
 calm : (batch : List ℕ) (history : History) → IsPlain history
     → (has_broken (log_of history batch) || was_stopped (log_of history batch)) ≡ false
 calm batch history plain = rw (
-  quiet is_broke run-no-broke batch history plain.answers,
-  quiet is_stop_asked run-no-stop
+  quiet is_broke run_no_broke batch history plain.answers,
+  quiet is_stop_asked run_no_stop
       batch history plain.answers,
 ) refl
 
 -- a view is plain
-pub view-plain : (history : History) (tag service : List ℕ) (view : ServiceView) → IsPlain history
+pub view_plain : (history : History) (tag service : List ℕ) (view : ServiceView) → IsPlain history
     → view_of history tag service ≡ Some view → is_plain view.control.state ≡ true
-view-plain history tag service view plain seen =
+view_plain history tag service view plain seen =
     plain.controls tag service view.control
-    (view-control (control_by service (past tag history)) view (seen_with service (description_by (past tag history)))
+    (view_control (control_by service (past tag history)) view (seen_with service (description_by (past tag history)))
     (λ c. refl) seen)
 
 -- no service of a step is stopped or aborted
-whole-steps : (older : History) (binds : _) → IsPlain older → (steps : List StepPlan)
+whole_steps : (older : History) (binds : _) → IsPlain older → (steps : List PlainStep)
     → first_broken (sights_by binds (λ tag. past tag older)) steps ≡ None
-whole-steps older binds plain [] = refl
-whole-steps older binds plain (step ∷ steps) =
+whole_steps older binds plain [] = refl
+whole_steps older binds plain (step ∷ steps) =
     go ((sights_by binds (λ tag. past tag older)).view step.role step.service) refl
-    (whole-steps older binds plain steps)
+    (whole_steps older binds plain steps)
   where
     go : (found : Sight) → (sights_by binds (λ tag. past tag older)).view step.role step.service ≡ found
         → first_broken (sights_by binds (λ tag. past tag older)) steps ≡ None
@@ -346,47 +346,47 @@ whole-steps older binds plain (step ∷ steps) =
     go sight.Away at rest = rest
     go sight.Unreported at rest = rest
     go (sight.Is view) at rest =
-        let (seen, view_is) = seen-of older binds step.role step.service view at in
-        let plain-state : is_plain view.control.state ≡ true
-        = ap (λ (v : ServiceView). is_plain v.control.state) (sym view_is) ∙ view-plain older seen.tag step.service
+        let (seen, view_is) = seen_of older binds step.role step.service view at in
+        let plain_state : is_plain view.control.state ≡ true
+        = ap (λ (v : ServiceView). is_plain v.control.state) (sym view_is) ∙ view_plain older seen.tag step.service
         seen.live.view plain seen.live.seen in
         ap (λ b. option_or (if b then Some (Broke step.name view.control.state) else None)
         (first_broken (sights_by binds (λ tag. past tag older)) steps))
-        (whole-state view.control.state plain-state) ∙ rest
+        (whole_state view.control.state plain_state) ∙ rest
 
 -- then what comes next is what the run says, or the batch is frozen
-run-only : (chart : ChartPlan) (frozen : Bool) (log : List LogEntry) (seen : Sights) (given : Next)
+run_only : (chart : PlainChart) (frozen : Bool) (log : List LogEntry) (seen : Sights) (given : Next)
     → (has_broken log || was_stopped log) ≡ false
     → first_broken seen (active chart log) ≡ None → next_by chart frozen log seen ≡ given
     → (given ≡ next.Waiting why.Frozen) ⊎ (run_next (next_after chart (chart_entries log) seen) ≡ given)
-run-only chart true log seen given calm whole is = inl (sym is)
-run-only chart false log seen given calm whole is =
+run_only chart true log seen given calm whole is = inl (sym is)
+run_only chart false log seen given calm whole is =
     inr (sym (ap (λ b. if b then stop_next seen (has_broken log) (active chart log) else broke_or
     (first_broken seen (active chart log)) (run_next (next_after chart (chart_entries log) seen))) calm
     ∙ ap (λ found. broke_or found (run_next (next_after chart (chart_entries log) seen))) whole) ∙ is)
 
 -- what a batch does of a run is the entry that is next
-run-did : (found : CursorNext) (entry : LogEntry) → run_next found ≡ next.Did entry → found ≡ Entry entry
-run-did Whole entry is = cc
-run-did (Wait obstacle) entry is = cc
-run-did (Entry other) entry is = cc
+run_did : (found : CursorNext) (entry : LogEntry) → run_next found ≡ next.Did entry → found ≡ Entry entry
+run_did Whole entry is = cc
+run_did (Wait obstacle) entry is = cc
+run_did (Entry other) entry is = cc
 
 -- and it closes only as completed
-run-closed : (found : CursorNext) (outcome : Outcome) → run_next found ≡ next.Closed outcome
+run_closed : (found : CursorNext) (outcome : Outcome) → run_next found ≡ next.Closed outcome
     → (found ≡ Whole) × (is_completed_outcome outcome ≡ true)
-run-closed Whole other is = let same : outcome.Completed ≡ other = cc in (refl, ap is_completed_outcome (sym same))
-run-closed (Wait obstacle) outcome is = cc
-run-closed (Entry other) outcome is = cc
+run_closed Whole other is = let same : outcome.Completed ≡ other = cc in (refl, ap is_completed_outcome (sym same))
+run_closed (Wait obstacle) outcome is = cc
+run_closed (Entry other) outcome is = cc
 
 -- in a plain history what a batch does next is of its run
-pub did-runs : (history : History) (batch : List ℕ) (entry : LogEntry) → IsPlain history
+pub did_runs : (history : History) (batch : List ℕ) (entry : LogEntry) → IsPlain history
     → (has : HasNext history batch (next.Did entry))
     → next_after has.chart (chart_entries (log_of history batch))
     (sights_by has.started.binds (λ tag. past tag history)) ≡ Entry entry
-did-runs history batch entry plain has =
-    go (run-only has.chart (is_frozen history batch) (log_of history batch)
+did_runs history batch entry plain has =
+    go (run_only has.chart (is_frozen history batch) (log_of history batch)
     (sights_by has.started.binds (λ tag. past tag history)) (next.Did entry)
-    (calm batch history plain) (whole-steps history has.started.binds plain (active has.chart (log_of history batch)))
+    (calm batch history plain) (whole_steps history has.started.binds plain (active has.chart (log_of history batch)))
     has.next_is)
   where
     Runs : Type 0
@@ -397,18 +397,18 @@ did-runs history batch entry plain has =
         (run_next (next_after has.chart (chart_entries (log_of history batch))
         (sights_by has.started.binds (λ tag. past tag history))) ≡ next.Did entry) → Runs
     go (inl frozen) = cc
-    go (inr runs) = run-did (next_after has.chart (chart_entries (log_of history batch))
+    go (inr runs) = run_did (next_after has.chart (chart_entries (log_of history batch))
         (sights_by has.started.binds (λ tag. past tag history))) entry runs
 
 -- and it closes where its run is whole
-pub closed-whole : (history : History) (batch : List ℕ) (outcome : Outcome) → IsPlain history
+pub closed_whole : (history : History) (batch : List ℕ) (outcome : Outcome) → IsPlain history
     → (has : HasNext history batch (next.Closed outcome))
     → (next_after has.chart (chart_entries (log_of history batch))
     (sights_by has.started.binds (λ tag. past tag history)) ≡ Whole) × (is_completed_outcome outcome ≡ true)
-closed-whole history batch outcome plain has =
-    go (run-only has.chart (is_frozen history batch) (log_of history batch)
+closed_whole history batch outcome plain has =
+    go (run_only has.chart (is_frozen history batch) (log_of history batch)
     (sights_by has.started.binds (λ tag. past tag history)) (next.Closed outcome)
-    (calm batch history plain) (whole-steps history has.started.binds plain (active has.chart (log_of history batch)))
+    (calm batch history plain) (whole_steps history has.started.binds plain (active has.chart (log_of history batch)))
     has.next_is)
   where
     Closes : Type 0
@@ -419,54 +419,55 @@ closed-whole history batch outcome plain has =
         (run_next (next_after has.chart (chart_entries (log_of history batch))
         (sights_by has.started.binds (λ tag. past tag history))) ≡ next.Closed outcome) → Closes
     go (inl frozen) = cc
-    go (inr runs) = run-closed (next_after has.chart (chart_entries (log_of history batch))
+    go (inr runs) = run_closed (next_after has.chart (chart_entries (log_of history batch))
         (sights_by has.started.binds (λ tag. past tag history))) outcome runs
 
 -- an advance is answered plainly
-advance-plain : (history : History) (batch : List ℕ) → IsPlain history → (found : Option Next)
+advance_plain : (history : History) (batch : List ℕ) → IsPlain history → (found : Option Next)
     → next_of history batch ≡ found → is_plain_answer (advanced found) ≡ true
-advance-plain history batch plain None is = refl
-advance-plain history batch plain (Some (next.Waiting obstacle)) is = refl
-advance-plain history batch plain (Some (next.Did entry)) is =
-    let has = has-next history batch (next.Did entry) is in
+advance_plain history batch plain None is = refl
+advance_plain history batch plain (Some (next.Waiting obstacle)) is = refl
+advance_plain history batch plain (Some (next.Did entry)) is =
+    let has = has_next history batch (next.Did entry) is in
     next_of_run has.chart (chart_entries (log_of history batch)) (sights_by has.started.binds (λ tag. past tag history))
-    entry (did-runs history batch entry plain has)
-advance-plain history batch plain (Some (next.Closed outcome)) is =
-    (closed-whole history batch outcome plain (has-next history batch (next.Closed outcome) is)).1
+    entry (did_runs history batch entry plain has)
+advance_plain history batch plain (Some (next.Closed outcome)) is =
+    (closed_whole history batch outcome plain (has_next history batch (next.Closed outcome) is)).1
 
 -- so is any accepted event
-otherwise-plain : (site : SiteForm) (older : History) (event : EventForm) (answer : Answer)
+otherwise_plain : (site : PlainSite) (older : History) (event : PlainEvent) (answer : Answer)
     → IsAllowed site older event answer → FollowsSite site older → IsPlain older
     → is_accepted (answer_of older event) ≡ true → is_plain_answer (otherwise older event) ≡ true
-otherwise-plain site older (advance at batch) answer allowed follows plain accepted =
-    advance-plain older batch plain (next_of older batch) refl
-otherwise-plain site older (stop_batch at batch) answer allowed follows plain accepted = absurd allowed
-otherwise-plain site older (abandon at batch) answer allowed follows plain accepted = absurd allowed
-otherwise-plain site older (desk at tag service given) answer allowed follows plain accepted =
+otherwise_plain site older (advance at batch) answer allowed follows plain accepted =
+    advance_plain older batch plain (next_of older batch) refl
+otherwise_plain site older (stop_batch at batch) answer allowed follows plain accepted = absurd allowed
+otherwise_plain site older (abandon at batch) answer allowed follows plain accepted = absurd allowed
+otherwise_plain site older (desk at tag service given) answer allowed follows plain accepted =
     let clash : false ≡ true = sym ((desks_refused site older follows).refused at tag service given) ∙ accepted in cc
-otherwise-plain site older _ answer allowed follows plain accepted = refl
+otherwise_plain site older _ answer allowed follows plain accepted = refl
 
 -- and a refusal
-refused-plain : (answer : Answer) → is_accepted answer ≡ false → is_plain_answer answer ≡ true
-refused-plain (Refused rule) refused = refl
-refused-plain (Done) refused = refl
-refused-plain (Ticket ticket) refused = refl
-refused-plain (Did entry) refused = cc
-refused-plain (Waiting obstacle) refused = refl
-refused-plain (Closed outcome) refused = cc
+refused_plain : (answer : Answer) → is_accepted answer ≡ false → is_plain_answer answer ≡ true
+refused_plain (Refused rule) refused = refl
+refused_plain (Done) refused = refl
+refused_plain (Ticket ticket) refused = refl
+refused_plain (Did entry) refused = cc
+refused_plain (Waiting obstacle) refused = refl
+refused_plain (Closed outcome) refused = cc
 
 -- so is any event of a history that follows its site
-pub answer-plain : (site : SiteForm) (older : History) (entry : EntryForm) → entry.answer ≡ answer_of older entry.event
+pub answer_plain : (site : PlainSite) (older : History) (entry : PlainEntry)
+    → entry.answer ≡ answer_of older entry.event
     → IsAllowed site older entry.event entry.answer
     → FollowsSite site older → IsPlain older → is_plain_answer entry.answer ≡ true
-answer-plain site older entry is allowed follows plain =
+answer_plain site older entry is allowed follows plain =
     ap is_plain_answer is ∙ go (is_accepted (answer_of older entry.event)) refl
   where
     go : (kept : Bool) → is_accepted (answer_of older entry.event) ≡ kept
         → is_plain_answer (answer_of older entry.event) ≡ true
-    go false refused = refused-plain (answer_of older entry.event) refused
+    go false refused = refused_plain (answer_of older entry.event) refused
     go true accepted =
-        ap is_plain_answer (accepted-otherwise older entry.event accepted) ∙ otherwise-plain site older entry.event
+        ap is_plain_answer (accepted_otherwise older entry.event accepted) ∙ otherwise_plain site older entry.event
         entry.answer allowed follows plain accepted
 
 -- every such history
@@ -474,7 +475,7 @@ pub plants_plain : PlantsArePlain
 plants_plain site [] legal follows commanded = record { controls = λ tag service control is. cc; answers = tt }
 plants_plain site (entry ∷ older) legal follows commanded =
     let plain = plants_plain site older legal.2 follows.1 commanded.1 in
-    let answer = answer-plain site older entry legal.0 follows.0 follows.1 plain in
+    let answer = answer_plain site older entry legal.0 follows.0 follows.1 plain in
     record {
       controls = λ tag service control is. more plain (answer, plain.answers) tag service control
           (is_accepted_of tag entry) is;
@@ -487,4 +488,4 @@ plants_plain site (entry ∷ older) legal follows commanded =
         → is_plain control.state ≡ true
     more plain all tag service control false is = plain.controls tag service control is
     more plain all tag service control true is =
-        event-plain site older tag service entry.event entry.answer control follows.0 plain legal.0 all commanded.0 is
+        event_plain site older tag service entry.event entry.answer control follows.0 plain legal.0 all commanded.0 is

@@ -1,18 +1,17 @@
 -- The procedure that a step starts is one of its service's.
 use Rattle.std.proofs.Common.{◌≡◌, ◌+◌, ℕ, Bool, true, false, List, Option, Some, None, refl, ap, sym, ◌∙◌}
-use Rattle.std.specs.Prelude.{◌&&◌, ◌==◌, nat_le, is_some, find, option_map, if◌then◌else◌}
+use Rattle.std.specs.Prelude.{◌&&◌, ◌==◌, nat_le, is_some, find, if◌then◌else◌}
 use Rattle.std.specs.List.{Contains}
-use Rattle.std.specs.Str.{bytes_eq}
 use Rattle.std.proofs.lemmas.Bool.{and_parts, eqb-true}
 use Rattle.mtp_codes.specs.Names.{same_name}
-use Rattle.mtp_desc.specs.Plain.{DescriptionForm, ProcedureForm}
+use Rattle.mtp_desc.specs.Plain.{PlainDescription, PlainProcedure}
 use Rattle.mtp_desc.specs.Lookup.{procedure_at}
 use Rattle.mtp_procs.specs.Covers.{role_fault, role_named, is_refused, is_refused_step, refused_step, refused_variable, cover_fault}
 use Rattle.mtp_procs.specs.Demands.{procedure_fault, step_fault}
 use Rattle.mtp_codes.specs.declared.cover.CoverFault.TheVariants.{NotCovered}
 use Rattle.mtp_sim.specs.Commands.{default_number, asked_procedure}
 use Rattle.chart_core.specs.Form.{is_step_formed, is_tree_formed, are_trees_formed, are_arms_formed}
-use Rattle.chart_core.specs.Roles.{ChartPlan, role_names}
+use Rattle.chart_core.specs.Roles.{PlainChart, role_names}
 use Rattle.chart_core.specs.Trees.{Placed, Tree, Trees, Arms, leaf, seq, par, choice, loop, no_trees, more_trees, no_arms, more_arms, size, steps, all_steps, arm_steps}
 use Rattle.chart_core.specs.declared.entry.LogEntry.TheVariants.{Start}
 use Rattle.chart_core.proofs.Lawful.{each_member, roles_of_steps}
@@ -25,16 +24,17 @@ use Rattle.pol_history.specs.Looking.{past}
 use Rattle.pol_history.specs.Modules.{description_by}
 use Rattle.pol_history.specs.Batches.{log_of}
 use Rattle.pol_history.specs.Following.{sights_by}
-use Rattle.pol_history.proofs.Names.{same-true, same-refl}
-use Rattle.pol_conduct.proofs.Covering.{Covers, all-cover}
-use Rattle.pol_conduct.proofs.Seen.{tag-of-bound}
-use Rattle.pol_conduct.proofs.Starts.{IsGoodChart, sound, running-fits}
+use Rattle.pol_history.proofs.Names.{same_refl}
+use Rattle.pol_safety.proofs.Covering.{Covers, all_cover}
+use Rattle.pol_safety.proofs.Seen.{tag_of_bound}
+use Rattle.pol_safety.proofs.Starts.{IsGoodChart, sound, running_fits}
 use Rattle.pol_stillness.specs.Starting.{StartsExist}
-use Rattle.pol_events.proofs.Options.{neither, no-image, not-some, some-same}
-use Rattle.pol_events.proofs.Lists.{among-member, found-member, none-found}
+use Rattle.pol_events.proofs.Options.{neither, no_image, not_some, some_same}
+use Rattle.pol_events.proofs.Lists.{among_member, none_found}
 use Rattle.pol_history.proofs.Binds.{IsFitting}
 use Rattle.chart_cursor.specs.Logs.{chart_entries}
 use Rattle.pol_events.specs.Bound.{bound_tag}
+use Rattle.pol_events.proofs.Played.{bind_for}
 
 -- a step is formed
 abbrev Formed : Placed → Type 0
@@ -42,75 +42,62 @@ Formed placed = is_step_formed placed.step ≡ true
 
 -- each step of a formed tree is formed
 mutual
-  formed-steps : (t : Tree) (n : ℕ) → is_tree_formed t ≡ true → Each Formed (steps t n)
-  formed-steps (leaf step) n is = (is, tt)
-  formed-steps (seq each) n is = formed-all each (n + 1) (and_parts _ (are_trees_formed each) is).1
-  formed-steps (par each) n is = formed-all each (n + 1) (and_parts _ (are_trees_formed each) is).1
-  formed-steps (choice each) n is = formed-arms each (n + 1) (and_parts _ (are_arms_formed each) is).1
-  formed-steps (loop body until) n is = formed-steps body (n + 1) (and_parts (is_tree_formed body) _ is).0
+  formed_steps : (t : Tree) (n : ℕ) → is_tree_formed t ≡ true → Each Formed (steps t n)
+  formed_steps (leaf step) n is = (is, tt)
+  formed_steps (seq each) n is = formed_all each (n + 1) (and_parts _ (are_trees_formed each) is).1
+  formed_steps (par each) n is = formed_all each (n + 1) (and_parts _ (are_trees_formed each) is).1
+  formed_steps (choice each) n is = formed_arms each (n + 1) (and_parts _ (are_arms_formed each) is).1
+  formed_steps (loop body until) n is = formed_steps body (n + 1) (and_parts (is_tree_formed body) _ is).0
 
-  formed-all : (ts : Trees) (n : ℕ) → are_trees_formed ts ≡ true → Each Formed (all_steps ts n)
-  formed-all no_trees n is = tt
-  formed-all (more_trees each others) n is =
+  formed_all : (ts : Trees) (n : ℕ) → are_trees_formed ts ≡ true → Each Formed (all_steps ts n)
+  formed_all no_trees n is = tt
+  formed_all (more_trees each others) n is =
       let parts = and_parts (is_tree_formed each) (are_trees_formed others) is in
-      each_append Formed (steps each n) (all_steps others (n + size each)) (formed-steps each n parts.0)
-      (formed-all others (n + size each) parts.1)
+      each_append Formed (steps each n) (all_steps others (n + size each)) (formed_steps each n parts.0)
+      (formed_all others (n + size each) parts.1)
 
-  formed-arms : (arms : Arms) (n : ℕ) → are_arms_formed arms ≡ true → Each Formed (arm_steps arms n)
-  formed-arms no_arms n is = tt
-  formed-arms (more_arms when each others) n is =
+  formed_arms : (arms : Arms) (n : ℕ) → are_arms_formed arms ≡ true → Each Formed (arm_steps arms n)
+  formed_arms no_arms n is = tt
+  formed_arms (more_arms when each others) n is =
       let parts = and_parts (is_tree_formed each) _ is in
       let rest = and_parts _ (are_arms_formed others) parts.1 in
-      each_append Formed (steps each n) (arm_steps others (n + size each)) (formed-steps each n parts.0)
-      (formed-arms others (n + size each) rest.1)
+      each_append Formed (steps each n) (arm_steps others (n + size each)) (formed_steps each n parts.0)
+      (formed_arms others (n + size each) rest.1)
 
 -- a number from 1 on isn't 0
-not-zero : (n : ℕ) → nat_le 1 n ≡ true → (n == 0) ≡ false
-not-zero n is = go (n == 0) refl
+not_zero : (n : ℕ) → nat_le 1 n ≡ true → (n == 0) ≡ false
+not_zero n is = go (n == 0) refl
   where
     go : (b : Bool) → (n == 0) ≡ b → b ≡ false
     go false e = refl
     go true e = let clash : nat_le 1 0 ≡ true = ap (nat_le 1) (sym (eqb-true n 0 e)) ∙ is in cc
 
--- the bind of a role that has a tag
-bind-of : (binds : List Bind) (role tag : List ℕ) → bound_tag binds role ≡ Some tag
-    → (bind : Bind) × Contains binds bind × (bind.tag ≡ tag) × (bind.role ≡ role)
-bind-of binds role tag bound = go (find (λ bind. bytes_eq bind.role role) binds) refl bound
-  where
-    go : (found : Option Bind) → find (λ bind. bytes_eq bind.role role) binds ≡ found
-        → option_map (λ bind. bind.tag) found ≡ Some tag →
-        (bind : Bind) × Contains binds bind × (bind.tag ≡ tag) × (bind.role ≡ role)
-    go None is bound = cc
-    go (Some bind) is bound =
-        let member = found-member (λ bind. bytes_eq bind.role role) binds bind is in
-        (bind, member.0, cc, same-true bind.role role member.1)
-
 -- a module that covers its role has the procedure of each step of it
-covered-procedure : (chart : ChartPlan) (role : List ℕ) (description : DescriptionForm) (placed : Placed)
+covered_procedure : (chart : PlainChart) (role : List ℕ) (description : PlainDescription) (placed : Placed)
     → cover_fault chart role description ≡ None
     → Contains (steps chart.root 0) placed → placed.step.role ≡ role
     → is_some (procedure_at placed.step.service placed.step.procedure description) ≡ true
-covered-procedure chart role description placed covered inside role_is =
+covered_procedure chart role description placed covered inside role_is =
     there (procedure_at placed.step.service placed.step.procedure description)
-    (not-some (step_fault description placed.step.service placed.step.procedure placed.step.settings
+    (not_some (step_fault description placed.step.service placed.step.procedure placed.step.settings
     (is_some placed.step.finish)) fits)
   where
     parts : (refused_step chart role description ≡ None) × (refused_variable chart role description ≡ None)
     parts =
         neither (refused_step chart role description) (refused_variable chart role description)
-        (no-image NotCovered _ (neither (role_fault description (role_named role chart)) _ covered).1)
+        (no_image NotCovered _ (neither (role_fault description (role_named role chart)) _ covered).1)
 
     refused : (same_name placed.step.role role && is_refused description placed.step) ≡ false
     refused =
-        none-found (λ (each : Placed). is_refused_step role description each.step) (steps chart.root 0) placed
-        (no-image (λ (each : Placed). each.step.name)
+        none_found (λ (each : Placed). is_refused_step role description each.step) (steps chart.root 0) placed
+        (no_image (λ (each : Placed). each.step.name)
         (find (λ (each : Placed). is_refused_step role description each.step) (steps chart.root 0)) parts.0) inside
 
     fits : is_refused description placed.step ≡ false
     fits = ap (λ b. b && is_refused description placed.step)
-        (sym (ap (same_name placed.step.role) (sym role_is) ∙ same-refl placed.step.role)) ∙ refused
+        (sym (ap (same_name placed.step.role) (sym role_is) ∙ same_refl placed.step.role)) ∙ refused
 
-    there : (found : Option ProcedureForm) → procedure_fault placed.step.settings (is_some placed.step.finish) found
+    there : (found : Option PlainProcedure) → procedure_fault placed.step.settings (is_some placed.step.finish) found
         ≡ None → is_some found ≡ true
     there None is = cc
     there (Some procedure) is = refl
@@ -124,7 +111,7 @@ starts_exist history batch begun chart step tag service procedure description le
     ∙ ap (λ b. if b then default_number of.0.step.service description
     else if is_some (procedure_at of.0.step.service of.0.step.procedure description) then Some of.0.step.procedure else
     None)
-    (not-zero of.0.step.procedure (and_parts (nat_le 1 of.0.step.procedure) _ formed).0)
+    (not_zero of.0.step.procedure (and_parts (nat_le 1 of.0.step.procedure) _ formed).0)
     ∙ ap (λ b. if b then Some of.0.step.procedure else None) has
     ∙ ap Some (sym of.2.3)
   where
@@ -139,32 +126,32 @@ starts_exist history batch begun chart step tag service procedure description le
     of = steps_of_chart chart (chart_entries (log_of history batch)) sights (Start step tag service procedure) next refl
 
     formed : is_step_formed of.0.step ≡ true
-    formed = each_member Formed (steps chart.root 0) of.0 (formed-steps chart.root 0 (form_tree chart good.is_formed))
+    formed = each_member Formed (steps chart.root 0) of.0 (formed_steps chart.root 0 (form_tree chart good.is_formed))
         of.1
 
     fits : IsFitting chart begun.binds
-    fits = running-fits history batch begun chart legal orderly
+    fits = running_fits history batch begun chart legal orderly
         (record { start_is = start_is; chart_is = chart_is; unclosed = unclosed })
 
     own : (t : List ℕ) × (bound_tag begun.binds of.0.step.role ≡ Some t)
-    own = fits.bound of.0.step.role (among-member (role_names chart) of.0.step.role
+    own = fits.bound of.0.step.role (among_member (role_names chart) of.0.step.role
         (roles_of_steps chart of.0 good.valid of.1))
 
     bind : (bind : Bind) × Contains begun.binds bind × (bind.tag ≡ own.0) × (bind.role ≡ of.0.step.role)
-    bind = bind-of begun.binds of.0.step.role own.0 own.1
+    bind = bind_for begun.binds of.0.step.role own.0 own.1
 
     tag_is : bind.0.tag ≡ tag
-    tag_is = bind.2 ∙ sym (tag-of-bound history begun.binds of.0.step.role own.0 own.1) ∙ sym of.2.1
+    tag_is = bind.2 ∙ sym (tag_of_bound history begun.binds of.0.step.role own.0 own.1) ∙ sym of.2.1
 
     covers : Covers chart bind.0.role (past bind.0.tag history)
-    covers = all-cover history legal orderly batch begun chart start_is chart_is unclosed bind.0 bind.1
+    covers = all_cover history legal orderly batch begun chart start_is chart_is unclosed bind.0 bind.1
 
     one : covers.description ≡ description
     one =
-        some-same (description_by (past tag history)) covers.description description
+        some_same (description_by (past tag history)) covers.description description
         (ap (λ t. description_by (past t history)) (sym tag_is) ∙ covers.described) is_described
 
     has : is_some (procedure_at of.0.step.service of.0.step.procedure description) ≡ true
     has =
         ap (λ d. is_some (procedure_at of.0.step.service of.0.step.procedure d)) (sym one)
-        ∙ covered-procedure chart bind.0.role covers.description of.0 covers.covered of.1 (sym bind.3)
+        ∙ covered_procedure chart bind.0.role covers.description of.0 covers.covered of.1 (sym bind.3)

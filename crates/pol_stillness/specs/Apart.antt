@@ -2,8 +2,8 @@
 use Rattle.std.specs.Prelude.{ℕ, ◌≡◌, ◌&&◌, Bool, true, false, List, [], ◌∷◌, Option, Some, None}
 use Rattle.std.specs.List.{list_any, Contains}
 use Rattle.mtp_codes.specs.Names.{same_name}
-use Rattle.chart_core.specs.Trees.{StepPlan, Placed, Tree, Trees, Arms, leaf, seq, par, choice, loop, no_trees, more_trees, no_arms, more_arms, steps}
-use Rattle.chart_core.specs.Roles.{ChartPlan}
+use Rattle.chart_core.specs.Trees.{PlainStep, Placed, Tree, Trees, Arms, leaf, seq, par, choice, loop, no_trees, more_trees, no_arms, more_arms, steps}
+use Rattle.chart_core.specs.Roles.{PlainChart}
 use Rattle.chart_core.specs.Valid.{uses, some_uses, IsValid}
 use Rattle.chart_core.specs.Progress.{Marks}
 use Rattle.chart_core.specs.Active.{Phase, idle, started, finished, was_reset, phase_after, active_steps}
@@ -18,7 +18,7 @@ use Rattle.pol_history.specs.Runs.{IsLegal, IsOrderly}
 use Rattle.chart_core.specs.Runs.{IsPartial, IsComplete}
 use Rattle.chart_core.specs.declared.entry.LogEntry.{LogEntry}
 use Rattle.chart_core.specs.declared.entry.LogEntry.TheVariants.{Start, Finish, Reset, End}
-use Rattle.chart_cursor.specs.Spots.{Spot, spots}
+use Rattle.chart_cursor.specs.OpenNodes.{OpenNode, open_nodes}
 use Rattle.chart_cursor.specs.Sights.{Sights}
 use Rattle.chart_cursor.specs.Commands.{Sent, sent_by, IsOfStep, is_step_entry}
 use Rattle.chart_cursor.specs.Next.{next_after}
@@ -35,19 +35,19 @@ is_step_of role service (choice each) = false
 is_step_of role service (loop body until) = false
 
 -- some open node is a step of this role and service
-abbrev pub any_open : List ℕ → List ℕ → List Spot → Bool
-any_open role service spots = list_any (λ spot. is_step_of role service spot.node) spots
+abbrev pub any_open : List ℕ → List ℕ → List OpenNode → Bool
+any_open role service open_nodes = list_any (λ spot. is_step_of role service spot.node) open_nodes
 
 -- no open node among these is a step of this node's role and service
-abbrev pub IsApart : Tree → List Spot → Type 0
-IsApart (leaf step) spots = any_open step.role step.service spots ≡ false
-IsApart (seq each) spots = Unit {0}
-IsApart (par each) spots = Unit {0}
-IsApart (choice each) spots = Unit {0}
-IsApart (loop body until) spots = Unit {0}
+abbrev pub IsApart : Tree → List OpenNode → Type 0
+IsApart (leaf step) open_nodes = any_open step.role step.service open_nodes ≡ false
+IsApart (seq each) open_nodes = Unit {0}
+IsApart (par each) open_nodes = Unit {0}
+IsApart (choice each) open_nodes = Unit {0}
+IsApart (loop body until) open_nodes = Unit {0}
 
 -- no two of these are steps of one role and service
-abbrev pub AreApart : List Spot → Type 0
+abbrev pub AreApart : List OpenNode → Type 0
 AreApart [] = Unit {0}
 AreApart (spot ∷ others) = IsApart spot.node others × AreApart others
 
@@ -76,11 +76,11 @@ abbrev mutual
 
 -- the open steps of such a chart are of different services
 abbrev pub OpenStepsAreApart : Type 0
-OpenStepsAreApart = (tree : Tree) (n : ℕ) (marks : Marks) → Clear tree → AreApart (spots tree n marks)
+OpenStepsAreApart = (tree : Tree) (n : ℕ) (marks : Marks) → Clear tree → AreApart (open_nodes tree n marks)
 
 -- every valid chart is such a chart
 abbrev pub ValidChartsAreClear : Type 0
-ValidChartsAreClear = (chart : ChartPlan) → IsValid chart → Clear chart.root
+ValidChartsAreClear = (chart : PlainChart) → IsValid chart → Clear chart.root
 
 -- the entry comes of a step that stands in this phase
 abbrev pub is_due : Phase → LogEntry → Bool
@@ -93,8 +93,8 @@ is_due phase entry = false
 
 -- The entry is of a step, and each active step of its role and service is this one, and stands so that the entry is
 -- due.
-pub record IsAlone (chart : ChartPlan) (log : List LogEntry) (seen : Sights) (entry : LogEntry) : Type 0 where
-  pub step : StepPlan
+pub record IsAlone (chart : PlainChart) (log : List LogEntry) (seen : Sights) (entry : LogEntry) : Type 0 where
+  pub step : PlainStep
   pub number : ℕ
   pub within : Contains (steps chart.root 0) (record { number = number; step = step })
   pub own : IsOfStep seen step entry
@@ -106,7 +106,7 @@ pub record IsAlone (chart : ChartPlan) (log : List LogEntry) (seen : Sights) (en
 -- the next entry of a step is so, in every valid chart after a partial run
 abbrev pub NextStepsAreAlone : Type 0
 NextStepsAreAlone =
-    (chart : ChartPlan) (log : List LogEntry) (seen : Sights) (entry : LogEntry) → IsValid chart →
+    (chart : PlainChart) (log : List LogEntry) (seen : Sights) (entry : LogEntry) → IsValid chart →
     IsPartial chart log → next_after chart log seen ≡ Entry entry → is_step_entry entry ≡ true →
     IsAlone chart log seen entry
 
@@ -123,7 +123,7 @@ waits_in was_reset = Some Completed
 pub record IsOwed (history : History) (tag service : List ℕ) : Type 0 where
   pub batch : List ℕ
   pub started : Started
-  pub chart : ChartPlan
+  pub chart : PlainChart
   pub placed : Placed
   pub start_is : start_of history batch ≡ Some started
   pub chart_is : chart_named started.recipe (recipes history) ≡ Some chart
@@ -138,7 +138,7 @@ pub record IsOwed (history : History) (tag service : List ℕ) : Type 0 where
 -- While a service is owed a report, no batch goes on with an entry of a run that sends it a command.
 abbrev pub OwedIsNotSent : Type 0
 OwedIsNotSent =
-    (history : History) (tag service batch : List ℕ) (started : Started) (chart : ChartPlan) (entry : LogEntry)
+    (history : History) (tag service batch : List ℕ) (started : Started) (chart : PlainChart) (entry : LogEntry)
     (sent : Sent) →
     IsLegal history → IsOrderly history → IsOwed history tag service → start_of history batch ≡ Some started →
     chart_named started.recipe (recipes history) ≡ Some chart → outcome_of history batch ≡ None →
@@ -149,4 +149,4 @@ OwedIsNotSent =
 -- after a complete run no step is active
 abbrev pub CompleteRunsAreStill : Type 0
 CompleteRunsAreStill =
-    (chart : ChartPlan) (log : List LogEntry) → IsValid chart → IsComplete chart log → active_steps chart log ≡ []
+    (chart : PlainChart) (log : List LogEntry) → IsValid chart → IsComplete chart log → active_steps chart log ≡ []

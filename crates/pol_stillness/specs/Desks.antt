@@ -8,7 +8,7 @@ use Rattle.pol_events.specs.Events.{desk}
 use Rattle.pol_history.specs.Looking.{History, past, is_accepted}
 use Rattle.pol_history.specs.Modules.{control_by}
 use Rattle.pol_history.specs.Answers.{answer_of}
-use Rattle.pol_site.specs.Sites.{SiteForm}
+use Rattle.pol_site.specs.Sites.{PlainSite}
 use Rattle.pol_site.specs.Following.{FollowsSite}
 
 -- the service takes its commands from recipes
@@ -26,4 +26,4 @@ pub record IsAutomaticPlant (history : History) : Type 0 where
 
 -- every such history
 abbrev pub DesksAreRefused : Type 0
-DesksAreRefused = (site : SiteForm) (history : History) → FollowsSite site history → IsAutomaticPlant history
+DesksAreRefused = (site : PlainSite) (history : History) → FollowsSite site history → IsAutomaticPlant history

@@ -1,19 +1,19 @@
 -- A simulated module keeps up with a history: all that the laws ask of it, in one.
 use Rattle.std.specs.Prelude.{ℕ, suc, ◌≡◌, ◌≤◌, true, false, List, [], ◌∷◌, length, Some, None}
 use Rattle.mtp_json.specs.Form.{repeats_by}
-use Rattle.mtp_desc.specs.Plain.{DescriptionForm, same_service}
-use Rattle.mtp_sim.specs.Sims.{SimForm, PlanForm, first_sim}
+use Rattle.mtp_desc.specs.Plain.{PlainDescription, same_service}
+use Rattle.mtp_sim.specs.Sims.{PlainSim, PlainPlan, first_sim}
 use Rattle.mtp_sim.specs.Ticks.{is_pending, tick_report, ticked}
 use Rattle.mtp_sim.specs.Commands.{took, after_command}
 use Rattle.chart_core.specs.declared.entry.LogEntry.{LogEntry}
 use Rattle.chart_cursor.specs.Commands.{Sent, sent_by}
 use Rattle.mtp_codes.specs.declared.command.Command.{Command}
-use Rattle.pol_events.specs.Events.{advance, EntryForm}
+use Rattle.pol_events.specs.Events.{advance, PlainEntry}
 use Rattle.pol_events.specs.declared.answer.Answer.TheVariants.{Did}
 use Rattle.pol_history.specs.Looking.{History, past}
 use Rattle.pol_history.specs.Modules.{since_docking, description_by}
 use Rattle.pol_history.specs.Runs.{IsLegal, IsOrderly}
-use Rattle.pol_site.specs.Sites.{SiteForm}
+use Rattle.pol_site.specs.Sites.{PlainSite}
 use Rattle.pol_site.specs.Sound.{is_plan_ranged, is_plan_sound, is_plan_unlike}
 use Rattle.pol_site.specs.Plans.{plan_by}
 use Rattle.pol_site.specs.Stories.{story, times_sent, touches}
@@ -28,7 +28,7 @@ use Rattle.pol_stillness.specs.Together.{AreServed, after_report}
 -- The simulator looked at the commands before a place: it is in step with what it told, its drifts are kept, its
 -- changes are counted against those commands, and its services are served from the place on; from there on the module
 -- stayed.
-pub record KeepsUp (site : SiteForm) (tag : List ℕ) (from : ℕ) (history : History) (sim : SimForm) : Type 0 where
+pub record KeepsUp (site : PlainSite) (tag : List ℕ) (from : ℕ) (history : History) (sim : PlainSim) : Type 0 where
   pub step : IsInStep site tag (past tag history) sim
   pub kept : AreDriftsKept sim
   pub counted : IsCounted tag (past tag history) (story tag (before from history)) sim
@@ -39,7 +39,7 @@ pub record KeepsUp (site : SiteForm) (tag : List ℕ) (from : ℕ) (history : Hi
 -- A new simulator of a module that was docked as its site says, and of which nothing was told since, keeps up.
 abbrev pub FirstsKeepUp : Type 0
 FirstsKeepUp =
-    (site : SiteForm) (tag : List ℕ) (history : History) (description : DescriptionForm) (plan : PlanForm) →
+    (site : PlainSite) (tag : List ℕ) (history : History) (description : PlainDescription) (plan : PlainPlan) →
     since_docking (past tag history) ≡ [] → since_docking (story tag history) ≡ [] →
     description_by (past tag history) ≡ Some description → plan_by site tag (past tag history) ≡ Some plan →
     repeats_by same_service description.services ≡ false → is_plan_ranged plan ≡ true →
@@ -49,14 +49,14 @@ FirstsKeepUp =
 -- So it does after a tick, with what it reports.
 abbrev pub TicksKeepUp : Type 0
 TicksKeepUp =
-    (site : SiteForm) (tag : List ℕ) (at from : ℕ) (history : History) (sim : SimForm) →
+    (site : PlainSite) (tag : List ℕ) (at from : ℕ) (history : History) (sim : PlainSim) →
     KeepsUp site tag from history sim →
     KeepsUp site tag from (after_report at tag (tick_report sim) history) (ticked sim)
 
 -- So it does when it looked at the next command, with nothing pending.
 abbrev pub LooksKeepUp : Type 0
 LooksKeepUp =
-    (site : SiteForm) (tag : List ℕ) (from : ℕ) (history : History) (sim : SimForm) (ahead : Found) (sent : Sent) →
+    (site : PlainSite) (tag : List ℕ) (from : ℕ) (history : History) (sim : PlainSim) (ahead : Found) (sent : Sent) →
     is_pending sim ≡ false → next_command tag from history ≡ Some ahead → sent_by ahead.did ≡ Some sent →
     sent.tag ≡ tag → KeepsUp site tag from history sim →
     KeepsUp site tag (suc ahead.place) history
@@ -65,15 +65,15 @@ LooksKeepUp =
 -- So it does from the end of the history on, when no command was left to look at.
 abbrev pub IdlesKeepUp : Type 0
 IdlesKeepUp =
-    (site : SiteForm) (tag : List ℕ) (from : ℕ) (history : History) (sim : SimForm) →
+    (site : PlainSite) (tag : List ℕ) (from : ℕ) (history : History) (sim : PlainSim) →
     next_command tag from history ≡ None → KeepsUp site tag from history sim →
     KeepsUp site tag (length history) history sim
 
 -- So it does when a batch sends it a command, in a history that follows its site.
 abbrev pub SendsKeepUp : Type 0
 SendsKeepUp =
-    (site : SiteForm) (older : History) (at : ℕ) (batch : List ℕ) (did : LogEntry) (sent : Sent) (from : ℕ)
-    (sim : SimForm) →
+    (site : PlainSite) (older : History) (at : ℕ) (batch : List ℕ) (did : LogEntry) (sent : Sent) (from : ℕ)
+    (sim : PlainSim) →
     IsLegal (record { event = advance at batch; answer = Did did } ∷ older) →
     IsOrderly (record { event = advance at batch; answer = Did did } ∷ older) →
     FollowsSite site (record { event = advance at batch; answer = Did did } ∷ older) → IsCommanded older →
@@ -83,12 +83,12 @@ SendsKeepUp =
 -- So it does after an entry that doesn't touch its module.
 abbrev pub OthersKeepUp : Type 0
 OthersKeepUp =
-    (site : SiteForm) (tag : List ℕ) (from : ℕ) (older : History) (entry : EntryForm) (sim : SimForm) →
+    (site : PlainSite) (tag : List ℕ) (from : ℕ) (older : History) (entry : PlainEntry) (sim : PlainSim) →
     touches tag entry ≡ false → KeepsUp site tag from older sim → KeepsUp site tag from (entry ∷ older) sim
 
 -- Where it keeps up, each of its module's changes has its command.
 abbrev pub KeptUpIsCommanded : Type 0
 KeptUpIsCommanded =
-    (site : SiteForm) (tag : List ℕ) (from : ℕ) (history : History) (sim : SimForm) →
+    (site : PlainSite) (tag : List ℕ) (from : ℕ) (history : History) (sim : PlainSim) →
     KeepsUp site tag from history sim → (service : List ℕ) (command : Command) →
     times_changed service command (past tag history) ≤ times_sent tag service command (story tag history)

@@ -4,12 +4,12 @@ use Rattle.chart_cursor.specs.Commands.{Sent}
 use Rattle.mtp_modes.specs.Permission.{IsPermitted}
 use Rattle.mtp_modes.specs.declared.view.ServiceView.{ServiceView}
 use Rattle.mtp_sim.specs.Ticks.{changes_in}
-use Rattle.pol_events.specs.Events.{EntryForm}
+use Rattle.pol_events.specs.Events.{PlainEntry}
 use Rattle.pol_history.specs.Commands.{sent_command}
 use Rattle.pol_history.specs.Looking.{History}
 use Rattle.pol_history.specs.Modules.{view_of}
 use Rattle.pol_history.specs.Runs.{IsLegal, IsOrderly}
-use Rattle.pol_site.specs.Sites.{SiteForm}
+use Rattle.pol_site.specs.Sites.{PlainSite}
 use Rattle.pol_site.specs.Stories.{story, is_answered}
 use Rattle.pol_site.specs.Following.{FollowsSite}
 use Rattle.pol_site.specs.Commanded.{IsCommanded}
@@ -19,7 +19,7 @@ use Rattle.pol_stillness.specs.Plain.{is_plain_command}
 -- a service with an unanswered command is owed a report by an open batch
 abbrev pub UnansweredAreOwed : Type 0
 UnansweredAreOwed =
-    (site : SiteForm) (history : History) →
+    (site : PlainSite) (history : History) →
     IsLegal history → IsOrderly history → FollowsSite site history → IsCommanded history →
     (tag service : List ℕ) → is_answered tag (story tag history) service ≡ false → IsOwed history tag service
 
@@ -36,6 +36,6 @@ pub record IsSentStill (older : History) (sent : Sent) : Type 0 where
 -- every command of every plant that follows its site
 abbrev pub CommandsFindServicesStill : Type 0
 CommandsFindServicesStill =
-    (site : SiteForm) (older : History) (entry : EntryForm) (sent : Sent) →
+    (site : PlainSite) (older : History) (entry : PlainEntry) (sent : Sent) →
     IsLegal (entry ∷ older) → IsOrderly (entry ∷ older) → FollowsSite site (entry ∷ older) → IsCommanded older →
     sent_command entry.answer ≡ Some sent → IsSentStill older sent

@@ -5,7 +5,7 @@ use Rattle.mtp_codes.specs.declared.command.Command.{Command}
 use Rattle.mtp_codes.specs.declared.command.Command.TheVariants.{Complete}
 use Rattle.mtp_codes.specs.declared.state.State.{State}
 use Rattle.mtp_machine.specs.Machine.{command_target, same_command}
-use Rattle.mtp_desc.specs.Plain.{DescriptionForm}
+use Rattle.mtp_desc.specs.Plain.{PlainDescription}
 use Rattle.mtp_sim.specs.declared.service.SimService.{SimService}
 use Rattle.mtp_sim.specs.Ticks.{control_now, is_untold, changes, runs_through, service_ticked, is_reported}
 use Rattle.mtp_sim.specs.Commands.{asked_procedure, procedure_after, service_took}
@@ -13,7 +13,7 @@ use Rattle.chart_core.specs.declared.entry.LogEntry.{LogEntry}
 use Rattle.chart_core.specs.declared.entry.LogEntry.TheVariants.{Start}
 use Rattle.chart_cursor.specs.Commands.{Sent, sent_by}
 use Rattle.chart_core.specs.Entries.{chart_entry}
-use Rattle.pol_events.specs.Events.{report, advance, EntryForm}
+use Rattle.pol_events.specs.Events.{report, advance, PlainEntry}
 use Rattle.pol_events.specs.declared.answer.Answer.TheVariants.{Done, Did}
 use Rattle.pol_history.specs.Looking.{History, past}
 use Rattle.pol_history.specs.Modules.{is_moving, since_docking, description_by}
@@ -39,7 +39,7 @@ pub record IsSettled (tag : List ℕ) (told : History) (service : SimService) : 
   pub answered : is_answered tag told service.name ≡ not (is_changed service)
 
 -- It is still, and will take the command of this entry; it then runs the procedure that was started last.
-pub record IsGiven (description : DescriptionForm) (tag : List ℕ) (told : History) (service : SimService)
+pub record IsGiven (description : PlainDescription) (tag : List ℕ) (told : History) (service : SimService)
     (entry : LogEntry) : Type 0 where
   pub sent : Sent
   pub sends : sent_by entry ≡ Some sent
@@ -54,12 +54,12 @@ pub record IsGiven (description : DescriptionForm) (tag : List ℕ) (told : Hist
       ≡ Some (procedure_started tag service.name told)
 
 -- how it stands, by the command that it hasn't looked at, if there is one
-abbrev pub IsPhase : DescriptionForm → List ℕ → History → SimService → Option LogEntry → Type 0
+abbrev pub IsPhase : PlainDescription → List ℕ → History → SimService → Option LogEntry → Type 0
 IsPhase description tag told service None = IsSettled tag told service
 IsPhase description tag told service (Some entry) = IsGiven description tag told service entry
 
 -- what was told after a tick that looked at the service
-abbrev pub told_after : DescriptionForm → List ℕ → ℕ → SimService → History → History
+abbrev pub told_after : PlainDescription → List ℕ → ℕ → SimService → History → History
 told_after description tag limit service told =
     if is_reported description limit service
     then record {
@@ -69,7 +69,7 @@ told_after description tag limit service told =
     else told
 
 -- A tick keeps how it stands; what it reports is due; and with a command ahead it reports nothing.
-pub record TickKeepsPhase (description : DescriptionForm) (tag : List ℕ) (limit : ℕ) (service : SimService)
+pub record TickKeepsPhase (description : PlainDescription) (tag : List ℕ) (limit : ℕ) (service : SimService)
     (told : History) (ahead : Option LogEntry) : Type 0 where
   pub phase :
       IsPhase description tag (told_after description tag limit service told)
@@ -82,12 +82,12 @@ pub record TickKeepsPhase (description : DescriptionForm) (tag : List ℕ) (limi
 -- Every tick does so.
 abbrev pub TicksKeepPhases : Type 0
 TicksKeepPhases =
-    (description : DescriptionForm) (tag : List ℕ) (limit : ℕ) (service : SimService) (told : History)
+    (description : PlainDescription) (tag : List ℕ) (limit : ℕ) (service : SimService) (told : History)
     (ahead : Option LogEntry) →
     IsPhase description tag told service ahead → TickKeepsPhase description tag limit service told ahead
 
 -- the service takes the command of this entry, and then nothing is ahead
-pub record IsTaken (description : DescriptionForm) (tag : List ℕ) (told : History) (service : SimService)
+pub record IsTaken (description : PlainDescription) (tag : List ℕ) (told : History) (service : SimService)
     (given : Command) (procedure : ℕ) : Type 0 where
   pub after : SimService
   pub took : service_took description service given procedure ≡ Some after
@@ -97,14 +97,14 @@ pub record IsTaken (description : DescriptionForm) (tag : List ℕ) (told : Hist
 -- A command ahead is taken.
 abbrev pub TakesSettle : Type 0
 TakesSettle =
-    (description : DescriptionForm) (tag : List ℕ) (service : SimService) (told : History) (entry : LogEntry)
+    (description : PlainDescription) (tag : List ℕ) (service : SimService) (told : History) (entry : LogEntry)
     (given : IsGiven description tag told service entry) →
     IsTaken description tag told service given.sent.command (asked_in entry)
 
 -- A command that an advance sends to a service that is settled and in step is ahead of it.
 abbrev pub SendsGive : Type 0
 SendsGive =
-    (description : DescriptionForm) (service : SimService) (older : History) (at : ℕ) (batch : List ℕ) (did : LogEntry)
+    (description : PlainDescription) (service : SimService) (older : History) (at : ℕ) (batch : List ℕ) (did : LogEntry)
     (sent : Sent) →
     is_some (chart_entry did) ≡ true → sent_by did ≡ Some sent → sent.service ≡ service.name →
     IsSentStill older sent → description_by (past sent.tag older) ≡ Some description →
@@ -118,8 +118,8 @@ SendsGive =
 -- An entry that neither moves the module nor reports the service nor commands it changes nothing of how it stands.
 abbrev pub OthersKeepPhases : Type 0
 OthersKeepPhases =
-    (description : DescriptionForm) (tag : List ℕ) (service : SimService) (told : History) (ahead : Option LogEntry)
-    (entry : EntryForm) →
+    (description : PlainDescription) (tag : List ℕ) (service : SimService) (told : History) (ahead : Option LogEntry)
+    (entry : PlainEntry) →
     is_moving entry.event ≡ false → answering tag service.name entry ≡ None →
-    ((d : Option DescriptionForm) → started_in tag service.name d (taken entry.answer) ≡ None) →
+    ((d : Option PlainDescription) → started_in tag service.name d (taken entry.answer) ≡ None) →
     IsPhase description tag told service ahead → IsPhase description tag (entry ∷ told) service ahead

@@ -15,7 +15,7 @@ use Rattle.chart_core.specs.declared.next.Outcome.TheVariants as outcome
 use Rattle.pol_history.specs.Looking.{History, past}
 use Rattle.pol_history.specs.Modules.{control_by}
 use Rattle.pol_history.specs.Runs.{IsLegal}
-use Rattle.pol_site.specs.Sites.{SiteForm}
+use Rattle.pol_site.specs.Sites.{PlainSite}
 use Rattle.pol_site.specs.Following.{FollowsSite}
 use Rattle.pol_site.specs.Commanded.{IsCommanded}
 
@@ -57,5 +57,5 @@ pub record IsPlain (history : History) : Type 0 where
 -- every plant that follows its site, each change having its command
 abbrev pub PlantsArePlain : Type 0
 PlantsArePlain =
-    (site : SiteForm) (history : History) → IsLegal history → FollowsSite site history → IsCommanded history →
+    (site : PlainSite) (history : History) → IsLegal history → FollowsSite site history → IsCommanded history →
     IsPlain history

@@ -1,19 +1,19 @@
 -- How a simulated service stands in a history, whose commands it looks at one by one.
 use Rattle.std.specs.Prelude.{ℕ, suc, ◌≡◌, ◌≤◌, ◌&&◌, nat_le, true, false, List, [], ◌∷◌, length, Option, Some, None, if◌then◌else◌}
 use Rattle.std.specs.List.{cons_option}
-use Rattle.mtp_desc.specs.Plain.{DescriptionForm}
+use Rattle.mtp_desc.specs.Plain.{PlainDescription}
 use Rattle.mtp_sim.specs.declared.service.SimService.{SimService}
-use Rattle.mtp_sim.specs.Sims.{SimForm, first_service}
+use Rattle.mtp_sim.specs.Sims.{PlainSim, first_service}
 use Rattle.mtp_sim.specs.Ticks.{control_now, is_untold, service_ticked, is_reported}
 use Rattle.chart_core.specs.declared.entry.LogEntry.{LogEntry}
 use Rattle.chart_cursor.specs.Commands.{Sent, sent_by}
-use Rattle.pol_events.specs.Events.{advance, report, EntryForm}
+use Rattle.pol_events.specs.Events.{advance, report, PlainEntry}
 use Rattle.pol_events.specs.declared.answer.Answer.TheVariants.{Done, Did}
 use Rattle.pol_history.specs.Looking.{History, past}
 use Rattle.pol_history.specs.Modules.{is_moving, since_docking, description_by}
 use Rattle.pol_history.specs.Batches.{taken}
 use Rattle.pol_history.specs.Runs.{IsLegal, IsOrderly}
-use Rattle.pol_site.specs.Sites.{SiteForm}
+use Rattle.pol_site.specs.Sites.{PlainSite}
 use Rattle.pol_site.specs.Stories.{sent_to, if_to, touches, story, is_for, answering, started_in, controls_in, are_answered}
 use Rattle.pol_site.specs.Following.{FollowsSite}
 use Rattle.pol_site.specs.Commanded.{IsCommanded}
@@ -35,7 +35,7 @@ list_of None = []
 list_of (Some did) = did ∷ []
 
 -- At most one command is ahead of the service, and it stands so.
-pub record IsServed (description : DescriptionForm) (tag : List ℕ) (from : ℕ) (history : History)
+pub record IsServed (description : PlainDescription) (tag : List ℕ) (from : ℕ) (history : History)
     (service : SimService) : Type 0 where
   pub ahead : Option LogEntry
   pub is_ahead : unlooked tag service.name from history ≡ list_of ahead
@@ -44,14 +44,14 @@ pub record IsServed (description : DescriptionForm) (tag : List ℕ) (from : ℕ
 -- A new service is so.
 abbrev pub FirstsAreServed : Type 0
 FirstsAreServed =
-    (description : DescriptionForm) (tag name : List ℕ) (from : ℕ) (history : History) →
+    (description : PlainDescription) (tag name : List ℕ) (from : ℕ) (history : History) →
     since_docking (story tag history) ≡ [] → length history ≤ from →
     IsServed description tag from history (first_service name)
 
 -- An advance that commands it, in a history that follows its site.
 abbrev pub SendsServe : Type 0
 SendsServe =
-    (site : SiteForm) (description : DescriptionForm) (service : SimService) (older : History) (at : ℕ)
+    (site : PlainSite) (description : PlainDescription) (service : SimService) (older : History) (at : ℕ)
     (batch : List ℕ) (did : LogEntry) (sent : Sent) (from : ℕ) →
     IsLegal (record { event = advance at batch; answer = Did did } ∷ older) →
     IsOrderly (record { event = advance at batch; answer = Did did } ∷ older) →
@@ -65,18 +65,18 @@ SendsServe =
 -- An entry that doesn't command it, nor reports it, nor moves its module.
 abbrev pub OthersServe : Type 0
 OthersServe =
-    (description : DescriptionForm) (tag : List ℕ) (service : SimService) (older : History) (entry : EntryForm)
+    (description : PlainDescription) (tag : List ℕ) (service : SimService) (older : History) (entry : PlainEntry)
     (from : ℕ) →
     is_for service.name (sent_to tag entry) ≡ false →
     (touches tag entry ≡ true →
     (is_moving entry.event ≡ false) × (answering tag service.name entry ≡ None)
-    × ((d : Option DescriptionForm) → started_in tag service.name d (taken entry.answer) ≡ None)) →
+    × ((d : Option PlainDescription) → started_in tag service.name d (taken entry.answer) ≡ None)) →
     IsServed description tag from older service → IsServed description tag from (entry ∷ older) service
 
 -- A tick that looks at it, with its report, if it gives one.
 abbrev pub TicksServe : Type 0
 TicksServe =
-    (description : DescriptionForm) (tag : List ℕ) (service : SimService) (older : History) (at limit from : ℕ) →
+    (description : PlainDescription) (tag : List ℕ) (service : SimService) (older : History) (at limit from : ℕ) →
     IsServed description tag from older service →
     IsServed description tag from
     (if is_reported description limit service
@@ -88,7 +88,7 @@ TicksServe =
     (service_ticked description limit service)
 
 -- Its module looks at the next command: the service takes it, where it is its own, and else stays.
-pub record IsLooked (description : DescriptionForm) (tag : List ℕ) (history : History) (service : SimService)
+pub record IsLooked (description : PlainDescription) (tag : List ℕ) (history : History) (service : SimService)
     (ahead : Found) : Type 0 where
   pub other :
       is_for service.name (if_to tag (sent_by ahead.did)) ≡ false →
@@ -101,7 +101,7 @@ pub record IsLooked (description : DescriptionForm) (tag : List ℕ) (history : 
 -- Looking at the next command serves each service.
 abbrev pub LooksServe : Type 0
 LooksServe =
-    (description : DescriptionForm) (tag : List ℕ) (service : SimService) (history : History) (ahead : Found)
+    (description : PlainDescription) (tag : List ℕ) (service : SimService) (history : History) (ahead : Found)
     (from : ℕ) →
     next_command tag from history ≡ Some ahead → IsServed description tag from history service →
     IsLooked description tag history service ahead
@@ -109,7 +109,7 @@ LooksServe =
 -- At rest every command was answered: each service is told and so, and none is left to look at.
 abbrev pub RestIsAnswered : Type 0
 RestIsAnswered =
-    (site : SiteForm) (history : History) (tag : List ℕ) (sim : SimForm) (from : ℕ) →
+    (site : PlainSite) (history : History) (tag : List ℕ) (sim : PlainSim) (from : ℕ) →
     IsLegal history → IsOrderly history → FollowsSite site history → IsCommanded history →
     IsInStep site tag (past tag history) sim → next_command tag from history ≡ None →
     ((name : List ℕ) (service : SimService) → service_called name sim.services ≡ Some service →

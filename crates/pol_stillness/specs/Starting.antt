@@ -1,8 +1,8 @@
 -- The procedure that a step starts is one of its service's.
 use Rattle.std.specs.Prelude.{ℕ, ◌≡◌, List, Some, None}
-use Rattle.mtp_desc.specs.Plain.{DescriptionForm}
+use Rattle.mtp_desc.specs.Plain.{PlainDescription}
 use Rattle.mtp_sim.specs.Commands.{asked_procedure}
-use Rattle.chart_core.specs.Roles.{ChartPlan}
+use Rattle.chart_core.specs.Roles.{PlainChart}
 use Rattle.chart_core.specs.declared.entry.LogEntry.TheVariants.{Start}
 use Rattle.chart_cursor.specs.Next.{next_after}
 use Rattle.chart_cursor.specs.declared.next.CursorNext.TheVariants.{Entry}
@@ -16,8 +16,8 @@ use Rattle.chart_cursor.specs.Logs.{chart_entries}
 -- a simulated module has the procedure that a start asks for, in every legal history
 abbrev pub StartsExist : Type 0
 StartsExist =
-    (history : History) (batch : List ℕ) (begun : Started) (chart : ChartPlan) (step tag service : List ℕ)
-    (procedure : ℕ) (description : DescriptionForm) →
+    (history : History) (batch : List ℕ) (begun : Started) (chart : PlainChart) (step tag service : List ℕ)
+    (procedure : ℕ) (description : PlainDescription) →
     IsLegal history → IsOrderly history → start_of history batch ≡ Some begun →
     chart_named begun.recipe (recipes history) ≡ Some chart → outcome_of history batch ≡ None →
     next_after chart (chart_entries (log_of history batch)) (sights_by begun.binds (λ tag. past tag history))

@@ -1,10 +1,10 @@
 -- All services of a simulated module, as they stand in a history.
 use Rattle.std.specs.Prelude.{ℕ, suc, ◌≡◌, false, true, List, ◌∷◌, Option, Some, None, is_some}
-use Rattle.mtp_desc.specs.Plain.{DescriptionForm}
+use Rattle.mtp_desc.specs.Plain.{PlainDescription}
 use Rattle.mtp_json.specs.Form.{repeats_by}
 use Rattle.mtp_sim.specs.declared.report.SimReport.{SimReport}
 use Rattle.mtp_sim.specs.declared.service.SimService.{SimService}
-use Rattle.mtp_sim.specs.Sims.{SimForm}
+use Rattle.mtp_sim.specs.Sims.{PlainSim}
 use Rattle.mtp_sim.specs.Ticks.{tick_report, ticked}
 use Rattle.mtp_sim.specs.Commands.{took, after_command}
 use Rattle.chart_cursor.specs.Commands.{Sent, sent_by}
@@ -16,7 +16,7 @@ use Rattle.pol_simulated.specs.Places.{Found, next_command}
 use Rattle.pol_stillness.specs.Served.{IsServed}
 
 -- each service is served
-abbrev pub AreServed : DescriptionForm → List ℕ → ℕ → History → List SimService → Type 0
+abbrev pub AreServed : PlainDescription → List ℕ → ℕ → History → List SimService → Type 0
 AreServed description tag from history services =
     (name : List ℕ) (service : SimService) → service_called name services ≡ Some service →
     IsServed description tag from history service
@@ -29,14 +29,15 @@ after_report at tag (Some told) history = record { event = report_event at tag t
 -- A tick with its report keeps them so.
 abbrev pub TicksServeAll : Type 0
 TicksServeAll =
-    (sim : SimForm) (tag : List ℕ) (at from : ℕ) (history : History) → repeats_by is_same_service sim.services ≡ false →
+    (sim : PlainSim) (tag : List ℕ) (at from : ℕ) (history : History)
+    → repeats_by is_same_service sim.services ≡ false →
     AreServed sim.description tag from history sim.services →
     AreServed sim.description tag from (after_report at tag (tick_report sim) history) (ticked sim).services
 
 -- So does looking at the next command, and a service that the module has takes it.
 abbrev pub LooksServeAll : Type 0
 LooksServeAll =
-    (sim : SimForm) (tag : List ℕ) (history : History) (ahead : Found) (from : ℕ) (sent : Sent) →
+    (sim : PlainSim) (tag : List ℕ) (history : History) (ahead : Found) (from : ℕ) (sent : Sent) →
     repeats_by is_same_service sim.services ≡ false → next_command tag from history ≡ Some ahead →
     sent_by ahead.did ≡ Some sent → sent.tag ≡ tag → AreServed sim.description tag from history sim.services →
     AreServed sim.description tag (suc ahead.place) history

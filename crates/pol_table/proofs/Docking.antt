@@ -1,4 +1,4 @@
--- One seat more, and one seat less: berths change at its tag alone, and the table stays sound.
+-- One seat more, and one seat less: rows change at its tag alone, and the table stays sound.
 use Rattle.std.proofs.Common.{◌≡◌, ◌≢◌, ℕ, ◌+◌, ◌<◌, ◌⊎◌, inl, inr, Bool, true, false, cond, List, length, Option, Some, None, refl, sym, ap, ◌∙◌, subst, arith, true≢false, is_some}
 use Rattle.std.specs.Prelude.{if◌then◌else◌}
 use Rattle.std.proofs.lemmas.Option.{same_Some}
@@ -7,11 +7,11 @@ use Rattle.std.specs.Map.{lookup, keys_of}
 use Rattle.std.specs.Option.{option_and_then}
 use Rattle.std.specs.Str.{bytes_eq}
 use Rattle.mtp_codes.specs.declared.limits.TheConstants.{MOST_MODULES}
-use Rattle.pol_table.specs.Berths.{look}
-use Rattle.pol_table.specs.Places.{part_at, berth_at, berths_of, IsSound}
+use Rattle.pol_table.specs.Rows.{look}
+use Rattle.pol_table.specs.Places.{part_at, row_at, rows_of, IsSound}
 use Rattle.pol_table.specs.declared.seat.Seat.{Seat}
 use Rattle.pol_table.proofs.Tags.{one_tag, same_itself}
-use Rattle.pol_table.proofs.Views.{look-berths_of, length-berths_of}
+use Rattle.pol_table.proofs.Views.{look_rows_of, length_rows_of}
 
 none_is_none : {A : Type 0} (found : Option A) (value : A) → found ≡ None → found ≡ Some value → ⊥
 none_is_none found value none some = true≢false (sym (ap is_some some) ∙ ap is_some none)
@@ -53,8 +53,8 @@ module _ {T : Type 0} (tag : List ℕ) (seat : Seat) (part : T) (old new : List 
   elsewhere other value found same = true≢false (sym (docks.sound.occupied other value found)
       ∙ ap is_some (ap (part_at parts) same ∙ docks.vacant))
 
-  pub sound-docked : IsSound new after
-  sound-docked = record {
+  pub sound_docked : IsSound new after
+  sound_docked = record {
     unique = docks.unique;
     occupied = λ other value found. elim (found_after other value found) [
       | inl is ↦ ap is_some (ap (part_at after) (ap (λ s. s.place) is.1) ∙ docks.docked)
@@ -74,27 +74,27 @@ module _ {T : Type 0} (tag : List ℕ) (seat : Seat) (part : T) (old new : List 
     few = let count = docks.count in let room = docks.room in omega (arith, count, room);
   }
 
-  -- the new tag has the new berth, and each other tag the one that it had
-  pub look-docked : (other : List ℕ)
-      → look other (berths_of new after)
+  -- the new tag has the new row, and each other tag the one that it had
+  pub look_docked : (other : List ℕ)
+      → look other (rows_of new after)
       ≡ (if bytes_eq tag other then Some (record { part = part; holder = seat.holder })
-      else look other (berths_of old parts))
-  look-docked other =
-      rw (look-berths_of new after sound-docked other, look-berths_of old parts docks.sound other, docks.added other)
+      else look other (rows_of old parts))
+  look_docked other =
+      rw (look_rows_of new after sound_docked other, look_rows_of old parts docks.sound other, docks.added other)
       (go (bytes_eq tag other) (lookup (bytes_eq other) old) refl)
     where
       go : (same : Bool) (found : Option Seat) → lookup (bytes_eq other) old ≡ found
-          → option_and_then (berth_at after) (cond same (Some seat) found)
+          → option_and_then (row_at after) (cond same (Some seat) found)
           ≡ (if same then Some (record { part = part; holder = seat.holder })
-          else option_and_then (berth_at parts) found)
+          else option_and_then (row_at parts) found)
       go true found is = rw docks.docked refl
       go false None is = refl
       go false (Some value) is = rw (docks.others value.place (elsewhere other value is)) refl
 
-  -- and there is one berth more
-  pub length-docked : length (berths_of new after) ≡ length (berths_of old parts) + 1
-  length-docked = length-berths_of new after sound-docked ∙ docks.count
-      ∙ ap (λ n. n + 1) (sym (length-berths_of old parts docks.sound))
+  -- and there is one row more
+  pub length_docked : length (rows_of new after) ≡ length (rows_of old parts) + 1
+  length_docked = length_rows_of new after sound_docked ∙ docks.count
+      ∙ ap (λ n. n + 1) (sym (length_rows_of old parts docks.sound))
 
 -- a part leaves: the tag has no seat any more, and nothing changes but at its place
 pub record Leaves {T : Type 0} (tag : List ℕ) (seat : Seat) (old new : List (List ℕ × Seat))
@@ -126,8 +126,8 @@ module _ {T : Type 0} (tag : List ℕ) (seat : Seat) (old new : List (List ℕ �
       let one : tag ≡ other = leaves.sound.apart tag other seat value leaves.seated found (sym same) in
       true≢false (sym (same_itself other) ∙ subst (λ name. bytes_eq name other ≡ false) one apart)
 
-  pub sound-left : IsSound new after
-  sound-left = record {
+  pub sound_left : IsSound new after
+  sound_left = record {
     unique = leaves.unique;
     occupied = λ other value found.
         let back = found_before other value found in
@@ -139,21 +139,21 @@ module _ {T : Type 0} (tag : List ℕ) (seat : Seat) (old new : List (List ℕ �
     few = let count = leaves.count in let few = leaves.sound.few in omega (arith, count, few);
   }
 
-  -- the tag has no berth, and each other tag the one that it had
-  pub look-left : (other : List ℕ) → look other (berths_of new after)
-      ≡ (if bytes_eq tag other then None else look other (berths_of old parts))
-  look-left other =
-      rw (look-berths_of new after sound-left other, look-berths_of old parts leaves.sound other, leaves.taken other)
+  -- the tag has no row, and each other tag the one that it had
+  pub look_left : (other : List ℕ) → look other (rows_of new after)
+      ≡ (if bytes_eq tag other then None else look other (rows_of old parts))
+  look_left other =
+      rw (look_rows_of new after sound_left other, look_rows_of old parts leaves.sound other, leaves.taken other)
       (go (bytes_eq tag other) (lookup (bytes_eq other) old) refl refl)
     where
       go : (same : Bool) (found : Option Seat) → bytes_eq tag other ≡ same → lookup (bytes_eq other) old ≡ found
-          → option_and_then (berth_at after) (cond same None found)
-          ≡ (if same then None else option_and_then (berth_at parts) found)
+          → option_and_then (row_at after) (cond same None found)
+          ≡ (if same then None else option_and_then (row_at parts) found)
       go true found is at = refl
       go false None is at = refl
       go false (Some value) is at = rw (leaves.others value.place (stays other value is at)) refl
 
-  -- and there is one berth less
-  pub length-left : length (berths_of new after) + 1 ≡ length (berths_of old parts)
-  length-left = ap (λ n. n + 1) (length-berths_of new after sound-left) ∙ leaves.count
-      ∙ sym (length-berths_of old parts leaves.sound)
+  -- and there is one row less
+  pub length_left : length (rows_of new after) + 1 ≡ length (rows_of old parts)
+  length_left = ap (λ n. n + 1) (length_rows_of new after sound_left) ∙ leaves.count
+      ∙ sym (length_rows_of old parts leaves.sound)

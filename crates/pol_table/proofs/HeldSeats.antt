@@ -1,4 +1,4 @@
--- What the seats say of the holding of tags is what the berths say.
+-- What the seats say of the holding of tags is what the rows say.
 use Rattle.std.proofs.Common.{◌≡◌, ℕ, Bool, true, false, List, [], ◌∷◌, length, Option, Some, None, refl, sym, ap, ◌∙◌, is_some, map}
 use Rattle.std.specs.Prelude.{if◌then◌else◌}
 use Rattle.std.specs.List.{IsDistinct}
@@ -8,44 +8,44 @@ use Rattle.std.specs.Str.{bytes_eq}
 use Rattle.mtp_codes.specs.Faults.{first_of}
 use Rattle.mtp_codes.specs.Names.{is_among}
 use Rattle.pol_table.specs.Answers.{missing_at, busy_at}
-use Rattle.pol_table.specs.Berths.{Berth, look, held_by}
+use Rattle.pol_table.specs.Rows.{Row, look, held_by}
 use Rattle.pol_table.specs.Reasons.{missing_reason, busy_reason}
-use Rattle.pol_table.specs.Places.{part_at, berth_at, berths_of, seat_missing_at, seat_busy_at, seat_held_by, IsSound}
+use Rattle.pol_table.specs.Places.{part_at, row_at, rows_of, seat_missing_at, seat_busy_at, seat_held_by, IsSound}
 use Rattle.pol_table.specs.declared.seat.Seat.{Seat}
-use Rattle.pol_table.proofs.Mapped.{sound-changed, look-changed}
-use Rattle.pol_table.proofs.Views.{look-berths_of, length-berths_of, holder-berths_of, some_of}
+use Rattle.pol_table.proofs.Mapped.{sound_changed, look_changed}
+use Rattle.pol_table.proofs.Views.{look_rows_of, length_rows_of, holder_rows_of, some_of}
 
 -- answers that agree at each item agree on the first
-first-alike : {A B : Type 0} (one other : A → Option B) → ((item : A) → one item ≡ other item) → (items : List A)
+first_alike : {A B : Type 0} (one other : A → Option B) → ((item : A) → one item ≡ other item) → (items : List A)
     → first_of (map one items) ≡ first_of (map other items)
-first-alike one other same [] = refl
-first-alike one other same (item ∷ items) = rw (same item, first-alike one other same items) refl
+first_alike one other same [] = refl
+first_alike one other same (item ∷ items) = rw (same item, first_alike one other same items) refl
 
 module _ {T : Type 0} (seats : List (List ℕ × Seat)) (parts : List (Option T)) (sound : IsSound seats parts) where
-  missing-alike : (tag : List ℕ) → seat_missing_at seats tag ≡ missing_at (berths_of seats parts) tag
-  missing-alike tag = rw (look-berths_of seats parts sound tag) (go (lookup (bytes_eq tag) seats) refl)
+  missing_alike : (tag : List ℕ) → seat_missing_at seats tag ≡ missing_at (rows_of seats parts) tag
+  missing_alike tag = rw (look_rows_of seats parts sound tag) (go (lookup (bytes_eq tag) seats) refl)
     where
       go : (found : Option Seat) → lookup (bytes_eq tag) seats ≡ found
-          → missing_reason tag (is_some found) ≡ missing_reason tag (is_some (option_and_then (berth_at parts) found))
+          → missing_reason tag (is_some found) ≡ missing_reason tag (is_some (option_and_then (row_at parts) found))
       go None is = refl
       go (Some seat) is = step (some_of (part_at parts seat.place) (sound.occupied tag seat is))
         where
           step : (part : T) × (part_at parts seat.place ≡ Some part)
-              → None ≡ missing_reason tag (is_some (berth_at parts seat))
+              → None ≡ missing_reason tag (is_some (row_at parts seat))
           step (part, there) = rw there refl
 
-  busy-alike : (tag : List ℕ) → seat_busy_at seats tag ≡ busy_at (berths_of seats parts) tag
-  busy-alike tag = ap (busy_reason tag) (sym (holder-berths_of seats parts sound tag))
+  busy_alike : (tag : List ℕ) → seat_busy_at seats tag ≡ busy_at (rows_of seats parts) tag
+  busy_alike tag = ap (busy_reason tag) (sym (holder_rows_of seats parts sound tag))
 
   -- the first tag without a seat is the first that is not docked
-  pub first-missing : (tags : List (List ℕ)) → first_of (map (seat_missing_at seats) tags)
-      ≡ first_of (map (missing_at (berths_of seats parts)) tags)
-  first-missing = first-alike (seat_missing_at seats) (missing_at (berths_of seats parts)) missing-alike
+  pub first_missing : (tags : List (List ℕ)) → first_of (map (seat_missing_at seats) tags)
+      ≡ first_of (map (missing_at (rows_of seats parts)) tags)
+  first_missing = first_alike (seat_missing_at seats) (missing_at (rows_of seats parts)) missing_alike
 
   -- the first tag whose seat is held is the first that is held
-  pub first-busy : (tags : List (List ℕ)) → first_of (map (seat_busy_at seats) tags)
-      ≡ first_of (map (busy_at (berths_of seats parts)) tags)
-  first-busy = first-alike (seat_busy_at seats) (busy_at (berths_of seats parts)) busy-alike
+  pub first_busy : (tags : List (List ℕ)) → first_of (map (seat_busy_at seats) tags)
+      ≡ first_of (map (busy_at (rows_of seats parts)) tags)
+  first_busy = first_alike (seat_busy_at seats) (busy_at (rows_of seats parts)) busy_alike
 
 -- some seats are held now, and nothing else changes
 pub record Holds {T : Type 0} (tags : List (List ℕ)) (batch : List ℕ) (old new : List (List ℕ × Seat))
@@ -67,20 +67,20 @@ module _ {T : Type 0} (tags : List (List ℕ)) (batch : List ℕ) (old new : Lis
       go true = refl
       go false = refl
 
-  pub sound-held : IsSound new parts
-  sound-held =
-      sound-changed parts old new (λ tag seat. if is_among tags tag then seat_held_by batch seat else seat) in_place
+  pub sound_held : IsSound new parts
+  sound_held =
+      sound_changed parts old new (λ tag seat. if is_among tags tag then seat_held_by batch seat else seat) in_place
       holds.held holds.sound
       holds.unique (rw holds.len holds.sound.few)
 
   alike : (among : Bool) (seat : Seat) (found : Option T)
-      → option_map (λ part. let berth : Berth T = record {
+      → option_map (λ part. let row : Row T = record {
         part = part;
         holder =
             (if among then seat_held_by batch seat else seat).holder;
-      } in berth) found
-      ≡ option_map (λ berth. if among then held_by batch berth else berth)
-      (option_map (λ part. let berth : Berth T = record { part = part; holder = seat.holder } in berth) found)
+      } in row) found
+      ≡ option_map (λ row. if among then held_by batch row else row)
+      (option_map (λ part. let row : Row T = record { part = part; holder = seat.holder } in row) found)
   alike true seat None = refl
   alike true seat (Some part) = refl
   alike false seat None = refl
@@ -91,14 +91,14 @@ module _ {T : Type 0} (tags : List (List ℕ)) (batch : List ℕ) (old new : Lis
   placed true seat = refl
   placed false seat = refl
 
-  pub look-held : (tag : List ℕ)
-      → look tag (berths_of new parts)
-      ≡ option_map (λ berth. if is_among tags tag then held_by batch berth else berth) (look tag (berths_of old parts))
-  look-held =
-      look-changed parts old new (λ tag seat. if is_among tags tag then seat_held_by batch seat else seat) in_place
-      holds.held holds.sound sound-held
-      (λ tag berth. if is_among tags tag then held_by batch berth else berth)
+  pub look_held : (tag : List ℕ)
+      → look tag (rows_of new parts)
+      ≡ option_map (λ row. if is_among tags tag then held_by batch row else row) (look tag (rows_of old parts))
+  look_held =
+      look_changed parts old new (λ tag seat. if is_among tags tag then seat_held_by batch seat else seat) in_place
+      holds.held holds.sound sound_held
+      (λ tag row. if is_among tags tag then held_by batch row else row)
       (λ tag seat. rw (placed (is_among tags tag) seat) (alike (is_among tags tag) seat (part_at parts seat.place)))
 
-  pub length-held : length (berths_of new parts) ≡ length (berths_of old parts)
-  length-held = length-berths_of new parts sound-held ∙ holds.len ∙ sym (length-berths_of old parts holds.sound)
+  pub length_held : length (rows_of new parts) ≡ length (rows_of old parts)
+  length_held = length_rows_of new parts sound_held ∙ holds.len ∙ sym (length_rows_of old parts holds.sound)

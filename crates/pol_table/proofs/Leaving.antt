@@ -5,12 +5,12 @@ use Rattle.std.specs.Result.{result_ok, result_err}
 use Rattle.std.specs.Map.{lookup}
 use Rattle.std.specs.Str.{bytes_eq}
 use Rattle.pol_table.specs.Answers.{leaving}
-use Rattle.pol_table.specs.Places.{part_at, berths_of, seat_leaving, seat_parting, IsSound}
+use Rattle.pol_table.specs.Places.{part_at, rows_of, seat_leaving, seat_parting, IsSound}
 use Rattle.pol_table.specs.Reasons.{parting}
 use Rattle.pol_table.specs.declared.faults.LeaveFault.{LeaveFault}
 use Rattle.pol_table.specs.declared.faults.LeaveFault.TheVariants.{Held, NoModule}
 use Rattle.pol_table.specs.declared.seat.Seat.{Seat}
-use Rattle.pol_table.proofs.Views.{some_of, no_berth, berth_with_part}
+use Rattle.pol_table.proofs.Views.{some_of, no_row, row_with_part}
 
 -- what is taken out where something is found is one
 pub one_less : {A : Type 0} (taken : Option A) (value : A) (new old : ℕ) → taken ≡ Some value
@@ -40,7 +40,7 @@ module _ {T : Type 0} (seats : List (List ℕ × Seat)) (parts : List (Option T)
     (tag : List ℕ) where
   -- a tag that may not leave by its seat may not leave
   pub leaving_refused : (fault : LeaveFault) → seat_leaving tag seats ≡ Err fault
-      → leaving tag (berths_of seats parts) ≡ Err fault
+      → leaving tag (rows_of seats parts) ≡ Err fault
   leaving_refused fault is = go (lookup (bytes_eq tag) seats) refl is
     where
       held : (seat : Seat) (holder : Option (List ℕ)) (part : T) → parting seat holder ≡ Err fault
@@ -49,17 +49,17 @@ module _ {T : Type 0} (seats : List (List ℕ × Seat)) (parts : List (Option T)
       held seat (Some batch) part same = same_fault (Held batch) fault same
 
       go : (found : Option Seat) → lookup (bytes_eq tag) seats ≡ found → seat_parting found ≡ Err fault
-          → leaving tag (berths_of seats parts) ≡ Err fault
-      go None none same = rw (no_berth seats parts sound tag none) (same_fault NoModule fault same)
+          → leaving tag (rows_of seats parts) ≡ Err fault
+      go None none same = rw (no_row seats parts sound tag none) (same_fault NoModule fault same)
       go (Some seat) some same = step (some_of (part_at parts seat.place) (sound.occupied tag seat some))
         where
-          step : (part : T) × (part_at parts seat.place ≡ Some part) → leaving tag (berths_of seats parts) ≡ Err fault
-          step (part, there) = rw (berth_with_part seats parts sound tag seat some part there)
+          step : (part : T) × (part_at parts seat.place ≡ Some part) → leaving tag (rows_of seats parts) ≡ Err fault
+          step (part, there) = rw (row_with_part seats parts sound tag seat some part there)
               (held seat seat.holder part same)
 
   -- a tag whose seat may leave gives its part
   pub leaving_free : (seat : Seat) (part : T) → seat_leaving tag seats ≡ Ok seat → part_at parts seat.place ≡ Some part
-      → leaving tag (berths_of seats parts) ≡ Ok part
+      → leaving tag (rows_of seats parts) ≡ Ok part
   leaving_free seat part is there =
       let found = found_free (lookup (bytes_eq tag) seats) seat is in
-      rw (berth_with_part seats parts sound tag seat found.0 part there, found.1) refl
+      rw (row_with_part seats parts sound tag seat found.0 part there, found.1) refl

@@ -1,4 +1,4 @@
--- A change of seats that leaves each in its place: berths change alike, and the table stays sound.
+-- A change of seats that leaves each in its place: rows change alike, and the table stays sound.
 use Rattle.std.proofs.Common.{◌≡◌, ℕ, ◌≤◌, List, length, Option, Some, None, refl, sym, ap, ◌∙◌, true≢false, is_some}
 use Rattle.std.proofs.lemmas.Option.{same_Some}
 use Rattle.std.specs.List.{IsDistinct}
@@ -6,10 +6,10 @@ use Rattle.std.specs.Map.{lookup, keys_of}
 use Rattle.std.specs.Option.{option_map, option_and_then}
 use Rattle.std.specs.Str.{bytes_eq}
 use Rattle.mtp_codes.specs.declared.limits.TheConstants.{MOST_MODULES}
-use Rattle.pol_table.specs.Berths.{Berth, look}
-use Rattle.pol_table.specs.Places.{berth_at, berths_of, IsSound}
+use Rattle.pol_table.specs.Rows.{Row, look}
+use Rattle.pol_table.specs.Places.{row_at, rows_of, IsSound}
 use Rattle.pol_table.specs.declared.seat.Seat.{Seat}
-use Rattle.pol_table.proofs.Views.{look-berths_of}
+use Rattle.pol_table.proofs.Views.{look_rows_of}
 
 -- what is found after a change was found before it
 before : {A : Type 0} (change : A → A) (found : Option A) (value : A) → option_map change found ≡ Some value
@@ -26,9 +26,9 @@ module _ {T : Type 0} (parts : List (Option T)) (old new : List (List ℕ × Sea
       let back = before (change tag) (lookup (bytes_eq tag) old) seat (sym (changed tag) ∙ found) in
       (back.0, back.1, sym (in_place tag back.0) ∙ ap (λ s. s.place) back.2)
 
-  pub sound-changed : IsSound old parts → IsDistinct bytes_eq (keys_of new) → length new ≤ MOST_MODULES
+  pub sound_changed : IsSound old parts → IsDistinct bytes_eq (keys_of new) → length new ≤ MOST_MODULES
       → IsSound new parts
-  sound-changed sound unique few = record {
+  sound_changed sound unique few = record {
     unique = unique;
     occupied = λ tag seat found. let back = was tag seat found in rw (← back.2) (sound.occupied tag back.0 back.1);
     apart = λ tag other seat next found beside same.
@@ -38,16 +38,16 @@ module _ {T : Type 0} (parts : List (Option T)) (old new : List (List ℕ × Sea
     few = few;
   }
 
-  -- the berths change as the seats do
-  pub look-changed : IsSound old parts → IsSound new parts → (give : List ℕ → Berth T → Berth T)
-      → ((tag : List ℕ) (seat : Seat) → berth_at parts (change tag seat) ≡ option_map (give tag) (berth_at parts seat))
-      → (tag : List ℕ) → look tag (berths_of new parts) ≡ option_map (give tag) (look tag (berths_of old parts))
-  look-changed sound after give alike tag =
-      rw (look-berths_of new parts after tag, look-berths_of old parts sound tag, changed tag)
+  -- the rows change as the seats do
+  pub look_changed : IsSound old parts → IsSound new parts → (give : List ℕ → Row T → Row T)
+      → ((tag : List ℕ) (seat : Seat) → row_at parts (change tag seat) ≡ option_map (give tag) (row_at parts seat))
+      → (tag : List ℕ) → look tag (rows_of new parts) ≡ option_map (give tag) (look tag (rows_of old parts))
+  look_changed sound after give alike tag =
+      rw (look_rows_of new parts after tag, look_rows_of old parts sound tag, changed tag)
       (go (lookup (bytes_eq tag) old))
     where
       go : (found : Option Seat)
-          → option_and_then (berth_at parts) (option_map (change tag) found)
-          ≡ option_map (give tag) (option_and_then (berth_at parts) found)
+          → option_and_then (row_at parts) (option_map (change tag) found)
+          ≡ option_map (give tag) (option_and_then (row_at parts) found)
       go None = refl
       go (Some seat) = alike tag seat

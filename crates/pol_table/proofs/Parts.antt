@@ -7,33 +7,33 @@ use Rattle.std.specs.Option.{option_map}
 use Rattle.std.specs.Str.{bytes_eq}
 use Rattle.std.proofs.lemmas.List.{get_or-set_same, get_or-set_other}
 use Rattle.std.proofs.lemmas.Option.{same_Some}
-use Rattle.pol_table.specs.Berths.{Berths, look, with_part}
-use Rattle.pol_table.specs.Places.{part_at, berths_of, IsSound}
+use Rattle.pol_table.specs.Rows.{Rows, look, with_part}
+use Rattle.pol_table.specs.Places.{part_at, rows_of, IsSound}
 use Rattle.pol_table.specs.declared.seat.Seat.{Seat}
 use Rattle.pol_table.proofs.Tags.{one_tag, same_itself, each_entry}
 use Rattle.pol_table.proofs.Views.{some_of}
 
 module _ {T : Type 0} (tag : List ℕ) (part : T) where
-  -- there are as many berths as before
-  pub length-with_part : (berths : Berths T) → length (with_part tag berths part) ≡ length berths
-  length-with_part [] = refl
-  length-with_part (row ∷ berths) = ap suc (length-with_part berths)
+  -- there are as many rows as before
+  pub length_with_part : (rows : Rows T) → length (with_part tag rows part) ≡ length rows
+  length_with_part [] = refl
+  length_with_part (row ∷ rows) = ap suc (length_with_part rows)
 
-  -- the tag has the part, and every other tag the berth that it had
-  pub look-with_part : (berths : Berths T) (other : List ℕ)
-      → look other (with_part tag berths part) ≡ option_map (λ berth. if bytes_eq tag other then record berth
-      { part = part } else berth) (look other berths)
-  look-with_part [] other = refl
-  look-with_part (row ∷ berths) other = go (bytes_eq other row.0) refl (bytes_eq tag row.0) refl
-      (look-with_part berths other)
+  -- the tag has the part, and every other tag the row that it had
+  pub look_with_part : (rows : Rows T) (other : List ℕ)
+      → look other (with_part tag rows part) ≡ option_map (λ row. if bytes_eq tag other then record row
+      { part = part } else row) (look other rows)
+  look_with_part [] other = refl
+  look_with_part (row ∷ rows) other = go (bytes_eq other row.0) refl (bytes_eq tag row.0) refl
+      (look_with_part rows other)
     where
       go : (found : Bool) → bytes_eq other row.0 ≡ found → (same : Bool) → bytes_eq tag row.0 ≡ same
-          → look other (with_part tag berths part)
-          ≡ option_map (λ berth. if bytes_eq tag other then record berth { part = part } else berth)
-          (look other berths)
-          → look other (with_part tag (row ∷ berths) part)
-          ≡ option_map (λ berth. if bytes_eq tag other then record berth { part = part } else berth)
-          (look other (row ∷ berths))
+          → look other (with_part tag rows part)
+          ≡ option_map (λ row. if bytes_eq tag other then record row { part = part } else row)
+          (look other rows)
+          → look other (with_part tag (row ∷ rows) part)
+          ≡ option_map (λ row. if bytes_eq tag other then record row { part = part } else row)
+          (look other (row ∷ rows))
       go true found true same rest = let one = one_tag other row.0 found in rw (same, found, one, same) refl
       go true found false same rest = let one = one_tag other row.0 found in rw (same, found, one, same) refl
       go false found true same rest = rw (same, found) rest
@@ -48,18 +48,18 @@ within (first ∷ parts) (suc place) is = let inside : place < length parts = wi
 module _ {T : Type 0} (parts : List (Option T)) (tag : List ℕ) (place : ℕ) (part : T)
     (there : IsSome (part_at parts place)) where
   -- each entry of the tag is at the place, and every other one elsewhere
-  berths-set : (seats : List (List ℕ × Seat))
+  rows_set : (seats : List (List ℕ × Seat))
       → AllByRecursion (λ entry. (bytes_eq tag entry.0 ≡ true → entry.1.place ≡ place)
       × (bytes_eq tag entry.0 ≡ false → entry.1.place ≢ place) × IsSome (part_at parts entry.1.place)) seats
-      → berths_of seats (slice_set parts place (Some part)) ≡ with_part tag (berths_of seats parts) part
-  berths-set [] all = refl
-  berths-set (entry ∷ seats) all = go (some_of (part_at parts entry.1.place) all.0.2) (bytes_eq tag entry.0) refl
-      (berths-set seats all.1)
+      → rows_of seats (slice_set parts place (Some part)) ≡ with_part tag (rows_of seats parts) part
+  rows_set [] all = refl
+  rows_set (entry ∷ seats) all = go (some_of (part_at parts entry.1.place) all.0.2) (bytes_eq tag entry.0) refl
+      (rows_set seats all.1)
     where
       go : (old : T) × (part_at parts entry.1.place ≡ Some old) → (same : Bool) → bytes_eq tag entry.0 ≡ same
-          → berths_of seats (slice_set parts place (Some part)) ≡ with_part tag (berths_of seats parts) part
-          → berths_of (entry ∷ seats) (slice_set parts place (Some part))
-          ≡ with_part tag (berths_of (entry ∷ seats) parts) part
+          → rows_of seats (slice_set parts place (Some part)) ≡ with_part tag (rows_of seats parts) part
+          → rows_of (entry ∷ seats) (slice_set parts place (Some part))
+          ≡ with_part tag (rows_of (entry ∷ seats) parts) part
       go (old, is) true same rest =
           let new : part_at (slice_set parts place (Some part)) entry.1.place ≡ Some part =
           rw (all.0.0 same) (get_or-set_same parts place (Some part) None (within parts place there)) in
@@ -69,13 +69,13 @@ module _ {T : Type 0} (parts : List (Option T)) (tag : List ℕ) (place : ℕ) (
           get_or-set_other parts place entry.1.place (Some part) None (all.0.1 same) ∙ is in
           rw (new, is, same) (ap (λ more. (entry.0, record { part = old; holder = entry.1.holder }) ∷ more) rest)
 
--- a part that is set at the place of a tag's seat is set in the tag's berth
-pub berths-set_part : {T : Type 0} (seats : List (List ℕ × Seat)) (parts : List (Option T)) (tag : List ℕ)
+-- a part that is set at the place of a tag's seat is set in the tag's row
+pub rows_set_part : {T : Type 0} (seats : List (List ℕ × Seat)) (parts : List (Option T)) (tag : List ℕ)
     (seat : Seat) (part : T)
     → IsSound seats parts → lookup (bytes_eq tag) seats ≡ Some seat
-    → berths_of seats (slice_set parts seat.place (Some part)) ≡ with_part tag (berths_of seats parts) part
-berths-set_part seats parts tag seat part sound found =
-    berths-set parts tag seat.place part (sound.occupied tag seat found) seats
+    → rows_of seats (slice_set parts seat.place (Some part)) ≡ with_part tag (rows_of seats parts) part
+rows_set_part seats parts tag seat part sound found =
+    rows_set parts tag seat.place part (sound.occupied tag seat found) seats
     (each_entry (λ name other. (bytes_eq tag name ≡ true → other.place ≡ seat.place)
     × (bytes_eq tag name ≡ false → other.place ≢ seat.place) × IsSome (part_at parts other.place))
     seats sound.unique

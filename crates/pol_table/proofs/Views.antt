@@ -1,14 +1,14 @@
--- What the seats of a table say of its berths.
+-- What the seats of a table say of its rows.
 use Rattle.std.proofs.Common.{◌≡◌, ℕ, suc, Bool, true, false, cond, List, [], ◌∷◌, length, Option, Some, None, is_some, refl, sym, ap, true≢false}
 use Rattle.std.specs.Prelude.{IsSome}
 use Rattle.std.specs.List.{AllByRecursion}
 use Rattle.std.specs.Map.{lookup}
 use Rattle.std.specs.Option.{option_map, option_and_then}
 use Rattle.std.specs.Str.{bytes_eq}
-use Rattle.pol_table.specs.Berths.{Berth, look, part_of, holder_of}
+use Rattle.pol_table.specs.Rows.{Row, look, part_of, holder_of}
 use Rattle.pol_table.specs.Answers.{dock_fault}
 use Rattle.pol_table.specs.Reasons.{dock_reason}
-use Rattle.pol_table.specs.Places.{part_at, berth_at, berths_of, seat_holder, IsSound}
+use Rattle.pol_table.specs.Places.{part_at, row_at, rows_of, seat_holder, IsSound}
 use Rattle.pol_table.specs.declared.seat.Seat.{Seat}
 use Rattle.pol_table.proofs.Tags.{each_entry}
 
@@ -24,104 +24,104 @@ first_or_rest false f first rest value at = refl
 
 module _ {T : Type 0} where
   same_part : (found : Option T) (holder : Option (List ℕ))
-      → option_map (λ berth. berth.part)
-      (option_map (λ part. let berth : Berth T = record { part = part; holder = holder } in berth) found) ≡ found
+      → option_map (λ row. row.part)
+      (option_map (λ part. let row : Row T = record { part = part; holder = holder } in row) found) ≡ found
   same_part None holder = refl
   same_part (Some part) holder = refl
 
   same_holder : (found : Option T) (holder : Option (List ℕ)) → IsSome found
-      → option_and_then (λ berth. berth.holder)
-      (option_map (λ part. let berth : Berth T = record { part = part; holder = holder } in berth) found) ≡ holder
+      → option_and_then (λ row. row.holder)
+      (option_map (λ part. let row : Row T = record { part = part; holder = holder } in row) found) ≡ holder
   same_holder None holder is = absurd (true≢false (sym is))
   same_holder (Some part) holder is = refl
 
-  some_berth : (found : Option T) (holder : Option (List ℕ)) → IsSome found
-      → is_some (option_map (λ part. let berth : Berth T = record { part = part; holder = holder } in berth) found)
+  some_row : (found : Option T) (holder : Option (List ℕ)) → IsSome found
+      → is_some (option_map (λ part. let row : Row T = record { part = part; holder = holder } in row) found)
       ≡ true
-  some_berth None holder is = is
-  some_berth (Some part) holder is = refl
+  some_row None holder is = is
+  some_row (Some part) holder is = refl
 
   found_in : (seats : List (List ℕ × Seat)) (parts : List (Option T))
       → AllByRecursion (λ entry. IsSome (part_at parts entry.1.place)) seats
-      → (tag : List ℕ) → look tag (berths_of seats parts) ≡ option_and_then (berth_at parts)
+      → (tag : List ℕ) → look tag (rows_of seats parts) ≡ option_and_then (row_at parts)
       (lookup (bytes_eq tag) seats)
   found_in [] parts all tag = refl
   found_in (entry ∷ seats) parts all tag = go (some_of (part_at parts entry.1.place) all.0)
       (found_in seats parts all.1 tag)
     where
       go : (part : T) × (part_at parts entry.1.place ≡ Some part)
-          → look tag (berths_of seats parts) ≡ option_and_then (berth_at parts) (lookup (bytes_eq tag) seats)
-          → look tag (berths_of (entry ∷ seats) parts) ≡ option_and_then (berth_at parts)
+          → look tag (rows_of seats parts) ≡ option_and_then (row_at parts) (lookup (bytes_eq tag) seats)
+          → look tag (rows_of (entry ∷ seats) parts) ≡ option_and_then (row_at parts)
           (lookup (bytes_eq tag) (entry ∷ seats))
       go (part, is) rest =
-          let berth : berth_at parts entry.1 ≡ Some (record { part = part; holder = entry.1.holder }) = rw is refl in
-          rw (berth, rest)
-          (first_or_rest (bytes_eq tag entry.0) (berth_at parts) entry.1 (lookup (bytes_eq tag) seats)
-          (record { part = part; holder = entry.1.holder }) berth)
+          let row : row_at parts entry.1 ≡ Some (record { part = part; holder = entry.1.holder }) = rw is refl in
+          rw (row, rest)
+          (first_or_rest (bytes_eq tag entry.0) (row_at parts) entry.1 (lookup (bytes_eq tag) seats)
+          (record { part = part; holder = entry.1.holder }) row)
 
   count_of : (seats : List (List ℕ × Seat)) (parts : List (Option T))
       → AllByRecursion (λ entry. IsSome (part_at parts entry.1.place)) seats
-      → length (berths_of seats parts) ≡ length seats
+      → length (rows_of seats parts) ≡ length seats
   count_of [] parts all = refl
   count_of (entry ∷ seats) parts all = go (some_of (part_at parts entry.1.place) all.0) (count_of seats parts all.1)
     where
-      go : (part : T) × (part_at parts entry.1.place ≡ Some part) → length (berths_of seats parts) ≡ length seats
-          → length (berths_of (entry ∷ seats) parts) ≡ length (entry ∷ seats)
+      go : (part : T) × (part_at parts entry.1.place ≡ Some part) → length (rows_of seats parts) ≡ length seats
+          → length (rows_of (entry ∷ seats) parts) ≡ length (entry ∷ seats)
       go (part, is) rest = rw is (ap suc rest)
 
   module _ (seats : List (List ℕ × Seat)) (parts : List (Option T)) (sound : IsSound seats parts) where
     occupied : AllByRecursion (λ entry. IsSome (part_at parts entry.1.place)) seats
     occupied = each_entry (λ tag seat. IsSome (part_at parts seat.place)) seats sound.unique sound.occupied
 
-    -- a tag has the berth of its seat
-    pub look-berths_of : (tag : List ℕ) → look tag (berths_of seats parts)
-        ≡ option_and_then (berth_at parts) (lookup (bytes_eq tag) seats)
-    look-berths_of = found_in seats parts occupied
+    -- a tag has the row of its seat
+    pub look_rows_of : (tag : List ℕ) → look tag (rows_of seats parts)
+        ≡ option_and_then (row_at parts) (lookup (bytes_eq tag) seats)
+    look_rows_of = found_in seats parts occupied
 
-    -- there are as many berths as seats
-    pub length-berths_of : length (berths_of seats parts) ≡ length seats
-    length-berths_of = count_of seats parts occupied
+    -- there are as many rows as seats
+    pub length_rows_of : length (rows_of seats parts) ≡ length seats
+    length_rows_of = count_of seats parts occupied
 
     -- a tag is docked where it has a seat
-    pub is_some-look : (tag : List ℕ) → is_some (look tag (berths_of seats parts))
+    pub is_some_look : (tag : List ℕ) → is_some (look tag (rows_of seats parts))
         ≡ is_some (lookup (bytes_eq tag) seats)
-    is_some-look tag = rw (look-berths_of tag) (go (lookup (bytes_eq tag) seats) refl)
+    is_some_look tag = rw (look_rows_of tag) (go (lookup (bytes_eq tag) seats) refl)
       where
         go : (seat : Option Seat) → lookup (bytes_eq tag) seats ≡ seat
-            → is_some (option_and_then (berth_at parts) seat) ≡ is_some seat
+            → is_some (option_and_then (row_at parts) seat) ≡ is_some seat
         go None none = refl
-        go (Some seat) found = some_berth (part_at parts seat.place) seat.holder (sound.occupied tag seat found)
+        go (Some seat) found = some_row (part_at parts seat.place) seat.holder (sound.occupied tag seat found)
 
     -- why nothing may dock under a tag, by the seats
-    pub dock_fault-seats : (tag : List ℕ) → dock_fault tag (berths_of seats parts)
+    pub dock_fault_seats : (tag : List ℕ) → dock_fault tag (rows_of seats parts)
         ≡ dock_reason (is_some (lookup (bytes_eq tag) seats)) (length seats)
-    dock_fault-seats tag = rw (is_some-look tag, length-berths_of) refl
+    dock_fault_seats tag = rw (is_some_look tag, length_rows_of) refl
 
     -- a tag has the holder of its seat
-    pub holder-berths_of : (tag : List ℕ) → holder_of tag (berths_of seats parts) ≡ seat_holder tag seats
-    holder-berths_of tag = rw (look-berths_of tag) (go (lookup (bytes_eq tag) seats) refl)
+    pub holder_rows_of : (tag : List ℕ) → holder_of tag (rows_of seats parts) ≡ seat_holder tag seats
+    holder_rows_of tag = rw (look_rows_of tag) (go (lookup (bytes_eq tag) seats) refl)
       where
         go : (seat : Option Seat) → lookup (bytes_eq tag) seats ≡ seat
-            → option_and_then (λ berth. berth.holder) (option_and_then (berth_at parts) seat)
+            → option_and_then (λ row. row.holder) (option_and_then (row_at parts) seat)
             ≡ option_and_then (λ held. held.holder) seat
         go None none = refl
         go (Some seat) found = same_holder (part_at parts seat.place) seat.holder (sound.occupied tag seat found)
 
     module _ (tag : List ℕ) where
-      -- a tag without a seat has no berth
-      pub no_berth : lookup (bytes_eq tag) seats ≡ None → look tag (berths_of seats parts) ≡ None
-      no_berth none = rw (look-berths_of tag, none) refl
+      -- a tag without a seat has no row
+      pub no_row : lookup (bytes_eq tag) seats ≡ None → look tag (rows_of seats parts) ≡ None
+      no_row none = rw (look_rows_of tag, none) refl
 
       module _ (seat : Seat) (found : lookup (bytes_eq tag) seats ≡ Some seat) where
-        -- a tag with a seat has its berth
-        pub berth_of_seat : look tag (berths_of seats parts) ≡ berth_at parts seat
-        berth_of_seat = rw (look-berths_of tag, found) refl
+        -- a tag with a seat has its row
+        pub row_of_seat : look tag (rows_of seats parts) ≡ row_at parts seat
+        row_of_seat = rw (look_rows_of tag, found) refl
 
         -- and its part
-        pub part_of_seat : part_of tag (berths_of seats parts) ≡ part_at parts seat.place
-        part_of_seat = rw berth_of_seat (same_part (part_at parts seat.place) seat.holder)
+        pub part_of_seat : part_of tag (rows_of seats parts) ≡ part_at parts seat.place
+        part_of_seat = rw row_of_seat (same_part (part_at parts seat.place) seat.holder)
 
-        -- its berth is of this part
-        pub berth_with_part : (part : T) → part_at parts seat.place ≡ Some part
-            → look tag (berths_of seats parts) ≡ Some (record { part = part; holder = seat.holder })
-        berth_with_part part is = rw (berth_of_seat, is) refl
+        -- its row is of this part
+        pub row_with_part : (part : T) → part_at parts seat.place ≡ Some part
+            → look tag (rows_of seats parts) ≡ Some (record { part = part; holder = seat.holder })
+        row_with_part part is = rw (row_of_seat, is) refl

@@ -1,4 +1,4 @@
-pub mod Berths
+pub mod Rows
 pub mod Reasons
 pub mod Answers
 pub mod Places

@@ -1,11 +1,11 @@
--- How a table keeps its berths: a seat for each tag, whose place finds the part.
+-- How a table keeps its rows: a seat for each tag, whose place finds the part.
 use Rattle.std.specs.Prelude.{◌≡◌, ℕ, ◌≤◌, List, length, Option, None, Some, IsSome, is_some, filter_map, slice_index_or, Result, Err}
 use Rattle.std.specs.List.{IsDistinct}
 use Rattle.std.specs.Map.{lookup, keys_of}
 use Rattle.std.specs.Option.{option_map, option_and_then}
 use Rattle.std.specs.Str.{bytes_eq}
 use Rattle.mtp_codes.specs.declared.limits.TheConstants.{MOST_MODULES}
-use Rattle.pol_table.specs.Berths.{Berth, Berths}
+use Rattle.pol_table.specs.Rows.{Row, Rows}
 use Rattle.pol_table.specs.Reasons.{parting, missing_reason, busy_reason, let_go}
 use Rattle.pol_table.specs.declared.faults.HoldFault.{HoldFault}
 use Rattle.pol_table.specs.declared.faults.LeaveFault.{LeaveFault}
@@ -17,13 +17,13 @@ module _ {T : Type 0} where
   abbrev pub part_at : List (Option T) → ℕ → Option T
   part_at parts place = slice_index_or parts place None
 
-  -- the berth of a seat
-  abbrev pub berth_at : List (Option T) → Seat → Option (Berth T)
-  berth_at parts seat = option_map (λ part. record { part = part; holder = seat.holder }) (part_at parts seat.place)
+  -- the row of a seat
+  abbrev pub row_at : List (Option T) → Seat → Option (Row T)
+  row_at parts seat = option_map (λ part. record { part = part; holder = seat.holder }) (part_at parts seat.place)
 
-  -- the berths of these seats
-  abbrev pub berths_of : List (List ℕ × Seat) → List (Option T) → Berths T
-  berths_of seats parts = filter_map (λ entry. option_map (λ berth. (entry.0, berth)) (berth_at parts entry.1)) seats
+  -- the rows of these seats
+  abbrev pub rows_of : List (List ℕ × Seat) → List (Option T) → Rows T
+  rows_of seats parts = filter_map (λ entry. option_map (λ row. (entry.0, row)) (row_at parts entry.1)) seats
 
   -- each tag has one seat with a place of its own, each place has a part, and there are at most 64 tags
   pub record IsSound (seats : List (List ℕ × Seat)) (parts : List (Option T)) : Type 0 where

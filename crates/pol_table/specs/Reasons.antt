@@ -1,4 +1,4 @@
--- Why a call refuses a tag, by what is found under it: a berth or a seat, with its holder.
+-- Why a call refuses a tag, by what is found under it: a row or a seat, with its holder.
 use Rattle.std.specs.Prelude.{ℕ, Bool, List, Option, None, Some, Result, Ok, Err, nat_le, if◌then◌else◌}
 use Rattle.std.specs.Option.{option_map, option_eq}
 use Rattle.std.specs.Str.{bytes_eq}

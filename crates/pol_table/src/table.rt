@@ -4,7 +4,7 @@ ghost use Rattle.std.specs.Borrow.{LendsIf, sem};
 ghost use Rattle.std.specs.Option.{option_copied_mut, option_map};
 ghost use Rattle.std.specs.Str.{bytes_eq};
 ghost use Rattle.mtp_codes.specs.Names.{is_among};
-ghost use Rattle.pol_table.specs.Berths.{look, part_of, holder_of, with_part, held_by, freed_from};
+ghost use Rattle.pol_table.specs.Rows.{look, part_of, holder_of, with_part, held_by, freed_from};
 ghost use Rattle.pol_table.specs.Answers.{dock_fault, leaving, holding};
 
 use super::faults::{DockFault, HoldFault, LeaveFault};
@@ -24,14 +24,14 @@ pub struct Table<T> {
 }
 
 impl<T> Model for Table<T> {
-    ghost use Rattle.pol_table.specs.Berths.{Berths, berths_code};
-    ghost use Rattle.pol_table.specs.Places.{berths_of, IsSound};
+    ghost use Rattle.pol_table.specs.Rows.{Rows, rows_code};
+    ghost use Rattle.pol_table.specs.Places.{rows_of, IsSound};
 
-    ghost Value = { Berths T };
+    ghost Value = { Rows T };
 
-    ghost coded = { berths_code T.code };
+    ghost coded = { rows_code T.code };
 
-    ghost view = { λ table. berths_of table.seats.entries table.parts.slots };
+    ghost view = { λ table. rows_of table.seats.entries table.parts.slots };
 
     ghost invariant = { λ table. IsSound table.seats.entries table.parts.slots };
 }
@@ -141,7 +141,7 @@ impl<T: Drop> Table<T> {
     pub fn hold_all(&mut self, tags: &[Name], batch: Name) -> Result<(), HoldFault>
         ensures answer { result ≡ holding tags.now self.old }
         ensures held { OnOk result ((tag : List ℕ) → look tag self.new
-            ≡ option_map (λ berth. if is_among tags.now tag then held_by batch berth else berth) (look tag self.old)) }
+            ≡ option_map (λ row. if is_among tags.now tag then held_by batch row else row) (look tag self.old)) }
         ensures count { length self.new ≡ length self.old }
         ensures unchanged { OnErr result (self.new ≡ self.old) }
     {

@@ -1,6 +1,6 @@
 use Rattle.std.proofs.Common.{◌+◌, ◌++◌, sym, ◌∙◌, ap, subst, take, drop, refl}
 use Rattle.std.proofs.lemmas.List.{take-append-drop}
-use Rattle.chart_core.specs.Charts.{plan}
+use Rattle.chart_core.specs.Charts.{plain_chart}
 use Rattle.chart_core.specs.Runs.{IsPartial}
 use Rattle.chart_core.proofs.Items.{one_more}
 use Rattle.chart_runs.proofs.take_all.Goals as goal
@@ -14,4 +14,4 @@ returns-then-not-take_entry-clause-partial c =
     (one_more log i c.entry-item.result c.loop-entry-test.true c.entry-item.is) in
     absurd
     (c.if-not-take_entry.ensures.refused refl (take i log) (drop (i + 1) log) c.loop-entry.invariant.taken
-    (subst (IsPartial (plan c.args.chart.now)) cut partial))
+    (subst (IsPartial (plain_chart c.args.chart.now)) cut partial))

@@ -1,14 +1,14 @@
 //! The audit of a history: what the plant prints is read, and said to be true or not.
 ghost use Rattle.std.specs.Prelude.{◌≡◌, ◌≢◌, IfOk};
 ghost use Rattle.pol_record.specs.Verdicts.{verdict_text};
-ghost use Rattle.pol_audit.specs.Audits.{read_view};
+ghost use Rattle.pol_audit.specs.Audits.{plain_audit};
 ghost use Rattle.pol_audit.specs.Reading.{nothing_read, verdict_after};
 ghost use Rattle.pol_cli.specs.Audits.{audited};
 ghost use Rattle.pol_cli.specs.Ends.{Ends, edge};
 ghost use Rattle.pol_cli.specs.SiteRuns.{TellsOfSite};
 
 use crate::job_fault::{JobFault, put};
-use crate::jobs::saying::is_blank;
+use crate::jobs::meaning::is_blank;
 use crate::line_job::LineJob;
 use crate::lines::work;
 use crate::status::Status;
@@ -19,7 +19,7 @@ use std::alloc::{AllocError, Global};
 
 // The line of the verdict over what was read.
 fn line_of(alloc: Global, audit: &Audit) -> Result<Vec<u8>, AllocError>
-    ensures { IfOk result (λ line. line.items ≡ verdict_text (verdict_after (read_view audit.now))) }
+    ensures { IfOk result (λ line. line.items ≡ verdict_text (verdict_after (plain_audit audit.now))) }
 {
     match audit.verdict() {
         Ok(verdict) => verdict_line(alloc, &verdict),
@@ -37,7 +37,7 @@ struct Auditing {
 impl Auditing {
     // An audit that has read nothing yet.
     fn new(alloc: Global) -> Auditing
-        ensures { read_view result.audit ≡ nothing_read }
+        ensures { plain_audit result.audit ≡ nothing_read }
     {
         Auditing {
             alloc,
@@ -47,13 +47,13 @@ impl Auditing {
 }
 
 impl LineJob for Auditing {
-    ghost use Rattle.pol_audit.specs.Audits.{read_view};
+    ghost use Rattle.pol_audit.specs.Audits.{plain_audit};
     ghost use Rattle.pol_audit.specs.Reading.{Read};
     ghost use Rattle.pol_cli.specs.Audits.{audit_work};
 
     ghost State = { Read };
 
-    ghost state = { λ auditing. read_view auditing.audit };
+    ghost state = { λ auditing. plain_audit auditing.audit };
 
     ghost work = { audit_work };
 

@@ -1,7 +1,7 @@
 //! What ends an output: the line of each batch in the order of the starts, and the end line.
 ghost use Rattle.std.specs.Prelude.{◌≢◌, ℕ, List, IfErr, OnOk, OnErr};
 ghost use Rattle.std.specs.Io.KnownBytes.{Appends};
-ghost use Rattle.pol_events.specs.Events.{history_view};
+ghost use Rattle.pol_events.specs.Events.{plain_history};
 ghost use Rattle.pol_history.specs.Runs.{IsOrderly};
 ghost use Rattle.pol_record.specs.Texts.{batches_text};
 ghost use Rattle.pol_record.specs.Lines.{closing_text};
@@ -54,10 +54,11 @@ fn put_each<K: Sink>(
 // Writes the line of each batch of the history, in the order of the starts. One pass over the history.
 #[tactic(auto, using(crate::proofs::Written::nothing_written))]
 fn put_batches<K: Sink>(alloc: Global, history: &[Entry], sink: &mut K) -> Result<(), JobFault>
-    requires { IsOrderly (history_view history.now) }
-    ensures text { OnOk result (Appends (K.held sink.old) (K.held sink.new) (batches_text (history_view history.now))) }
+    requires { IsOrderly (plain_history history.now) }
+    ensures text { OnOk result
+        (Appends (K.held sink.old) (K.held sink.new) (batches_text (plain_history history.now))) }
     ensures part { OnErr result (WritesSome (K.held sink.old) (K.held sink.new)
-        (batches_text (history_view history.now))) }
+        (batches_text (plain_history history.now))) }
     ensures cause { HasCauseOf JobFault.Write (K.faults sink.old) (K.faults sink.new) result }
     ensures only { IfErr result (λ fault. (fault ≢ JobFault.Read) × (fault ≢ JobFault.TooMuch)) }
 {
@@ -67,10 +68,11 @@ fn put_batches<K: Sink>(alloc: Global, history: &[Entry], sink: &mut K) -> Resul
 
 /// Writes the line of each batch of the history, and the end line.
 pub fn close<K: Sink>(alloc: Global, history: &[Entry], sink: &mut K) -> Result<(), JobFault>
-    requires { IsOrderly (history_view history.now) }
-    ensures text { OnOk result (Appends (K.held sink.old) (K.held sink.new) (closing_text (history_view history.now))) }
+    requires { IsOrderly (plain_history history.now) }
+    ensures text { OnOk result
+        (Appends (K.held sink.old) (K.held sink.new) (closing_text (plain_history history.now))) }
     ensures part { OnErr result (WritesPart (K.held sink.old) (K.held sink.new)
-        (closing_text (history_view history.now))) }
+        (closing_text (plain_history history.now))) }
     ensures cause { HasCauseOf JobFault.Write (K.faults sink.old) (K.faults sink.new) result }
     ensures only { IfErr result (λ fault. (fault ≢ JobFault.Read) × (fault ≢ JobFault.TooMuch)) }
 {

@@ -1,12 +1,12 @@
 //! The plant: a site is run with simulated modules, and its history is written.
 ghost use Rattle.std.specs.Prelude.{◌≡◌, ◌≢◌, [], IfOk, IfErr, IsTrue, OnOk, OnErr, map};
 ghost use Rattle.std.specs.Io.KnownBytes.{Appends};
-ghost use Rattle.pol_events.specs.Events.{entry_view, event_view, history_view};
+ghost use Rattle.pol_events.specs.Events.{plain_entry, plain_event, plain_history};
 ghost use Rattle.pol_events.specs.Orderly.{is_orderly};
 ghost use Rattle.pol_history.specs.Runs.{IsOrderly};
 ghost use Rattle.pol_record.specs.Texts.{IsReadBack, entry_line_text};
 ghost use Rattle.pol_io.specs.Causes.{HasCauseOf};
-ghost use Rattle.pol_site.specs.SiteView.{site_view};
+ghost use Rattle.pol_site.specs.PlainSite.{plain_site};
 ghost use Rattle.pol_cli.specs.Ends.{edge};
 ghost use Rattle.pol_cli.specs.SiteRuns.{AreReadBack, IsRunOf, IsUnbegun, LeavesRun, PlantEnds, PutsRun, entries_text, entry_lines, run_text};
 ghost use Rattle.pol_cli.specs.Written.{WritesPart, WritesSome};
@@ -16,12 +16,12 @@ use crate::jobs::closing::close;
 use crate::jobs::site_text::read_text;
 use crate::status::Status;
 use mtp_json::JsonFault;
+use pol_arguments::LiveTask;
 use pol_events::Entry;
 use pol_io::{Clock, Sink, Source};
 use pol_live::{Gate, Ran, run_site};
 use pol_record::put_entry_line;
 use pol_site::Site;
-use pol_words::LiveTask;
 use std::alloc::{AllocError, Global};
 use std::sync::Wait;
 use std::thread::Threads;
@@ -34,13 +34,13 @@ fn put_entry<K: Sink>(
     entry: &Entry,
     sink: &mut K,
 ) -> Result<Vec<u8>, JobFault>
-    requires orderly { IsTrue (is_orderly (event_view entry.now.event)) }
+    requires orderly { IsTrue (is_orderly (plain_event entry.now.event)) }
     requires empty { buffer.items ≡ [] }
     ensures empty { IfOk result (λ buffer. buffer.items ≡ []) }
-    ensures line { OnOk result (Appends (K.held sink.old) (K.held sink.new) (entry_line_text (entry_view entry.now))) }
-    ensures read_back { OnOk result (IsReadBack (entry_view entry.now)) }
+    ensures line { OnOk result (Appends (K.held sink.old) (K.held sink.new) (entry_line_text (plain_entry entry.now))) }
+    ensures read_back { OnOk result (IsReadBack (plain_entry entry.now)) }
     ensures part { OnErr result (WritesSome (K.held sink.old) (K.held sink.new)
-        (entry_line_text (entry_view entry.now))) }
+        (entry_line_text (plain_entry entry.now))) }
     ensures cause { HasCauseOf JobFault.Write (K.faults sink.old) (K.faults sink.new) result }
     ensures only { IfErr result (λ fault. (fault ≢ JobFault.Read) × (fault ≢ JobFault.TooMuch)) }
 {
@@ -52,9 +52,9 @@ fn put_entry<K: Sink>(
 
 // Writes the line of each of these entries.
 fn put_each<K: Sink>(alloc: Global, entries: &[Entry], sink: &mut K) -> Result<(), JobFault>
-    requires { IsOrderly (history_view entries.now) }
+    requires { IsOrderly (plain_history entries.now) }
     ensures text { OnOk result (Appends (K.held sink.old) (K.held sink.new) (entry_lines entries.now)) }
-    ensures read_back { OnOk result (AreReadBack (map entry_view entries.now)) }
+    ensures read_back { OnOk result (AreReadBack (map plain_entry entries.now)) }
     ensures part { OnErr result (WritesSome (K.held sink.old) (K.held sink.new) (entry_lines entries.now)) }
     ensures cause { HasCauseOf JobFault.Write (K.faults sink.old) (K.faults sink.new) result }
     ensures only { IfErr result (λ fault. (fault ≢ JobFault.Read) × (fault ≢ JobFault.TooMuch)) }
@@ -68,11 +68,12 @@ fn put_each<K: Sink>(alloc: Global, entries: &[Entry], sink: &mut K) -> Result<(
 
 // Writes the line of each entry of the history, the oldest first.
 fn put_entries<K: Sink>(alloc: Global, history: &[Entry], sink: &mut K) -> Result<(), JobFault>
-    requires { IsOrderly (history_view history.now) }
-    ensures text { OnOk result (Appends (K.held sink.old) (K.held sink.new) (entries_text (history_view history.now))) }
-    ensures read_back { OnOk result (AreReadBack (history_view history.now)) }
+    requires { IsOrderly (plain_history history.now) }
+    ensures text { OnOk result
+        (Appends (K.held sink.old) (K.held sink.new) (entries_text (plain_history history.now))) }
+    ensures read_back { OnOk result (AreReadBack (plain_history history.now)) }
     ensures part { OnErr result (WritesSome (K.held sink.old) (K.held sink.new)
-        (entries_text (history_view history.now))) }
+        (entries_text (plain_history history.now))) }
     ensures cause { HasCauseOf JobFault.Write (K.faults sink.old) (K.faults sink.new) result }
     ensures only { IfErr result (λ fault. (fault ≢ JobFault.Read) × (fault ≢ JobFault.TooMuch)) }
 {
@@ -81,11 +82,11 @@ fn put_entries<K: Sink>(alloc: Global, history: &[Entry], sink: &mut K) -> Resul
 
 // Writes the line of each entry, the line of each batch, and the end line.
 fn put_run<K: Sink>(alloc: Global, history: &[Entry], sink: &mut K) -> Result<(), JobFault>
-    requires { IsOrderly (history_view history.now) }
-    ensures text { OnOk result (Appends (K.held sink.old) (K.held sink.new) (run_text (history_view history.now))) }
-    ensures read_back { OnOk result (AreReadBack (history_view history.now)) }
+    requires { IsOrderly (plain_history history.now) }
+    ensures text { OnOk result (Appends (K.held sink.old) (K.held sink.new) (run_text (plain_history history.now))) }
+    ensures read_back { OnOk result (AreReadBack (plain_history history.now)) }
     ensures part { OnErr result (WritesPart (K.held sink.old) (K.held sink.new)
-        (run_text (history_view history.now))) }
+        (run_text (plain_history history.now))) }
     ensures cause { HasCauseOf JobFault.Write (K.faults sink.old) (K.faults sink.new) result }
     ensures only { IfErr result (λ fault. (fault ≢ JobFault.Read) × (fault ≢ JobFault.TooMuch)) }
 {
@@ -102,7 +103,7 @@ fn run<R: Threads + Wait + Sync, C: Clock + Send, G: Gate>(
     clock: C,
     gate: &G,
 ) -> Result<Vec<Entry>, AllocError>
-    ensures { IfOk result (λ history. IsRunOf (site_view site) (history_view history.items)) }
+    ensures { IfOk result (λ history. IsRunOf (plain_site site) (plain_history history.items)) }
 {
     let Ran { history, .. } = run_site(rt, alloc, site, watchers, clock, gate)?;
     Ok(history)
@@ -118,8 +119,8 @@ fn run_and_put<R: Threads + Wait + Sync, K: Sink, C: Clock + Send, G: Gate>(
     clock: C,
     gate: &G,
 ) -> Result<(), JobFault>
-    ensures puts { OnOk result (PutsRun (site_view site) (K.held sink.old) (K.held sink.new)) }
-    ensures leaves { IfErr result (LeavesRun (site_view site) (K.held sink.old) (K.held sink.new)) }
+    ensures puts { OnOk result (PutsRun (plain_site site) (K.held sink.old) (K.held sink.new)) }
+    ensures leaves { IfErr result (LeavesRun (plain_site site) (K.held sink.old) (K.held sink.new)) }
     ensures cause { HasCauseOf JobFault.Write (K.faults sink.old) (K.faults sink.new) result }
 {
     let history = run(rt, alloc, site, watchers, clock, gate)?;

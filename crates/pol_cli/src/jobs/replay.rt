@@ -1,16 +1,16 @@
 //! The replay of a journal.
 ghost use Rattle.std.specs.Prelude.{◌≡◌, [], IsTrue, IfOk, OnOk};
-ghost use Rattle.pol_events.specs.Events.{event_view};
+ghost use Rattle.pol_events.specs.Events.{plain_event};
 ghost use Rattle.pol_events.specs.Orderly.{is_orderly};
 ghost use Rattle.pol_history.specs.Answers.{answer_of};
 ghost use Rattle.pol_history.specs.Runs.{entry_of, recorded};
 ghost use Rattle.pol_record.specs.Texts.{answer_text};
 ghost use Rattle.pol_cli.specs.Replay.{plant_history};
-ghost use Rattle.pol_cli.specs.Sayings.{IsOrderly, saying_view, reply_text, after_saying};
+ghost use Rattle.pol_cli.specs.Meanings.{IsOrderly, plain_meaning, reply_text, after_meaning};
 
 use crate::job_fault::JobFault;
 use crate::jobs::closing::close;
-use crate::jobs::saying::{Saying, read_saying};
+use crate::jobs::meaning::{LineMeaning, read_meaning};
 use crate::line_job::LineJob;
 use pol_core::Plant;
 use pol_events::{Event, LineFault};
@@ -21,12 +21,12 @@ use std::mem;
 
 /// The line of the plant's answer to an event, in an empty buffer.
 fn answer_event(plant: &mut Plant, buffer: Vec<u8>, event: Event) -> Result<Vec<u8>, AllocError>
-    requires orderly { IsTrue (is_orderly (event_view event)) }
+    requires orderly { IsTrue (is_orderly (plain_event event)) }
     requires empty { buffer.items ≡ [] }
     ensures line { IfOk result (λ line.
-        line.items ≡ answer_text (answer_of (plant_history plant.old) (event_view event))) }
+        line.items ≡ answer_text (answer_of (plant_history plant.old) (plain_event event))) }
     ensures history { OnOk result (plant_history plant.new
-        ≡ recorded (entry_of (plant_history plant.old) (event_view event)) (plant_history plant.old)) }
+        ≡ recorded (entry_of (plant_history plant.old) (plain_event event)) (plant_history plant.old)) }
 {
     match plant.apply(event) {
         Ok(answer) => put_answer_line(buffer, &answer),
@@ -39,18 +39,18 @@ fn answer(
     alloc: Global,
     plant: &mut Plant,
     buffer: Vec<u8>,
-    saying: Saying,
+    meaning: LineMeaning,
 ) -> Result<Vec<u8>, AllocError>
-    requires orderly { IsOrderly saying }
+    requires orderly { IsOrderly meaning }
     requires empty { buffer.items ≡ [] }
-    ensures line { IfOk result (λ line. line.items ≡ reply_text (plant_history plant.old) (saying_view saying)) }
+    ensures line { IfOk result (λ line. line.items ≡ reply_text (plant_history plant.old) (plain_meaning meaning)) }
     ensures history { OnOk result (
-        plant_history plant.new ≡ after_saying (plant_history plant.old) (saying_view saying)) }
+        plant_history plant.new ≡ after_meaning (plant_history plant.old) (plain_meaning meaning)) }
 {
-    match saying {
-        Saying::Nothing => Ok(buffer),
-        Saying::Fault(fault) => put_fault_line(alloc, buffer, &fault),
-        Saying::Event(event) => answer_event(plant, buffer, event),
+    match meaning {
+        LineMeaning::Nothing => Ok(buffer),
+        LineMeaning::Fault(fault) => put_fault_line(alloc, buffer, &fault),
+        LineMeaning::Event(event) => answer_event(plant, buffer, event),
     }
 }
 
@@ -97,9 +97,9 @@ impl LineJob for Replay {
     ghost work = { replay_work };
 
     fn reply(&mut self, line: &[u8]) -> Result<Vec<u8>, AllocError> {
-        let saying = read_saying(self.alloc, line)?;
+        let meaning = read_meaning(self.alloc, line)?;
         let buffer = self.lend_buffer();
-        answer(self.alloc, &mut self.plant, buffer, saying)
+        answer(self.alloc, &mut self.plant, buffer, meaning)
     }
 
     #[tactic(auto, using(crate::proofs::Spoken::says_too_long))]
@@ -109,7 +109,7 @@ impl LineJob for Replay {
             self.alloc,
             &mut self.plant,
             buffer,
-            Saying::Fault(LineFault::TooLong),
+            LineMeaning::Fault(LineFault::TooLong),
         )
     }
 

@@ -1,15 +1,15 @@
 //! The text of a site: a site in its one line that isn't blank. It is read to its end, and nothing is replied.
 ghost use Rattle.std.specs.Prelude.{◌≡◌, ◌≢◌, ℕ, List, [], IfOk, IfErr, OnOk};
-ghost use Rattle.mtp_json.specs.Gives.{seen};
+ghost use Rattle.mtp_json.specs.ReadsAs.{seen};
 ghost use Rattle.pol_io.specs.Causes.{HasCauseOf};
 ghost use Rattle.pol_io.specs.Known.{Between};
-ghost use Rattle.pol_site.specs.SiteView.{site_view};
+ghost use Rattle.pol_site.specs.PlainSite.{plain_site};
 ghost use Rattle.pol_cli.specs.Ends.{Fits, IsTooMuch};
 ghost use Rattle.pol_cli.specs.LineWork.{IsShort, IsTooLong};
 ghost use Rattle.pol_cli.specs.SiteTexts.{Says, after_filled, line_says, none_yet, one, telling_of, told};
 
 use crate::job_fault::JobFault;
-use crate::jobs::saying::is_blank;
+use crate::jobs::meaning::is_blank;
 use crate::line_job::LineJob;
 use crate::lines::reply_to_all;
 use mtp_json::{FaultKind, JsonFault, JsonRefusal, Path};
@@ -78,7 +78,7 @@ impl Telling {
 
     // The site that the whole text tells, or its fault.
     fn told(self, alloc: Global) -> Result<Site, JsonFault>
-        ensures { seen site_view result ≡ told (telling_of self) }
+        ensures { seen plain_site result ≡ told (telling_of self) }
     {
         match self {
             Telling::Nothing => Err(whole(alloc, FaultKind::Missing)),
@@ -147,7 +147,7 @@ pub fn read_text<S: Source>(
     alloc: Global,
     source: &mut S,
 ) -> Result<Result<Site, JsonFault>, JobFault>
-    ensures says { IfOk result (λ said. Between (Says (seen site_view said)) (S.left source.old) (S.left source.new)) }
+    ensures says { IfOk result (λ said. Between (Says (seen plain_site said)) (S.left source.old) (S.left source.new)) }
     ensures fits { OnOk result (Fits (S.left source.old)) }
     ensures too_much { IfErr result (λ fault. fault ≡ JobFault.TooMuch → IsTooMuch (S.left source.old)) }
     ensures cause { HasCauseOf JobFault.Read (S.faults source.old) (S.faults source.new) result }

@@ -1,5 +1,5 @@
-use Rattle.pol_history.proofs.Legal.{runs-legal}
+use Rattle.pol_history.proofs.Legal.{runs_legal}
 use Rattle.pol_history.proofs.runs_are_legal.Goals as goal
 
 pub returns : goal.returns
-returns c = runs-legal
+returns c = runs_legal

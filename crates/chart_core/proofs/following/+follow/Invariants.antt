@@ -1,6 +1,6 @@
 use Rattle.std.proofs.Common.{◌≡◌, ◌+◌, ◌-◌, ◌≤◌, drop, ◌&&◌, true, IfSome, None, if◌then◌else◌}
 use Rattle.chart_core.specs.Trees.{trees, arms, sizes, arm_sizes}
-use Rattle.chart_core.specs.Runs.{judged, in_turn, at_once, arm_at}
+use Rattle.chart_core.specs.Runs.{with_condition, in_turn, at_once, arm_at}
 use Rattle.chart_core.specs.Progress.{marks_of}
 use Rattle.chart_core.specs.Changes.{is_done, change_by, either_change, FitsIn}
 use Rattle.chart_core.proofs.following.+follow.Given as goal
@@ -13,8 +13,8 @@ invariant-follow_in_turn-loop-kid l = record {
   done : (l.done && is_done (in_turn (trees (drop l.kid-index l.kids)) l.number) (marks_of l.marks))
       ≡ is_done (in_turn (trees l.kids) l.first) (marks_of l.marks);
   rest : (if l.done then change_by (in_turn (trees (drop l.kid-index l.kids)) l.number) (marks_of l.marks)
-      (judged l.entry) else l.change)
-      ≡ change_by (in_turn (trees l.kids) l.first) (marks_of l.marks) (judged l.entry);
+      (with_condition l.entry) else l.change)
+      ≡ change_by (in_turn (trees l.kids) l.first) (marks_of l.marks) (with_condition l.entry);
 }
 
 abbrev pub invariant-follow_at_once-loop-kid : goal.invariant-follow_at_once-loop-kid
@@ -24,8 +24,8 @@ invariant-follow_at_once-loop-kid l = record {
   done : (l.done && is_done (at_once (trees (drop l.kid-index l.kids)) l.number) (marks_of l.marks))
       ≡ is_done (at_once (trees l.kids) l.first) (marks_of l.marks);
   rest : either_change l.change (change_by (at_once (trees (drop l.kid-index l.kids)) l.number) (marks_of l.marks)
-      (judged l.entry))
-      ≡ change_by (at_once (trees l.kids) l.first) (marks_of l.marks) (judged l.entry);
+      (with_condition l.entry))
+      ≡ change_by (at_once (trees l.kids) l.first) (marks_of l.marks) (with_condition l.entry);
 }
 
 abbrev pub invariant-follow_arm-loop-i : goal.invariant-follow_arm-loop-i

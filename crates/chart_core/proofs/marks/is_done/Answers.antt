@@ -1,5 +1,5 @@
 use Rattle.std.proofs.Common.{sym, ◌∙◌}
-use Rattle.chart_core.specs.Charts.{plan}
+use Rattle.chart_core.specs.Charts.{plain_chart}
 use Rattle.chart_core.proofs.Few.{few_marks}
 use Rattle.chart_core.proofs.Logs.{done_is_complete, complete_is_done}
 use Rattle.chart_core.proofs.marks.is_done.Goals as goal
@@ -9,11 +9,11 @@ follow-requires-clause-short c = few_marks c.args.chart.now c.args.marks.now c.r
 
 pub returns-clause-done : goal.returns-clause-done
 returns-clause-done c =
-    λ yes log stands. done_is_complete (plan c.args.chart.now) c.args.marks.now log c.requires.valid stands
+    λ yes log stands. done_is_complete (plain_chart c.args.chart.now) c.args.marks.now log c.requires.valid stands
     (sym c.follow.ensures.done ∙ yes)
 
 pub returns-clause-complete : goal.returns-clause-complete
 returns-clause-complete c =
     λ log stands complete.
-    c.follow.ensures.done ∙ complete_is_done (plan c.args.chart.now) c.args.marks.now log c.requires.valid
+    c.follow.ensures.done ∙ complete_is_done (plain_chart c.args.chart.now) c.args.marks.now log c.requires.valid
     stands complete

@@ -1,5 +1,5 @@
 use Rattle.std.proofs.Common.{sym, ◌∙◌, ap}
-use Rattle.chart_core.specs.Charts.{plan}
+use Rattle.chart_core.specs.Charts.{plain_chart}
 use Rattle.chart_core.specs.Progress.{marks_of}
 use Rattle.chart_core.specs.Changes.{moved}
 use Rattle.chart_core.proofs.Few.{few_marks}
@@ -12,14 +12,14 @@ follow-requires-clause-short c = few_marks c.args.chart.now c.args.marks.now c.r
 pub returns-in-Some-clause-taken : goal.returns-in-Some-clause-taken
 returns-in-Some-clause-taken c =
     λ _ log stands.
-    step_stands (plan c.args.chart.now) c.args.marks.now c.make.new.marks log c.args.entry.now c.in-Some.change
+    step_stands (plain_chart c.args.chart.now) c.args.marks.now c.make.new.marks log c.args.entry.now c.in-Some.change
     c.requires.valid stands
     (sym c.follow.ensures.change ∙ c.in-Some.is) c.make.ensures
 
 pub returns-in-None-clause-refused : goal.returns-in-None-clause-refused
 returns-in-None-clause-refused c =
     λ _ log back stands partial.
-    stuck (plan c.args.chart.now) c.args.marks.now log c.args.entry.now back c.requires.valid stands
+    stuck (plain_chart c.args.chart.now) c.args.marks.now log c.args.entry.now back c.requires.valid stands
     (sym c.follow.ensures.change ∙ c.in-None.is) partial
 
 pub returns-in-Some-clause-moves : goal.returns-in-Some-clause-moves

@@ -3,14 +3,14 @@ use Rattle.serde_json.specs.View.{items_view, view}
 use Rattle.std.proofs.lemmas.Result.{err_from_is_err_and}
 use Rattle.mtp_json.proofs.Each.{reads_next, stops_at, is_done}
 use Rattle.chart_core.specs.declared.limits.TheConstants.{MOST_JOINED}
-use Rattle.chart_core.specs.Formulas.{formula}
+use Rattle.chart_core.specs.Formulas.{plain_condition}
 use Rattle.chart_json.specs.Form.{formula_of}
 use Rattle.chart_json.proofs.Within.{formula_steps, item_below, list_below, needed_below}
 use Rattle.chart_json.proofs.conditions.+condition.Goals as goal
 
 pub read_each-loop-i-preserved : goal.read_each-loop-i-preserved
 read_each-loop-i-preserved t c =
-    reads_next formula formula_of c.loop-i.found.items c.push.new.self.items c.args.values.now c.loop-i.i
+    reads_next plain_condition formula_of c.loop-i.found.items c.push.new.self.items c.args.values.now c.loop-i.i
     c.index-values-i.result c.read_inner.result c.in_ok-condition.condition _
     c.loop-i-test.true c.index-values-i.is c.read_inner.ensures c.in_ok-condition.ensures c.in_ok-push.ensures.items
     c.loop-i.invariant
@@ -18,15 +18,15 @@ read_each-loop-i-preserved t c =
 pub read_each-returns-in_err-condition : goal.read_each-returns-in_err-condition
 read_each-returns-in_err-condition t c =
     let p = err_from_is_err_and c.from_residual.result c.from_residual.ensures.1 in
-    rw (p.1, p.2) (stops_at formula formula_of
-    (map formula c.loop-i.found.items) c.args.values.now c.loop-i.i c.index-values-i.result c.read_inner.result
+    rw (p.1, p.2) (stops_at plain_condition formula_of
+    (map plain_condition c.loop-i.found.items) c.args.values.now c.loop-i.i c.index-values-i.result c.read_inner.result
     c.in_err-condition.field-0.0 _
     c.loop-i-test.true c.index-values-i.is c.read_inner.ensures c.in_err-condition.ensures c.loop-i.invariant)
 
 pub read_each-returns : goal.read_each-returns
 read_each-returns t c =
     is_done formula_of
-    (map formula c.loop-i.found.items) c.args.values.now c.loop-i.i _ c.loop-i-test.false c.loop-i.invariant
+    (map plain_condition c.loop-i.found.items) c.args.values.now c.loop-i.i _ c.loop-i-test.false c.loop-i.invariant
 
 pub read_all-read_each_under-requires : goal.read_all-read_each_under-requires
 read_all-read_each_under-requires t c =

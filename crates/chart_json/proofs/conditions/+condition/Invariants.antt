@@ -3,7 +3,7 @@ use Rattle.serde_json.specs.Data.{depth, items_depth}
 use Rattle.serde_json.specs.View.{items_view, view}
 use Rattle.mtp_json.specs.Form.{each}
 use Rattle.mtp_json.proofs.Each.{with_front}
-use Rattle.chart_core.specs.Formulas.{formula}
+use Rattle.chart_core.specs.Formulas.{plain_condition}
 use Rattle.chart_json.specs.Form.{formula_of}
 use Rattle.chart_json.proofs.conditions.+condition.Given as goal
 
@@ -33,5 +33,5 @@ decreases-read_each_under l = 8 * items_depth (items_view l.values.now) + 9
 
 abbrev pub invariant-read_each-loop-i : goal.invariant-read_each-loop-i
 invariant-read_each-loop-i l =
-    with_front (map formula l.found.items) (each formula_of l.i (items_view (drop l.i l.values)))
+    with_front (map plain_condition l.found.items) (each formula_of l.i (items_view (drop l.i l.values)))
     ≡ each formula_of 0 (items_view l.values)

@@ -3,7 +3,7 @@ use Rattle.serde_json.specs.Data.{depth, items_depth}
 use Rattle.serde_json.specs.View.{items_view, view}
 use Rattle.mtp_json.specs.Form.{each}
 use Rattle.mtp_json.proofs.Each.{with_front}
-use Rattle.chart_core.specs.Trees.{arm_plan, tree}
+use Rattle.chart_core.specs.Trees.{plain_arm, plain_node}
 use Rattle.chart_json.specs.Form.{arm_of, tree_of}
 use Rattle.chart_json.proofs.nodes.+node.Given as goal
 
@@ -45,10 +45,10 @@ decreases-read_arms_under l = 8 * items_depth (items_view l.values.now) + 9
 
 abbrev pub invariant-read_each-loop-i : goal.invariant-read_each-loop-i
 invariant-read_each-loop-i l =
-    with_front (map tree l.found.items) (each tree_of l.i (items_view (drop l.i l.values)))
+    with_front (map plain_node l.found.items) (each tree_of l.i (items_view (drop l.i l.values)))
     ≡ each tree_of 0 (items_view l.values)
 
 abbrev pub invariant-read_each_arm-loop-i : goal.invariant-read_each_arm-loop-i
 invariant-read_each_arm-loop-i l =
-    with_front (map arm_plan l.found.items) (each (arm_of tree_of) l.i (items_view (drop l.i l.values)))
+    with_front (map plain_arm l.found.items) (each (arm_of tree_of) l.i (items_view (drop l.i l.values)))
     ≡ each (arm_of tree_of) 0 (items_view l.values)

@@ -1,5 +1,5 @@
 use Rattle.std.proofs.lemmas.Result.{IfOk-weaker}
-use Rattle.mtp_desc.specs.DescriptionView.{description_view}
+use Rattle.mtp_desc.specs.PlainDescription.{plain_description}
 use Rattle.mtp_desc.proofs.Again.{description_again}
 use Rattle.mtp_desc.proofs.Sound.{description_sound}
 use Rattle.mtp_desc.proofs.writing.write_description.Goals as goal
@@ -7,5 +7,5 @@ use Rattle.mtp_desc.proofs.writing.write_description.Goals as goal
 pub returns-clause-reads_back : goal.returns-clause-reads_back
 returns-clause-reads_back c =
     IfOk-weaker c.write_whole.result _ _
-    (λ value is. rw is (description_again (description_view c.args.description.now)
+    (λ value is. rw is (description_again (plain_description c.args.description.now)
     (description_sound c.args.description.now))) c.write_whole.ensures

@@ -8,5 +8,6 @@ use Rattle.pol_audit.proofs.batch_rules.step_on.Given as goal
 
 abbrev pub invariant-loop-step : goal.invariant-loop-step
 invariant-loop-step l =
-    option_map (λ step. step.name) (step_on l.binds l.tag (filter (is_active_plan l.log) (plans_seen (drop l.step-index l.steps))))
+    option_map (λ step. step.name)
+    (step_on l.binds l.tag (filter (is_active_plan l.log) (plans_seen (drop l.step-index l.steps))))
     ≡ option_map (λ step. step.name) (step_on l.binds l.tag (filter (is_active_plan l.log) (plans_seen l.steps)))

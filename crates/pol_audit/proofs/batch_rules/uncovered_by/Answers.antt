@@ -1,8 +1,8 @@
 use Rattle.std.proofs.Common.{◌∙◌, ap, sym}
 use Rattle.std.specs.Option.{option_map}
-use Rattle.chart_core.specs.Charts.{plan}
-use Rattle.mtp_desc.specs.DescriptionView.{description_view}
-use Rattle.pol_events.specs.Events.{history_view}
+use Rattle.chart_core.specs.Charts.{plain_chart}
+use Rattle.mtp_desc.specs.PlainDescription.{plain_description}
+use Rattle.pol_events.specs.Events.{plain_history}
 use Rattle.pol_history.specs.Looking.{past_of_batch, recipes}
 use Rattle.pol_audit.specs.Starts.{started}
 use Rattle.pol_audit.proofs.Uncovered.{held_back_for, uncovered_is}
@@ -11,10 +11,10 @@ use Rattle.pol_audit.proofs.batch_rules.uncovered_by.Goals as goal
 pub returns-in-Some-held_back_by : goal.returns-in-Some-held_back_by
 returns-in-Some-held_back_by c =
     ap (held_back_for c.args.batch) (sym c.in-Some-held_back_by.is ∙ c.held_back_by.ensures)
-    ∙ sym (uncovered_is (recipes (history_view c.args.history.now))
-    (past_of_batch c.args.batch (history_view c.args.history.now)) c.args.tag
-    (description_view c.args.description.now) c.args.batch
-    (started c.in-Some.start) (plan c.in-Some-chart_named.chart.now) c.in-Some-bound_role.role
+    ∙ sym (uncovered_is (recipes (plain_history c.args.history.now))
+    (past_of_batch c.args.batch (plain_history c.args.history.now)) c.args.tag
+    (plain_description c.args.description.now) c.args.batch
+    (started c.in-Some.start) (plain_chart c.in-Some-chart_named.chart.now) c.in-Some-bound_role.role
     (sym c.start_of.ensures ∙ ap (option_map started) c.in-Some.is)
-    (sym c.chart_named.ensures ∙ ap (option_map (λ chart. plan chart.now)) c.in-Some-chart_named.is)
+    (sym c.chart_named.ensures ∙ ap (option_map (λ chart. plain_chart chart.now)) c.in-Some-chart_named.is)
     (sym c.bound_role.ensures ∙ c.in-Some-bound_role.is))

@@ -1,8 +1,8 @@
 use Rattle.std.proofs.Common.{◌∙◌, ap}
 use Rattle.std.proofs.lemmas.Result.{IfOk-weaker}
-use Rattle.chart_core.specs.Charts.{plan}
+use Rattle.chart_core.specs.Charts.{plain_chart}
 use Rattle.chart_cursor.specs.NextEntry.{next_by}
-use Rattle.pol_events.specs.Events.{history_view}
+use Rattle.pol_events.specs.Events.{plain_history}
 use Rattle.pol_history.specs.Looking.{past, past_of_batch}
 use Rattle.pol_history.specs.Batches.{is_frozen_by}
 use Rattle.pol_history.specs.Following.{sights_by}
@@ -10,12 +10,12 @@ use Rattle.pol_audit.proofs.following.next_of_start.Goals as goal
 
 pub returns : goal.returns
 returns c =
-    let seen = sights_by c.args.start.binds.now (λ tag. past tag (history_view c.args.history.now)) in
+    let seen = sights_by c.args.start.binds.now (λ tag. past tag (plain_history c.args.history.now)) in
     IfOk-weaker c.next_by.result _ _
     (λ next is.
     is
-    ∙ ap (λ frozen. next_by (plan c.args.chart.now) frozen c.deref.result.now seen) c.is_frozen.ensures
-    ∙ ap (λ log. next_by (plan c.args.chart.now)
-    (is_frozen_by (past_of_batch c.args.batch (history_view c.args.history.now))) log seen) (c.deref.ensures.value
+    ∙ ap (λ frozen. next_by (plain_chart c.args.chart.now) frozen c.deref.result.now seen) c.is_frozen.ensures
+    ∙ ap (λ log. next_by (plain_chart c.args.chart.now)
+    (is_frozen_by (past_of_batch c.args.batch (plain_history c.args.history.now))) log seen) (c.deref.ensures.value
     ∙ c.in_ok-log.ensures))
     c.next_by.ensures

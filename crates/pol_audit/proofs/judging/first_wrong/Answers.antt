@@ -4,12 +4,14 @@ use Rattle.pol_audit.proofs.judging.first_wrong.Goals as goal
 
 pub returns-in-Some : goal.returns-in-Some
 returns-in-Some c =
-    stops_here c.args.history.now c.loop-place.place c.index-history-place.result c.in-Some.says c.loop-place-test.true c.index-history-place.is
+    stops_here c.args.history.now c.loop-place.place c.index-history-place.result c.in-Some.says c.loop-place-test.true
+    c.index-history-place.is
     (sym c.in-Some.is ∙ c.in_ok-says.ensures)
     ∙ c.loop-place.invariant
 
 pub loop-place-preserved : goal.loop-place-preserved
 loop-place-preserved c =
-    goes_on c.args.history.now c.loop-place.place (c.loop-place.place + 1) c.index-history-place.result (omega arith) c.loop-place-test.true
+    goes_on c.args.history.now c.loop-place.place (c.loop-place.place + 1) c.index-history-place.result (omega arith)
+    c.loop-place-test.true
     c.index-history-place.is (sym c.in_default.is ∙ c.in_ok-says.ensures)
     ∙ c.loop-place.invariant

@@ -9,4 +9,5 @@ use Rattle.pol_audit.proofs.module_rules.forbidden_by_view.Goals as goal
 pub returns-in-Err : goal.returns-in-Err
 returns-in-Err c =
     ap (λ rule. Some rule) c.into.ensures
-    ∙ sym (ap (option_map forbid_rule) (is_forbidden (forbidden_by c.args.view.now Operator c.args.command) c.in-Err.forbid c.in-Err.ensures.answer))
+    ∙ sym (ap (option_map forbid_rule)
+    (is_forbidden (forbidden_by c.args.view.now Operator c.args.command) c.in-Err.forbid c.in-Err.ensures.answer))

@@ -1,11 +1,11 @@
 use Rattle.std.proofs.Common.{◌≡◌, drop}
-use Rattle.chart_core.specs.Charts.{plan}
-use Rattle.pol_events.specs.Events.{history_view}
+use Rattle.chart_core.specs.Charts.{plain_chart}
+use Rattle.pol_events.specs.Events.{plain_history}
 use Rattle.pol_history.specs.Rules.{modules_unfit}
 use Rattle.pol_bind.specs.Roles.{names_in}
 use Rattle.pol_audit.proofs.start_rules.first_unfit.Given as goal
 
 abbrev pub invariant-loop-role : goal.invariant-loop-role
 invariant-loop-role l =
-    modules_unfit (history_view l.history) (plan l.chart) l.binds (names_in (drop l.role-index l.roles))
-    ≡ modules_unfit (history_view l.history) (plan l.chart) l.binds (names_in l.roles)
+    modules_unfit (plain_history l.history) (plain_chart l.chart) l.binds (names_in (drop l.role-index l.roles))
+    ≡ modules_unfit (plain_history l.history) (plain_chart l.chart) l.binds (names_in l.roles)

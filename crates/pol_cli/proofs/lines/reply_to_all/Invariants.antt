@@ -1,5 +1,5 @@
 use Rattle.std.proofs.Common.{◌≡◌, ◌-◌}
-use Rattle.pol_io.specs.Reading.{given}
+use Rattle.pol_io.specs.LinesState.{given}
 use Rattle.pol_io.specs.declared.limits.TheConstants.{LONGEST_INPUT}
 use Rattle.pol_cli.specs.Moments.{moment, Moves, IsServed}
 use Rattle.pol_cli.proofs.lines.reply_to_all.Given as goal

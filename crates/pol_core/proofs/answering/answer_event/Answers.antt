@@ -3,70 +3,71 @@ use Rattle.std.proofs.Common.{◌≡◌, ◌∙◌, sym, ap, subst, refl, length
 use Rattle.std.specs.Prelude.{nat_le}
 use Rattle.std.proofs.lemmas.Bool.{and_parts}
 use Rattle.mtp_codes.specs.declared.limits.TheConstants.{MOST_BINDS}
-use Rattle.mtp_desc.specs.DescriptionView.{description_view}
-use Rattle.chart_core.specs.Charts.{plan}
+use Rattle.mtp_desc.specs.PlainDescription.{plain_description}
+use Rattle.chart_core.specs.Charts.{plain_chart}
 use Rattle.chart_core.specs.Roles.{is_chart_form}
-use Rattle.pol_events.specs.Events.{event_view, plug, unplug, report, variable, recipe, start, advance, freeze, thaw, stop_batch, abandon, desk, exchange_begin, exchange_end, exchange_cancel}
+use Rattle.pol_events.specs.Events.{plain_event, plug, unplug, report, variable, recipe, start, advance, freeze, thaw, stop_batch, abandon, desk, exchange_begin, exchange_end, exchange_cancel}
 use Rattle.pol_events.specs.Orderly.{is_orderly, is_valid, rise, roles_once}
 use Rattle.pol_events.proofs.Rising.{rising_distinct}
 use Rattle.pol_core.specs.Mirrors.{Answers}
-use Rattle.pol_core.proofs.Learned.{recipe-answered}
-use Rattle.pol_core.proofs.Telling.{if-ok, on-err}
-use Rattle.pol_core.proofs.Together.{module-told, batch-told, module-kept}
+use Rattle.pol_core.proofs.Learned.{recipe_answered}
+use Rattle.pol_core.proofs.Telling.{if_ok, on_err}
+use Rattle.pol_core.proofs.Together.{module_told, batch_told, module_kept}
 use Rattle.pol_core.proofs.answering.answer_event.Goals as goal
 
 pub returns-in-Plug-clause-answered : goal.returns-in-Plug-clause-answered
 returns-in-Plug-clause-answered c =
-    if-ok c.plug.result _ _ (λ answer answered history mirrors room.
-    module-told (plug c.in-Plug.at c.in-Plug.tag (description_view c.in-Plug.desc.value)) c.in-Plug.tag
-    (ap event_view (sym c.in-Plug.is)) refl refl mirrors
+    if_ok c.plug.result _ _ (λ answer answered history mirrors room.
+    module_told (plug c.in-Plug.at c.in-Plug.tag (plain_description c.in-Plug.desc.value)) c.in-Plug.tag
+    (ap plain_event (sym c.in-Plug.is)) refl refl mirrors
     (answered history c.in-Plug.at mirrors.seats mirrors.counted room)) c.plug.ensures.answered
 
 pub returns-in-Unplug-clause-answered : goal.returns-in-Unplug-clause-answered
 returns-in-Unplug-clause-answered c =
     λ history mirrors room.
-    module-told (unplug c.in-Unplug.at c.in-Unplug.tag) c.in-Unplug.tag
-    (ap event_view (sym c.in-Unplug.is)) refl refl mirrors
+    module_told (unplug c.in-Unplug.at c.in-Unplug.tag) c.in-Unplug.tag
+    (ap plain_event (sym c.in-Unplug.is)) refl refl mirrors
     (c.unplug.ensures.answered history c.in-Unplug.at mirrors.seats mirrors.counted room)
 
 pub returns-in-Report-clause-answered : goal.returns-in-Report-clause-answered
 returns-in-Report-clause-answered c =
     λ history mirrors room.
-    module-told (report c.in-Report.at c.in-Report.tag c.in-Report.service c.in-Report.control) c.in-Report.tag
-    (ap event_view (sym c.in-Report.is)) refl refl mirrors
+    module_told (report c.in-Report.at c.in-Report.tag c.in-Report.service c.in-Report.control) c.in-Report.tag
+    (ap plain_event (sym c.in-Report.is)) refl refl mirrors
     (c.report.ensures.answered history c.in-Report.at mirrors.seats mirrors.counted room)
 
 pub returns-in-Variable-clause-answered : goal.returns-in-Variable-clause-answered
 returns-in-Variable-clause-answered c =
     λ history mirrors room.
-    module-told (variable c.in-Variable.at c.in-Variable.tag c.in-Variable.name c.in-Variable.value) c.in-Variable.tag
-    (ap event_view (sym c.in-Variable.is)) refl refl mirrors
+    module_told (variable c.in-Variable.at c.in-Variable.tag c.in-Variable.name c.in-Variable.value) c.in-Variable.tag
+    (ap plain_event (sym c.in-Variable.is)) refl refl mirrors
     (c.variable.ensures.answered history c.in-Variable.at mirrors.seats mirrors.counted room)
 
 pub returns-in-Recipe-clause-answered : goal.returns-in-Recipe-clause-answered
 returns-in-Recipe-clause-answered c =
-    let event = recipe c.in-Recipe.at c.in-Recipe.name (plan c.in-Recipe.chart.value) in
-    let same : event ≡ event_view c.args.event.now = ap event_view (sym c.in-Recipe.is) in
-    if-ok c.recipe.result _ _ (λ answer taken history mirrors room.
+    let event = recipe c.in-Recipe.at c.in-Recipe.name (plain_chart c.in-Recipe.chart.value) in
+    let same : event ≡ plain_event c.args.event.now = ap plain_event (sym c.in-Recipe.is) in
+    if_ok c.recipe.result _ _ (λ answer taken history mirrors room.
     subst (λ event. Answers history event answer c.args.modules.now c.args.runs.now.entries
     c.recipe.new.recipes.entries) same
-    (recipe-answered history c.in-Recipe.at c.in-Recipe.name
-    (plan c.in-Recipe.chart.value) answer c.args.modules.now c.args.runs.now.entries c.args.recipes.now.entries
+    (recipe_answered history c.in-Recipe.at c.in-Recipe.name
+    (plain_chart c.in-Recipe.chart.value) answer c.args.modules.now c.args.runs.now.entries c.args.recipes.now.entries
     c.recipe.new.recipes.entries mirrors (taken history c.in-Recipe.at mirrors.recipes room))) c.recipe.ensures.answered
 
 pub recipe-requires : goal.recipe-requires
 recipe-requires c =
-    let orderly : is_orderly (recipe c.in-Recipe.at c.in-Recipe.name (plan c.in-Recipe.chart.value))
-    ≡ true = ap (λ event. is_orderly (event_view event)) (sym c.in-Recipe.is) ∙ c.requires.orderly in
-    (and_parts (is_chart_form (plan c.in-Recipe.chart.value)) (is_valid (plan c.in-Recipe.chart.value)) orderly).1
+    let orderly : is_orderly (recipe c.in-Recipe.at c.in-Recipe.name (plain_chart c.in-Recipe.chart.value))
+    ≡ true = ap (λ event. is_orderly (plain_event event)) (sym c.in-Recipe.is) ∙ c.requires.orderly in
+    (and_parts (is_chart_form (plain_chart c.in-Recipe.chart.value)) (is_valid (plain_chart c.in-Recipe.chart.value))
+    orderly).1
 
 pub returns-in-Start-clause-answered : goal.returns-in-Start-clause-answered
 returns-in-Start-clause-answered c =
     let event = start c.in-Start.at c.in-Start.batch c.in-Start.name c.deref.result.now in
-    let same : event ≡ event_view c.args.event.now =
+    let same : event ≡ plain_event c.args.event.now =
     ap (λ binds. start c.in-Start.at c.in-Start.batch c.in-Start.name binds) c.deref.ensures.value
-    ∙ ap event_view (sym c.in-Start.is) in
-    if-ok c.start.result _ _ (λ answer taken history mirrors room.
+    ∙ ap plain_event (sym c.in-Start.is) in
+    if_ok c.start.result _ _ (λ answer taken history mirrors room.
     subst (λ event. Answers history event answer c.start.new.modules c.start.new.runs.entries
     c.args.recipes.now.entries) same
     (taken history c.in-Start.at mirrors room)) c.start.ensures.answered
@@ -74,7 +75,7 @@ returns-in-Start-clause-answered c =
 pub start-requires-clause-once : goal.start-requires-clause-once
 start-requires-clause-once c =
     let orderly : is_orderly (start c.in-Start.at c.in-Start.batch c.in-Start.name c.in-Start.bind.items)
-    ≡ true = ap (λ event. is_orderly (event_view event)) (sym c.in-Start.is) ∙ c.requires.orderly in
+    ≡ true = ap (λ event. is_orderly (plain_event event)) (sym c.in-Start.is) ∙ c.requires.orderly in
     ap roles_once c.deref.ensures.value
     ∙ rising_distinct c.in-Start.bind.items (and_parts (nat_le (length c.in-Start.bind.items) MOST_BINDS)
     (rise c.in-Start.bind.items) orderly).1
@@ -82,8 +83,8 @@ start-requires-clause-once c =
 pub returns-in-Advance-clause-answered : goal.returns-in-Advance-clause-answered
 returns-in-Advance-clause-answered c =
     λ history mirrors room.
-    batch-told (advance c.in-Advance.at c.in-Advance.batch) c.in-Advance.batch
-    (ap event_view (sym c.in-Advance.is)) refl refl
+    batch_told (advance c.in-Advance.at c.in-Advance.batch) c.in-Advance.batch
+    (ap plain_event (sym c.in-Advance.is)) refl refl
     mirrors
     (c.advance.ensures.answered history c.in-Advance.at mirrors.seats mirrors.counted mirrors.batches room)
     c.advance.ensures.count
@@ -91,8 +92,8 @@ returns-in-Advance-clause-answered c =
 pub returns-in-Freeze-clause-answered : goal.returns-in-Freeze-clause-answered
 returns-in-Freeze-clause-answered c =
     λ history mirrors room.
-    batch-told (freeze c.in-Freeze.at c.in-Freeze.batch) c.in-Freeze.batch
-    (ap event_view (sym c.in-Freeze.is)) refl refl
+    batch_told (freeze c.in-Freeze.at c.in-Freeze.batch) c.in-Freeze.batch
+    (ap plain_event (sym c.in-Freeze.is)) refl refl
     mirrors
     (c.freeze.ensures.answered history c.in-Freeze.at c.args.modules.now mirrors.seats mirrors.counted
     mirrors.batches room)
@@ -101,7 +102,7 @@ returns-in-Freeze-clause-answered c =
 pub returns-in-Thaw-clause-answered : goal.returns-in-Thaw-clause-answered
 returns-in-Thaw-clause-answered c =
     λ history mirrors room.
-    batch-told (thaw c.in-Thaw.at c.in-Thaw.batch) c.in-Thaw.batch (ap event_view (sym c.in-Thaw.is)) refl refl
+    batch_told (thaw c.in-Thaw.at c.in-Thaw.batch) c.in-Thaw.batch (ap plain_event (sym c.in-Thaw.is)) refl refl
     mirrors
     (c.thaw.ensures.answered history c.in-Thaw.at c.args.modules.now mirrors.seats mirrors.counted mirrors.batches room)
     c.thaw.ensures.count
@@ -109,8 +110,8 @@ returns-in-Thaw-clause-answered c =
 pub returns-in-StopBatch-clause-answered : goal.returns-in-StopBatch-clause-answered
 returns-in-StopBatch-clause-answered c =
     λ history mirrors room.
-    batch-told (stop_batch c.in-StopBatch.at c.in-StopBatch.batch) c.in-StopBatch.batch
-    (ap event_view (sym c.in-StopBatch.is)) refl refl
+    batch_told (stop_batch c.in-StopBatch.at c.in-StopBatch.batch) c.in-StopBatch.batch
+    (ap plain_event (sym c.in-StopBatch.is)) refl refl
     mirrors
     (c.stop.ensures.answered history c.in-StopBatch.at c.args.modules.now mirrors.seats mirrors.counted
     mirrors.batches room)
@@ -119,8 +120,8 @@ returns-in-StopBatch-clause-answered c =
 pub returns-in-Abandon-clause-answered : goal.returns-in-Abandon-clause-answered
 returns-in-Abandon-clause-answered c =
     λ history mirrors room.
-    batch-told (abandon c.in-Abandon.at c.in-Abandon.batch) c.in-Abandon.batch
-    (ap event_view (sym c.in-Abandon.is)) refl refl
+    batch_told (abandon c.in-Abandon.at c.in-Abandon.batch) c.in-Abandon.batch
+    (ap plain_event (sym c.in-Abandon.is)) refl refl
     mirrors
     (c.abandon.ensures.answered history c.in-Abandon.at mirrors.seats mirrors.counted mirrors.batches room)
     c.abandon.ensures.count
@@ -128,36 +129,36 @@ returns-in-Abandon-clause-answered c =
 pub returns-in-Desk-clause-answered : goal.returns-in-Desk-clause-answered
 returns-in-Desk-clause-answered c =
     λ history mirrors room.
-    module-told (desk c.in-Desk.at c.in-Desk.tag c.in-Desk.service c.in-Desk.command) c.in-Desk.tag
-    (ap event_view (sym c.in-Desk.is)) refl refl mirrors
+    module_told (desk c.in-Desk.at c.in-Desk.tag c.in-Desk.service c.in-Desk.command) c.in-Desk.tag
+    (ap plain_event (sym c.in-Desk.is)) refl refl mirrors
     (c.desk.ensures.answered history c.in-Desk.at mirrors.seats mirrors.counted room)
 
 pub returns-in-ExchangeBegin-clause-answered : goal.returns-in-ExchangeBegin-clause-answered
 returns-in-ExchangeBegin-clause-answered c =
     λ history mirrors room.
-    module-told (exchange_begin c.in-ExchangeBegin.at c.in-ExchangeBegin.tag) c.in-ExchangeBegin.tag
-    (ap event_view (sym c.in-ExchangeBegin.is)) refl refl mirrors
+    module_told (exchange_begin c.in-ExchangeBegin.at c.in-ExchangeBegin.tag) c.in-ExchangeBegin.tag
+    (ap plain_event (sym c.in-ExchangeBegin.is)) refl refl mirrors
     (c.exchange_begin.ensures.answered history c.in-ExchangeBegin.at mirrors.seats mirrors.counted mirrors.batches room)
 
 pub returns-in-ExchangeEnd-clause-answered : goal.returns-in-ExchangeEnd-clause-answered
 returns-in-ExchangeEnd-clause-answered c =
-    if-ok c.exchange_end.result _ _ (λ answer answered history mirrors room.
-    module-told (exchange_end c.in-ExchangeEnd.at c.in-ExchangeEnd.tag c.in-ExchangeEnd.ticket
-    (description_view c.in-ExchangeEnd.desc.value)) c.in-ExchangeEnd.tag
-    (ap event_view (sym c.in-ExchangeEnd.is)) refl refl mirrors
+    if_ok c.exchange_end.result _ _ (λ answer answered history mirrors room.
+    module_told (exchange_end c.in-ExchangeEnd.at c.in-ExchangeEnd.tag c.in-ExchangeEnd.ticket
+    (plain_description c.in-ExchangeEnd.desc.value)) c.in-ExchangeEnd.tag
+    (ap plain_event (sym c.in-ExchangeEnd.is)) refl refl mirrors
     (answered history c.in-ExchangeEnd.at mirrors.seats mirrors.counted mirrors.batches room))
     c.exchange_end.ensures.answered
 
 pub returns-in-ExchangeEnd-clause-kept : goal.returns-in-ExchangeEnd-clause-kept
 returns-in-ExchangeEnd-clause-kept c =
-    on-err c.exchange_end.result (λ kept history mirrors.
+    on_err c.exchange_end.result (λ kept history mirrors.
     let same = kept history mirrors.seats mirrors.counted in
-    module-kept history c.args.modules.now c.exchange_end.new.modules c.args.runs.now.entries
+    module_kept history c.args.modules.now c.exchange_end.new.modules c.args.runs.now.entries
     c.args.recipes.now.entries mirrors same.0 same.1) c.exchange_end.ensures.kept
 
 pub returns-in-ExchangeCancel-clause-answered : goal.returns-in-ExchangeCancel-clause-answered
 returns-in-ExchangeCancel-clause-answered c =
     λ history mirrors room.
-    module-told (exchange_cancel c.in-ExchangeCancel.at c.in-ExchangeCancel.tag c.in-ExchangeCancel.ticket)
-    c.in-ExchangeCancel.tag (ap event_view (sym c.in-ExchangeCancel.is)) refl refl mirrors
+    module_told (exchange_cancel c.in-ExchangeCancel.at c.in-ExchangeCancel.tag c.in-ExchangeCancel.ticket)
+    c.in-ExchangeCancel.tag (ap plain_event (sym c.in-ExchangeCancel.is)) refl refl mirrors
     (c.exchange_cancel.ensures.answered history c.in-ExchangeCancel.at mirrors.seats mirrors.counted room)

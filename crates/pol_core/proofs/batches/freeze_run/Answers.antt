@@ -5,13 +5,13 @@ use Rattle.std.specs.Option.{option_copied_mut}
 use Rattle.std.specs.Str.{bytes_eq}
 use Rattle.pol_runs.specs.Runs.{PlainRun}
 use Rattle.pol_history.proofs.Names.{written}
-use Rattle.pol_core.proofs.Runs.{inner-same}
+use Rattle.pol_core.proofs.Runs.{inner_same}
 use Rattle.pol_core.proofs.batches.freeze_run.Goals as goal
 
 pub returns-in-Some-clause-changed : goal.returns-in-Some-clause-changed
 returns-in-Some-clause-changed c =
     λ run found other.
-    let is : c.in-Some.run'.now ≡ run = inner-same c.in-Some.run'.now run (sym (ap option_copied_mut c.in-Some.is)
+    let is : c.in-Some.run'.now ≡ run = inner_same c.in-Some.run'.now run (sym (ap option_copied_mut c.in-Some.is)
     ∙ c.get_mut.ensures.value ∙ found) in
     ap (lookup (bytes_eq other)) (c.get_mut.follows.holds c.freeze.new.self).0
     ∙ written c.args.batch other c.args.runs.now.entries run c.freeze.new.self found

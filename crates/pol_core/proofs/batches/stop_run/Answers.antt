@@ -6,13 +6,13 @@ use Rattle.std.specs.Str.{bytes_eq}
 use Rattle.pol_runs.specs.Runs.{PlainRun}
 use Rattle.pol_core.specs.Batches.{Stops}
 use Rattle.pol_history.proofs.Names.{written}
-use Rattle.pol_core.proofs.Runs.{inner-same}
+use Rattle.pol_core.proofs.Runs.{inner_same}
 use Rattle.pol_core.proofs.batches.stop_run.Goals as goal
 
 pub returns-in-Some-clause-stopped : goal.returns-in-Some-clause-stopped
 returns-in-Some-clause-stopped c =
     λ run found.
-    let is : c.in-Some.run'.now ≡ run = inner-same c.in-Some.run'.now run (sym (ap option_copied_mut c.in-Some.is)
+    let is : c.in-Some.run'.now ≡ run = inner_same c.in-Some.run'.now run (sym (ap option_copied_mut c.in-Some.is)
     ∙ c.get_mut.ensures.value ∙ found) in
     record {
       after = c.stop.new.self;

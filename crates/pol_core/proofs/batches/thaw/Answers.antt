@@ -5,13 +5,13 @@ use Rattle.pol_history.specs.Looking.{past_of_batch}
 use Rattle.pol_history.specs.Rules.{not_frozen}
 use Rattle.pol_core.specs.Batches.{AnswersBatch}
 use Rattle.pol_core.specs.Seats.{done_or_refused}
-use Rattle.pol_core.proofs.Lasting.{not-open-answered, thaw-answered}
+use Rattle.pol_core.proofs.Lasting.{not_open_answered, thaw_answered}
 use Rattle.pol_core.proofs.batches.thaw.Goals as goal
 
 pub returns-in-Err-clause-answered : goal.returns-in-Err-clause-answered
 returns-in-Err-clause-answered c =
     λ history at modules seats counted batches room.
-    not-open-answered history (thaw at c.args.batch) c.args.batch
+    not_open_answered history (thaw at c.args.batch) c.args.batch
     (not_frozen (past_of_batch c.args.batch history) ∷ []) c.in-Err.rule modules
     c.args.runs.now.entries refl room seats counted batches c.in-Err.ensures.rule
 
@@ -22,6 +22,6 @@ returns-clause-answered c =
     subst (λ answer. AnswersBatch history (thaw at c.args.batch) answer modules c.thaw_run.new.runs.entries)
     (sym (c.done_or_refused.ensures
     ∙ ap done_or_refused (c.thaw_run.ensures.answer c.in_default.field-0.now open'.found)))
-    (thaw-answered history at c.args.batch c.in_default.field-0.now modules c.args.runs.now.entries
+    (thaw_answered history at c.args.batch c.in_default.field-0.now modules c.args.runs.now.entries
     c.thaw_run.new.runs.entries room open'
     (c.thaw_run.ensures.changed c.in_default.field-0.now open'.found) seats counted batches)

@@ -6,16 +6,16 @@ use Rattle.pol_events.specs.Refusals.{in_exchange, not_at_rest}
 use Rattle.pol_events.specs.declared.answer.Rule.{Rule}
 use Rattle.pol_history.specs.Rules.{active_step}
 use Rattle.pol_slots.specs.Slots.{slot_description, last_control}
-use Rattle.pol_core.proofs.Away.{begin-rules}
-use Rattle.pol_core.proofs.Found.{err-of}
-use Rattle.pol_core.proofs.Telling.{seated-slot}
+use Rattle.pol_core.proofs.Away.{begin_rules}
+use Rattle.pol_core.proofs.Found.{err_of}
+use Rattle.pol_core.proofs.Telling.{seated_slot}
 use Rattle.pol_core.proofs.exchanges.begin_rule.Goals as goal
 
 pub returns-in-Some-ticket-clause-rule : goal.returns-in-Some-ticket-clause-rule
 returns-in-Some-ticket-clause-rule c =
     λ history at seats batches.
     let slot = c.in-Some.slot.now in
-    sym (begin-rules history at c.args.tag slot (seated-slot history c.args.tag c.args.modules.now slot seats
+    sym (begin_rules history at c.args.tag slot (seated_slot history c.args.tag c.args.modules.now slot seats
     (sym c.in-Some.ensures))
     ∙ ap (λ ticket. option_or (in_exchange c.args.tag ticket)
     (option_or (active_step history c.args.tag) (not_at_rest (last_control slot) (slot_description slot).services)))
@@ -25,7 +25,7 @@ pub returns-in-Some-active_step-clause-rule : goal.returns-in-Some-active_step-c
 returns-in-Some-active_step-clause-rule c =
     λ history at seats batches.
     let slot = c.in-Some.slot.now in
-    sym (begin-rules history at c.args.tag slot (seated-slot history c.args.tag c.args.modules.now slot seats
+    sym (begin_rules history at c.args.tag slot (seated_slot history c.args.tag c.args.modules.now slot seats
     (sym c.in-Some.ensures))
     ∙ ap (λ ticket. option_or (in_exchange c.args.tag ticket)
     (option_or (active_step history c.args.tag) (not_at_rest (last_control slot) (slot_description slot).services)))
@@ -39,8 +39,8 @@ returns c = record {
       λ history at seats batches.
       let slot = c.in-Some.slot.now in
       c.err.ensures.value ∙ ap result_err c.at_rest.ensures
-      ∙ err-of (not_at_rest (last_control slot) (slot_description slot).services)
-      ∙ sym (begin-rules history at c.args.tag slot (seated-slot history c.args.tag c.args.modules.now slot seats
+      ∙ err_of (not_at_rest (last_control slot) (slot_description slot).services)
+      ∙ sym (begin_rules history at c.args.tag slot (seated_slot history c.args.tag c.args.modules.now slot seats
       (sym c.in-Some.ensures))
       ∙ ap (λ ticket. option_or (in_exchange c.args.tag ticket)
       (option_or (active_step history c.args.tag) (not_at_rest (last_control slot) (slot_description slot).services)))

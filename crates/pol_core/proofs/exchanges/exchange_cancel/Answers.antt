@@ -2,11 +2,11 @@
 use Rattle.std.proofs.Common.{◌≡◌, ◌∙◌, sym, ap, Some, refl}
 use Rattle.std.specs.Option.{option_copied_mut}
 use Rattle.pol_history.specs.Looking.{past}
-use Rattle.pol_table.specs.Berths.{part_of}
+use Rattle.pol_table.specs.Rows.{part_of}
 use Rattle.pol_core.specs.Seats.{done_or_refused}
-use Rattle.pol_core.proofs.Ending.{cancel-judged, cancelled-keeps}
-use Rattle.pol_core.proofs.Keeping.{unchanged-keeps}
-use Rattle.pol_core.proofs.Telling.{seated-slot, slot-answered, on-err}
+use Rattle.pol_core.proofs.Ending.{cancel_judged, cancelled_keeps}
+use Rattle.pol_core.proofs.Keeping.{unchanged_keeps}
+use Rattle.pol_core.proofs.Telling.{seated_slot, slot_answered, on_err}
 use Rattle.pol_core.proofs.exchanges.exchange_cancel.Goals as goal
 
 pub returns-in-Some : goal.returns-in-Some
@@ -15,17 +15,17 @@ returns-in-Some c = record {
       λ history at seats counted room.
       let found : part_of c.args.tag c.args.modules.now ≡ Some c.in-Some.slot.now = sym c.get_mut.ensures.value
       ∙ ap option_copied_mut c.in-Some.is in
-      let keeps = seated-slot history c.args.tag c.args.modules.now c.in-Some.slot.now seats found in
-      slot-answered history _ c.args.tag c.args.modules.now c.in-Some.slot.now c.dock_back.new.slot
+      let keeps = seated_slot history c.args.tag c.args.modules.now c.in-Some.slot.now seats found in
+      slot_answered history _ c.args.tag c.args.modules.now c.in-Some.slot.now c.dock_back.new.slot
       c.dock_back.result _ refl refl
       c.done_or_refused.ensures
       (ap done_or_refused c.dock_back.ensures.answer
-      ∙ cancel-judged history at c.args.tag c.args.ticket c.in-Some.slot.now room keeps)
+      ∙ cancel_judged history at c.args.tag c.args.ticket c.in-Some.slot.now room keeps)
       seats counted found
-      (cancelled-keeps c.args.tag c.args.ticket c.in-Some.slot.now c.dock_back.new.slot
+      (cancelled_keeps c.args.tag c.args.ticket c.in-Some.slot.now c.dock_back.new.slot
       (past c.args.tag history) at _ c.dock_back.result
       c.dock_back.ensures.answer c.dock_back.ensures.docked keeps)
-      (on-err c.dock_back.result (λ same.
-      unchanged-keeps c.args.tag c.in-Some.slot.now c.dock_back.new.slot (past c.args.tag history)
+      (on_err c.dock_back.result (λ same.
+      unchanged_keeps c.args.tag c.in-Some.slot.now c.dock_back.new.slot (past c.args.tag history)
       same.same_module same.controls same.values keeps) c.dock_back.ensures.unchanged);
 }

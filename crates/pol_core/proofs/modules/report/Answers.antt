@@ -2,11 +2,11 @@
 use Rattle.std.proofs.Common.{◌≡◌, ◌∙◌, sym, ap, Some, refl}
 use Rattle.std.specs.Option.{option_copied_mut}
 use Rattle.pol_history.specs.Looking.{past}
-use Rattle.pol_table.specs.Berths.{part_of}
+use Rattle.pol_table.specs.Rows.{part_of}
 use Rattle.pol_core.specs.Seats.{done_or_refused}
-use Rattle.pol_core.proofs.Judging.{report-judged}
-use Rattle.pol_core.proofs.Keeping.{unchanged-keeps, report-keeps}
-use Rattle.pol_core.proofs.Telling.{seated-slot, slot-answered, on-ok, on-err}
+use Rattle.pol_core.proofs.Judging.{report_judged}
+use Rattle.pol_core.proofs.Keeping.{unchanged_keeps, report_keeps}
+use Rattle.pol_core.proofs.Telling.{seated_slot, slot_answered, on_ok, on_err}
 use Rattle.pol_core.proofs.modules.report.Goals as goal
 
 pub returns-in-Some : goal.returns-in-Some
@@ -15,18 +15,18 @@ returns-in-Some c = record {
       λ history at seats counted room.
       let found : part_of c.args.tag c.args.modules.now ≡ Some c.in-Some.slot.now = sym c.get_mut.ensures.value
       ∙ ap option_copied_mut c.in-Some.is in
-      let keeps = seated-slot history c.args.tag c.args.modules.now c.in-Some.slot.now seats found in
-      slot-answered history _ c.args.tag c.args.modules.now c.in-Some.slot.now c.report.new.self
+      let keeps = seated_slot history c.args.tag c.args.modules.now c.in-Some.slot.now seats found in
+      slot_answered history _ c.args.tag c.args.modules.now c.in-Some.slot.now c.report.new.self
       c.report.result _ refl refl
       c.done_or_refused.ensures
       (ap done_or_refused c.report.ensures.answer
-      ∙ report-judged history at c.args.tag c.args.service c.args.control c.in-Some.slot.now room keeps)
+      ∙ report_judged history at c.args.tag c.args.service c.args.control c.in-Some.slot.now room keeps)
       seats counted found
-      (on-ok c.report.result (λ reported.
-      report-keeps c.args.tag c.in-Some.slot.now c.report.new.self
+      (on_ok c.report.result (λ reported.
+      report_keeps c.args.tag c.in-Some.slot.now c.report.new.self
       (past c.args.tag history) at c.args.tag c.args.service c.args.control _
       c.report.ensures.same_module c.report.ensures.values reported keeps) c.report.ensures.reported)
-      (on-err c.report.result (λ controls.
-      unchanged-keeps c.args.tag c.in-Some.slot.now c.report.new.self (past c.args.tag history)
+      (on_err c.report.result (λ controls.
+      unchanged_keeps c.args.tag c.in-Some.slot.now c.report.new.self (past c.args.tag history)
       c.report.ensures.same_module controls c.report.ensures.values keeps) c.report.ensures.unchanged);
 }

@@ -1,14 +1,14 @@
 -- A module leaves, or a rule is against it.
 use Rattle.std.proofs.Common.{◌∙◌, sym, ap}
 use Rattle.std.specs.Prelude.{is_ok}
-use Rattle.pol_core.proofs.Telling.{from-ok}
-use Rattle.pol_core.proofs.Unplugging.{unplug-away, unplug-held, free-leaves, unplug-answered}
+use Rattle.pol_core.proofs.Telling.{from_ok}
+use Rattle.pol_core.proofs.Unplugging.{unplug_away, unplug_held, free_leaves, unplug_answered}
 use Rattle.pol_core.proofs.modules.unplug.Goals as goal
 
 pub returns-in-Some-ticket : goal.returns-in-Some-ticket
 returns-in-Some-ticket c = record {
   answered = λ history at seats counted room.
-      unplug-away history at c.args.tag c.in-Some.slot.now c.in-Some-ticket.ticket c.args.modules.now
+      unplug_away history at c.args.tag c.in-Some.slot.now c.in-Some-ticket.ticket c.args.modules.now
       room seats counted (sym c.in-Some.ensures)
       (sym c.ticket.ensures ∙ c.in-Some-ticket.is);
 }
@@ -16,7 +16,7 @@ returns-in-Some-ticket c = record {
 pub returns-in-Some-holder : goal.returns-in-Some-holder
 returns-in-Some-holder c = record {
   answered = λ history at seats counted room.
-      unplug-held history at c.args.tag c.in-Some.slot.now c.in-Some-holder.batch c.args.modules.now
+      unplug_held history at c.args.tag c.in-Some.slot.now c.in-Some-holder.batch c.args.modules.now
       room seats counted (sym c.in-Some.ensures)
       (sym c.ticket.ensures ∙ c.in_default-ticket.is) (sym c.holder.ensures ∙ c.in-Some-holder.is);
 }
@@ -28,9 +28,9 @@ returns c = record {
       let found = sym c.in-Some.ensures in
       let free = sym c.holder.ensures ∙ c.in_default-holder.is in
       let left = ap is_ok c.leave.ensures.answer
-      ∙ free-leaves c.args.tag c.in-Some.slot.now c.args.modules.now found free in
-      unplug-answered history at c.args.tag c.in-Some.slot.now c.args.modules.now c.leave.new.self
+      ∙ free_leaves c.args.tag c.in-Some.slot.now c.args.modules.now found free in
+      unplug_answered history at c.args.tag c.in-Some.slot.now c.args.modules.now c.leave.new.self
       room seats counted found
-      (sym c.ticket.ensures ∙ c.in_default-ticket.is) free (from-ok c.leave.result left c.leave.ensures.left)
-      (from-ok c.leave.result left c.leave.ensures.count);
+      (sym c.ticket.ensures ∙ c.in_default-ticket.is) free (from_ok c.leave.result left c.leave.ensures.left)
+      (from_ok c.leave.result left c.leave.ensures.count);
 }

@@ -1,10 +1,10 @@
 use Rattle.std.proofs.Common.{◌≡◌, drop, map}
 use Rattle.serde_json.specs.View.{members_view}
-use Rattle.pol_events.specs.Fields.{field_view}
+use Rattle.pol_events.specs.Fields.{plain_field}
 use Rattle.pol_entries.specs.Compared.{are_fields}
 use Rattle.pol_entries.proofs.comparing.are_fields.Given as goal
 
 abbrev pub invariant-loop-field : goal.invariant-loop-field
 invariant-loop-field l =
-    are_fields (map field_view (drop l.field-index l.fields)) (members_view l.rest)
-    ≡ are_fields (map field_view l.fields) (members_view l.members.entries)
+    are_fields (map plain_field (drop l.field-index l.fields)) (members_view l.rest)
+    ≡ are_fields (map plain_field l.fields) (members_view l.members.entries)

@@ -5,6 +5,8 @@ use Rattle.pol_entries.proofs.found.few_readings.Goals as goal
 
 pub returns : goal.returns
 returns c =
-    let none : drop c.loop-value.value-index c.args.values.now ≡ [] = drop_all c.loop-value.value-index c.args.values.now (omega (arith, c.loop-value-test.false)) in
+    let none : drop c.loop-value.value-index c.args.values.now ≡ [] =
+    drop_all c.loop-value.value-index c.args.values.now (omega (arith, c.loop-value-test.false)) in
     let few : length c.args.values.now ≤ 4 = omega (arith, c.if-values-gt4.false) in
-    few_read c.args.values.now (drop c.loop-value.value-index c.args.values.now) c.loop-value.readings none few c.loop-value.invariant.read
+    few_read c.args.values.now (drop c.loop-value.value-index c.args.values.now) c.loop-value.readings none few
+    c.loop-value.invariant.read

@@ -1,7 +1,7 @@
 -- The first greater key, or behind all.
 use Rattle.std.proofs.Common.{◌∙◌, ap, length}
 use Rattle.std.specs.Option.{unwrap_or}
-use Rattle.pol_events.specs.Fields.{field_view, stands_before}
+use Rattle.pol_events.specs.Fields.{plain_field, stands_before}
 use Rattle.pol_events.proofs.Places.{seen_place}
 use Rattle.pol_events.proofs.fields.place_of.Goals as goal
 
@@ -9,4 +9,4 @@ pub returns-clause-place : goal.returns-clause-place
 returns-clause-place c =
     c.unwrap_or.ensures
     ∙ ap (λ found. unwrap_or found (length c.args.fields.now)) c.first_greater.ensures
-    ∙ seen_place (stands_before c.args.key.now) field_view c.args.fields.now
+    ∙ seen_place (stands_before c.args.key.now) plain_field c.args.fields.now

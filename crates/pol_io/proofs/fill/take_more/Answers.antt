@@ -1,7 +1,7 @@
 use Rattle.std.proofs.Common.{◌≡◌, ◌+◌, ◌≤◌, length, take, slice_range, arith, ap, ◌∙◌}
 use Rattle.std.proofs.lemmas.List.{with_items_is}
-use Rattle.pol_io.proofs.Ranges.{range_grows, range_same, length-range}
-use Rattle.pol_io.proofs.Known.{joined-consumed}
+use Rattle.pol_io.proofs.Ranges.{range_grows, range_same, length_range}
+use Rattle.pol_io.proofs.Known.{joined_consumed}
 use Rattle.pol_io.proofs.Stopping.{stops_read}
 use Rattle.pol_io.proofs.fill.take_more.Goals as goal
 
@@ -16,7 +16,7 @@ returns-in-Ok-clause-fills g c =
       more = slice_range c.read_at.new.buffer c.args.window.now.end (c.args.window.now.end + c.in-Ok.count);
       waiting = rw items (range_grows c.read_at.new.buffer c.args.window.now.buffer.items c.args.window.now.start
           c.args.window.now.end c.in-Ok.count (omega arith) front);
-      taken = rw (length-range c.read_at.new.buffer c.args.window.now.end c.in-Ok.count fits);
+      taken = rw (length_range c.read_at.new.buffer c.args.window.now.end c.in-Ok.count fits);
     }
 
 pub returns-in-Ok-clause-bytes : goal.returns-in-Ok-clause-bytes
@@ -29,7 +29,7 @@ returns-in-Ok-clause-bytes g c =
       range_grows c.read_at.new.buffer c.args.window.now.buffer.items c.args.window.now.start
           c.args.window.now.end c.in-Ok.count (omega arith) front,
     )
-    (joined-consumed c.args.window.now.ended _ _ _ _ c.requires.open_end c.in-Ok.ensures.bytes)
+    (joined_consumed c.args.window.now.ended _ _ _ _ c.requires.open_end c.in-Ok.ensures.bytes)
 
 pub returns-in-Ok-clause-end : goal.returns-in-Ok-clause-end
 returns-in-Ok-clause-end g c ended =

@@ -2,15 +2,15 @@ use Rattle.std.proofs.Common.{◌≡◌, ◌-◌, length, arith, refl, ap, lengt
 use Rattle.std.proofs.lemmas.Result.{err_from_is_err_and}
 use Rattle.std.proofs.lemmas.List.{take_at}
 use Rattle.pol_io.specs.Window.{waiting}
-use Rattle.pol_io.proofs.Known.{Keeps-trans, counts_trans}
-use Rattle.pol_io.proofs.Feeds.{FeedAt-scanned, scanned_all, had_to_ask, either_way}
+use Rattle.pol_io.proofs.Known.{Keeps_trans, counts_trans}
+use Rattle.pol_io.proofs.Feeds.{FeedAt_scanned, scanned_all, had_to_ask, either_way}
 use Rattle.pol_io.proofs.Ranges.{range_drop}
 use Rattle.pol_io.proofs.Stopping.{stops_after, passed}
 use Rattle.pol_io.proofs.seek.seek.Goals as goal
 
 pub returns-in-Some-clause-found : goal.returns-in-Some-clause-found
 returns-in-Some-clause-found g c =
-    FeedAt-scanned (waiting c.scan.window) c.scan.scanned c.in-Some.i c.scan.invariant.no_feed
+    FeedAt_scanned (waiting c.scan.window) c.scan.scanned c.in-Some.i c.scan.invariant.no_feed
     (rw (
       c.deref.ensures.value,
       range_drop c.scan.window.buffer.items c.scan.window.start c.scan.window.end
@@ -71,7 +71,7 @@ scan-preserved g c =
         take_at (waiting c.scan.window) fills.more
             (length (waiting c.scan.window)) refl,
       ) no_feed;
-      bytes = Keeps-trans _ _ _ c.scan.invariant.bytes c.in_ok-fill.ensures.bytes;
+      bytes = Keeps_trans _ _ _ c.scan.invariant.bytes c.in_ok-fill.ensures.bytes;
       given = c.in_ok-fill.ensures.given ∙ c.scan.invariant.given;
       ended = c.in_ok-fill.ensures.ended ∙ c.scan.invariant.ended;
       counted = counts_trans _ _ _ _ _ _ c.scan.invariant.counted c.in_ok-fill.ensures.counted;

@@ -1,43 +1,46 @@
-use Rattle.std.proofs.Common.{◌≡◌, ◌<◌, ◌≤◌, Ok, None, [], ◌∷◌, length, map, refl, sym, ◌∙◌, subst, arith}
+use Rattle.std.proofs.Common.{◌≡◌, ◌<◌, ◌≤◌, [], length, map, refl, sym, subst, arith, codes}
 use Rattle.std.proofs.lemmas.Grind.{common_steps}
-use Rattle.serde_json.specs.Data.{no_members}
-use Rattle.chart_core.specs.Charts.{plan}
-use Rattle.chart_core.specs.Roles.{role_plan}
-use Rattle.chart_core.specs.Trees.{tree}
-use Rattle.pol_events.specs.Events.{recipe}
-use Rattle.pol_events.specs.Lines.{event_of}
-use Rattle.pol_lines.specs.Begins.{Opens}
-use Rattle.pol_lines.specs.Flat.{put_all}
-use Rattle.pol_lines.proofs.Making.{no_fault, node_formed, recipe_line, roles_fit}
+use Rattle.std.specs.Prelude.{option_map}
+use Rattle.serde_json.specs.Data.{array}
+use Rattle.chart_core.specs.Roles.{plain_role}
+use Rattle.chart_core.specs.Trees.{plain_node}
+use Rattle.pol_events.specs.Events.{plain_event}
+use Rattle.pol_lines.specs.Objects.{IsObject, with_value}
+use Rattle.pol_lines.proofs.Making.{line_of_recipe, read_is_formed}
 use Rattle.pol_lines.proofs.recipes.read_recipe.Goals as goal
 
-pub make_chart-requires : goal.make_chart-requires
-make_chart-requires c =
-    let roles = map role_plan c.read_list.new.found.items in
+pub recipe_in-requires : goal.recipe_in-requires
+recipe_in-requires c =
+    let roles = map plain_role c.read_list_at.new.found.items in
     let some : 0 < length roles = grind (arith, common_steps, c.if-is_empty.ensures) in
-    let few : length roles ≤ 64 = grind (arith, common_steps, c.in_ok-rest-3.ensures.few) in record {
-      sized = roles_fit 2 c.in_ok-rest-2.rest.now roles c.in_ok-rest-3.rest.now c.in_ok-rest-3.ensures.list some few;
-      formed = node_formed 35 c.in_ok-rest-4.rest.now (tree c.in_ok-root.root) _ c.in_ok-root.ensures;
-    }
+    let few : length roles ≤ 64 = grind (arith, common_steps, c.in_ok-cut.ensures.few) in
+    let played = c.in_ok-cut.ensures.list 2 (codes "roles") (omega arith) refl
+    (record { plain = refl; no_key = refl }) in
+    let charted = c.in_ok-cut-2.ensures 35 (codes "chart") (omega arith) refl
+    (record { plain = refl; no_key = refl }) in
+    let formed = read_is_formed played.values charted.value roles (plain_node c.in_ok-root.root) played.gives some few
+    (rw c.in_ok-root.was at charted.gives) in
+    record { sized = formed.0; formed = formed.1 }
 
 pub returns : goal.returns
 returns c =
-    let members = c.as_slice-members.result.now in
-    let roles = map role_plan c.read_list.new.found.items in
+    let line = c.args.line.now in
+    let roles = map plain_role c.read_list_at.new.found.items in
     let some : 0 < length roles = grind (arith, common_steps, c.if-is_empty.ensures) in
-    let few : length roles ≤ 64 = grind (arith, common_steps, c.in_ok-rest-3.ensures.few) in
-    let opens = subst (λ held. Opens 0 c.args.line.now (put_all held no_members) c.in_ok-rest.rest.now)
-    (sym c.as_slice-members.ensures.value) c.in_ok-rest.ensures in
-    let kind = rw c.in-Recipe.is at c.in_ok-kind_at.ensures in
-    let closing : c.last.result.now ≡ 125 ∷ [] = grind (arith, common_steps) in
-    let faultless : c.fault_of.result ≡ None = no_fault c.fault_of.result
-    (sym c.is_some.ensures ∙ c.if-is_some.false) in
-    let line = recipe_line c.args.line.now c.in_ok-rest.rest.now c.in_ok-rest-2.rest.now c.in_ok-rest-3.rest.now
-    c.in_ok-rest-4.rest.now _ members
-    c.in_ok-at.at c.in_ok-recipe.recipe roles (tree c.in_ok-root.root) (plan c.in-Ok.chart)
-    (c.if-not-is_text.ensures refl) opens c.in_ok-rest-2.ensures c.in_ok-rest-3.ensures.list c.in_ok-rest-4.ensures
-    c.in_ok-root.ensures (sym c.last.ensures ∙ closing)
-    kind c.in_ok-at.ensures.value c.in_ok-recipe.ensures (sym c.if-not-are_of_recipe.ensures) some few c.in-Ok.ensures
-    (sym c.fault_of.ensures ∙ faultless) in
-    subst (λ chart. event_of c.args.line.now ≡ Ok (recipe c.in_ok-at.at c.in_ok-recipe.recipe (plan chart)))
-    (sym c.in-Ok-new.ensures.ok) line
+    let few : length roles ≤ 64 = grind (arith, common_steps, c.in_ok-cut.ensures.few) in
+    let played = c.in_ok-cut.ensures.list 35 (codes "roles") (omega arith) refl
+    (record { plain = refl; no_key = refl }) in
+    let charted = c.in_ok-cut-2.ensures 35 (codes "chart") (omega arith) refl
+    (record { plain = refl; no_key = refl }) in
+    let rolled = with_value (codes "roles") (option_map array played.values) [] in
+    let others = with_value (codes "chart") charted.value rolled in
+    let rest = c.in-End.rest.now in
+    let read = c.read_flats.ensures 35 line others
+    (charted.passes line _ rolled (played.passes line _ [] (c.requires 35))) in
+    let is = subst (λ held. IsObject 35 line held others rest) (sym c.as_slice.ensures.value)
+    (rw c.in-End.is at read) in
+    let ends : rest ≡ [] = grind (arith, common_steps, c.if-not-is_empty.ensures) in
+    line_of_recipe line rest c.as_slice.result.now played.values charted.value roles (plain_node c.in_ok-root.root)
+    (plain_event c.in_ok-event.event) (c.if-not-is_text.ensures refl) played.gives some few
+    (rw c.in_ok-root.was at charted.gives) is
+    ends c.in_ok-event.ensures.says c.in_ok-event.ensures.faultless

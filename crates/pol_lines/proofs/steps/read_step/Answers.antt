@@ -1,25 +1,26 @@
-use Rattle.std.proofs.Common.{◌≡◌, ap, sym, subst, map, ◌∙◌, false}
-use Rattle.serde_json.specs.Data.{no_members}
-use Rattle.chart_json.specs.Form.{setting_of, same_setting}
-use Rattle.mtp_json.specs.Form.{repeats_by}
-use Rattle.pol_lines.specs.Begins.{Opens, ReadsList}
-use Rattle.pol_lines.specs.Flat.{put_all}
-use Rattle.pol_lines.proofs.Stepping.{same_list, step_reads}
+use Rattle.std.proofs.Common.{◌≡◌, [], refl, sym, subst, arith, codes}
+use Rattle.std.specs.Prelude.{option_map}
+use Rattle.serde_json.specs.Data.{array}
+use Rattle.chart_json.specs.Form.{setting_of, step_of}
+use Rattle.chart_core.specs.Trees.{plain_step}
+use Rattle.pol_lines.specs.Objects.{GivesEach, IsObject, Stands, with_value}
+use Rattle.pol_lines.proofs.Cuts.{object_reads}
+use Rattle.pol_lines.proofs.Stepping.{same_list}
 use Rattle.pol_lines.proofs.steps.read_step.Goals as goal
 
 pub returns : goal.returns
 returns c =
-    let members = c.as_slice-members.result.now in
-    let settings = c.read_list.new.found.items in
-    let opens = subst (λ held. Opens 0 c.args.text.now (put_all held no_members) c.in_ok-rest.rest.now)
-    (sym c.as_slice-members.ensures.value) c.in_ok-rest.ensures in
-    let list = subst (λ held. ReadsList setting_of 2 c.in_ok-rest-2.rest.now held c.in_ok-rest-3.rest.now)
-    (same_list settings) c.in_ok-rest-3.ensures.list in
-    let apart : repeats_by same_setting settings ≡ false = subst (λ held. repeats_by same_setting held ≡ false)
-    (ap (map (λ each. each)) c.deref.ensures.value ∙ same_list settings) (sym c.if-repeats.ensures) in
-    step_reads c.args.text.now c.in_ok-rest.rest.now c.in_ok-rest-2.rest.now c.in_ok-rest-3.rest.now
-    c.in_ok-rest-4.rest.now members
-    c.in_ok-name.name c.in_ok-role.role c.in_ok-service.service c.in_ok-procedure.field-0 settings opens
-    c.in_ok-name.ensures c.in_ok-role.ensures c.in_ok-service.ensures c.in_ok-procedure.ensures.value
-    (sym c.if-not-are_of_step.ensures) c.in_ok-rest-2.ensures list c.in_ok-rest-4.ensures
-    c.in_ok-rest-3.ensures.few apart
+    let text = c.args.text.now in
+    let begun = subst (λ held. Stands 2 text held [] c.in_ok-cut.cut) (sym c.new-members.ensures)
+    (c.in_ok-cut.ensures 2) in
+    let first = c.read_flats-cut.ensures 2 text [] begun in
+    let list = c.in_ok-cut-2.ensures.list 2 (codes "settings") (omega arith) refl
+    (record { plain = refl; no_key = refl }) in
+    let gives = subst (λ held. GivesEach setting_of held list.values)
+    (same_list c.read_list_at.new.found.items) list.gives in
+    let others = with_value (codes "settings") (option_map array list.values) [] in
+    let last = c.read_flats.ensures 2 text others (list.passes text _ [] first) in
+    let is = subst (λ held. IsObject 2 text held others c.in-End.rest.now) (sym c.as_slice.ensures.value)
+    (rw c.in-End.is at last) in
+    object_reads step_of (plain_step c.in_ok-step.step) 2 text c.in-End.rest.now
+    c.as_slice.result.now others is (c.in_ok-step.ensures list.values gives)

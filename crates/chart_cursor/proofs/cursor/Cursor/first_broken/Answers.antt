@@ -1,6 +1,6 @@
 use Rattle.std.proofs.Common.{◌≡◌, ◌∙◌, subst, ap}
 use Rattle.chart_core.specs.declared.chart.Chart.{Chart}
-use Rattle.chart_core.specs.Charts.{plan}
+use Rattle.chart_core.specs.Charts.{plain_chart}
 use Rattle.chart_core.specs.Valid.{IsValid}
 use Rattle.chart_core.specs.Progress.{marks_of}
 use Rattle.chart_cursor.specs.Kept.{Kept}
@@ -21,8 +21,8 @@ returns g c =
     let same : c.deref.result.now ≡ chart = c.deref.ensures ∙ ap (λ (k : Kept). k.chart) c.self.view_is in
     let marks : c.deref-2.result.now ≡ c.args.self.now.marks = c.deref-2.ensures.value
     ∙ ap (λ (k : Kept). k.marks) c.self.view_is in
-    let valid : IsValid (plan chart) = subst (λ (a : Chart). IsValid (plan a))
+    let valid : IsValid (plain_chart chart) = subst (λ (a : Chart). IsValid (plain_chart a))
     (ap (λ (k : Kept). k.chart) c.self.view_is) c.self.invariant.valid in
     let found = rw (same, marks) at c.first_broken.ensures in
-    found ∙ broken_active (plan chart) (marks_of c.args.self.now.marks) word
+    found ∙ broken_active (plain_chart chart) (marks_of c.args.self.now.marks) word
     (g.S.Seen.sights c.args.seen.now) valid stands

@@ -6,7 +6,7 @@ use Rattle.atomic_table.specs.Table.{Allows, step}
 use Rattle.pol_board.specs.Words.{IsWord, number_of, word_of}
 use Rattle.pol_board.specs.Holders.{Holder}
 use Rattle.pol_board.specs.Rules.{KeepsRule, IsStore}
-use Rattle.pol_board.proofs.Older.{number-said}
+use Rattle.pol_board.proofs.Older.{number_said}
 use Rattle.pol_board.proofs.Moves.{stores}
 use Rattle.pol_board.proofs.publisher.Publisher.publish.Goals as goal
 
@@ -17,7 +17,7 @@ store-requires c =
     let packed : ℕ = c.pack-packed.result in
     let is : packed ≡ word_of c.args.number c.args.state = c.pack-packed.ensures in
     let coded : IsWord packed = (c.args.number, c.args.state, is) in
-    let said : number_of packed ≡ c.args.number = ap number_of is ∙ number-said c.args.number c.args.state in
+    let said : number_of packed ≡ c.args.number = ap number_of is ∙ number_said c.args.number c.args.state in
     let Lower : Holder → Type 0 = λ holder. number_of (slice_index holder.words c.args.word) < c.args.number in
     let before : number_of (slice_index seat.me.0.words c.args.word) < c.args.number =
     subst Lower (sym c.self.view_is) c.requires.number.1 in

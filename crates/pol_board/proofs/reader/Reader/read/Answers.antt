@@ -4,7 +4,7 @@ use Rattle.std.specs.Prelude.{slice_set}
 use Rattle.pol_board.specs.Words.{word_of, number_of}
 use Rattle.pol_board.specs.Holders.{Holder}
 use Rattle.pol_board.specs.declared.rule.Remembered.{Remembered}
-use Rattle.pol_board.proofs.Older.{word-again}
+use Rattle.pol_board.proofs.Older.{word_again}
 use Rattle.pol_board.proofs.Moves.{loads}
 use Rattle.pol_board.proofs.reader.Reader.read.Goals as goal
 
@@ -25,7 +25,7 @@ returns-clause-seen c =
     let again : word_of c.unpack.result.0 c.unpack.result.1 ≡ found =
     ap (λ of. word_of of c.unpack.result.1) c.unpack.ensures.number
     ∙ ap (word_of (number_of found)) c.unpack.ensures.state
-    ∙ word-again found told.1 in
+    ∙ word_again found told.1 in
     ap (λ (one : Remembered). one.words) told.2
     ∙ ap (λ (holder : Holder). slice_set holder.words c.args.word found) c.self.view_is
     ∙ ap (slice_set c.args.self.now.words c.args.word) (sym again)

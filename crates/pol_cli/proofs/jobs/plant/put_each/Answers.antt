@@ -1,6 +1,6 @@
 use Rattle.std.proofs.Common.{ℕ, List, subst, ◌∙◌}
 use Rattle.std.proofs.lemmas.Result.{err_from_is_err_and}
-use Rattle.pol_events.specs.Events.{entry_view}
+use Rattle.pol_events.specs.Events.{plain_entry}
 use Rattle.pol_events.specs.declared.event.Entry.{Entry}
 use Rattle.pol_record.specs.Texts.{entry_line_text}
 use Rattle.pol_cli.specs.BatchLines.{WritesUpTo}
@@ -16,7 +16,7 @@ put_entry-requires-clause-orderly g c =
 
 pub loop-entry-preserved : goal.loop-entry-preserved
 loop-entry-preserved g c =
-    let text : Entry → List ℕ = (λ entry. entry_line_text (entry_view entry)) in
+    let text : Entry → List ℕ = (λ entry. entry_line_text (plain_entry entry)) in
     let all = entry_lines c.args.entries.now in
     let cut = cut_lines text c.args.entries.now c.loop-entry.entry-index c.entry-item.result c.loop-entry-test.true
     c.entry-item.is in
@@ -32,7 +32,7 @@ loop-entry-preserved g c =
 
 pub returns-in_err-buffer-clause-part : goal.returns-in_err-buffer-clause-part
 returns-in_err-buffer-clause-part g c =
-    let text : Entry → List ℕ = (λ entry. entry_line_text (entry_view entry)) in
+    let text : Entry → List ℕ = (λ entry. entry_line_text (plain_entry entry)) in
     let all = entry_lines c.args.entries.now in
     let cut = cut_lines text c.args.entries.now c.loop-entry.entry-index c.entry-item.result c.loop-entry-test.true
     c.entry-item.is in

@@ -2,7 +2,7 @@ use Rattle.std.proofs.Common.{map, subst}
 use Rattle.std.specs.Prelude.{OnErr, OnOk}
 use Rattle.std.proofs.lemmas.Result.{on_ok_weaker}
 use Rattle.std.specs.Io.KnownBytes.{Appends}
-use Rattle.pol_events.specs.Events.{entry_view}
+use Rattle.pol_events.specs.Events.{plain_entry}
 use Rattle.pol_record.specs.Texts.{IsReadBack}
 use Rattle.pol_cli.specs.Written.{WritesSome}
 use Rattle.pol_cli.proofs.EntryLines.{all_turned, lines_of_entries}
@@ -22,5 +22,5 @@ returns-clause-part g c =
 
 pub returns-clause-read_back : goal.returns-clause-read_back
 returns-clause-read_back g c =
-    on_ok_weaker c.put_each.result (all_turned IsReadBack (map entry_view c.args.history.now))
+    on_ok_weaker c.put_each.result (all_turned IsReadBack (map plain_entry c.args.history.now))
     c.put_each.ensures.read_back

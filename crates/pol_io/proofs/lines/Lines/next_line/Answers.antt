@@ -4,7 +4,7 @@ use Rattle.pol_io.specs.Cuts.{Cuts}
 use Rattle.pol_io.specs.Window.{waiting, given}
 use Rattle.pol_io.specs.declared.limits.TheConstants.{LONGEST_LINE}
 use Rattle.pol_io.proofs.FirstLines.{first_line_known, long_line_known}
-use Rattle.pol_io.proofs.Windows.{given_is, waiting-ended}
+use Rattle.pol_io.proofs.Windows.{given_is, waiting_ended}
 use Rattle.pol_io.proofs.lines.Lines.next_line.Goals as goal
 
 pub returns-in-Ok-Text : goal.returns-in-Ok-Text
@@ -28,12 +28,12 @@ returns-in-Ok-Text g c =
         λ _. tt,
         rw (← c.self.view_is) (record {
           answers = first_line_known new.ended (slice_range c.deref.result.now from to) _ _ (waiting new)
-              (waiting-ended new) lent;
+              (waiting_ended new) lent;
           in_limit = simp (length-take, length-drop) (omega (arith, fits.2));
           gives = rw (given_is old, given_is new) more;
           counted = c.in-Ok-Text.ensures.counted;
           limit = omega arith;
-          spent = waiting-ended new;
+          spent = waiting_ended new;
           at_end = c.in-Ok-Text.ensures.at_end;
           sound = rw (← c.self.view_is) at c.requires;
         }),
@@ -63,12 +63,12 @@ returns-in-Ok-TooLong g c =
         refl,
         λ _. tt,
         rw (← c.self.view_is) (record {
-          answers = long_line_known LONGEST_LINE new.ended _ _ (waiting new) (waiting-ended new) cut;
+          answers = long_line_known LONGEST_LINE new.ended _ _ (waiting new) (waiting_ended new) cut;
           in_limit = tt;
           gives = rw (given_is old, given_is new) more;
           counted = c.in-Ok-TooLong.ensures.counted;
           limit = omega arith;
-          spent = waiting-ended new;
+          spent = waiting_ended new;
           at_end = c.in-Ok-TooLong.ensures.at_end;
           sound = rw (← c.self.view_is) at c.requires;
         }),

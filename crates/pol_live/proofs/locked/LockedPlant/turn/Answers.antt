@@ -1,6 +1,6 @@
 use Rattle.std.proofs.Common.{subst}
 use Rattle.pol_live.specs.Turns.{HasMade, Turns}
-use Rattle.pol_live.proofs.Showing.{short-made, shown-before}
+use Rattle.pol_live.proofs.Showing.{short_made, shown_before}
 use Rattle.pol_live.proofs.locked.LockedPlant.turn.Goals as goal
 
 pub show-requires : goal.show-requires
@@ -12,6 +12,6 @@ show-requires g c =
     let made : HasMade site before after c.args.actor placed =
     subst (Turns site before after c.args.actor) c.in-Made.is c.in_ok-turned.ensures.ok in
     record {
-      short = short-made site before after c.args.actor placed made;
-      shown = shown-before site before after c.args.actor placed c.self.inside.display made c.self.invariant;
+      short = short_made site before after c.args.actor placed made;
+      shown = shown_before site before after c.args.actor placed c.self.inside.display made c.self.invariant;
     }

@@ -1,5 +1,5 @@
 use Rattle.std.proofs.Common.{◌∙◌, ◌∷◌, ◌++◌, [], sym, subst, ap, List}
-use Rattle.chart_core.specs.Charts.{plan}
+use Rattle.chart_core.specs.Charts.{plain_chart}
 use Rattle.chart_core.specs.Valid.{IsValid}
 use Rattle.chart_core.specs.declared.chart.Chart.{Chart}
 use Rattle.chart_core.specs.declared.entry.LogEntry.{LogEntry}
@@ -8,7 +8,7 @@ use Rattle.chart_cursor.specs.Sights.{Sights}
 use Rattle.pol_runs.specs.Logs.{Follows}
 use Rattle.pol_runs.specs.Runs.{PlainRun}
 use Rattle.pol_runs.specs.contracts.run.Run.{the_view}
-use Rattle.pol_runs.proofs.Doing.{ComesAfter, by-breaking, by-breaking-stop, by-stopping-stop, by-going, may-go}
+use Rattle.pol_runs.proofs.Doing.{ComesAfter, by_breaking, by_breaking_stop, by_stopping_stop, by_going, may_go}
 use Rattle.pol_runs.proofs.run.Run.did.Goals as goal
 
 -- the entry comes next, whatever log the run stands for
@@ -26,7 +26,7 @@ take-requires c =
     let sound = c.self.invariant in (
       chart_entries sound.log,
       sound.follows.marks,
-      may-go run sound.log c.requires.0 c.args.entry sound.valid c.in-Running.is c.in_default.not-Broke sound.follows
+      may_go run sound.log c.requires.0 c.args.entry sound.valid c.in-Running.is c.in_default.not-Broke sound.follows
           (said sound.log sound.follows),
     )
 
@@ -38,7 +38,7 @@ invariant_of-self c =
       valid = sound.valid;
       paired = sound.paired;
       log = sound.log ++ c.args.entry ∷ [];
-      follows = by-breaking run sound.log c.args.entry c.in-Broke.step c.in-Broke.state c.in-Running.is c.in-Broke.is
+      follows = by_breaking run sound.log c.args.entry c.in-Broke.step c.in-Broke.state c.in-Running.is c.in-Broke.is
           sound.follows;
     }
 
@@ -48,10 +48,10 @@ invariant_of-self-in_default c =
     let said = subst (ComesNext c.args.entry c.requires.0) (sym c.self.view_is) c.requires.1 in
     let sound = c.self.invariant in
     record {
-      valid = subst (λ (chart : Chart). IsValid (plan chart)) (sym c.take.ensures.chart) sound.valid;
+      valid = subst (λ (chart : Chart). IsValid (plain_chart chart)) (sym c.take.ensures.chart) sound.valid;
       paired = sound.paired;
       log = sound.log ++ c.args.entry ∷ [];
-      follows = by-going run sound.log c.requires.0 c.args.entry c.take.new.self.chart c.take.new.self.marks sound.valid
+      follows = by_going run sound.log c.requires.0 c.args.entry c.take.new.self.chart c.take.new.self.marks sound.valid
           c.in-Running.is c.in_default.not-Broke c.take.ensures.chart c.take.ensures.word sound.follows
           (said sound.log sound.follows);
     }
@@ -65,7 +65,7 @@ invariant_of-self-in-Breaking c =
       valid = sound.valid;
       paired = sound.paired;
       log = sound.log ++ c.args.entry ∷ [];
-      follows = by-breaking-stop run sound.log c.requires.0 c.args.entry c.in-Breaking.from c.behind.result sound.valid
+      follows = by_breaking_stop run sound.log c.requires.0 c.args.entry c.in-Breaking.from c.behind.result sound.valid
           c.in-Breaking.is (c.behind.ensures (chart_entries sound.log) sound.follows.marks) sound.follows
           (said sound.log sound.follows);
     }
@@ -79,7 +79,7 @@ invariant_of-self-in-Stopping c =
       valid = sound.valid;
       paired = sound.paired;
       log = sound.log ++ c.args.entry ∷ [];
-      follows = by-stopping-stop run sound.log c.requires.0 c.args.entry c.in-Stopping.from
+      follows = by_stopping_stop run sound.log c.requires.0 c.args.entry c.in-Stopping.from
           c.behind-in-Stopping.result sound.valid c.in-Stopping.is
           (c.behind-in-Stopping.ensures (chart_entries sound.log) sound.follows.marks) sound.follows
           (said sound.log sound.follows);
@@ -89,7 +89,7 @@ pub returns-in-Broke-clause-log : goal.returns-in-Broke-clause-log
 returns-in-Broke-clause-log c =
     let run = the_view c.self.inside in
     subst (Grows c.args.entry (record run { course = _ })) c.self.view_is
-    (λ log follows. by-breaking run log c.args.entry c.in-Broke.step c.in-Broke.state c.in-Running.is c.in-Broke.is
+    (λ log follows. by_breaking run log c.args.entry c.in-Broke.step c.in-Broke.state c.in-Running.is c.in-Broke.is
     follows)
 
 pub returns-in_default : goal.returns-in_default
@@ -101,7 +101,7 @@ returns-in_default c =
       log = subst
           (Grows c.args.entry (record run { chart = c.take.new.self.chart; marks = c.take.new.self.marks }))
           c.self.view_is
-          (λ log follows. by-going run log c.requires.0 c.args.entry c.take.new.self.chart c.take.new.self.marks
+          (λ log follows. by_going run log c.requires.0 c.args.entry c.take.new.self.chart c.take.new.self.marks
           sound.valid c.in-Running.is c.in_default.not-Broke c.take.ensures.chart c.take.ensures.word follows
           (said log follows));
       same_batch = record {
@@ -118,7 +118,7 @@ returns-in-Breaking-clause-log c =
     let run = the_view c.self.inside in
     let said = subst (ComesNext c.args.entry c.requires.0) (sym c.self.view_is) c.requires.1 in
     subst (Grows c.args.entry (record run { course = _ })) c.self.view_is
-    (λ log follows. by-breaking-stop run log c.requires.0 c.args.entry c.in-Breaking.from c.behind.result
+    (λ log follows. by_breaking_stop run log c.requires.0 c.args.entry c.in-Breaking.from c.behind.result
     c.self.invariant.valid c.in-Breaking.is (c.behind.ensures (chart_entries log) follows.marks) follows
     (said log follows))
 
@@ -127,6 +127,6 @@ returns-in-Stopping-clause-log c =
     let run = the_view c.self.inside in
     let said = subst (ComesNext c.args.entry c.requires.0) (sym c.self.view_is) c.requires.1 in
     subst (Grows c.args.entry (record run { course = _ })) c.self.view_is
-    (λ log follows. by-stopping-stop run log c.requires.0 c.args.entry c.in-Stopping.from c.behind-in-Stopping.result
+    (λ log follows. by_stopping_stop run log c.requires.0 c.args.entry c.in-Stopping.from c.behind-in-Stopping.result
     c.self.invariant.valid c.in-Stopping.is (c.behind-in-Stopping.ensures (chart_entries log) follows.marks) follows
     (said log follows))

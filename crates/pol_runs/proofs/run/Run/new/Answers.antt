@@ -1,5 +1,5 @@
 use Rattle.std.proofs.Common.{refl, []}
-use Rattle.pol_runs.proofs.Nexts.{nothing-active}
+use Rattle.pol_runs.proofs.Nexts.{nothing_active}
 use Rattle.pol_runs.proofs.run.Run.new.Goals as goal
 
 pub invariant_of-result : goal.invariant_of-result
@@ -13,6 +13,6 @@ invariant_of-result c =
         marks = c.in_ok-cursor.ensures.empty;
         broke = refl;
         stopped = refl;
-        active = λ placed inside. nothing-active placed;
+        active = λ placed inside. nothing_active placed;
       };
     }

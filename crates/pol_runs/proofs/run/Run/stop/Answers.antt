@@ -5,7 +5,7 @@ use Rattle.pol_runs.specs.Logs.{Follows}
 use Rattle.pol_runs.specs.Runs.{PlainRun}
 use Rattle.pol_runs.specs.contracts.run.Run.{the_view}
 use Rattle.pol_runs.specs.declared.course.Course.TheVariants.{Stopping}
-use Rattle.pol_runs.proofs.Doing.{by-asking}
+use Rattle.pol_runs.proofs.Doing.{by_asking}
 use Rattle.pol_runs.proofs.run.Run.stop.Goals as goal
 
 pub invariant_of-self : goal.invariant_of-self
@@ -15,7 +15,7 @@ invariant_of-self c =
       valid = sound.valid;
       paired = sound.paired;
       log = sound.log ++ StopAsked ∷ [];
-      follows = by-asking (the_view c.self.inside) sound.log false c.in-Running.is sound.follows;
+      follows = by_asking (the_view c.self.inside) sound.log false c.in-Running.is sound.follows;
     }
 
 pub returns-in-Running-clause-log : goal.returns-in-Running-clause-log
@@ -23,4 +23,4 @@ returns-in-Running-clause-log c =
     let new : PlainRun = record (the_view c.self.inside) { frozen = false; course = Stopping 0 } in
     let Grows : PlainRun → Type 0 =
     λ old. (log : List LogEntry) → Follows old log → Follows new (log ++ StopAsked ∷ []) in
-    subst Grows c.self.view_is (λ log follows. by-asking (the_view c.self.inside) log false c.in-Running.is follows)
+    subst Grows c.self.view_is (λ log follows. by_asking (the_view c.self.inside) log false c.in-Running.is follows)

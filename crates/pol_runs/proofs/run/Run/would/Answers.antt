@@ -1,5 +1,5 @@
 use Rattle.std.proofs.Common.{◌≡◌, ◌∙◌, subst, ap, true, false, List}
-use Rattle.chart_core.specs.Charts.{plan}
+use Rattle.chart_core.specs.Charts.{plain_chart}
 use Rattle.chart_core.specs.declared.entry.LogEntry.{LogEntry}
 use Rattle.chart_core.specs.declared.next.Next.{Next}
 use Rattle.chart_cursor.specs.Logs.{chart_entries}
@@ -9,12 +9,13 @@ use Rattle.pol_runs.specs.Logs.{Follows}
 use Rattle.pol_runs.specs.Runs.{PlainRun}
 use Rattle.pol_runs.specs.Stopping.{stop_found}
 use Rattle.pol_runs.specs.contracts.run.Run.{the_view}
-use Rattle.pol_runs.proofs.Nexts.{running-next, breaking-next, stopping-next}
+use Rattle.pol_runs.proofs.Nexts.{running_next, breaking_next, stopping_next}
 use Rattle.pol_runs.proofs.run.Run.would.Goals as goal
 
 -- it is what comes next, whatever log the run stands for
 abbrev ComesNext : Next → Sights → PlainRun → Type 0
-ComesNext next seen run = (log : List LogEntry) → Follows run log → next ≡ next_by (plan run.chart) run.frozen log seen
+ComesNext next seen run = (log : List LogEntry) → Follows run log
+    → next ≡ next_by (plain_chart run.chart) run.frozen log seen
 
 pub returns-in-Running : goal.returns-in-Running
 returns-in-Running g c =
@@ -22,7 +23,7 @@ returns-in-Running g c =
     let run = the_view c.self.inside in
     subst (ComesNext c.go_on.result seen) c.self.view_is (λ log follows.
     c.go_on.ensures (chart_entries log) follows.marks
-    ∙ running-next run log seen follows c.if-self.false c.in-Running.is)
+    ∙ running_next run log seen follows c.if-self.false c.in-Running.is)
 
 pub returns-in-Breaking : goal.returns-in-Breaking
 returns-in-Breaking g c =
@@ -31,7 +32,7 @@ returns-in-Breaking g c =
     subst (ComesNext c.stop_found.result seen) c.self.view_is (λ log follows.
     c.stop_found.ensures
     ∙ ap (stop_found seen true) (c.next_step.ensures (chart_entries log) follows.marks)
-    ∙ breaking-next run log seen c.in-Breaking.from follows c.if-self.false c.in-Breaking.is)
+    ∙ breaking_next run log seen c.in-Breaking.from follows c.if-self.false c.in-Breaking.is)
 
 pub returns-in-Stopping : goal.returns-in-Stopping
 returns-in-Stopping g c =
@@ -40,4 +41,4 @@ returns-in-Stopping g c =
     subst (ComesNext c.stop_found-in-Stopping.result seen) c.self.view_is (λ log follows.
     c.stop_found-in-Stopping.ensures
     ∙ ap (stop_found seen false) (c.next_step-in-Stopping.ensures (chart_entries log) follows.marks)
-    ∙ stopping-next run log seen c.in-Stopping.from follows c.if-self.false c.in-Stopping.is)
+    ∙ stopping_next run log seen c.in-Stopping.from follows c.if-self.false c.in-Stopping.is)

@@ -1,15 +1,16 @@
 use Rattle.std.proofs.Common.{◌<◌, ◌∙◌, ◌+◌, ◌*◌, refl, length, arith}
-use Rattle.pol_events.specs.Events.{entry_view, history_view}
-use Rattle.pol_site.specs.SiteView.{site_view}
-use Rattle.pol_shown.proofs.Following.{follows-on, number-lower}
-use Rattle.pol_shown.proofs.Listed.{length-history}
+use Rattle.pol_events.specs.Events.{plain_entry, plain_history}
+use Rattle.pol_site.specs.PlainSite.{plain_site}
+use Rattle.pol_shown.proofs.Following.{follows_on, number_lower}
+use Rattle.pol_events.proofs.Histories.{length_history}
 use Rattle.pol_shown.proofs.display.Display.follow_module.Goals as goal
 
 pub follow_word-requires-clause-number : goal.follow_word-requires-clause-number
 follow_word-requires-clause-number c =
-    let lower = number-lower (site_view c.args.site.now) (entry_view c.args.entry.now) (history_view c.args.older.now)
+    let lower = number_lower (plain_site c.args.site.now) (plain_entry c.args.entry.now)
+    (plain_history c.args.older.now)
     c.loop-word.self c.loop-word.word c.loop-word.invariant.3 in
-    (omega (arith, c.requires.short), omega (arith, lower, length-history c.args.older.now))
+    (omega (arith, c.requires.short), omega (arith, lower, length_history c.args.older.now))
 
 pub loop-word-preserved : goal.loop-word-preserved
 loop-word-preserved c =
@@ -18,8 +19,9 @@ loop-word-preserved c =
       c.follow_word.ensures.board ∙ kept.0,
       omega (arith, kept.1),
       refl,
-      follows-on (site_view c.args.site.now) (entry_view c.args.entry.now) (history_view c.args.older.now) c.args.place
+      follows_on (plain_site c.args.site.now) (plain_entry c.args.entry.now) (plain_history c.args.older.now)
+          c.args.place
           c.loop-word.word (c.loop-word.word + 1) (length c.args.older.now + 1) c.loop-word.self c.follow_word.new.self
-          c.requires.accepted kept.1 end (omega arith) (omega (arith, length-history c.args.older.now)) kept.3
+          c.requires.accepted kept.1 end (omega arith) (omega (arith, length_history c.args.older.now)) kept.3
           c.follow_word.ensures.board c.follow_word.ensures.words c.follow_word.ensures.names,
     )

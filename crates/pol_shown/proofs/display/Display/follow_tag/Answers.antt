@@ -1,9 +1,9 @@
 use Rattle.std.proofs.Common.{◌≤◌, ◌<◌, ◌∙◌, ◌*◌, length, sym, arith}
-use Rattle.pol_events.specs.Events.{entry_view, history_view}
-use Rattle.pol_site.specs.SiteView.{site_view}
-use Rattle.pol_site.specs.Views.{module_view}
-use Rattle.pol_shown.proofs.Following.{accepted-at, other-module, shows-all}
-use Rattle.pol_shown.proofs.Listed.{length-modules, module-at}
+use Rattle.pol_events.specs.Events.{plain_entry, plain_history}
+use Rattle.pol_site.specs.PlainSite.{plain_site}
+use Rattle.pol_site.specs.Views.{plain_module}
+use Rattle.pol_shown.proofs.Following.{accepted_at, other_module, shows_all}
+use Rattle.pol_shown.proofs.Listed.{length_modules, module_at}
 use Rattle.pol_shown.proofs.display.Display.follow_tag.Goals as goal
 use Rattle.pol_shown.proofs.display.Display.follow_tag.Goals.{then-eq, else-eq}
 
@@ -12,8 +12,9 @@ follow_module-requires-clause-accepted c =
     let site = c.args.site.now in
     let inside : c.loop-place.place < length site.modules.items =
     omega (arith, c.loop-place-test.true, c.loop-place.invariant.1) in
-    accepted-at (site_view site) (entry_view c.args.entry.now) c.loop-place.place (module_view c.index.result.now)
-    c.args.tag (module-at site.modules.items c.loop-place.place c.index.result.now inside c.index.ensures) c.requires.tag
+    accepted_at (plain_site site) (plain_entry c.args.entry.now) c.loop-place.place (plain_module c.index.result.now)
+    c.args.tag (module_at site.modules.items c.loop-place.place c.index.result.now inside c.index.ensures)
+    c.requires.tag
     (sym c.eq.ensures ∙ c.if-eq.true)
 
 pub loop-place-preserved : goal.loop-place-preserved
@@ -21,7 +22,7 @@ loop-place-preserved c =
     let site = c.args.site.now in
     let kept = c.loop-place.invariant in
     let inside : c.loop-place.place < length site.modules.items = omega (arith, c.loop-place-test.true, kept.1) in
-    let there = module-at site.modules.items c.loop-place.place c.index.result.now inside c.index.ensures in
+    let there = module_at site.modules.items c.loop-place.place c.index.result.now inside c.index.ensures in
     elim c.if-eq.branch [
       | then-eq w ↦
           rw w.self-is (w.follow_module.ensures.board ∙ kept.0, kept.1, w.follow_module.ensures.shown)
@@ -29,8 +30,8 @@ loop-place-preserved c =
           rw w.self-is (
             kept.0,
             kept.1,
-            other-module (site_view site) (entry_view c.args.entry.now) (history_view c.args.older.now)
-                c.loop-place.self c.loop-place.place (module_view c.index.result.now) c.args.tag there c.requires.tag
+            other_module (plain_site site) (plain_entry c.args.entry.now) (plain_history c.args.older.now)
+                c.loop-place.self c.loop-place.place (plain_module c.index.result.now) c.args.tag there c.requires.tag
                 (sym c.eq.ensures ∙ w.if-eq.false) kept.2,
           )
     ]
@@ -38,8 +39,8 @@ loop-place-preserved c =
 pub returns-clause-shown : goal.returns-clause-shown
 returns-clause-shown c =
     let site = c.args.site.now in
-    let count = length-modules site.modules.items in
-    let all : 32 * length (site_view site).modules ≤ 32 * c.loop-place.place =
+    let count = length_modules site.modules.items in
+    let all : 32 * length (plain_site site).modules ≤ 32 * c.loop-place.place =
     omega (arith, c.loop-place-test.false, c.loop-place.invariant.1, count) in
-    shows-all (site_view site) (entry_view c.args.entry.now) (history_view c.args.older.now) c.loop-place.self
+    shows_all (plain_site site) (plain_entry c.args.entry.now) (plain_history c.args.older.now) c.loop-place.self
     (32 * c.loop-place.place) all c.loop-place.invariant.2

@@ -9,4 +9,4 @@ returns-clause-accepted c = no_fault _ (rw (← c.replace-berth.ensures.value)
 
 pub returns-clause-docked : goal.returns-clause-docked
 returns-clause-docked c = docked_fresh _ _ _ _ (rw c.in-Ok.is at c.finish-berth.ensures.docked)
-    c.in_ok-told.ensures.nothing refl refl refl
+    c.in_ok-reported.ensures.nothing refl refl refl

@@ -3,15 +3,15 @@ use Rattle.std.proofs.Common.{cond, length, Some, None, refl, sym, ◌∙◌, ap
 use Rattle.std.specs.Map.{lookup}
 use Rattle.std.specs.Str.{bytes_eq}
 use Rattle.std.proofs.lemmas.Bool.{le-leb, lt-leb}
-use Rattle.pol_table.proofs.Docking.{Docks, sound-docked, look-docked, length-docked, one_more}
-use Rattle.pol_table.proofs.Views.{dock_fault-seats}
+use Rattle.pol_table.proofs.Docking.{Docks, sound_docked, look_docked, length_docked, one_more}
+use Rattle.pol_table.proofs.Views.{dock_fault_seats}
 use Rattle.pol_table.proofs.table.Table.dock.Goals as goal
 
 pub returns-then-contains_key-clause-err : goal.returns-then-contains_key-clause-err
 returns-then-contains_key-clause-err g c =
     rw (
       ← c.self.view_is,
-      dock_fault-seats _ _ c.self.invariant _,
+      dock_fault_seats _ _ c.self.invariant _,
       ← c.contains_key.ensures,
       c.if-contains_key.true,
     ) refl
@@ -20,7 +20,7 @@ pub returns-then-len-ge-MOST_MODULES-clause-err : goal.returns-then-len-ge-MOST_
 returns-then-len-ge-MOST_MODULES-clause-err g c =
     rw (
       ← c.self.view_is,
-      dock_fault-seats _ _ c.self.invariant _,
+      dock_fault_seats _ _ c.self.invariant _,
       ← c.contains_key.ensures,
       c.if-contains_key.false,
       ←
@@ -32,7 +32,7 @@ pub returns-then-is_err-clause-err : goal.returns-then-is_err-clause-err
 returns-then-is_err-clause-err g c =
     rw (
       ← c.self.view_is,
-      dock_fault-seats _ _ c.self.invariant _,
+      dock_fault_seats _ _ c.self.invariant _,
       ← c.contains_key.ensures,
       c.if-contains_key.false,
       ←
@@ -44,7 +44,7 @@ pub returns-in-Err-clause-err : goal.returns-in-Err-clause-err
 returns-in-Err-clause-err g c =
     rw (
       ← c.self.view_is,
-      dock_fault-seats _ _ c.self.invariant _,
+      dock_fault_seats _ _ c.self.invariant _,
       ← c.contains_key.ensures,
       c.if-contains_key.false,
       ←
@@ -76,13 +76,13 @@ docks g c = record {
 }
 
 pub invariant_of-self-in-Ok : goal.invariant_of-self-in-Ok
-invariant_of-self-in-Ok g c = sound-docked _ _ _ _ _ _ _ (docks g c)
+invariant_of-self-in-Ok g c = sound_docked _ _ _ _ _ _ _ (docks g c)
 
 pub returns-in-Ok-clause-ok : goal.returns-in-Ok-clause-ok
 returns-in-Ok-clause-ok g c =
     rw (
       ← c.self.view_is,
-      dock_fault-seats _ _ c.self.invariant _,
+      dock_fault_seats _ _ c.self.invariant _,
       ← c.contains_key.ensures,
       c.if-contains_key.false,
       ←
@@ -91,7 +91,7 @@ returns-in-Ok-clause-ok g c =
     ) refl
 
 pub returns-in-Ok-clause-docked : goal.returns-in-Ok-clause-docked
-returns-in-Ok-clause-docked g c other = rw (← c.self.view_is) (look-docked _ _ _ _ _ _ _ (docks g c) other)
+returns-in-Ok-clause-docked g c other = rw (← c.self.view_is) (look_docked _ _ _ _ _ _ _ (docks g c) other)
 
 pub returns-in-Ok-clause-count : goal.returns-in-Ok-clause-count
-returns-in-Ok-clause-count g c = rw (← c.self.view_is) (length-docked _ _ _ _ _ _ _ (docks g c))
+returns-in-Ok-clause-count g c = rw (← c.self.view_is) (length_docked _ _ _ _ _ _ _ (docks g c))

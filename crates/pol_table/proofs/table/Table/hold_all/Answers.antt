@@ -1,18 +1,18 @@
 -- All the tags are held, or the first fault is answered.
 use Rattle.std.proofs.Common.{refl}
-use Rattle.pol_table.proofs.HeldSeats.{first-missing, first-busy, Holds, look-held, length-held}
+use Rattle.pol_table.proofs.HeldSeats.{first_missing, first_busy, Holds, look_held, length_held}
 use Rattle.pol_table.proofs.table.Table.hold_all.Goals as goal
 
 pub returns-in-Some-clause-answer : goal.returns-in-Some-clause-answer
 returns-in-Some-clause-answer g c =
-    rw (← c.self.view_is, ← first-missing _ _ c.self.invariant _, ← c.first_missing.ensures, c.in-Some.is) refl
+    rw (← c.self.view_is, ← first_missing _ _ c.self.invariant _, ← c.first_missing.ensures, c.in-Some.is) refl
 
 pub returns-in-Some-first_busy-clause-answer : goal.returns-in-Some-first_busy-clause-answer
 returns-in-Some-first_busy-clause-answer g c =
     rw (
       ← c.self.view_is,
-      ← first-missing _ _ c.self.invariant _,
-      ← first-busy _ _ c.self.invariant _,
+      ← first_missing _ _ c.self.invariant _,
+      ← first_busy _ _ c.self.invariant _,
       ←
           c.first_missing.ensures,
       ← c.first_busy.ensures,
@@ -24,8 +24,8 @@ pub returns-clause-answer : goal.returns-clause-answer
 returns-clause-answer g c =
     rw (
       ← c.self.view_is,
-      ← first-missing _ _ c.self.invariant _,
-      ← first-busy _ _ c.self.invariant _,
+      ← first_missing _ _ c.self.invariant _,
+      ← first_busy _ _ c.self.invariant _,
       ←
           c.first_missing.ensures,
       ← c.first_busy.ensures,
@@ -45,7 +45,7 @@ holds g c = record {
 }
 
 pub returns-clause-held : goal.returns-clause-held
-returns-clause-held g c tag = rw (← c.self.view_is) (look-held _ _ _ _ _ (holds g c) tag)
+returns-clause-held g c tag = rw (← c.self.view_is) (look_held _ _ _ _ _ (holds g c) tag)
 
 pub returns-clause-count : goal.returns-clause-count
-returns-clause-count g c = rw (← c.self.view_is) (length-held _ _ _ _ _ (holds g c))
+returns-clause-count g c = rw (← c.self.view_is) (length_held _ _ _ _ _ (holds g c))

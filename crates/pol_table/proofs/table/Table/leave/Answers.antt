@@ -1,7 +1,7 @@
 -- The part of the tag's seat leaves, where the seat is free.
 use Rattle.std.proofs.Common.{sym, ap, ◌∙◌, true≢false, is_some}
 use Rattle.std.proofs.lemmas.Result.{err_from_is_err_and}
-use Rattle.pol_table.proofs.Docking.{Leaves, look-left, length-left}
+use Rattle.pol_table.proofs.Docking.{Leaves, look_left, length_left}
 use Rattle.pol_table.proofs.Leaving.{leaving_refused, leaving_free, found_free, one_less}
 use Rattle.pol_table.proofs.table.Table.leave.Goals as goal
 
@@ -35,7 +35,7 @@ leaves g c =
     }
 
 pub returns-clause-left : goal.returns-clause-left
-returns-clause-left g c other = rw (← c.self.view_is) (look-left _ _ _ _ _ _ (leaves g c) other)
+returns-clause-left g c other = rw (← c.self.view_is) (look_left _ _ _ _ _ _ (leaves g c) other)
 
 pub returns-clause-count : goal.returns-clause-count
-returns-clause-count g c = rw (← c.self.view_is) (length-left _ _ _ _ _ _ (leaves g c))
+returns-clause-count g c = rw (← c.self.view_is) (length_left _ _ _ _ _ _ (leaves g c))

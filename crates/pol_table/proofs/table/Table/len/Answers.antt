@@ -1,7 +1,7 @@
--- There are as many berths as seats.
+-- There are as many rows as seats.
 use Rattle.std.proofs.Common.{sym, ◌∙◌}
-use Rattle.pol_table.proofs.Views.{length-berths_of}
+use Rattle.pol_table.proofs.Views.{length_rows_of}
 use Rattle.pol_table.proofs.table.Table.len.Goals as goal
 
 pub returns : goal.returns
-returns g c = rw (← c.self.view_is) (c.len.ensures.len ∙ sym (length-berths_of _ _ c.self.invariant))
+returns g c = rw (← c.self.view_is) (c.len.ensures.len ∙ sym (length_rows_of _ _ c.self.invariant))

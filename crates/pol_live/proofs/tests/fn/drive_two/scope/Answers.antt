@@ -12,15 +12,15 @@ use Rattle.pol_site.specs.Actors.{actors}
 use Rattle.pol_live.specs.declared.job.Job as jobs
 use Rattle.pol_live.specs.contracts.live.LivePlant as live
 use Rattle.pol_live.specs.contracts.tests.Watched as watched
-use Rattle.pol_live.proofs.Joined.{all-home, joined}
-use Rattle.pol_live.proofs.Shared.{captured-send, live-sync, seat-send}
+use Rattle.pol_live.proofs.Joined.{all_home, joined}
+use Rattle.pol_live.proofs.Shared.{captured_send, live_sync, seat_send}
 use Rattle.pol_live.proofs.tests.fn.drive_two.scope.Goals as goal
 
 -- what the threads share may be shared
-watched-sync : (life : NamedLft) (J C : RattleType) (job : jobs.Ghosts J.Denot) (ledger : ledgers.Ghosts J.Denot)
+watched_sync : (life : NamedLft) (J C : RattleType) (job : jobs.Ghosts J.Denot) (ledger : ledgers.Ghosts J.Denot)
     (clock : clocks.Ghosts C.Denot) → IsSend J → IsSend C → IsSync (watched.the_row life J C job clock ledger)
-watched-sync life J C job ledger clock j c =
-    let plant : IsSync (live.the_row J C job clock ledger) = live-sync J C job ledger clock j c in
+watched_sync life J C job ledger clock j c =
+    let plant : IsSync (live.the_row J C job clock ledger) = live_sync J C job ledger clock j c in
     declared_sync (watched.the_type life J C job clock ledger) (
       as_row_sync (shr_ref_field life (live.the_row J C job clock ledger) tt)
           (shr_sync life.mir life.lft (live.the_row J C job clock ledger) plant),
@@ -33,13 +33,14 @@ returns g c =
     let same : length c.in_ok-home.home.items ≡ length c.loop-seat.children.items = search rules in
     let each = c.in_ok-home.ensures.each in
     rw c.in_ok-append.ensures.items
-    (all-home (length (actors g.J.Job.site)) _ _ _ _ _ c.loop-seat.invariant.2 none
-    (joined _ _ same (λ i other less. let kept = (each i other (search rules)).1 in (kept.handle, kept.handle_is, kept.kept)))
+    (all_home (length (actors g.J.Job.site)) _ _ _ _ _ c.loop-seat.invariant.2 none
+    (joined _ _ same (λ i other less. let kept = (each i other (search rules)).1 in
+    (kept.handle, kept.handle_is, kept.kept)))
     refl)
 
 pub spawn_with-requires-send-F : goal.spawn_with-requires-send-F
 spawn_with-requires-send-F g c =
     λ κs outlives.
-    captured-send _ _ _ _ _ _ _ c.requires.0
-    (watched-sync _ (param 0 g.row.J) (param 2 g.row.C) g.J.Job g.J.Ledger g.C.Clock c.requires.2 c.requires.1)
-    (seat-send (param 0 g.row.J) g.J.Job g.J.Ledger)
+    captured_send _ _ _ _ _ _ _ c.requires.0
+    (watched_sync _ (param 0 g.row.J) (param 2 g.row.C) g.J.Job g.J.Ledger g.C.Clock c.requires.2 c.requires.1)
+    (seat_send (param 0 g.row.J) g.J.Job g.J.Ledger)

@@ -1,0 +1,232 @@
+//! The words of the command line: what `pol` is asked to do.
+//!
+//! It knows nothing of the jobs themselves. `read_words` answers the task that the words ask for, as `clap`'s written
+//! meaning of the command reads them (`specs/Words.antt`).
+#![tactic(auto)]
+
+ghost use Rattle.std.specs.Prelude.{◌≡◌, ℕ, [], IfOk, IfErr, MatchOption, option_map};
+ghost use Rattle.pol_arguments.specs.Words.{option_rule, pol, texts_of, Asks, IsCount, IsSeed, Means};
+ghost use Rattle.pol_arguments.specs.declared.Task.{Task};
+ghost use Rattle.clap.specs.Words.{app_of, fault_of, found_of, matches_of, rows_of, with_rule};
+
+use clap::error::ErrorKind;
+use clap::{Arg, ArgAction, ArgMatches, Command};
+use std::alloc::{AllocError, Global};
+
+/// A job that one thread does from beginning to end.
+#[derive(Clone, Copy, Debug, PartialEq, Eq)]
+pub enum SerialTask {
+    /// `--job replay`: answer each line of a journal.
+    Replay,
+    /// `--job demo --seed N`: answer the demo journal of this seed, and count the answers.
+    Demo(u32),
+    /// `--job audit`: read what the plant prints, and say whether it is a true history.
+    Audit,
+}
+
+/// `--job plant`: run the site of the input with simulated modules.
+#[derive(Clone, Copy, Debug, PartialEq, Eq)]
+pub struct LiveTask {
+    /// How many threads read the status board meanwhile: `--watchers N`, 0 where it isn't given.
+    pub watchers: u16,
+}
+
+/// What the program is asked to do.
+#[derive(Clone, Copy, Debug, PartialEq, Eq)]
+pub enum Task {
+    /// A job that waits for nobody.
+    Serial(SerialTask),
+    /// A job that may wait.
+    Live(LiveTask),
+}
+
+/// How many watchers there may be.
+const MOST_WATCHERS: u16 = 16;
+
+/// Why the words give no task.
+#[derive(Clone, Copy, Debug, PartialEq, Eq)]
+pub enum WordFault {
+    /// The words ask for no task.
+    Refused,
+    /// There was no memory to read them.
+    Memory,
+}
+
+// The command with one more option, which takes one value.
+fn with_option<'a>(
+    alloc: Global,
+    command: Command<'a>,
+    name: &'a str,
+) -> Result<Command<'a>, AllocError>
+    ensures { IfOk result (λ new. app_of new ≡ with_rule (app_of command.entry) (option_rule name.now)) }
+{
+    command.arg(Arg::new(alloc, name).long(name).action(ArgAction::Set))
+}
+
+// One simple command whose options each take one value; help and version are switched off.
+#[tactic(auto, unfolding(crate::specs::Words::pol))]
+fn command<'a>(alloc: Global) -> Result<Command<'a>, AllocError>
+    ensures { IfOk result (λ command. app_of command ≡ pol) }
+{
+    let job = Arg::new(alloc, "job")
+        .long("job")
+        .action(ArgAction::Set)
+        .required(true);
+    let command = Command::new(alloc, "pol")
+        .disable_help_flag(true)
+        .disable_version_flag(true)
+        .arg(job)?;
+    let command = with_option(alloc, command, "seed")?;
+    with_option(alloc, command, "watchers")
+}
+
+#[tactic(auto, unfolding(crate::specs::Words::pol))]
+fn matches<'a>(alloc: Global, words: &'a [String]) -> Result<ArgMatches<'a>, WordFault>
+    ensures ok { IfOk result (λ found. (fault_of pol (texts_of words.now) ≡ [])
+        × (rows_of (found_of found) ≡ matches_of pol (texts_of words.now))) }
+    ensures refused { IfErr result (λ fault. fault ≡ WordFault.Refused → fault_of pol (texts_of words.now) ≡ [] → ⊥) }
+{
+    let Ok(command) = command(alloc) else {
+        return Err(WordFault::Memory);
+    };
+    match command.try_get_matches_from(words) {
+        Ok(matches) => Ok(matches),
+        Err(error) => {
+            if error.kind() == ErrorKind::OutOfMemory {
+                Err(WordFault::Memory)
+            } else {
+                Err(WordFault::Refused)
+            }
+        }
+    }
+}
+
+// The number of a seed, in decimal.
+fn seed_of(text: &str) -> Option<u32>
+    ensures { MatchOption result ((seed : ℕ) → IsSeed seed text.now → ⊥) (λ seed. IsSeed seed text.now) }
+{
+    text.parse().ok()
+}
+
+// The number of watchers, in decimal: none where no text is given.
+fn count_of(text: Option<&str>) -> Option<u16>
+    ensures { MatchOption result
+        ((count : ℕ) → IsCount count (option_map (λ text. text.now) text.entry) → ⊥)
+        (λ count. IsCount count (option_map (λ text. text.now) text.entry)) }
+{
+    let Some(text) = text else {
+        return Some(0);
+    };
+    let count = text.parse().ok()?;
+    if count > MOST_WATCHERS {
+        return None;
+    }
+    Some(count)
+}
+
+// The plant with so many watchers, in decimal.
+fn plant_of(watchers: Option<&str>) -> Option<Task>
+    ensures { MatchOption result
+        ((count : ℕ) → IsCount count (option_map (λ text. text.now) watchers.entry) → ⊥)
+        (λ task. (count : ℕ) × (task ≡ Task.Live (record { watchers = count }))
+        × IsCount count (option_map (λ text. text.now) watchers.entry)) }
+{
+    let watchers = count_of(watchers)?;
+    Some(Task::Live(LiveTask { watchers }))
+}
+
+// The task that these values ask for.
+fn task_of(job: Option<&str>, seed: Option<&str>, watchers: Option<&str>) -> Option<Task>
+    ensures { MatchOption result ((task : Task) → Asks (record {
+      job = option_map (λ text. text.now) job.entry;
+      seed = option_map (λ text. text.now) seed.entry;
+      watchers = option_map (λ text. text.now) watchers.entry;
+    }) task → ⊥) (Asks (record {
+      job = option_map (λ text. text.now) job.entry;
+      seed = option_map (λ text. text.now) seed.entry;
+      watchers = option_map (λ text. text.now) watchers.entry;
+    })) }
+{
+    match (job, seed, watchers) {
+        (Some("replay"), None, None) => Some(Task::Serial(SerialTask::Replay)),
+        (Some("demo"), Some(text), None) => {
+            let seed = seed_of(text)?;
+            Some(Task::Serial(SerialTask::Demo(seed)))
+        }
+        (Some("audit"), None, None) => Some(Task::Serial(SerialTask::Audit)),
+        (Some("plant"), None, watchers) => plant_of(watchers),
+        _ => None,
+    }
+}
+
+/// The task that the words ask for; the first word is the program's name. Refused are exactly the words that ask for
+/// no task: those that `clap` refuses for another cause than memory, a job that there isn't, a demo without a seed from
+/// 0 to 4294967295, another job with a seed, a plant with watchers other than 0 to 16, and another job with watchers.
+pub fn read_words(alloc: Global, words: &[String]) -> Result<Task, WordFault>
+    ensures ok { IfOk result (Means (texts_of words.now)) }
+    ensures refused { IfErr result (λ fault. fault ≡ WordFault.Refused → (task : Task)
+        → Means (texts_of words.now) task → ⊥) }
+{
+    let matches = matches(alloc, words)?;
+    match task_of(
+        matches.get_str("job"),
+        matches.get_str("seed"),
+        matches.get_str("watchers"),
+    ) {
+        Some(task) => Ok(task),
+        None => Err(WordFault::Refused),
+    }
+}
+
+#[cfg(test)]
+mod tests {
+    use super::*;
+    use std::test::Fail;
+
+    #[test]
+    fn only_the_words_of_a_job_give_a_task(rt: HostRuntime) -> Result<(), Fail> {
+        let replay = Ok(Task::Serial(SerialTask::Replay));
+        let demo = |seed: u32| Ok(Task::Serial(SerialTask::Demo(seed)));
+        let plant = |watchers: u16| Ok(Task::Live(LiveTask { watchers }));
+        let audit = Ok(Task::Serial(SerialTask::Audit));
+        let refused = Err(WordFault::Refused);
+        let cases: [(&str, Result<Task, WordFault>); 28] = [
+            ("pol --job replay", replay),
+            ("pol --job=replay", replay),
+            ("pol --job=demo --seed 0", demo(0)),
+            ("pol --seed=4294967295 --job demo", demo(4_294_967_295)),
+            ("pol --job plant", plant(0)),
+            ("pol --job plant --watchers 0", plant(0)),
+            ("pol --watchers=16 --job plant", plant(16)),
+            ("pol --job audit", audit),
+            ("pol --job=audit", audit),
+            ("pol", refused),
+            ("pol replay", refused),
+            ("pol --job", refused),
+            ("pol --job fly", refused),
+            ("pol --job demo", refused),
+            ("pol --job demo --seed", refused),
+            ("pol --job demo --seed 4294967296", refused),
+            ("pol --job demo --seed -1", refused),
+            ("pol --job demo --seed one", refused),
+            ("pol --seed 1", refused),
+            ("pol --job replay --seed 1", refused),
+            ("pol --job replay --job replay", refused),
+            ("pol --job plant --watchers 17", refused),
+            ("pol --job plant --watchers -1", refused),
+            ("pol --job plant --seed 1", refused),
+            ("pol --job replay --watchers 0", refused),
+            ("pol --job audit --seed 1", refused),
+            ("pol --job audit --watchers 0", refused),
+            ("pol --help", refused),
+        ];
+        for (line, task) in cases {
+            let mut words = Vec::new(rt.alloc());
+            for word in line.split(' ') {
+                words.push(word.to_string(rt.alloc())?)?;
+            }
+            assert_eq!(rt; read_words(rt.alloc(), &words), task);
+        }
+        Ok(())
+    }
+}

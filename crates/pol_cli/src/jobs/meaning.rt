@@ -1,0 +1,47 @@
+//! What a line of the journal says.
+ghost use Rattle.std.specs.Prelude.{◌≡◌, IfOk};
+ghost use Rattle.std.specs.List.{list_all};
+ghost use Rattle.pol_events.specs.Lines.{is_blank_byte};
+ghost use Rattle.pol_record.specs.Lines.{meaning_of};
+ghost use Rattle.pol_cli.specs.LineWork.{IsShort};
+ghost use Rattle.pol_cli.specs.Meanings.{IsOrderly, plain_meaning};
+
+use pol_events::{Event, LineFault, LineRefusal};
+use pol_lines::read_line;
+use std::alloc::{AllocError, Global};
+
+/// What a line of the journal says.
+#[derive(Drop)]
+pub enum LineMeaning {
+    /// Nothing: the line holds only spaces, tabs and carriage returns.
+    Nothing,
+    /// It isn't in the form of an event.
+    Fault(LineFault),
+    /// An event.
+    Event(Event),
+}
+
+/// Whether a line holds only spaces, tabs and carriage returns.
+pub fn is_blank(line: &[u8]) -> bool
+    ensures { result ≡ list_all is_blank_byte line.now }
+{
+    line.iter()
+        .all(|byte| *byte == b' ' || *byte == b'\t' || *byte == b'\r')
+}
+
+/// What a line says that isn't too long.
+#[tactic(auto, using(crate::proofs::Spoken::says_nothing, crate::proofs::Spoken::says_event, crate::proofs::Spoken::says_fault))]
+pub fn read_meaning(alloc: Global, line: &[u8]) -> Result<LineMeaning, AllocError>
+    requires { IsShort line.now }
+    ensures said { IfOk result (λ meaning. plain_meaning meaning ≡ meaning_of line.now) }
+    ensures orderly { IfOk result IsOrderly }
+{
+    if is_blank(line) {
+        return Ok(LineMeaning::Nothing);
+    }
+    match read_line(alloc, line) {
+        Ok(event) => Ok(LineMeaning::Event(event)),
+        Err(LineRefusal::Fault(fault)) => Ok(LineMeaning::Fault(fault)),
+        Err(LineRefusal::Memory) => Err(AllocError),
+    }
+}

@@ -1,0 +1,43 @@
+-- What every answer keeps that a program holds: its names are names, and its numbers have their widths.
+use Rattle.std.specs.Prelude.{nat_le, Bool, true, ◌&&◌, List, length}
+use Rattle.std.specs.List.{list_all}
+use Rattle.mtp_codes.specs.Names.{is_name}
+use Rattle.mtp_codes.specs.Numbers.{greatest_i64, greatest_u32, is_between, is_within, least_i64}
+use Rattle.mtp_codes.specs.declared.value.Reading.{Reading}
+use Rattle.mtp_codes.specs.declared.value.Reading.TheVariants.{Whole, Bit}
+use Rattle.chart_core.specs.declared.entry.LogEntry.{LogEntry}
+use Rattle.chart_core.specs.declared.entry.LogEntry.TheVariants.{Start}
+use Rattle.pol_events.specs.Fields.{PlainField, PlainFieldValue, number, readings, text}
+use Rattle.pol_events.specs.RuleTable.{rule_row}
+use Rattle.pol_events.specs.declared.answer.Answer.{Answer}
+use Rattle.pol_events.specs.declared.answer.Answer.TheVariants.{Done, Ticket, Did, Waiting, Closed, Refused}
+use Rattle.pol_record.specs.Rows.{entry_row, obstacle_row}
+
+-- a whole number of a reading has 64 bits
+abbrev pub is_reading_in_range : Reading → Bool
+is_reading_in_range (Whole z) = is_within least_i64 greatest_i64 z
+is_reading_in_range (Bit bit) = true
+
+-- a text is a name, a number has 32 bits, and readings are at most four
+abbrev pub is_value_in_range : PlainFieldValue → Bool
+is_value_in_range (text told) = is_name told
+is_value_in_range (number told) = is_between 0 greatest_u32 told
+is_value_in_range (readings told) = nat_le (length told) 4 && list_all is_reading_in_range told
+
+-- each field is so
+abbrev pub are_in_range : List PlainField → Bool
+are_in_range fields = list_all (λ field. is_value_in_range field.value) fields
+
+-- the number of a procedure has 16 bits
+abbrev pub is_start_in_range : LogEntry → Bool
+is_start_in_range (Start step tag service procedure) = is_between 0 65535 procedure
+is_start_in_range _ = true
+
+-- an answer's fields are so
+abbrev pub is_in_range : Answer → Bool
+is_in_range Done = true
+is_in_range (Ticket ticket) = is_between 0 greatest_u32 ticket
+is_in_range (Did entry) = are_in_range (entry_row entry).fields && is_start_in_range entry
+is_in_range (Waiting obstacle) = are_in_range (obstacle_row obstacle).fields
+is_in_range (Closed outcome) = true
+is_in_range (Refused rule) = are_in_range (rule_row rule).fields

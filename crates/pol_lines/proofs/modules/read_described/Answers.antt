@@ -1,0 +1,25 @@
+use Rattle.std.proofs.Common.{◌≡◌, [], refl, sym, subst, arith, codes}
+use Rattle.std.proofs.lemmas.Grind.{common_steps}
+use Rattle.mtp_desc.specs.PlainDescription.{plain_description}
+use Rattle.mtp_desc.specs.Form.{description_of}
+use Rattle.mtp_json.specs.Form.{nested_if_present}
+use Rattle.pol_events.specs.Events.{plain_event}
+use Rattle.pol_lines.specs.Objects.{IsObject, with_value}
+use Rattle.pol_lines.proofs.Making.{line_with_value}
+use Rattle.pol_lines.proofs.modules.read_described.Goals as goal
+
+pub returns : goal.returns
+returns c =
+    let line = c.args.line.now in
+    let made = plain_description c.in_ok-description.description in
+    let passed = c.in_ok-cut.ensures 7 (codes "desc") (omega arith) refl (record { plain = refl; no_key = refl }) in
+    let gives = rw c.in_ok-description.was at passed.gives in
+    let read = c.read_flats.ensures 7 line _ (passed.passes line _ [] (c.requires 7)) in
+    let rest = c.in-End.rest.now in
+    let is = subst (λ held. IsObject 7 line held (with_value (codes "desc") passed.value []) rest)
+    (sym c.as_slice.ensures.value) (rw c.in-End.is at read) in
+    let ends : rest ≡ [] = grind (arith, common_steps, c.if-not-is_empty.ensures) in
+    line_with_value description_of made 7 line rest (codes "desc") c.as_slice.result.now passed.value
+    (plain_event c.in_ok-event.event) (omega arith) (c.if-not-is_text.ensures refl) gives is ends
+    c.in_ok-event.ensures.says
+    c.in_ok-event.ensures.faultless

@@ -1,0 +1,206 @@
+-- Which batch holds a module: what every event keeps of it.
+use Rattle.std.proofs.Common.{◌≡◌, ℕ, Bool, true, false, cond, List, ◌∷◌, Option, Some, None, refl, ap, sym, ◌∙◌, subst}
+use Rattle.std.specs.Prelude.{◌&&◌, is_none, if◌then◌else◌}
+use Rattle.std.specs.List.{Contains}
+use Rattle.std.specs.Option.{option_or}
+use Rattle.std.specs.Str.{bytes_eq}
+use Rattle.mtp_codes.specs.Names.{is_among}
+use Rattle.chart_core.specs.Roles.{PlainChart, role_names}
+use Rattle.pol_events.specs.Events.{PlainEvent, start, PlainEntry}
+use Rattle.pol_events.specs.declared.event.Bind.{Bind}
+use Rattle.pol_events.specs.Bound.{bound_tag, tags_of}
+use Rattle.pol_history.proofs.Holders.{no_taking}
+use Rattle.pol_history.proofs.Open.{open_before, open_some}
+use Rattle.pol_history.specs.Looking.{History, past_of_batch, recipes, is_accepted, last_of}
+use Rattle.pol_history.specs.Batches.{Started, starting, start_by, start_of, chart_named, chart_by, outcome_by, outcome_of, taking, takes, if_open, holder_of}
+use Rattle.pol_history.specs.Rules.{busy_module, busy_role}
+use Rattle.pol_history.specs.Runs.{IsLegal, IsOrderly}
+use Rattle.pol_history.proofs.Names.{same_refl}
+use Rattle.pol_safety.specs.Kept.{HoldersAreOpen}
+use Rattle.pol_events.proofs.Options.{no_both}
+use Rattle.pol_events.proofs.Lists.{member_image, image_member, member_among, among_member, none_first}
+use Rattle.pol_safety.proofs.Sides.{Sides, sides, accepted, Comes, IsKeptBy, always}
+use Rattle.pol_history.proofs.Binds.{IsFitting}
+use Rattle.pol_safety.proofs.Starts.{MayStart, may_start, start_fits, start_same, start_stays, StartCase, its_own, earlier, start_case, charted}
+
+-- ---- holders
+
+-- a module is held by the batch that took it last, while that batch is open
+pub holder_is : (history : History) (tag batch : List ℕ) → last_of (takes tag) history ≡ Some batch
+    → outcome_of history batch ≡ None → holder_of history tag ≡ Some batch
+holder_is history tag batch took open' =
+    ap (if_open history) took ∙ ap (λ outcome. if is_none outcome then Some batch else None) open'
+
+pub holder_parts : (history : History) (tag batch : List ℕ) → holder_of history tag ≡ Some batch →
+    (last_of (takes tag) history ≡ Some batch) × (outcome_of history batch ≡ None)
+holder_parts history tag batch is = open_some history (last_of (takes tag) history) batch is
+
+-- ---- who took a module last
+
+-- an event that is no start takes no module
+taker_same : (history : History) (entry : PlainEntry) (tag : List ℕ) → starting entry.event ≡ None
+    → last_of (takes tag) (entry ∷ history) ≡ last_of (takes tag) history
+taker_same history entry tag is = go (is_accepted entry.answer)
+  where
+    go : (kept : Bool) → option_or (if kept then taking tag entry.event else None) (last_of (takes tag) history)
+        ≡ last_of (takes tag) history
+    go true = ap (λ found. option_or found (last_of (takes tag) history)) (no_taking tag entry.event is)
+    go false = refl
+
+-- the batch with this past was started on the module
+pub record IsStartedOn (past : History) (tag : List ℕ) : Type 0 where
+  pub started : Started
+  pub start_is : start_by past ≡ Some started
+  pub bind : Bind
+  pub binds : Contains started.binds bind
+  pub tag_is : bind.tag ≡ tag
+
+-- the batch that took a module last was started on it
+abbrev pub TakersStarted : Sides → Type 0
+TakersStarted side = (tag batch : List ℕ) → side.taker tag ≡ Some batch → IsStartedOn (side.batches batch) tag
+
+started_stays : (history : History) (event : PlainEvent) (batch tag : List ℕ) → Comes history event
+    → IsStartedOn (past_of_batch batch history) tag →
+    IsStartedOn (past_of_batch batch (accepted history event ∷ history)) tag
+started_stays history event batch tag comes on =
+    record {
+      started = on.started;
+      start_is = start_stays history event batch on.started comes on.start_is;
+      bind = on.bind;
+      binds = on.binds;
+      tag_is = on.tag_is;
+    }
+
+started_by : (history : History) (event : PlainEvent) → starting event ≡ None → Comes history event
+    → TakersStarted (sides history) →
+    TakersStarted (sides (accepted history event ∷ history))
+started_by history event is comes takers tag batch took =
+    started_stays history event batch tag comes (takers tag batch
+    (sym (taker_same history (accepted history event) tag is) ∙ took))
+
+takers_more : IsKeptBy TakersStarted
+takers_more history (start at other name binds) comes takers tag batch took =
+    go (is_among (tags_of binds) tag) refl took
+  where
+    own : bytes_eq other batch ≡ true → (bind : Bind) × Contains binds bind × (bind.tag ≡ tag) →
+        IsStartedOn (cond (bytes_eq other batch && true)
+        (accepted history (start at other name binds) ∷ past_of_batch batch history)
+        (past_of_batch batch history)) tag
+    own same (bind, inside, tag_is) =
+        record {
+          started = record { recipe = name; binds = binds };
+          start_is = ap (λ kept.
+              start_by (cond (kept && true) (accepted history (start at other name binds) ∷ past_of_batch batch history)
+              (past_of_batch batch history))) same;
+          bind = bind;
+          binds = inside;
+          tag_is = tag_is;
+        }
+
+    go : (among : Bool) → is_among (tags_of binds) tag ≡ among
+        → option_or (if among then Some other else None) (last_of (takes tag) history) ≡ Some batch →
+        IsStartedOn (past_of_batch batch (accepted history (start at other name binds) ∷ history)) tag
+    go false is took = started_stays history (start at other name binds) batch tag comes (takers tag batch took)
+    go true is took =
+        let same : other ≡ batch = cc in
+        own (ap (bytes_eq other) (sym same) ∙ same_refl other)
+        (member_image (λ bind. bind.tag) binds tag (among_member (tags_of binds) tag is))
+takers_more history event comes takers tag batch took = started_by history event refl comes takers tag batch took
+
+pub takers_started : (history : History) → IsLegal history → IsOrderly history → TakersStarted (sides history)
+takers_started = always TakersStarted (λ tag batch took. cc) takers_more
+
+pub holders_open : HoldersAreOpen
+holders_open history tag batch legal orderly is =
+    let parts = holder_parts history tag batch is in
+    let on = takers_started history legal orderly tag batch parts.0 in
+    let charted = charted history legal orderly batch on.started on.start_is in
+    record {
+      started = on.started;
+      chart = charted.chart;
+      is_open = record {
+        start = on.start_is;
+        chart_is = ap (chart_by (recipes history)) on.start_is
+            ∙ charted.chart_is;
+        unclosed = parts.1;
+      };
+      bind = on.bind;
+      binds = on.binds;
+      tag_is = on.tag_is;
+    }
+
+-- ---- an open batch holds its modules
+
+-- a module that no rule of a start is against isn't held
+not_held : (history : History) (batch : List ℕ) (binds : List Bind) (chart : PlainChart) (bind : Bind)
+    → MayStart history batch binds chart → IsFitting chart binds →
+    Contains binds bind → holder_of history bind.tag ≡ None
+not_held history batch binds chart bind may fits inside =
+    free (holder_of history bind.tag)
+    (ap (busy_role history) (sym (fits.paired.by_role bind inside))
+    ∙ none_first (λ role. busy_role history (bound_tag binds role)) (role_names chart) bind.role may.free
+    (fits.known bind inside))
+  where
+    free : (found : Option (List ℕ)) → busy_module bind.tag found ≡ None → found ≡ None
+    free None none = refl
+    free (Some other) none = cc
+
+-- each module that an open batch binds was taken last by it
+abbrev pub OpenHold : Sides → Type 0
+OpenHold side =
+    (batch : List ℕ) (started : Started) → start_by (side.batches batch) ≡ Some started
+    → outcome_by (side.batches batch) ≡ None →
+    (bind : Bind) → Contains started.binds bind → side.taker bind.tag ≡ Some batch
+
+hold_by : (history : History) (event : PlainEvent) → starting event ≡ None → OpenHold (sides history)
+    → OpenHold (sides (accepted history event ∷ history))
+hold_by history event is hold batch started start_is open' bind inside =
+    taker_same history (accepted history event) bind.tag is
+    ∙ hold batch started (sym (start_same history (accepted history event) batch is) ∙ start_is)
+    (open_before history (accepted history event) batch open') bind inside
+
+hold_more : IsKeptBy OpenHold
+hold_more history (start at other name binds) comes hold batch started start_is open' bind inside =
+    go (start_case history batch started at other name binds start_is)
+  where
+    may : (chart : PlainChart) × (chart_named name (recipes history) ≡ Some chart) × MayStart history other binds chart
+    may = may_start history other binds (chart_named name (recipes history)) comes.free
+
+    took : (among : Bool) → is_among (tags_of binds) bind.tag ≡ among → last_of (takes bind.tag) history ≡ Some batch →
+        option_or (if among then Some other else None) (last_of (takes bind.tag) history) ≡ Some batch
+    took false is before = before
+    took true is before =
+        let open_was = open_before history (accepted history (start at other name binds)) batch open' in
+        let (taken_one, within, same) = member_image (λ bind. bind.tag) binds bind.tag
+        (among_member (tags_of binds) bind.tag is) in
+        no_both (holder_of history bind.tag) batch
+        (ap (holder_of history) (sym same)
+        ∙ not_held history other binds may.0 taken_one may.2
+        (start_fits history other binds may.0 comes.is_formed may.2) within)
+        (holder_is history bind.tag batch before open_was)
+
+    go : StartCase history batch started other name binds
+        → option_or (if is_among (tags_of binds) bind.tag then Some other else None) (last_of (takes bind.tag) history)
+        ≡ Some batch
+    go (earlier is before) =
+        took (is_among (tags_of binds) bind.tag) refl
+        (hold batch started before (open_before history (accepted history (start at other name binds)) batch
+        open') bind inside)
+    go (its_own is same) =
+        let within : Contains binds bind = subst (λ started. Contains started.binds bind) (sym same) inside in
+        ap (λ among. option_or (if among then Some other else None) (last_of (takes bind.tag) history))
+        (member_among (tags_of binds) bind.tag (image_member (λ bind. bind.tag) binds bind within))
+        ∙ ap Some is
+hold_more history event comes hold batch started start_is open' bind inside =
+    hold_by history event refl hold batch started start_is open' bind inside
+
+pub open_hold : (history : History) → IsLegal history → IsOrderly history → OpenHold (sides history)
+open_hold = always OpenHold (λ batch started start_is open' bind inside. cc) hold_more
+
+-- an open batch holds each module that it binds
+pub holds : (history : History) (batch : List ℕ) (started : Started) → IsLegal history → IsOrderly history
+    → start_of history batch ≡ Some started →
+    outcome_of history batch ≡ None → (bind : Bind) → Contains started.binds bind
+    → holder_of history bind.tag ≡ Some batch
+holds history batch started legal orderly start_is open' bind inside =
+    holder_is history bind.tag batch (open_hold history legal orderly batch started start_is open' bind inside) open'

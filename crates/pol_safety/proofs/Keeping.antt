@@ -1,0 +1,78 @@
+-- What holds of every open batch.
+use Rattle.std.proofs.Common.{◌≡◌, Some, ap, sym, ◌∙◌, subst}
+use Rattle.std.specs.Prelude.{filter}
+use Rattle.std.specs.List.{Contains}
+use Rattle.chart_core.specs.Active.{is_active}
+use Rattle.chart_core.specs.Trees.{PlainStep, steps}
+use Rattle.chart_cursor.specs.Logs.{active}
+use Rattle.chart_cursor.specs.Sights.{sight_of_view}
+use Rattle.pol_events.specs.declared.event.Bind.{Bind}
+use Rattle.pol_history.specs.Looking.{past, recipes}
+use Rattle.pol_history.specs.Following.{service_sight, sight_in}
+use Rattle.pol_history.specs.Modules.{view_of}
+use Rattle.pol_history.specs.Batches.{chart_named, chart_by, log_of, holder_of}
+use Rattle.pol_safety.specs.Kept.{IsReported, IsCovered, BatchesAreKept}
+use Rattle.pol_safety.specs.Known.{OpenBatchesSee}
+use Rattle.pol_events.proofs.Lists.{member_kept, member_image}
+use Rattle.pol_safety.proofs.Holding.{holds}
+use Rattle.pol_safety.proofs.Covering.{all_cover}
+use Rattle.pol_safety.proofs.Reporting.{each_is_seen}
+use Rattle.pol_safety.proofs.Starts.{running_fits}
+
+-- what every event keeps of an open batch
+pub batches_kept : BatchesAreKept
+batches_kept history batch started chart legal orderly is_open =
+    record { held = held; covered = covered; reported = reported }
+  where
+    chart_is : chart_named started.recipe (recipes history) ≡ Some chart
+    chart_is = ap (chart_by (recipes history)) (sym is_open.start) ∙ is_open.chart_is
+
+    held : (bind : Bind) → Contains started.binds bind → holder_of history bind.tag ≡ Some batch
+    held = holds history batch started legal orderly is_open.start is_open.unclosed
+
+    covered : (bind : Bind) → Contains started.binds bind → IsCovered history chart bind.role bind.tag
+    covered bind inside =
+        let covers = all_cover history legal orderly batch started chart is_open.start chart_is is_open.unclosed bind
+        inside in
+        record {
+          is_there = covers.is_there;
+          description = covers.description;
+          described = covers.described;
+          covered = covers.covered;
+        }
+
+    reported : (step : PlainStep) → Contains (active chart (log_of history batch)) step
+        → IsReported history started step
+    reported step inside =
+        let (placed, within, same) = member_image (λ placed. placed.step)
+        (filter (is_active (log_of history batch)) (steps chart.root 0)) step inside in
+        let (member, is) = member_kept (is_active (log_of history batch)) (steps chart.root 0) placed within in
+        let seen = each_is_seen history legal orderly batch started chart is_open.start chart_is is_open.unclosed placed
+        member is in
+        subst (IsReported history started) same
+        (record {
+          tag = seen.tag;
+          bound = seen.bound;
+          count = seen.live.count;
+          is_docked = seen.live.is_docked;
+          view = seen.live.view;
+          seen = seen.live.seen;
+        })
+
+-- an open batch sees its modules
+pub batches_see : OpenBatchesSee
+batches_see history batch started chart legal orderly is_open =
+    let kept = batches_kept history batch started chart legal orderly is_open in
+    let chart_is = ap (chart_by (recipes history)) (sym is_open.start) ∙ is_open.chart_is in
+    let fits = running_fits history batch started chart legal orderly
+    (record { start_is = is_open.start; chart_is = chart_is; unclosed = is_open.unclosed }) in
+    record {
+      tags = fits.bound;
+      views = λ step inside.
+          let reported = kept.reported step inside in (
+            reported.view,
+            ap (service_sight (λ tag. past tag history) step.service) reported.bound
+                ∙ ap (λ docking. sight_in docking (view_of history reported.tag step.service)) reported.is_docked
+                ∙ ap sight_of_view reported.seen,
+          );
+    }
