@@ -11,6 +11,7 @@ pub mod Changing
 pub mod Apart
 pub mod Validity
 pub mod Fronts
+pub mod Latest
 pub mod Logs
 pub mod Few
 pub mod Lawful

@@ -49,6 +49,3 @@ pub use role::Role;
 pub use size::{arms_count, node_count};
 pub use truth::{is_true, passes};
 pub use why::Why;
-
-#[cfg(test)]
-mod tests;

@@ -24,6 +24,3 @@ pub use charts::{make_chart, node_at, read_chart, roles_at};
 pub use nodes::read_node;
 pub use roles::read_roles;
 pub use writing::write_chart;
-
-#[cfg(test)]
-mod tests;

@@ -15,6 +15,3 @@ pub use check::{ValueFault, check_value, check_view};
 pub use control::ServiceControl;
 pub use param::{Param, ParamKind};
 pub use variable::{View, ViewKind};
-
-#[cfg(test)]
-mod tests;

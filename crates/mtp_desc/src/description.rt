@@ -67,7 +67,8 @@ fn place_of_variable(variables: &[View], name: Name) -> Option<usize>
 
 impl Description {
     ghost use Rattle.mtp_desc.specs.PlainDescription.{plain_description};
-    ghost use Rattle.mtp_desc.specs.Lookup.{self_completes, service_named, service_place, variable_named, variable_place};
+    ghost use Rattle.mtp_desc.specs.Lookup.{self_completes, service_named, service_place};
+    ghost use Rattle.mtp_desc.specs.Lookup.{variable_named, variable_place};
 
     /// The service of this name.
     pub fn service(&self, name: Name) -> Option<&Service>

@@ -28,6 +28,3 @@ pub use procedure::Procedure;
 pub use reading::{DescriptionJson, read_description};
 pub use service::Service;
 pub use writing::write_description;
-
-#[cfg(test)]
-mod tests;

@@ -40,6 +40,3 @@ pub use placed::{
 };
 pub use words::Words;
 pub use written::{ToJson, write_list, write_scalar};
-
-#[cfg(test)]
-mod tests;

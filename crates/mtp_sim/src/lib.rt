@@ -20,6 +20,3 @@ pub use plan::{Drift, SimPlan};
 pub use report::SimReport;
 pub use service::SimService;
 pub use sim::Sim;
-
-#[cfg(test)]
-mod tests;

@@ -1,28 +1,25 @@
 -- A turn of a batch, and one of the desk, keep all that is kept.
-use Rattle.std.proofs.Common.{◌≡◌, ◌⊎◌, inl, inr, ◌≤◌, ◌+◌, ℕ, suc, Bool, true, false, cond, List, [], ◌∷◌, ◌++◌, length, Option, Some, None, refl, ap, sym, ◌∙◌, subst, arith}
-use Rattle.std.specs.Prelude.{◌&&◌, ◌||◌, nat_lt, filter, is_some, slice_get, slice_set, if◌then◌else◌}
+use Rattle.std.proofs.Common.{◌≡◌, ◌⊎◌, inl, inr, ◌≤◌, ◌+◌, ℕ, suc, Bool, true, false, List, [], ◌∷◌, ◌++◌, length, Option, Some, None, refl, ap, sym, ◌∙◌, subst, arith}
+use Rattle.std.specs.Prelude.{nat_lt, is_some, slice_get, slice_set, if◌then◌else◌}
 use Rattle.std.specs.Str.{bytes_eq}
 use Rattle.std.proofs.lemmas.Option.{same_Some}
 use Rattle.mtp_codes.specs.Faults.{when}
-use Rattle.mtp_codes.specs.declared.command.Command.{Command}
-use Rattle.chart_core.specs.declared.entry.LogEntry.{LogEntry}
 use Rattle.chart_cursor.specs.Commands.{Sent, sent_by}
 use Rattle.pol_events.specs.Events.{PlainEntry, PlainEvent, start, advance, desk}
 use Rattle.pol_events.specs.declared.answer.Answer.{Answer}
 use Rattle.pol_events.specs.declared.answer.Answer.TheVariants.{Done, Ticket, Did, Waiting, Closed, Refused}
 use Rattle.pol_events.specs.declared.answer.Rule.TheVariants.{HistoryFull}
-use Rattle.pol_history.specs.Answers.{answer_of, is_full, otherwise, rules}
-use Rattle.pol_history.specs.Commands.{sent_command}
+use Rattle.pol_history.specs.Answers.{answer_of, is_full, rules}
 use Rattle.pol_history.specs.Looking.{History, is_accepted, is_batch, past, subject}
 use Rattle.pol_history.proofs.Accepted.{paired}
 use Rattle.pol_history.proofs.Names.{same_true}
 use Rattle.pol_history.specs.Modules.{is_moving}
 use Rattle.pol_site.specs.Actors.{owner_of}
 use Rattle.pol_site.specs.Commanded.{IsCommanded}
-use Rattle.pol_site.specs.Following.{IsAllowed, is_order, ordered}
+use Rattle.pol_site.specs.Following.{IsAllowed, ordered}
 use Rattle.pol_site.specs.Settled.{waits_to_order}
 use Rattle.pol_site.specs.Sites.{PlainSite, PlainSiteModule, PlainSiteBatch, PlainSiteDesk}
-use Rattle.pol_site.specs.Stories.{if_to, sent_to, touches}
+use Rattle.pol_site.specs.Stories.{if_to}
 use Rattle.pol_stillness.proofs.Desks.{desks_refused}
 use Rattle.pol_actors.specs.Batches.{batch_event, stage_after}
 use Rattle.pol_actors.specs.Kept.{AreStages, IsKept, IsStage, IsUnit}
@@ -32,7 +29,7 @@ use Rattle.pol_actors.specs.declared.batch.Stage.{Stage}
 use Rattle.pol_actors.specs.declared.desk.Desk.{Desk}
 use Rattle.pol_actors.specs.declared.exchanger.Exchanger.{Exchanger}
 use Rattle.pol_actors.specs.declared.unit.Unit.{Unit as Module}
-use Rattle.pol_actors.proofs.Commanded.{Commands, commanded_more, unmoved, untouched}
+use Rattle.pol_actors.proofs.Commanded.{commanded_more, unmoved, untouched}
 use Rattle.pol_actors.proofs.Exchanging.{exchanger_other}
 use Rattle.pol_actors.proofs.Numbers.{lt_not, set_got, set_long, within_item}
 use Rattle.pol_actors.proofs.Owners.{names_apart, owned_more, owner_batch, owner_desk}

@@ -1,19 +1,18 @@
 -- A turn of the exchanger keeps all that is kept.
-use Rattle.std.proofs.Common.{◌≡◌, ◌⊎◌, inl, inr, ◌≤◌, ◌+◌, ℕ, suc, Bool, true, false, cond, List, [], ◌∷◌, ◌++◌, length, get_or, Option, Some, None, refl, ap, sym, ◌∙◌, subst, arith}
-use Rattle.std.specs.Prelude.{◌&&◌, ◌||◌, pred, option_and_then, slice_get, slice_set, if◌then◌else◌}
+use Rattle.std.proofs.Common.{◌≡◌, ◌⊎◌, inl, inr, ◌≤◌, ◌+◌, ℕ, Bool, true, false, List, [], ◌∷◌, ◌++◌, length, Option, Some, None, refl, ap, sym, ◌∙◌, subst}
+use Rattle.std.specs.Prelude.{◌&&◌, pred, option_and_then, slice_get, if◌then◌else◌}
 use Rattle.std.specs.Str.{bytes_eq}
 use Rattle.std.proofs.lemmas.List.Quantifiers.{position-Some}
 use Rattle.std.proofs.lemmas.Option.{get_or_from_slice_get, same_Some}
 use Rattle.mtp_codes.specs.Faults.{when}
-use Rattle.mtp_desc.specs.Plain.{PlainDescription}
-use Rattle.pol_events.specs.Events.{PlainEntry, PlainEvent, plug, recipe, exchange_begin, exchange_end, exchange_cancel}
+use Rattle.pol_events.specs.Events.{PlainEntry, PlainEvent, plug, exchange_begin, exchange_cancel}
 use Rattle.pol_events.specs.declared.answer.Answer.{Answer}
 use Rattle.pol_events.specs.declared.answer.Answer.TheVariants.{Done, Ticket, Did, Waiting, Closed, Refused}
 use Rattle.pol_events.specs.declared.answer.Rule.TheVariants.{HistoryFull}
-use Rattle.pol_history.specs.Answers.{answer_of, first_rule, is_full, otherwise, rules}
+use Rattle.pol_history.specs.Answers.{answer_of, is_full, otherwise, rules}
 use Rattle.pol_history.specs.Commands.{sent_command}
-use Rattle.pol_history.specs.Looking.{History, is_accepted, is_accepted_of, is_batch, is_module, past, subject}
-use Rattle.pol_history.specs.Modules.{Docking, absent, docked, away, docking_of, is_moving, next_ticket, since_docking}
+use Rattle.pol_history.specs.Looking.{History, is_accepted, is_batch, is_module, subject}
+use Rattle.pol_history.specs.Modules.{Docking, absent, docked, away, docking_of, is_moving}
 use Rattle.pol_history.specs.Rules.{tag_taken}
 use Rattle.pol_history.proofs.Accepted.{accepted_none, accepted_otherwise, paired}
 use Rattle.pol_history.proofs.Names.{same_refl, same_true}
@@ -34,13 +33,13 @@ use Rattle.pol_actors.specs.declared.exchanger.Errand.{Errand}
 use Rattle.pol_actors.specs.declared.exchanger.Errand.TheVariants as task
 use Rattle.pol_actors.specs.declared.exchanger.Exchanger.{Exchanger}
 use Rattle.pol_actors.specs.declared.unit.Unit.{Unit as Module}
-use Rattle.pol_actors.proofs.Commanded.{Commands, commanded_more, fresh, unmoved, untouched}
+use Rattle.pol_actors.proofs.Commanded.{Commands, commanded_more, fresh, untouched}
 use Rattle.pol_actors.proofs.Exchanging.{IsErrand, IsErrandKind, begins, cancels, ends, knows, plugs}
 use Rattle.pol_actors.proofs.Numbers.{set_got, set_long}
-use Rattle.pol_actors.proofs.Owners.{names_apart, owned_more, position_at}
+use Rattle.pol_actors.proofs.Owners.{owned_more, position_at}
 use Rattle.pol_actors.proofs.Stages.{stage_other}
 use Rattle.pol_actors.proofs.Stamped.{IsNext, entry_at, next_kept, owner_stamped}
-use Rattle.pol_actors.proofs.Units.{moved_fresh, refused_none, sends_none, touches_none, touches_refused, unit_begun, unit_cancelled, unit_ended, unit_plugged, unit_untouched}
+use Rattle.pol_actors.proofs.Units.{moved_fresh, sends_none, touches_none, touches_refused, unit_begun, unit_cancelled, unit_ended, unit_plugged, unit_untouched}
 
 -- ---- one module
 

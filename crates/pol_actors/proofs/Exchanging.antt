@@ -1,19 +1,17 @@
 -- The exchanger: where it stands after one more entry, what it does next, and when it has nothing to do.
-use Rattle.std.proofs.Common.{◌≡◌, ◌<◌, ◌≤◌, ◌+◌, ℕ, suc, zero, Bool, true, false, cond, not, List, [], ◌∷◌, ◌++◌, length, map, Option, Some, None, refl, ap, sym, ◌∙◌, subst, arith, length-append}
-use Rattle.std.specs.Prelude.{◌&&◌, ◌||◌, ◌==◌, pred, nat_lt, nat_le, is_some, filter, option_map, option_and_then, unwrap_or, slice_get, if◌then◌else◌}
-use Rattle.std.specs.List.{list_all, list_any}
+use Rattle.std.proofs.Common.{◌≡◌, ◌<◌, ◌≤◌, ◌+◌, ℕ, suc, zero, Bool, true, false, cond, not, List, [], ◌∷◌, length, map, Option, Some, None, refl, ap, sym, ◌∙◌, subst, arith, length-append}
+use Rattle.std.specs.Prelude.{◌&&◌, ◌||◌, ◌==◌, pred, nat_lt, nat_le, is_some, filter, option_map, option_and_then, slice_get, if◌then◌else◌}
+use Rattle.std.specs.List.{list_any}
 use Rattle.std.specs.Option.{option_or}
 use Rattle.std.specs.Str.{bytes_eq}
-use Rattle.std.proofs.lemmas.Bool.{and_right, eqb-true}
+use Rattle.std.proofs.lemmas.Bool.{eqb-true}
 use Rattle.std.proofs.lemmas.Bool.Decides.{nat_tests}
 use Rattle.std.proofs.lemmas.List.{length-map}
 use Rattle.std.proofs.lemmas.Option.{same_Some}
 use Rattle.mtp_codes.specs.declared.limits.TheConstants.{MOST_MODULES}
 use Rattle.mtp_codes.specs.Faults.{when, first_of}
-use Rattle.mtp_codes.specs.Names.{is_among}
 use Rattle.mtp_assembly.specs.declared.control.ServiceControl.{ServiceControl}
 use Rattle.mtp_desc.specs.Plain.{PlainDescription, PlainService}
-use Rattle.chart_core.specs.Roles.{PlainChart}
 use Rattle.chart_core.specs.Trees.{PlainStep}
 use Rattle.chart_cursor.specs.Logs.{active}
 use Rattle.pol_events.specs.Bound.{step_on}
@@ -23,10 +21,10 @@ use Rattle.pol_events.specs.Refusals.{in_exchange, service_not_at_rest, wrong_ti
 use Rattle.pol_events.specs.declared.answer.Answer.{Answer}
 use Rattle.pol_events.specs.declared.answer.Answer.TheVariants.{Done, Ticket, Did, Waiting, Closed, Refused}
 use Rattle.pol_events.specs.declared.answer.Rule.{Rule}
-use Rattle.pol_events.specs.declared.answer.Rule.TheVariants.{ActiveStep, NotAtRest, HeldBack, HistoryFull, PlantFull}
-use Rattle.pol_history.specs.Answers.{answer_of, first_rule, is_full, rules, otherwise}
+use Rattle.pol_events.specs.declared.answer.Rule.TheVariants.{ActiveStep, NotAtRest, HeldBack, PlantFull}
+use Rattle.pol_history.specs.Answers.{answer_of, first_rule, is_full}
 use Rattle.pol_history.specs.Batches.{chart_by, holder_of, log_by, start_by}
-use Rattle.pol_history.specs.Looking.{History, is_accepted, last_of, past, past_of_batch, recipes}
+use Rattle.pol_history.specs.Looking.{History, is_accepted, past, past_of_batch, recipes}
 use Rattle.pol_history.specs.Modules.{Docking, absent, docked, away, control_by, description_by, docking_by, docking_of, next_ticket, present_after, present_tags, tags_without, ticket_of}
 use Rattle.pol_history.specs.Rules.{active_step, module_not_at_rest, no_module, not_in_exchange, plant_full, tag_taken}
 use Rattle.pol_history.specs.Runs.{IsLegal}
@@ -35,7 +33,7 @@ use Rattle.pol_history.proofs.Names.{same_refl, same_true}
 use Rattle.pol_core.specs.Calls.{refusal}
 use Rattle.pol_safety.specs.Known.{is_there}
 use Rattle.pol_site.specs.Actors.{owner_of}
-use Rattle.pol_site.specs.Following.{FollowsSite, IsAllowed, Exchanging, begun_with, ended_with, exchanging, is_opening, last_exchanging, none_open, opened, openings, was_begun, was_held}
+use Rattle.pol_site.specs.Following.{FollowsSite, IsAllowed, begun_with, ended_with, exchanging, none_open, opened, openings, was_begun, was_held}
 use Rattle.pol_site.specs.Plans.{begun_in}
 use Rattle.pol_site.specs.Rules.{has_module}
 use Rattle.pol_site.specs.Settled.{is_away, is_busy, is_busy_rule, is_settled_exchanger, waits_to_begin}
@@ -43,7 +41,7 @@ use Rattle.pol_site.specs.Sites.{PlainSite, PlainSiteModule, PlainSiteRecipe, Pl
 use Rattle.pol_site.specs.Sound.{IsSite}
 use Rattle.pol_stillness.specs.Exchanges.{open_ticket}
 use Rattle.pol_stillness.proofs.Exchanges.{open_away}
-use Rattle.pol_simulated.proofs.Places.{le_true, lt_true, lt_fails}
+use Rattle.pol_simulated.proofs.Places.{le_true, lt_fails}
 use Rattle.pol_actors.specs.Exchanges.{begin_errand, begun_standing, ended_standing, end_event, errand_of, event_of, exchange_errand, exchanger_after, exchanging_in, is_refusal_busy, know_event, plug_event}
 use Rattle.pol_actors.specs.Kept.{IsExchanger, is_begun}
 use Rattle.pol_actors.specs.Stamps.{stamped}
@@ -53,7 +51,7 @@ use Rattle.pol_actors.specs.declared.exchanger.Exchanger.{Exchanger}
 use Rattle.pol_actors.specs.declared.exchanger.Standing.{Standing}
 use Rattle.pol_actors.specs.declared.exchanger.Standing.TheVariants as standing
 use Rattle.pol_actors.proofs.Owners.{owner_exchanger}
-use Rattle.pol_actors.proofs.Numbers.{IsEither, all_at, of_first, of_second, either_item, item_within, lt_holds, lt_not, none_behind, within_item}
+use Rattle.pol_actors.proofs.Numbers.{IsEither, all_at, of_first, of_second, either_item, item_within, lt_holds, lt_not, within_item}
 
 -- ---- entries of others
 

@@ -1,6 +1,6 @@
 -- The next command that the plant finds is the one that looking back finds.
-use Rattle.std.proofs.Common.{◌≡◌, ◌<◌, ◌≤◌, ◌+◌, ℕ, suc, zero, Bool, true, false, cond, List, [], ◌∷◌, ◌++◌, length, map, reverse, take, drop, append_assoc, append-nil, take-append-drop, length-append, length-drop, Option, Some, None, refl, ap, sym, ◌∙◌, subst, arith}
-use Rattle.std.specs.Prelude.{◌&&◌, nat_le, is_some, option_map, if◌then◌else◌}
+use Rattle.std.proofs.Common.{◌≡◌, ◌≤◌, ◌+◌, ℕ, suc, Bool, true, false, List, [], ◌∷◌, ◌++◌, length, map, reverse, take, drop, append_assoc, append-nil, take-append-drop, length-append, length-drop, Option, Some, None, refl, ap, sym, ◌∙◌, subst, arith}
+use Rattle.std.specs.Prelude.{is_some, option_map, if◌then◌else◌}
 use Rattle.std.specs.Option.{option_or}
 use Rattle.std.specs.Str.{bytes_eq}
 use Rattle.std.proofs.lemmas.List.{length-map, length-reverse, length-take-le, map-append, reverse-append}
@@ -9,7 +9,7 @@ use Rattle.chart_core.specs.declared.entry.LogEntry.TheVariants.{Start, Finish, 
 use Rattle.chart_cursor.specs.Commands.{Sent, sent_by}
 use Rattle.pol_events.specs.Events.{PlainEntry, plain_entry, plain_history}
 use Rattle.pol_events.specs.declared.answer.Answer.{Answer}
-use Rattle.pol_events.specs.declared.answer.Answer.TheVariants.{Done, Ticket, Did, Waiting, Closed, Refused}
+use Rattle.pol_events.specs.declared.answer.Answer.TheVariants.{Did}
 use Rattle.pol_events.specs.declared.event.Entry.{Entry}
 use Rattle.pol_history.specs.Looking.{History}
 use Rattle.pol_history.proofs.Names.{same_true}

@@ -1,6 +1,6 @@
 -- Whose an event is, and which actor has a number.
-use Rattle.std.proofs.Common.{◌≡◌, ◌<◌, ◌≤◌, ◌+◌, ℕ, suc, zero, Bool, true, false, cond, not, List, [], ◌∷◌, ◌++◌, length, map, reverse, Option, Some, None, refl, ap, sym, ◌∙◌, arith}
-use Rattle.std.specs.Prelude.{◌||◌, nat_lt, option_map, position, slice_get, slice_set}
+use Rattle.std.proofs.Common.{◌≡◌, ◌+◌, ℕ, suc, zero, Bool, true, false, cond, List, [], ◌∷◌, ◌++◌, length, map, reverse, Some, None, refl, ap, sym, ◌∙◌, arith}
+use Rattle.std.specs.Prelude.{nat_lt, option_map, position, slice_get}
 use Rattle.std.specs.List.{list_any, position_or_len, AllByRecursion}
 use Rattle.std.specs.Str.{bytes_eq}
 use Rattle.std.proofs.lemmas.Bool.Decides.{nat_tests}
@@ -9,10 +9,10 @@ use Rattle.std.proofs.lemmas.Option.{same_Some}
 use Rattle.mtp_json.specs.Form.{repeats_by}
 use Rattle.mtp_sim.proofs.Edges.{none_at}
 use Rattle.mtp_sim.proofs.Indexed.{neither}
-use Rattle.pol_events.specs.Events.{PlainEntry, PlainEvent}
+use Rattle.pol_events.specs.Events.{PlainEntry}
 use Rattle.pol_history.specs.Looking.{History}
 use Rattle.pol_history.proofs.Names.{same_refl, same_true}
-use Rattle.pol_site.specs.Actors.{Actor, the_exchanger, a_module, a_batch, the_desk, actors, has_batch, has_tag, is_desk, is_exchanger, owner_of}
+use Rattle.pol_site.specs.Actors.{the_exchanger, a_module, a_batch, the_desk, actors, has_batch, has_tag, is_desk, is_exchanger, owner_of}
 use Rattle.pol_site.specs.Sites.{PlainSite, PlainSiteModule, PlainSiteBatch}
 use Rattle.pol_site.specs.Rules.{same_batch, same_tag}
 use Rattle.pol_simulated.proofs.Places.{lt_true}

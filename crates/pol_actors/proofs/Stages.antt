@@ -5,7 +5,6 @@ use Rattle.std.specs.Option.{option_or}
 use Rattle.std.specs.Str.{bytes_eq}
 use Rattle.std.proofs.lemmas.Option.{same_Some}
 use Rattle.mtp_codes.specs.Faults.{when}
-use Rattle.chart_core.specs.Roles.{PlainChart}
 use Rattle.chart_core.specs.declared.next.Next.{Next}
 use Rattle.chart_core.specs.declared.next.Next.TheVariants as next
 use Rattle.chart_core.specs.declared.next.Outcome.{Outcome}
@@ -15,18 +14,18 @@ use Rattle.pol_events.specs.declared.answer.Answer.{Answer}
 use Rattle.pol_events.specs.declared.answer.Answer.TheVariants.{Done, Ticket, Did, Waiting, Closed, Refused}
 use Rattle.pol_events.specs.declared.answer.Rule.TheVariants.{BatchClosed}
 use Rattle.pol_events.specs.declared.event.Bind.{Bind}
-use Rattle.pol_history.specs.Answers.{advanced, answer_of, first_rule, is_full, rules, otherwise}
-use Rattle.pol_history.specs.Batches.{Started, chart_by, chart_of, outcome_of, start_by, start_of}
+use Rattle.pol_history.specs.Answers.{advanced, answer_of, first_rule, is_full}
+use Rattle.pol_history.specs.Batches.{Started, chart_by, outcome_of, start_by, start_of}
 use Rattle.pol_history.specs.Following.{next_of, next_of_started}
 use Rattle.pol_history.specs.Looking.{History, is_accepted, is_batch, past, past_of_batch, recipes, subject}
-use Rattle.pol_history.specs.Rules.{no_batch, batch_closed}
+use Rattle.pol_history.specs.Rules.{no_batch}
 use Rattle.pol_history.specs.Runs.{IsLegal, IsOrderly}
 use Rattle.pol_history.proofs.Accepted.{paired, with_room}
 use Rattle.pol_history.proofs.Names.{same_refl}
 use Rattle.pol_core.specs.Calls.{open_next, refusal}
 use Rattle.pol_safety.proofs.Advances.{started_charted}
-use Rattle.pol_site.specs.Following.{IsAllowed, is_put_off, is_stepped, last_entry_of, listed_batch}
-use Rattle.pol_site.specs.Settled.{is_settled_batch, is_start_settled, is_waiting}
+use Rattle.pol_site.specs.Following.{IsAllowed, is_put_off, is_stepped, last_entry_of}
+use Rattle.pol_site.specs.Settled.{is_settled_batch, is_waiting}
 use Rattle.pol_site.specs.Sites.{PlainSite, PlainSiteBatch}
 use Rattle.pol_site.specs.Sound.{IsSite}
 use Rattle.pol_simulated.proofs.Called.{called_at}

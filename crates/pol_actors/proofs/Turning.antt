@@ -1,9 +1,8 @@
 -- A turn of a module keeps what is kept of it.
-use Rattle.std.proofs.Common.{◌≡◌, ◌<◌, ◌≤◌, ◌+◌, ℕ, suc, Bool, true, false, List, [], ◌∷◌, length, Option, Some, None, refl, ap, sym, ◌∙◌, subst, arith}
+use Rattle.std.proofs.Common.{◌≡◌, ℕ, Bool, true, false, List, ◌∷◌, length, Option, Some, None, refl, sym, ◌∙◌, subst}
 use Rattle.std.specs.Prelude.{◌&&◌, not, option_and_then, slice_get, if◌then◌else◌}
-use Rattle.std.proofs.lemmas.Option.{same_Some}
 use Rattle.mtp_json.specs.Form.{repeats_by}
-use Rattle.mtp_desc.specs.Plain.{PlainDescription, same_service}
+use Rattle.mtp_desc.specs.Plain.{same_service}
 use Rattle.mtp_sim.specs.declared.report.SimReport.{SimReport}
 use Rattle.mtp_sim.specs.declared.report.SimReport.TheVariants.{Service, Variable}
 use Rattle.mtp_sim.specs.Sims.{PlainSim, first_sim}
@@ -25,13 +24,12 @@ use Rattle.pol_site.specs.Sound.{IsSite, is_plan_ranged, is_plan_sound, is_plan_
 use Rattle.pol_simulated.specs.Places.{Found, next_command}
 use Rattle.pol_simulated.specs.Units.{report_event}
 use Rattle.pol_stillness.specs.KeepingUp.{KeepsUp}
-use Rattle.pol_stillness.specs.Phases.{asked_in}
 use Rattle.pol_stillness.specs.Together.{after_report}
 use Rattle.pol_stillness.proofs.Allowed.{reports_allowed}
 use Rattle.pol_stillness.proofs.KeepingUp.{firsts_up, idles_up, looks_up, ticks_up}
 use Rattle.pol_stillness.proofs.Rested.{settled_rest}
 use Rattle.pol_stillness.proofs.Resting.{rests_settled}
-use Rattle.pol_actors.specs.Kept.{IsBrought, IsMadeUp, IsUnit}
+use Rattle.pol_actors.specs.Kept.{IsMadeUp, IsUnit}
 use Rattle.pol_actors.specs.Turning.{Origin, decision_by, first_made, free_after, free_decides, made_after, made_decides, made_looked, made_or, made_ticked, origin_by, origin_of}
 use Rattle.pol_actors.specs.declared.made.Decision.{Decision}
 use Rattle.pol_actors.specs.declared.made.Decision.TheVariants.{Reports, Looks, Rests}

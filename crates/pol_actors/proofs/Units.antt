@@ -1,13 +1,10 @@
 -- What a module keeps of its history, after one more entry.
-use Rattle.std.proofs.Common.{◌≡◌, ◌<◌, ◌≤◌, ◌+◌, ℕ, suc, Bool, true, false, cond, List, [], ◌∷◌, length, Option, Some, None, refl, ap, sym, ◌∙◌, subst, arith}
-use Rattle.std.specs.Prelude.{◌&&◌, ◌||◌, pred, is_some, option_map, slice_get, if◌then◌else◌}
+use Rattle.std.proofs.Common.{◌≡◌, ℕ, true, false, cond, List, [], ◌∷◌, Option, Some, None, refl, ap, sym, ◌∙◌, subst}
+use Rattle.std.specs.Prelude.{◌||◌, pred, is_some, option_map, slice_get, if◌then◌else◌}
 use Rattle.std.specs.Str.{bytes_eq}
 use Rattle.std.proofs.lemmas.Bool.{and_from, and_right}
-use Rattle.std.proofs.lemmas.Option.{same_Some}
 use Rattle.mtp_json.specs.Form.{repeats_by}
 use Rattle.mtp_modes.specs.declared.view.ServiceView.{ServiceView}
-use Rattle.mtp_assembly.specs.declared.control.ServiceControl.{ServiceControl}
-use Rattle.mtp_desc.specs.Plain.{PlainDescription}
 use Rattle.mtp_sim.specs.declared.report.SimReport.{SimReport}
 use Rattle.mtp_sim.specs.declared.report.SimReport.TheVariants.{Service, Variable}
 use Rattle.chart_core.specs.declared.entry.LogEntry.{LogEntry}
@@ -16,13 +13,13 @@ use Rattle.pol_events.specs.Events.{PlainEntry, plug, report, variable, advance,
 use Rattle.pol_events.specs.declared.answer.Answer.{Answer}
 use Rattle.pol_events.specs.declared.answer.Answer.TheVariants.{Done, Ticket, Did, Waiting, Closed, Refused}
 use Rattle.pol_events.specs.declared.answer.Rule.{Rule}
-use Rattle.pol_history.specs.Answers.{answer_of, first_rule, otherwise}
+use Rattle.pol_history.specs.Answers.{first_rule}
 use Rattle.pol_history.specs.Commands.{sent_command}
-use Rattle.pol_history.specs.Looking.{History, is_accepted, is_accepted_of, is_module, last_of, past, subject, of_module}
-use Rattle.pol_history.specs.Modules.{control_by, description_by, docking_by, docking_of, is_moving, seen_with, reported, since_docking, view_by, view_of}
+use Rattle.pol_history.specs.Looking.{History, is_accepted, is_accepted_of, is_module, last_of, past, subject}
+use Rattle.pol_history.specs.Modules.{description_by, docking_by, docking_of, is_moving, seen_with, reported, since_docking, view_by, view_of}
 use Rattle.pol_history.specs.Runs.{IsLegal, IsOrderly}
-use Rattle.pol_history.proofs.Accepted.{accepted_otherwise, paired}
-use Rattle.pol_history.proofs.Names.{same_refl, same_true}
+use Rattle.pol_history.proofs.Accepted.{paired}
+use Rattle.pol_history.proofs.Names.{same_refl}
 use Rattle.pol_safety.specs.Known.{is_there}
 use Rattle.pol_site.specs.Commanded.{IsCommanded}
 use Rattle.pol_site.specs.Following.{FollowsSite, exchanging, was_begun}
@@ -37,7 +34,7 @@ use Rattle.pol_stillness.specs.KeepingUp.{KeepsUp}
 use Rattle.pol_stillness.proofs.KeepingUp.{others_up, sends_up}
 use Rattle.pol_stillness.proofs.Still.{sent_still}
 use Rattle.pol_actors.specs.Kept.{IsBrought, IsMadeUp, IsUnit}
-use Rattle.pol_actors.specs.Turning.{Origin, origin_of}
+use Rattle.pol_actors.specs.Turning.{origin_of}
 use Rattle.pol_actors.specs.declared.made.Made.{Made}
 use Rattle.pol_actors.specs.declared.unit.Unit.{Unit as Module}
 

@@ -4,7 +4,6 @@ use Rattle.std.proofs.lemmas.List.{length-map, length-reverse, map-append}
 use Rattle.std.specs.declared.alloc.Global.{Global}
 use Rattle.pol_events.specs.Events.{plain_entry, plain_history}
 use Rattle.pol_events.specs.declared.event.Entry.{Entry}
-use Rattle.pol_history.specs.Batches.{batches}
 use Rattle.pol_history.specs.Looking.{History, past_of_batch}
 use Rattle.pol_record.specs.Gathered.{IsGathered, known_of, record_by, record_text}
 use Rattle.pol_record.specs.Texts.{batch_text, end_text}

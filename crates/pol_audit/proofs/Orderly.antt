@@ -1,5 +1,5 @@
 -- The events of entry lines are as a line says them.
-use Rattle.std.proofs.Common.{◌≡◌, [], ◌∷◌, ◌++◌, ℕ, List, true, Option, Some, None, Ok, Err, rules, refl, sym, ap, ◌∙◌, subst, codes, reverse}
+use Rattle.std.proofs.Common.{◌≡◌, [], ◌∷◌, ◌++◌, ℕ, List, true, Option, Some, None, Ok, Err, rules, refl, sym, subst, codes, reverse}
 use Rattle.std.proofs.lemmas.List.{reverse-append}
 use Rattle.std.specs.List.{AllByRecursion}
 use Rattle.std.specs.Prelude.{IfOk, Result}

@@ -1,5 +1,5 @@
 -- A good verdict is given of true histories alone.
-use Rattle.std.proofs.Common.{◌≡◌, ◌≤◌, [], ◌∷◌, ℕ, List, Bool, true, false, Option, Some, None, length, take, reverse, refl, sym, ap, ◌∙◌, arith, if◌then◌else◌}
+use Rattle.std.proofs.Common.{◌≡◌, ◌≤◌, ℕ, List, Bool, true, false, Option, Some, None, length, take, refl, sym, ap, ◌∙◌, if◌then◌else◌}
 use Rattle.std.proofs.lemmas.Bool.{ltb-false}
 use Rattle.std.proofs.lemmas.List.{take_all}
 use Rattle.std.specs.Prelude.{nat_lt}
@@ -8,7 +8,7 @@ use Rattle.pol_record.specs.declared.verdicts.Verdict.{Verdict}
 use Rattle.pol_record.specs.declared.verdicts.Verdict.TheVariants as verdict
 use Rattle.pol_audit.specs.Judging.{judged}
 use Rattle.pol_audit.specs.Truth.{GoodIsTrue, IsTrueHistory, spelled}
-use Rattle.pol_audit.specs.Verdict.{Line, by_answers, by_tail, closing_lines, entries_of, first_other, lines_behind, verdict_of}
+use Rattle.pol_audit.specs.Verdict.{by_answers, by_tail, closing_lines, entries_of, first_other, lines_behind, verdict_of}
 use Rattle.pol_audit.specs.declared.judging.Judged.{Judged}
 use Rattle.pol_audit.specs.declared.judging.Judged.TheVariants.{Good, Wrong}
 use Rattle.pol_audit.specs.declared.judging.TheConstants.{MOST_JUDGED}

@@ -61,12 +61,17 @@ abbrev pub by_tail : ℕ → Option ℕ → Verdict
 by_tail count None = verdict.Good count
 by_tail count (Some place) = verdict.WrongTail place
 
+-- the verdict over right entries and the lines behind them
+abbrev pub by_lines : List PlainEntry → List Line → Verdict
+by_lines entries lines =
+    by_tail (length entries) (first_other (length entries) (closing_lines (reverse entries)) lines)
+
 -- the verdict over entries, of which the first 20,000 were found so, and the lines behind them
 abbrev pub by_answers : List PlainEntry → List Line → Judged → Verdict
 by_answers entries lines (Wrong place says) = verdict.WrongAnswer place says
 by_answers entries lines Good =
     if nat_lt MOST_JUDGED (length entries) then verdict.TooMany MOST_JUDGED
-    else by_tail (length entries) (first_other (length entries) (closing_lines (reverse entries)) lines)
+    else by_lines entries lines
 
 -- the verdict over entries and the lines behind them
 abbrev pub verdict_on : List PlainEntry → List Line → Verdict

@@ -24,11 +24,11 @@ pub struct Audit {
 }
 
 impl Audit {
-    ghost use Rattle.std.specs.Prelude.{List, reverse};
+    ghost use Rattle.std.specs.Prelude.{List};
     ghost use Rattle.std.specs.Option.{option_map};
     ghost use Rattle.pol_audit.specs.Audits.{plain_audit};
     ghost use Rattle.pol_audit.specs.Reading.{after_line, is_decided, nothing_read, read_all, verdict_after, with_behind, with_front, with_line};
-    ghost use Rattle.pol_audit.specs.Verdict.{Line, by_tail, closing_lines, entry_on, first_other, verdict_of};
+    ghost use Rattle.pol_audit.specs.Verdict.{Line, by_lines, entry_on, verdict_of};
 
     /// Nothing was read yet.
     pub fn new(alloc: Global) -> Audit
@@ -140,9 +140,8 @@ impl Audit {
     // The verdict over the lines behind the entries, each of which is right.
     fn tail_verdict(&self) -> Result<Verdict, AllocError>
         requires { length self.now.entries.items ≤ MOST_JUDGED }
-        ensures { IfOk result (λ verdict. verdict ≡ by_tail (length (plain_audit self.now).entries)
-            (first_other (length (plain_audit self.now).entries) (closing_lines (reverse (plain_audit self.now).entries))
-            (plain_audit self.now).behind)) }
+        ensures { IfOk result (λ verdict. verdict
+            ≡ by_lines (plain_audit self.now).entries (plain_audit self.now).behind) }
     {
         let wanted = closing_lines(self.alloc, &self.entries)?;
         let count = self.entries.len() as u32;

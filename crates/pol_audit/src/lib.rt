@@ -40,6 +40,3 @@ pub use judging::{Judged, MOST_JUDGED, judge};
 pub fn good_verdicts_are_true()
     ensures { GoodIsTrue }
 {}
-
-#[cfg(test)]
-mod tests;

@@ -17,6 +17,3 @@ pub use joining::joins_keep_the_rule;
 pub use publisher::Publisher;
 pub use reader::Reader;
 pub use rule::{BoardRule, Remembered};
-
-#[cfg(test)]
-mod tests;

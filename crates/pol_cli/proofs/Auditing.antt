@@ -2,8 +2,8 @@
 use Rattle.std.proofs.Common.{◌≡◌, ◌<◌, ℕ, List, [], ◌∷◌, ◌++◌, Bool, true, false, length, map, reverse, refl, ap, sym, subst, ◌∙◌, arith, length-append, if◌then◌else◌}
 use Rattle.std.proofs.lemmas.Bool.{lt-ltb}
 use Rattle.std.proofs.lemmas.List.{length-reverse}
-use Rattle.std.specs.List.{AllByRecursion, fold, list_all}
-use Rattle.std.specs.Prelude.{filter, Option, None, Some, nat_lt}
+use Rattle.std.specs.List.{fold, list_all}
+use Rattle.std.specs.Prelude.{filter, Option, None, Some}
 use Rattle.serde_json.specs.Written.{compact_text}
 use Rattle.pol_events.specs.Events.{PlainEntry}
 use Rattle.pol_events.specs.Lines.{is_blank_byte}
@@ -15,9 +15,9 @@ use Rattle.pol_io.specs.declared.limits.TheConstants.{LONGEST_LINE}
 use Rattle.pol_record.specs.Verdicts.{verdict_data, verdict_text}
 use Rattle.pol_record.specs.declared.verdicts.Verdict.{Verdict}
 use Rattle.pol_record.specs.declared.verdicts.Verdict.TheVariants as verdict
-use Rattle.pol_audit.specs.Reading.{Read, after_line, nothing_read, read_all, verdict_after}
+use Rattle.pol_audit.specs.Reading.{Read, after_line, nothing_read, verdict_after}
 use Rattle.pol_audit.specs.Truth.{GoodIsTrue, spelled}
-use Rattle.pol_audit.specs.Verdict.{entries_of, verdict_of}
+use Rattle.pol_audit.specs.Verdict.{entries_of}
 use Rattle.pol_audit.proofs.Orderly.{all_turned}
 use Rattle.pol_audit.proofs.Reading.{read_to_verdict}
 use Rattle.pol_safety.specs.Sound.{HistoriesAreSound, EntriesAreRight}

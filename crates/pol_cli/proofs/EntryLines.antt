@@ -1,12 +1,12 @@
 -- The lines of the entries of a history, one after another, and then what closes the output.
-use Rattle.std.proofs.Common.{ℕ, zero, suc, ◌+◌, ◌≡◌, ◌<◌, List, [], ◌∷◌, ◌++◌, length, true, arith, get_or, refl, sym, ap, subst, ◌∙◌, append_assoc, length-append, map, take}
+use Rattle.std.proofs.Common.{ℕ, zero, suc, ◌+◌, ◌≡◌, ◌<◌, List, [], ◌∷◌, ◌++◌, length, true, arith, get_or, sym, ap, subst, ◌∙◌, append_assoc, length-append, map, take}
 use Rattle.std.proofs.lemmas.List.{reverse-append, reverse-reverse}
 use Rattle.std.proofs.lemmas.List.Folds.{flat_map-map}
 use Rattle.std.specs.Prelude.{Option, reverse}
 use Rattle.std.specs.List.{AllByRecursion, flat_map}
 use Rattle.std.specs.Io.KnownBytes.{Appends}
 use Rattle.pol_io.proofs.Known.{Appends_trans}
-use Rattle.pol_events.specs.Events.{PlainEntry, plain_entry, plain_history}
+use Rattle.pol_events.specs.Events.{plain_entry, plain_history}
 use Rattle.pol_events.specs.Orderly.{is_orderly}
 use Rattle.pol_events.specs.declared.event.Entry.{Entry}
 use Rattle.pol_history.specs.Looking.{History}

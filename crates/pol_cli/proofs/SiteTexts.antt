@@ -2,9 +2,9 @@
 use Rattle.std.proofs.Common.{◌≡◌, ℕ, List, [], ◌∷◌, Bool, true, false, refl, sym, ap, ◌∙◌, length}
 use Rattle.std.proofs.lemmas.Bool.{lt-ltb}
 use Rattle.std.specs.List.{list_all}
-use Rattle.std.specs.Prelude.{Err, Ok, Option, filter, map, if◌then◌else◌}
-use Rattle.mtp_json.specs.ReadResult.{ReadResult, here}
-use Rattle.mtp_json.specs.declared.fault.FaultKind.TheVariants.{TooLong, Unknown}
+use Rattle.std.specs.Prelude.{Err, Option, filter, map, if◌then◌else◌}
+use Rattle.mtp_json.specs.ReadResult.{ReadResult}
+use Rattle.mtp_json.specs.declared.fault.FaultKind.TheVariants.{TooLong}
 use Rattle.mtp_json.specs.declared.fault.JsonFault.{JsonFault}
 use Rattle.pol_events.specs.Lines.{is_blank_byte}
 use Rattle.pol_io.specs.Known.{Between}

@@ -6,7 +6,7 @@ use Rattle.pol_history.specs.Runs.{run_of}
 use Rattle.pol_record.specs.Verdicts.{verdict_text}
 use Rattle.pol_record.specs.declared.verdicts.Verdict.{Verdict}
 use Rattle.pol_record.specs.declared.verdicts.Verdict.TheVariants as verdict
-use Rattle.pol_audit.specs.Reading.{Read, after_line, nothing_read, verdict_after}
+use Rattle.pol_audit.specs.Reading.{Read, after_line, verdict_after}
 use Rattle.pol_audit.specs.Truth.{spelled}
 use Rattle.pol_audit.specs.Verdict.{Line, verdict_of}
 use Rattle.pol_safety.specs.Sound.{IsRight, IsSound}

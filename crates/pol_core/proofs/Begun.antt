@@ -48,15 +48,16 @@ use Rattle.pol_core.proofs.Unfit.{defined_rule, bind_rule_same}
 -- ---- the answer, as one rule after another
 
 -- the seven rules of a start, those of its binds and modules as one
-first_of_seven : (a b c d e f g : Option Rule) → first_of (a ∷ b ∷ c ∷ d ∷ e ∷ f ∷ g ∷ [])
-    ≡ option_or a (option_or (option_or b (option_or c (option_or d (option_or e f)))) g)
-first_of_seven (Some x) b c d e f g = refl
-first_of_seven None (Some x) c d e f g = refl
-first_of_seven None None (Some x) d e f g = refl
-first_of_seven None None None (Some x) e f g = refl
-first_of_seven None None None None (Some x) f g = refl
-first_of_seven None None None None None (Some x) g = refl
-first_of_seven None None None None None None (Some x) = refl
+first_of_seven : (one two three four five six seven : Option Rule)
+    → first_of (one ∷ two ∷ three ∷ four ∷ five ∷ six ∷ seven ∷ [])
+    ≡ option_or one (option_or (option_or two (option_or three (option_or four (option_or five six)))) seven)
+first_of_seven (Some rule) two three four five six seven = refl
+first_of_seven None (Some rule) three four five six seven = refl
+first_of_seven None None (Some rule) four five six seven = refl
+first_of_seven None None None (Some rule) five six seven = refl
+first_of_seven None None None None (Some rule) six seven = refl
+first_of_seven None None None None None (Some rule) seven = refl
+first_of_seven None None None None None None (Some rule) = refl
 first_of_seven None None None None None None None = refl
 
 -- a batch has a run exactly where it was started

@@ -21,6 +21,3 @@ mod starting;
 pub use commands::Sent;
 pub use docking::Docking;
 pub use plant::Plant;
-
-#[cfg(test)]
-mod tests;

@@ -13,6 +13,3 @@ mod summary;
 mod telling;
 
 pub use summary::demo_line;
-
-#[cfg(test)]
-mod tests;

@@ -7,6 +7,3 @@
 mod asking;
 
 pub use asking::desk;
-
-#[cfg(test)]
-mod tests;

@@ -1,5 +1,5 @@
 -- Rules that a module by itself decides: its description, what it told last, and the ticket under which it is away.
-use Rattle.std.specs.Prelude.{ℕ, Bool, not, ◌||◌, ◌==◌, List, [], ◌∷◌, map, Option, Some, None, is_none, option_and_then, option_map}
+use Rattle.std.specs.Prelude.{ℕ, Bool, not, ◌||◌, ◌==◌, List, [], ◌∷◌, map, Option, is_none, option_and_then, option_map}
 use Rattle.mtp_codes.specs.Faults.{when, first_of}
 use Rattle.mtp_codes.specs.declared.cover.CoverFault.{CoverFault}
 use Rattle.mtp_codes.specs.declared.cover.CoverFault.TheVariants as cover

@@ -44,6 +44,3 @@ pub use rule_table::RuleRow;
 pub use subject::Subject;
 pub use writing::event_value;
 pub use written_binds::write_binds;
-
-#[cfg(test)]
-mod tests;

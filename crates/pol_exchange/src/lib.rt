@@ -10,6 +10,3 @@ mod docked;
 
 pub use away::{Away, WrongTicket};
 pub use docked::Docked;
-
-#[cfg(test)]
-mod tests;

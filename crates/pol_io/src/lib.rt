@@ -21,8 +21,6 @@ mod sink;
 mod source;
 mod sure;
 mod system_clock;
-#[cfg(test)]
-mod tests;
 mod window;
 
 pub use clock::Clock;

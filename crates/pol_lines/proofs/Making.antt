@@ -1,5 +1,5 @@
 -- Lines by their parts.
-use Rattle.std.proofs.Common.{◌≡◌, ℕ, suc, ◌≤◌, ◌<◌, List, [], ◌∷◌, length, true, false, Option, Some, None, Ok, Err, refl, sym, ap, ◌∙◌, subst, arith, codes}
+use Rattle.std.proofs.Common.{◌≡◌, ℕ, suc, ◌≤◌, ◌<◌, List, [], ◌∷◌, length, true, false, Option, Some, None, Ok, Err, refl, ap, ◌∙◌, subst, arith, codes}
 use Rattle.std.specs.Prelude.{IfOk, is_some, option_map}
 use Rattle.std.specs.Str.{IsUtf8}
 use Rattle.std.proofs.lemmas.Grind.{common_steps}
@@ -27,7 +27,7 @@ use Rattle.pol_events.specs.Lines.{event_of, fault_within}
 use Rattle.pol_events.specs.Words.{kind_words}
 use Rattle.pol_lines.specs.declared.flat.Member.{Member}
 use Rattle.pol_lines.specs.declared.key.Key.TheVariants as key
-use Rattle.pol_lines.specs.Begins.{Begins, Reads}
+use Rattle.pol_lines.specs.Begins.{Begins}
 use Rattle.pol_lines.specs.Flat.{flat_data}
 use Rattle.pol_lines.specs.Keys.{key_text}
 use Rattle.pol_lines.specs.Objects.{GivesEach, IsObject, Makes, with_value}

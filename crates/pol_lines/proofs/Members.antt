@@ -11,7 +11,6 @@ use Rattle.json.specs.Run.{is_plain}
 use Rattle.json.specs.Tree.{depth, HasNumbers, json_tokens}
 use Rattle.json.proofs.Printed.Decimals.{IsNumber-signed_decimal}
 use Rattle.json.proofs.Printed.Strings.{escape_byte_plain}
-use Rattle.serde_json.specs.Data.{no_members}
 use Rattle.serde_json.specs.Read.{of_json}
 use Rattle.serde_json.proofs.Numbers.{number_of-decimal, number_of-negative}
 use Rattle.pol_lines.specs.declared.flat.Member.{Member}
@@ -19,12 +18,10 @@ use Rattle.pol_lines.specs.declared.key.Key.{Key}
 use Rattle.pol_lines.specs.declared.key.Key.TheVariants as key
 use Rattle.pol_lines.specs.declared.leaf.Leaf.{Leaf}
 use Rattle.pol_lines.specs.declared.leaf.Leaf.TheVariants.{Text, Whole, Bit}
-use Rattle.pol_lines.specs.Begins.{Begins, Opens}
-use Rattle.pol_lines.specs.Flat.{flat_data, is_member_in_range, member_piece, put_all}
+use Rattle.pol_lines.specs.Begins.{Begins}
+use Rattle.pol_lines.specs.Flat.{member_piece}
 use Rattle.pol_lines.specs.Keys.{key_piece, key_text}
 use Rattle.pol_lines.specs.Leaves.{is_leaf_in_range, leaf_data, leaf_piece}
-use Rattle.pol_lines.proofs.Lookups.{put_all_append}
-use Rattle.pol_lines.proofs.Printed.{begins_object, opens_more}
 
 -- ---- keys and values
 

@@ -1,5 +1,5 @@
 -- Objects read member by member: flat members, and between them members whose values are lists and objects.
-use Rattle.std.specs.Prelude.{◌≡◌, ℕ, suc, List, [], ◌∷◌, ◌++◌, Bool, true, length, Option, Some, None, MatchOption, option_map, Ok}
+use Rattle.std.specs.Prelude.{◌≡◌, ℕ, suc, List, [], ◌∷◌, true, length, Option, Some, None, option_map, Ok}
 use Rattle.std.specs.List.{list_all}
 use Rattle.json.specs.Run.{is_plain}
 use Rattle.serde_json.specs.Data.{Data, Items, Members, array, no_members, object}
@@ -14,7 +14,7 @@ use Rattle.pol_lines.specs.declared.objects.Cut.{Cut}
 use Rattle.pol_lines.specs.declared.objects.Cut.TheVariants.{More, End}
 use Rattle.pol_lines.specs.Begins.{Begins, Opens}
 use Rattle.pol_lines.specs.Flat.{put_all}
-use Rattle.pol_lines.specs.Keys.{IsNoKey, key_text, quoted}
+use Rattle.pol_lines.specs.Keys.{IsNoKey, key_text}
 
 -- members that were put one after another: flat ones in this order, and others between them, of which the last stands
 -- first here

@@ -26,7 +26,4 @@ mod roles;
 mod services;
 mod steps;
 
-pub use reading::read_line;
-
-#[cfg(test)]
-mod tests;
+pub use reading::{read_line, read_quick};

@@ -1,5 +1,5 @@
 -- What a module did that looked.
-use Rattle.std.proofs.Common.{◌≡◌, ◌⊎◌, inl, inr, ℕ, Bool, true, false, List, length, Option, Some, None, refl, ap, sym, ◌∙◌, subst}
+use Rattle.std.proofs.Common.{◌≡◌, inl, inr, ℕ, Bool, true, false, List, length, Option, Some, None, refl, sym, subst}
 use Rattle.std.specs.Prelude.{if◌then◌else◌}
 use Rattle.mtp_sim.specs.Ticks.{is_at_rest, is_pending, tick_report}
 use Rattle.mtp_sim.specs.declared.report.SimReport.{SimReport}

@@ -18,8 +18,6 @@ mod role;
 mod rounds;
 mod run;
 mod seat;
-#[cfg(test)]
-mod tests;
 mod turned;
 mod turns;
 
@@ -28,6 +26,7 @@ pub use gate::{Gate, OpenGate};
 pub use job::Job;
 pub use live::LivePlant;
 pub use locked::LockedPlant;
-pub use run::{Ran, run_in_turn, run_site};
+pub use role::actors_of;
+pub use run::{Ran, SeatOf, run_in_turn, run_site};
 pub use seat::ActorSeat;
 pub use turned::{Placed, Turned};

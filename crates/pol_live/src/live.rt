@@ -77,7 +77,8 @@ pub struct LivePlant<J: Job, C: Clock + Send> {
 }
 
 impl<J: Job, C: Clock + Send> LivePlant<J, C> {
-    /// An empty plant of the site, and one seat for each actor, in the order of their numbers. No seat made anything yet.
+    /// An empty plant of the site, and one seat for each actor, in the order of their numbers. No seat made anything
+    /// yet.
     ///
     /// # Errors
     ///
@@ -176,8 +177,8 @@ impl<J: Job, C: Clock + Send> LivePlant<J, C> {
     ///
     /// # Errors
     ///
-    /// Where the list of a seat has a pair that the history doesn't have for its actor: the first such pair of the first
-    /// such seat.
+    /// Where the list of a seat has a pair that the history doesn't have for its actor: the first such pair of the
+    /// first such seat.
     pub fn close(self, seats: Vec<ActorSeat<J>>) -> Result<Ran, Strayed>
         requires parts { J.parts ≡ length (actors J.site) }
         requires seats { AreSeated (length (actors J.site)) seats.items }

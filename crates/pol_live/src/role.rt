@@ -15,8 +15,8 @@ pub(crate) enum Role {
     Desk,
 }
 
-/// How many actors the site has.
-pub(crate) fn actors_of(site: &Site) -> u32
+/// How many actors the site has: the exchanger, its modules, its batches, and the desk.
+pub fn actors_of(site: &Site) -> u32
     ensures { result ≡ length (actors (plain_site site.now)) }
 {
     (site.modules.len() + site.batches.len() + 2) as u32

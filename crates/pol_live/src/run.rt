@@ -170,9 +170,9 @@ fn finish<J: Job, R: Wait, C: Clock + Send>(
     Ok(Ran { history, by })
 }
 
-// The seat that comes back is that of the actor with this number.
+/// What a thread promises that takes turns: the seat that it gives back is that of the actor with this number.
 #[derive(Clone, Copy)]
-pub(crate) struct SeatOf(pub(crate) u32);
+pub struct SeatOf(pub u32);
 
 impl<J: Job> Promise<ActorSeat<J>> for SeatOf {
     ghost kept_by = { λ promise seat. seat.actor ≡ promise.0 };

@@ -28,6 +28,3 @@ pub use gathering::{BatchRecords, gather};
 pub use lines::{answer_line, end_line, fault_line, put_answer_line, put_fault_line};
 pub use records::{BatchRecord, Start};
 pub use verdicts::{Verdict, verdict_line};
-
-#[cfg(test)]
-mod tests;

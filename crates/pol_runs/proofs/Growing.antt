@@ -26,7 +26,8 @@ use Rattle.pol_runs.specs.Logs.{Follows}
 use Rattle.pol_runs.specs.Runs.{PlainRun, from_of, is_breaking, is_stopping}
 use Rattle.pol_runs.specs.declared.course.Course.{Course}
 use Rattle.pol_runs.specs.declared.course.Course.TheVariants.{Running}
-use Rattle.pol_runs.proofs.Grown.{any_pushed, any_silent, run_grows, run_stays, run_quiet, active_by, active_pushed}
+use Rattle.chart_cursor.proofs.Pushed.{run_grows, run_stays}
+use Rattle.pol_runs.proofs.Grown.{any_pushed, any_silent, run_quiet, active_by, active_pushed}
 use Rattle.pol_runs.proofs.Wanted.{first_step, from_zero}
 
 -- ---- an entry of the chart's run

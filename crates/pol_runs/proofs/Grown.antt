@@ -1,32 +1,15 @@
 -- What a log says once it has one more entry at its end.
-use Rattle.std.proofs.Common.{◌≡◌, Bool, true, false, cond, List, [], ◌∷◌, ◌++◌, Option, Some, None, is_some, refl, ap, ◌∙◌}
+use Rattle.std.proofs.Common.{◌≡◌, Bool, true, false, List, [], ◌∷◌, ◌++◌, Option, Some, None, is_some, refl, ap, ◌∙◌}
 use Rattle.std.specs.Prelude.{◌||◌}
 use Rattle.std.specs.List.{list_any}
 use Rattle.std.proofs.Math.Bool.{or-false}
-use Rattle.std.proofs.lemmas.List.{append-nil}
-use Rattle.std.proofs.lemmas.List.Elements.{filter-append}
 use Rattle.chart_core.specs.Active.{Phase, or_earlier, last_of, phase_by, or_idle, is_running, is_active}
 use Rattle.chart_core.specs.Entries.{chart_entry}
+use Rattle.chart_core.proofs.Latest.{last_pushed}
 use Rattle.chart_core.specs.Trees.{Placed}
 use Rattle.chart_core.specs.declared.entry.LogEntry.{LogEntry}
 use Rattle.chart_core.specs.declared.entry.LogEntry.TheVariants.{Broke, StopAsked}
-use Rattle.chart_cursor.specs.Logs.{chart_entries, is_broke, is_stop_asked}
-
-says_last : {A : Type 0} (said : Option A) → or_earlier None said ≡ or_earlier said None
-says_last None = refl
-says_last (Some x) = refl
-
-earlier_apart : {A : Type 0} (one other third : Option A) →
-    or_earlier (or_earlier one other) third ≡ or_earlier one (or_earlier other third)
-earlier_apart None other third = refl
-earlier_apart (Some x) other third = refl
-
-last_pushed : {A B : Type 0} (says : A → Option B) (log : List A) (entry : A) →
-    last_of says (log ++ entry ∷ []) ≡ or_earlier (says entry) (last_of says log)
-last_pushed says [] entry = says_last (says entry)
-last_pushed says (first ∷ log) entry =
-    ap (λ found. or_earlier found (says first)) (last_pushed says log entry)
-    ∙ earlier_apart (says entry) (last_of says log) (says first)
+use Rattle.chart_cursor.specs.Logs.{is_broke, is_stop_asked}
 
 -- some entry passes a test, where one of the log or the new one does
 pub any_pushed : {A : Type 0} (test : A → Bool) (log : List A) (entry : A) →
@@ -44,21 +27,6 @@ pub any_silent : {A : Type 0} (test : A → Bool) (log : List A) (entry : A) →
     list_any test (log ++ entry ∷ []) ≡ list_any test log
 any_silent test log entry silent =
     any_pushed test log entry ∙ ap (λ said. list_any test log || said) silent ∙ or-false (list_any test log)
-
--- the entries of the chart's run grow by an entry of it
-pub run_grows : (log : List LogEntry) (entry : LogEntry) → is_some (chart_entry entry) ≡ true →
-    chart_entries (log ++ entry ∷ []) ≡ chart_entries log ++ entry ∷ []
-run_grows log entry of_run =
-    filter-append (λ entry. is_some (chart_entry entry)) log (entry ∷ [])
-    ∙ ap (λ kept. chart_entries log ++ cond kept (entry ∷ []) []) of_run
-
--- and stay by another one
-pub run_stays : (log : List LogEntry) (entry : LogEntry) → is_some (chart_entry entry) ≡ false →
-    chart_entries (log ++ entry ∷ []) ≡ chart_entries log
-run_stays log entry other =
-    filter-append (λ entry. is_some (chart_entry entry)) log (entry ∷ [])
-    ∙ ap (λ kept. chart_entries log ++ cond kept (entry ∷ []) []) other
-    ∙ append-nil (chart_entries log)
 
 -- an entry of the chart's run says neither that the batch broke nor that it was to be stopped
 pub run_quiet : (entry : LogEntry) → is_some (chart_entry entry) ≡ true →

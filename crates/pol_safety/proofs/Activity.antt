@@ -1,17 +1,17 @@
 -- Which steps are active after one more entry, and where their services were reported.
-use Rattle.std.proofs.Common.{◌≡◌, ℕ, Bool, true, false, List, [], ◌∷◌, ◌++◌, Option, Some, None, refl, ap, sym, ◌∙◌, subst, inl, inr}
+use Rattle.std.proofs.Common.{◌≡◌, ℕ, Bool, true, false, List, [], ◌∷◌, ◌++◌, Option, Some, None, refl, ap, sym, ◌∙◌, subst}
 use Rattle.std.specs.List.{Contains}
-use Rattle.std.proofs.lemmas.Bool.{or_cases}
 use Rattle.mtp_codes.specs.declared.mode.Speaker.TheVariants.{Recipe}
 use Rattle.mtp_codes.specs.declared.command.Command.TheVariants as command
 use Rattle.mtp_codes.specs.Faults.{when}
-use Rattle.mtp_codes.specs.Names.{same_name, is_among}
+use Rattle.mtp_codes.specs.Names.{same_name}
 use Rattle.chart_core.specs.Active.{Phase, idle, started, finished, was_reset, or_earlier, last_of, phase_by, or_idle, is_running, is_active}
 use Rattle.chart_core.specs.Roles.{PlainChart, role_names}
 use Rattle.chart_core.specs.Trees.{Placed, steps}
 use Rattle.chart_core.specs.Valid.{IsValid}
 use Rattle.chart_core.specs.declared.entry.LogEntry.{LogEntry}
 use Rattle.chart_core.specs.declared.entry.LogEntry.TheVariants.{Start, Finish, Reset, End, Stop, Left}
+use Rattle.chart_core.proofs.Latest.{last_pushed}
 use Rattle.chart_core.proofs.Lawful.{names_tell_steps, roles_of_steps}
 use Rattle.chart_cursor.specs.Commands.{Sent, IsPermittedIn}
 use Rattle.chart_cursor.specs.Next.{next_after}
@@ -23,29 +23,12 @@ use Rattle.pol_events.specs.declared.event.Bind.{Bind}
 use Rattle.pol_history.specs.Looking.{History, past}
 use Rattle.pol_history.specs.Following.{sights_by}
 use Rattle.pol_history.proofs.Names.{same_true}
-use Rattle.pol_events.proofs.Lists.{member_first, member_later}
+use Rattle.pol_events.proofs.Lists.{among_member}
 use Rattle.pol_history.proofs.Binds.{IsFitting}
 use Rattle.pol_safety.proofs.Seen.{IsLive, IsSeen, seen_of, tag_of_bound}
 use Rattle.pol_safety.proofs.Nexts.{ComesFrom, stops, leaves, breaks, runs}
 
 -- ---- the phase after one more entry
-
-says_last : {A : Type 0} (said : Option A) → or_earlier None said ≡ or_earlier said None
-says_last None = refl
-says_last (Some x) = refl
-
-earlier_apart : {A : Type 0} (one other third : Option A) → or_earlier (or_earlier one other) third
-    ≡ or_earlier one (or_earlier other third)
-earlier_apart None other third = refl
-earlier_apart (Some x) other third = refl
-
--- what the last entry says goes before what the others say
-last_pushed : {A B : Type 0} (says : A → Option B) (log : List A) (entry : A)
-    → last_of says (log ++ entry ∷ []) ≡ or_earlier (says entry) (last_of says log)
-last_pushed says [] entry = says_last (says entry)
-last_pushed says (first ∷ log) entry =
-    ap (λ found. or_earlier found (says first)) (last_pushed says log entry)
-    ∙ earlier_apart (says entry) (last_of says log) (says first)
 
 -- a step is active after one more entry where it was so before, or where the entry makes it so
 pub data ActiveBy (log : List LogEntry) (entry : LogEntry) (placed : Placed) : Type 0 where
@@ -71,14 +54,6 @@ where_some : (here : Bool) (phase found : Phase) → when here phase ≡ Some fo
 where_some true phase found is = refl
 where_some false phase found is = cc
 
-role_member : (names : List (List ℕ)) (name : List ℕ) → is_among names name ≡ true → Contains names name
-role_member [] name among = cc
-role_member (each ∷ names) name among =
-    elim (or_cases (same_name each name) (is_among names name) among) [
-      | inl here ↦ subst (Contains (each ∷ names)) (same_true each name here) (member_first each names)
-      | inr later ↦ member_later each name names (role_member names name later)
-    ]
-
 -- what is seen of the service to which a command of a step goes is what is seen of the step's
 commanded_seen : (history : History) (binds : List Bind) (chart : PlainChart) (placed : Placed) (sent : Sent)
     → IsFitting chart binds → IsValid chart →
@@ -89,7 +64,7 @@ commanded_seen : (history : History) (binds : List Bind) (chart : PlainChart) (p
 commanded_seen history binds chart placed sent fits valid inside tag_is service_is
     (by_recipe, (role, view, role_is, at, free)) =
     let (seen, is) = seen_of history binds role sent.service view at in
-    let own = fits.bound placed.step.role (role_member (role_names chart) placed.step.role
+    let own = fits.bound placed.step.role (among_member (role_names chart) placed.step.role
     (roles_of_steps chart placed valid inside)) in
     let one : seen.tag ≡ own.0
     = sym (tag_of_bound history binds role seen.tag seen.bound) ∙ role_is ∙ tag_is

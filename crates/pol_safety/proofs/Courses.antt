@@ -1,10 +1,8 @@
 -- The chart's entries of each log are a run of its chart.
-use Rattle.std.proofs.Common.{◌≡◌, ℕ, Bool, true, false, cond, List, [], ◌∷◌, ◌++◌, reverse, Option, Some, None, refl, ap, sym, ◌∙◌, subst}
+use Rattle.std.proofs.Common.{◌≡◌, ℕ, Bool, true, false, List, [], ◌∷◌, reverse, Option, Some, None, refl, ap, sym, ◌∙◌, subst}
 use Rattle.std.specs.Prelude.{◌||◌, filter_map, is_some, if◌then◌else◌}
 use Rattle.std.specs.List.{cons_option}
 use Rattle.std.specs.Option.{option_or}
-use Rattle.std.proofs.lemmas.List.{reverse-append, append-nil}
-use Rattle.std.proofs.lemmas.List.Elements.{filter-append}
 use Rattle.chart_core.specs.Entries.{chart_entry}
 use Rattle.chart_core.specs.Roles.{PlainChart}
 use Rattle.chart_core.specs.Runs.{IsPartial, IsComplete}
@@ -19,6 +17,7 @@ use Rattle.chart_cursor.specs.Next.{IsNext, ready_after}
 use Rattle.chart_cursor.proofs.Commanding.{next_of_run}
 use Rattle.chart_cursor.proofs.Firsts.{next_follows}
 use Rattle.chart_cursor.proofs.Keeping.{keeps_the_run}
+use Rattle.chart_cursor.proofs.Pushed.{run_grows, run_stays}
 use Rattle.chart_cursor.specs.Logs.{chart_entries, has_broken, was_stopped}
 use Rattle.pol_events.specs.Events.{PlainEvent, start, advance, freeze, thaw, stop_batch, abandon}
 use Rattle.pol_events.specs.declared.answer.Answer.{Answer}
@@ -29,6 +28,7 @@ use Rattle.pol_history.specs.Following.{sights_by, next_of}
 use Rattle.pol_history.specs.Answers.{advanced, otherwise}
 use Rattle.pol_history.specs.Runs.{IsLegal, IsOrderly}
 use Rattle.pol_history.proofs.Accepted.{paired}
+use Rattle.pol_history.proofs.Pasts.{log_grows}
 use Rattle.pol_safety.specs.Charts.{LogsFollowCharts}
 use Rattle.pol_events.proofs.Options.{no_both}
 use Rattle.pol_safety.proofs.Nexts.{ComesFrom, stops, leaves, breaks, runs, did_from, completed_from, next_at}
@@ -48,31 +48,11 @@ AllFollow side =
 
 -- ---- logs
 
--- a log grows at its end
-pub log_grows : (past : History) (event : PlainEvent) (entry : LogEntry)
-    → log_by (paired event (Did entry) ∷ past) ≡ log_by past ++ entry ∷ []
-log_grows past event entry = reverse-append (entry ∷ []) (filter_map (λ entry. taken entry.answer) past)
-
--- or stays, where none is taken
+-- a log stays where none is taken
 pub log_stays : (past : History) (event : PlainEvent) (answer : Answer) → taken answer ≡ None
     → log_by (paired event answer ∷ past) ≡ log_by past
 log_stays past event answer silent =
     ap (λ found. reverse (cons_option found (filter_map (λ entry. taken entry.answer) past))) silent
-
--- by an entry of the run
-run_grows : (log : List LogEntry) (entry : LogEntry) → is_some (chart_entry entry) ≡ true
-    → chart_entries (log ++ entry ∷ []) ≡ chart_entries log ++ entry ∷ []
-run_grows log entry of_run =
-    filter-append (λ entry. is_some (chart_entry entry)) log (entry ∷ [])
-    ∙ ap (λ kept. chart_entries log ++ cond kept (entry ∷ []) []) of_run
-
--- or by another one
-run_stays : (log : List LogEntry) (entry : LogEntry) → chart_entry entry ≡ None
-    → chart_entries (log ++ entry ∷ []) ≡ chart_entries log
-run_stays log entry other =
-    filter-append (λ entry. is_some (chart_entry entry)) log (entry ∷ [])
-    ∙ ap (λ found. chart_entries log ++ cond (is_some found) (entry ∷ []) []) other
-    ∙ append-nil (chart_entries log)
 
 -- ---- one more event of the batch
 
@@ -83,7 +63,7 @@ other_follows : (chart : PlainChart) (past : History) (event : PlainEvent) (entr
 other_follows chart past event entry open' other follows =
     record {
       partial = subst (IsPartial chart) (sym (ap chart_entries (log_grows past event entry)
-          ∙ run_stays (log_by past) entry other)) follows.partial;
+          ∙ run_stays (log_by past) entry (ap is_some other))) follows.partial;
       complete = λ is. no_both (outcome_by past) Completed open' is;
     }
 

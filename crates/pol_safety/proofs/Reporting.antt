@@ -35,7 +35,8 @@ use Rattle.pol_history.proofs.Binds.{IsFitting}
 use Rattle.pol_safety.proofs.Seen.{IsLive, IsSeen}
 use Rattle.pol_safety.proofs.Nexts.{did_from, next_at}
 use Rattle.pol_safety.proofs.Starts.{may_start, sound, unstarted, StartCase, its_own, earlier, start_case, IsRunning, was_running, running_fits}
-use Rattle.pol_safety.proofs.Courses.{log_grows, log_stays}
+use Rattle.pol_history.proofs.Pasts.{log_grows}
+use Rattle.pol_safety.proofs.Courses.{log_stays}
 use Rattle.pol_safety.proofs.Holding.{holds}
 use Rattle.pol_safety.proofs.Covering.{is_absent}
 use Rattle.pol_safety.proofs.Activity.{ActiveBy, was_active, made_active, active_by, next_seen}

@@ -6,7 +6,7 @@ use Rattle.std.specs.Str.{bytes_eq}
 use Rattle.std.proofs.lemmas.Bool.{and_parts, cond_both}
 use Rattle.pol_events.specs.Events.{PlainEvent, PlainEntry}
 use Rattle.pol_events.specs.Orderly.{is_orderly}
-use Rattle.pol_history.specs.Looking.{History, subject, is_module, is_batch, is_recipe, is_accepted, past, past_of_batch, last_of}
+use Rattle.pol_history.specs.Looking.{History, is_accepted, past, past_of_batch, last_of}
 use Rattle.pol_history.specs.Looking as looking
 use Rattle.pol_history.specs.Batches.{taking, takes}
 use Rattle.pol_history.specs.Answers.{rules, otherwise, answer_of}

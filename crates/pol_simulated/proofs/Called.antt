@@ -15,43 +15,44 @@ abbrev pub service_name : SimService → List ℕ
 service_name service = service.name
 
 -- where the element at a place is replaced by one of its name, that one is found in its place
-pub called_set : {A : Type 0} (name_of : A → List ℕ) (xs : List A) (i : ℕ) (x y : A) (name : List ℕ)
-    → repeats_by (λ one other. bytes_eq (name_of one) (name_of other)) xs ≡ false → slice_get xs i ≡ Some x
-    → name_of y ≡ name_of x
-    → find (λ each. bytes_eq (name_of each) name) (slice_set xs i y)
-    ≡ cond (bytes_eq (name_of x) name) (Some y) (find (λ each. bytes_eq (name_of each) name) xs)
-called_set name_of [] i x y name unlike at named = cc
-called_set {A} name_of (first ∷ others) zero x y name unlike at named =
-    let same : first ≡ x = same_Some first x at in
-    let names : name_of y ≡ name_of first = named ∙ ap name_of (sym same) in
-    go (bytes_eq (name_of y) name) (bytes_eq (name_of x) name) (bytes_eq (name_of first) name)
+pub called_set : {A : Type 0} (name_of : A → List ℕ) (xs : List A) (place : ℕ) (old new : A) (name : List ℕ)
+    → repeats_by (λ one other. bytes_eq (name_of one) (name_of other)) xs ≡ false → slice_get xs place ≡ Some old
+    → name_of new ≡ name_of old
+    → find (λ each. bytes_eq (name_of each) name) (slice_set xs place new)
+    ≡ cond (bytes_eq (name_of old) name) (Some new) (find (λ each. bytes_eq (name_of each) name) xs)
+called_set name_of [] place old new name unlike at named = cc
+called_set {A} name_of (first ∷ others) zero old new name unlike at named =
+    let same : first ≡ old = same_Some first old at in
+    let names : name_of new ≡ name_of first = named ∙ ap name_of (sym same) in
+    go (bytes_eq (name_of new) name) (bytes_eq (name_of old) name) (bytes_eq (name_of first) name)
     (ap (λ n. bytes_eq n name) names)
     (ap (λ each. bytes_eq (name_of each) name) (sym same))
   where
     rest : Option A
     rest = find (λ each. bytes_eq (name_of each) name) others
 
-    go : (a b c : Bool) → a ≡ c → b ≡ c → cond a (Some y) rest ≡ cond b (Some y) (cond c (Some first) rest)
+    go : (a b c : Bool) → a ≡ c → b ≡ c → cond a (Some new) rest ≡ cond b (Some new) (cond c (Some first) rest)
     go a b true e f = rw (e, f) refl
     go a b false e f = rw (e, f) refl
-called_set {A} name_of (first ∷ others) (suc i) x y name unlike at named =
+called_set {A} name_of (first ∷ others) (suc place) old new name unlike at named =
     let parts = neither (list_any (λ other. bytes_eq (name_of first) (name_of other)) others)
     (repeats_by (λ one other. bytes_eq (name_of one) (name_of other)) others) unlike in
-    let other : bytes_eq (name_of first) (name_of x) ≡ false =
-    none_at (λ other. bytes_eq (name_of first) (name_of other)) others i x parts.0 at in
-    rw (called_set name_of others i x y name parts.1 at named)
-    (go (bytes_eq (name_of first) name) (bytes_eq (name_of x) name) refl refl other)
+    let other : bytes_eq (name_of first) (name_of old) ≡ false =
+    none_at (λ other. bytes_eq (name_of first) (name_of other)) others place old parts.0 at in
+    rw (called_set name_of others place old new name parts.1 at named)
+    (go (bytes_eq (name_of first) name) (bytes_eq (name_of old) name) refl refl other)
   where
     rest : Option A
     rest = find (λ each. bytes_eq (name_of each) name) others
 
-    go : (b c : Bool) → bytes_eq (name_of first) name ≡ b → bytes_eq (name_of x) name ≡ c
-        → bytes_eq (name_of first) (name_of x) ≡ false
-        → cond b (Some first) (cond c (Some y) rest) ≡ cond c (Some y) (cond b (Some first) rest)
+    go : (b c : Bool) → bytes_eq (name_of first) name ≡ b → bytes_eq (name_of old) name ≡ c
+        → bytes_eq (name_of first) (name_of old) ≡ false
+        → cond b (Some first) (cond c (Some new) rest) ≡ cond c (Some new) (cond b (Some first) rest)
     go true true one two apart =
-        let same : name_of first ≡ name_of x = same_true (name_of first) name one ∙ sym (same_true (name_of x) name two)
+        let same : name_of first ≡ name_of old =
+        same_true (name_of first) name one ∙ sym (same_true (name_of old) name two)
         in
-        let clash : false ≡ true = sym apart ∙ ap (λ n. bytes_eq n (name_of x)) same ∙ same_refl (name_of x) in cc
+        let clash : false ≡ true = sym apart ∙ ap (λ n. bytes_eq n (name_of old)) same ∙ same_refl (name_of old) in cc
     go true false one two apart = refl
     go false true one two apart = refl
     go false false one two apart = refl
@@ -73,34 +74,36 @@ called_at name_of xs i x name unlike at named =
     (λ b. cond b (Some x) (find (λ each. bytes_eq (name_of each) name) xs)) named
 
 -- an item that passes a test as the one in its place did leaves whether some item does
-any_set : {A : Type 0} (test : A → Bool) (xs : List A) (i : ℕ) (x y : A) → slice_get xs i ≡ Some x → test y ≡ test x
-    → list_any test (slice_set xs i y) ≡ list_any test xs
-any_set test [] i x y at same = cc
-any_set test (first ∷ others) zero x y at same =
-    ap (λ b. b || list_any test others) (same ∙ ap test (sym (same_Some first x at)))
-any_set test (first ∷ others) (suc i) x y at same = ap (λ b. test first || b) (any_set test others i x y at same)
+any_set : {A : Type 0} (test : A → Bool) (xs : List A) (place : ℕ) (old new : A)
+    → slice_get xs place ≡ Some old → test new ≡ test old → list_any test (slice_set xs place new) ≡ list_any test xs
+any_set test [] place old new at same = cc
+any_set test (first ∷ others) zero old new at same =
+    ap (λ b. b || list_any test others) (same ∙ ap test (sym (same_Some first old at)))
+any_set test (first ∷ others) (suc place) old new at same =
+    ap (λ b. test first || b) (any_set test others place old new at same)
 
 -- elements of different names stay so where one is replaced by one of its name
-pub repeats_set : {A : Type 0} (name_of : A → List ℕ) (xs : List A) (i : ℕ) (x y : A) → slice_get xs i ≡ Some x
-    → name_of y ≡ name_of x
-    → repeats_by (λ one other. bytes_eq (name_of one) (name_of other)) (slice_set xs i y) ≡ repeats_by
+pub repeats_set : {A : Type 0} (name_of : A → List ℕ) (xs : List A) (place : ℕ) (old new : A)
+    → slice_get xs place ≡ Some old → name_of new ≡ name_of old
+    → repeats_by (λ one other. bytes_eq (name_of one) (name_of other)) (slice_set xs place new) ≡ repeats_by
     (λ one other. bytes_eq (name_of one) (name_of other)) xs
-repeats_set name_of [] i x y at same = cc
-repeats_set name_of (first ∷ others) zero x y at same =
+repeats_set name_of [] place old new at same = cc
+repeats_set name_of (first ∷ others) zero old new at same =
     ap (λ n. list_any (λ other. bytes_eq n (name_of other)) others || repeats_by
     (λ one other. bytes_eq (name_of one) (name_of other)) others)
-    (same ∙ ap name_of (sym (same_Some first x at)))
-repeats_set name_of (first ∷ others) (suc i) x y at same =
+    (same ∙ ap name_of (sym (same_Some first old at)))
+repeats_set name_of (first ∷ others) (suc place) old new at same =
     rw (
-      any_set (λ other. bytes_eq (name_of first) (name_of other)) others i x y at
+      any_set (λ other. bytes_eq (name_of first) (name_of other)) others place old new at
           (ap (bytes_eq (name_of first)) same),
-      repeats_set name_of others i x y at same,
+      repeats_set name_of others place old new at same,
     ) refl
 
 -- an item that has the image of the one in its place leaves the images
-pub map_set : {A B : Type 0} (f : A → B) (xs : List A) (i : ℕ) (x y : A) → slice_get xs i ≡ Some x → f y ≡ f x
-    → map f (slice_set xs i y) ≡ map f xs
-map_set f [] i x y at same = cc
-map_set f (first ∷ others) zero x y at same =
-    ap (λ each. each ∷ map f others) (same ∙ ap f (sym (same_Some first x at)))
-map_set f (first ∷ others) (suc i) x y at same = ap (λ each. f first ∷ each) (map_set f others i x y at same)
+pub map_set : {A B : Type 0} (image : A → B) (xs : List A) (place : ℕ) (old new : A)
+    → slice_get xs place ≡ Some old → image new ≡ image old → map image (slice_set xs place new) ≡ map image xs
+map_set image [] place old new at same = cc
+map_set image (first ∷ others) zero old new at same =
+    ap (λ each. each ∷ map image others) (same ∙ ap image (sym (same_Some first old at)))
+map_set image (first ∷ others) (suc place) old new at same =
+    ap (λ each. image first ∷ each) (map_set image others place old new at same)

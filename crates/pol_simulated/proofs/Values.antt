@@ -48,8 +48,8 @@ self_least : (a : ℤ) → int_le a a ≡ true
 self_least a = grind (arith, ints)
 
 -- what is at most another is at most each that this is at most
-least_through : (a b c : ℤ) → int_le a b ≡ true → int_le b c ≡ true → int_le a c ≡ true
-least_through a b c low high = grind (arith, ints, low, high)
+least_through : (one other third : ℤ) → int_le one other ≡ true → int_le other third ≡ true → int_le one third ≡ true
+least_through one other third low high = grind (arith, ints, low, high)
 
 -- a positive step keeps a number from falling below one
 step_up : (a b by : ℤ) → int_lt by (pos 1) ≡ false → int_le a b ≡ true → int_le a (b +ℤ by) ≡ true
@@ -295,11 +295,11 @@ among xs i x at = subst (Contains xs) (get_or_from_slice_get xs i x x at)
     (Contains-get_or xs i x (place_within xs i x at))
 
 -- the image of an item stands in its place
-image_at : {A B : Type 0} (f : A → B) (xs : List A) (i : ℕ) (x : A) → slice_get xs i ≡ Some x →
-    slice_get (map f xs) i ≡ Some (f x)
-image_at f [] i x at = cc
-image_at f (first ∷ others) zero x at = ap (λ each. Some (f each)) (same_Some first x at)
-image_at f (first ∷ others) (suc i) x at = image_at f others i x at
+image_at : {A B : Type 0} (image : A → B) (xs : List A) (place : ℕ) (item : A) → slice_get xs place ≡ Some item →
+    slice_get (map image xs) place ≡ Some (image item)
+image_at image [] place item at = cc
+image_at image (first ∷ others) zero item at = ap (λ each. Some (image each)) (same_Some first item at)
+image_at image (first ∷ others) (suc place) item at = image_at image others place item at
 
 -- a number that fits whatever kind is found, where what is found can drift
 fits_found : (drift : Drift) (value : ℤ) (d : PlainDescription) → found_drifts (variable_named drift.name d) ≡ true →

@@ -19,6 +19,3 @@ pub use limits::{MOST_DRIFTS, MOST_EXCHANGES, MOST_ORDERS, MOST_TICKS};
 pub use parts::{SiteBatch, SiteDesk, SiteExchange, SiteModule, SiteRecipe};
 pub use reading::read_site;
 pub use site::Site;
-
-#[cfg(test)]
-mod tests;

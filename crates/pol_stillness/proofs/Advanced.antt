@@ -1,9 +1,8 @@
 -- A batch that goes on: a command that it sends is owed a report, and what was owed before stays so.
-use Rattle.std.proofs.Common.{◌≡◌, ℕ, Bool, true, false, cond, List, [], ◌∷◌, ◌++◌, Option, Some, None, refl, ap, sym, ◌∙◌}
+use Rattle.std.proofs.Common.{◌≡◌, ℕ, Bool, true, false, cond, List, [], ◌∷◌, ◌++◌, Some, None, refl, ap, sym, ◌∙◌}
 use Rattle.std.specs.Prelude.{◌&&◌, is_some, if◌then◌else◌}
 use Rattle.std.specs.List.{AllByRecursion, Contains}
 use Rattle.std.specs.Str.{bytes_eq}
-use Rattle.std.proofs.lemmas.List.Elements.{filter-append}
 use Rattle.std.proofs.lemmas.Option.{same_Some}
 use Rattle.mtp_codes.specs.Faults.{when}
 use Rattle.mtp_codes.specs.Names.{same_name}
@@ -29,7 +28,7 @@ use Rattle.chart_cursor.specs.Next.{next_after}
 use Rattle.chart_cursor.specs.Sights.{Sights, tag_of}
 use Rattle.chart_cursor.specs.declared.next.CursorNext.TheVariants.{Entry}
 use Rattle.chart_cursor.proofs.Commanding.{next_of_run, steps_of_chart}
-use Rattle.pol_events.specs.Events.{PlainEvent, start, advance}
+use Rattle.pol_events.specs.Events.{PlainEvent, advance}
 use Rattle.pol_events.specs.declared.answer.Answer.TheVariants.{Did}
 use Rattle.chart_core.specs.declared.next.Next.TheVariants as next
 use Rattle.pol_history.specs.Looking.{History, past, past_of_batch, recipes}
@@ -40,7 +39,8 @@ use Rattle.pol_history.specs.Runs.{IsLegal, IsOrderly}
 use Rattle.pol_history.proofs.Accepted.{paired}
 use Rattle.pol_history.proofs.Names.{same_true, same_refl}
 use Rattle.pol_safety.specs.Permitted.{WasPermitted}
-use Rattle.pol_safety.proofs.Courses.{all_follow, log_grows}
+use Rattle.pol_history.proofs.Pasts.{log_grows}
+use Rattle.pol_safety.proofs.Courses.{all_follow}
 use Rattle.pol_safety.proofs.Nexts.{HasNext}
 use Rattle.pol_safety.proofs.Seen.{seen_of, tag_of_bound}
 use Rattle.pol_safety.proofs.Sending.{sent_was_permitted}
@@ -56,35 +56,11 @@ use Rattle.pol_events.proofs.Options.{some_same}
 use Rattle.pol_events.proofs.Lists.{among_member, kept_member, member_kept}
 use Rattle.pol_history.proofs.Binds.{IsFitting}
 use Rattle.chart_cursor.specs.Logs.{chart_entries}
+use Rattle.chart_cursor.proofs.Pushed.{run_grows}
+use Rattle.chart_core.proofs.Latest.{last_pushed}
 use Rattle.pol_events.specs.Bound.{bound_tag}
 
 -- ---- a log that grows
-
--- by an entry of the run
-run_grows : (log : List LogEntry) (entry : LogEntry) → is_some (chart_entry entry) ≡ true
-    → chart_entries (log ++ entry ∷ []) ≡ chart_entries log ++ entry ∷ []
-run_grows log entry of_run =
-    filter-append (λ entry. is_some (chart_entry entry)) log (entry ∷ [])
-    ∙ ap (λ kept. chart_entries log ++ cond kept (entry ∷ []) []) of_run
-
--- the later of a thing and nothing is that thing
-says_last : {A : Type 0} (said : Option A) → or_earlier None said ≡ or_earlier said None
-says_last None = refl
-says_last (Some x) = refl
-
--- the later of three, whichever two come first
-earlier_apart : {A : Type 0} (one other third : Option A)
-    → or_earlier (or_earlier one other) third ≡ or_earlier one (or_earlier other third)
-earlier_apart None other third = refl
-earlier_apart (Some x) other third = refl
-
--- what a log with one more entry says last
-last_pushed : {A B : Type 0} (says : A → Option B) (log : List A) (entry : A)
-    → last_said says (log ++ entry ∷ []) ≡ or_earlier (says entry) (last_said says log)
-last_pushed says [] entry = says_last (says entry)
-last_pushed says (first ∷ log) entry =
-    ap (λ found. or_earlier found (says first)) (last_pushed says log entry) ∙ earlier_apart (says entry)
-    (last_said says log) (says first)
 
 -- where a step stands after one more entry
 phase_pushed : (log : List LogEntry) (entry : LogEntry) (name : List ℕ)

@@ -56,13 +56,14 @@ any_member test (y ∷ xs) x inside is = go (member_cases y x xs inside) (λ lat
     go (inr later) rest = right (test y) (list_any test xs) (rest later)
 
 -- among open nodes that are apart those of one role and service are one
-apart_one : (ss : List OpenNode) (s t : OpenNode) (x y : PlainStep) → AreApart ss → Contains ss s → Contains ss t
-    → s.node ≡ leaf x → t.node ≡ leaf y
-    → x.role ≡ y.role → x.service ≡ y.service → s ≡ t
-apart_one [] s t x y apart one other is also role service = no_member s one
-apart_one (first ∷ others) s t x y apart one other is also role service =
-    go (member_cases first s others one) (member_cases first t others other)
-    (λ l m. apart_one others s t x y apart.1 l m is also role service)
+apart_one : (ss : List OpenNode) (left_spot right_spot : OpenNode) (step other_step : PlainStep)
+    → AreApart ss → Contains ss left_spot → Contains ss right_spot
+    → left_spot.node ≡ leaf step → right_spot.node ≡ leaf other_step
+    → step.role ≡ other_step.role → step.service ≡ other_step.service → left_spot ≡ right_spot
+apart_one [] left_spot right_spot step other_step apart one other is also role service = no_member left_spot one
+apart_one (first ∷ others) left_spot right_spot step other_step apart one other is also role service =
+    go (member_cases first left_spot others one) (member_cases first right_spot others other)
+    (λ l m. apart_one others left_spot right_spot step other_step apart.1 l m is also role service)
   where
     clash : (a b : PlainStep) (spot : OpenNode) → first.node ≡ leaf a → spot.node ≡ leaf b → a.role ≡ b.role
         → a.service ≡ b.service → Contains others spot → ⊥
@@ -76,12 +77,13 @@ apart_one (first ∷ others) s t x y apart one other is also role service =
         any_member (λ spot. is_step_of a.role a.service spot.node) others spot inside some in
         let no : false ≡ true = sym none ∙ any in cc
 
-    go : (first ≡ s) ⊎ Contains others s → (first ≡ t) ⊎ Contains others t
-        → (Contains others s → Contains others t → s ≡ t) → s ≡ t
+    go : (first ≡ left_spot) ⊎ Contains others left_spot → (first ≡ right_spot) ⊎ Contains others right_spot
+        → (Contains others left_spot → Contains others right_spot → left_spot ≡ right_spot) → left_spot ≡ right_spot
     go (inl a) (inl b) rest = sym a ∙ b
-    go (inl a) (inr m) rest = absurd (clash x y t (ap (λ (f : OpenNode). f.node) a ∙ is) also role service m)
+    go (inl a) (inr m) rest =
+        absurd (clash step other_step right_spot (ap (λ (f : OpenNode). f.node) a ∙ is) also role service m)
     go (inr l) (inl b) rest =
-        absurd (clash y x s (ap (λ (f : OpenNode). f.node) b ∙ also) is (sym role) (sym service) l)
+        absurd (clash other_step step left_spot (ap (λ (f : OpenNode). f.node) b ∙ also) is (sym role) (sym service) l)
     go (inr l) (inr m) rest = rest l m
 
 -- a running step among open nodes is one of them

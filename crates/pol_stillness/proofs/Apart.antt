@@ -182,13 +182,14 @@ either_apart true one other e f = e
 either_apart false one other e f = f
 
 -- what is open in a tree it uses
-used : (t : Tree) (n : ℕ) (f : Marks) (role service : List ℕ) → any_open role service (open_nodes t n f) ≡ true
-    → uses t role service ≡ true
-used t n f role service is = go (uses t role service) refl
+used : (tree : Tree) (number : ℕ) (marks : Marks) (role service : List ℕ)
+    → any_open role service (open_nodes tree number marks) ≡ true
+    → uses tree role service ≡ true
+used tree number marks role service is = go (uses tree role service) refl
   where
-    go : (b : Bool) → uses t role service ≡ b → b ≡ true
+    go : (b : Bool) → uses tree role service ≡ b → b ≡ true
     go true e = refl
-    go false e = let clash : false ≡ true = sym (open_uses t n f role service e) ∙ is in cc
+    go false e = let clash : false ≡ true = sym (open_uses tree number marks role service e) ∙ is in cc
 
 mutual
   pub spots_apart : OpenStepsAreApart

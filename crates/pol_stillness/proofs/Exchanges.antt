@@ -1,5 +1,5 @@
 -- A module is away exactly under the ticket of the exchange that is open.
-use Rattle.std.proofs.Common.{◌≡◌, ◌⊎◌, inl, inr, ℕ, Bool, true, false, cond, not, List, [], ◌∷◌, Option, Some, None, refl, ap, sym, ◌∙◌, subst, arith}
+use Rattle.std.proofs.Common.{◌≡◌, ◌⊎◌, inl, inr, ℕ, Bool, true, false, cond, List, [], ◌∷◌, Option, Some, None, refl, ap, sym, ◌∙◌, subst, arith}
 use Rattle.std.specs.Prelude.{◌&&◌, ◌==◌, option_map, option_and_then, unwrap_or, if◌then◌else◌}
 use Rattle.std.specs.Option.{option_or}
 use Rattle.std.specs.Str.{bytes_eq}
@@ -12,7 +12,6 @@ use Rattle.pol_events.specs.Bound.{bound_role}
 use Rattle.pol_history.specs.Batches.{chart_by, holder_of, start_by}
 use Rattle.mtp_codes.specs.declared.cover.CoverFault.{CoverFault}
 use Rattle.pol_events.specs.Events.{PlainEvent, PlainEntry, plug, unplug, report, variable, desk, exchange_begin, exchange_end, exchange_cancel}
-use Rattle.pol_events.specs.Refusals.{wrong_ticket}
 use Rattle.pol_events.specs.declared.answer.Answer.{Answer}
 use Rattle.pol_events.specs.declared.answer.Answer.TheVariants.{Done, Refused, Ticket}
 use Rattle.pol_events.specs.declared.answer.Rule.{Rule}
@@ -20,12 +19,11 @@ use Rattle.pol_events.specs.declared.answer.Rule.TheVariants.{HistoryFull, HeldB
 use Rattle.pol_history.specs.Answers.{answer_of, first_rule, is_full}
 use Rattle.pol_history.specs.Looking.{History, is_accepted, last_of, past, past_of_batch, recipes}
 use Rattle.pol_history.specs.Modules.{Docking, absent, docked, away, docking_after, docking_by, next_ticket, ticket_of}
-use Rattle.pol_history.specs.Rules.{held_back, no_module, not_in_exchange, uncovered_by}
-use Rattle.pol_history.specs.Runs.{is_recorded, IsLegal}
+use Rattle.pol_history.specs.Rules.{held_back, uncovered_by}
+use Rattle.pol_history.specs.Runs.{is_recorded}
 use Rattle.pol_history.proofs.Accepted.{accepted_otherwise, paired}
 use Rattle.pol_history.proofs.Names.{same_true}
-use Rattle.pol_site.specs.Following.{FollowsSite, IsAllowed, Exchanging, ended_with, exchanging, last_exchanging, none_open, was_begun, was_held}
-use Rattle.pol_site.specs.Sites.{PlainSite}
+use Rattle.pol_site.specs.Following.{IsAllowed, Exchanging, ended_with, exchanging, last_exchanging, none_open, was_begun, was_held}
 use Rattle.pol_stillness.specs.Exchanges.{open_ticket, OpenIsAway}
 
 -- ---- tickets

@@ -47,7 +47,8 @@ use Rattle.pol_history.specs.Following.{sights_by, next_of}
 use Rattle.pol_history.specs.Answers.{advanced, otherwise, answer_of}
 use Rattle.pol_history.proofs.Accepted.{accepted_none, accepted_otherwise, paired}
 use Rattle.pol_history.proofs.Names.{same_refl}
-use Rattle.pol_safety.proofs.Courses.{log_grows, log_stays}
+use Rattle.pol_history.proofs.Pasts.{log_grows}
+use Rattle.pol_safety.proofs.Courses.{log_stays}
 use Rattle.pol_safety.proofs.Nexts.{HasNext, has_next}
 use Rattle.pol_safety.proofs.Seen.{seen_of}
 use Rattle.pol_site.specs.Sites.{PlainSite}

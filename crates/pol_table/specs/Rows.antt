@@ -1,5 +1,5 @@
 -- What contracts see of a table: each docked part under its tag, and the batch that holds it.
-use Rattle.std.specs.Prelude.{ℕ, List, map, Option, None, Some, if◌then◌else◌, refl}
+use Rattle.std.specs.Prelude.{ℕ, List, map, Option, Some, if◌then◌else◌, refl}
 use Rattle.std.specs.Map.{lookup}
 use Rattle.std.specs.Option.{option_map, option_and_then}
 use Rattle.std.specs.Str.{bytes_eq}

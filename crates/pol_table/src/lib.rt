@@ -9,8 +9,6 @@ mod faults;
 mod holding;
 mod seat;
 mod table;
-#[cfg(test)]
-mod tests;
 
 pub use faults::{DockFault, HoldFault, LeaveFault};
 pub use table::Table;

@@ -1,4 +1,4 @@
-use Rattle.std.proofs.Common.{◌≡◌, ◌+◌, drop, length, map}
+use Rattle.std.proofs.Common.{◌≡◌, ◌+◌, drop, map}
 use Rattle.std.specs.Option.{option_map}
 use Rattle.pol_audit.specs.Verdict.{first_other}
 use Rattle.pol_audit.proofs.tails.first_other.Given as goal

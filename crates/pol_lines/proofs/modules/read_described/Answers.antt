@@ -2,7 +2,6 @@ use Rattle.std.proofs.Common.{◌≡◌, [], refl, sym, subst, arith, codes}
 use Rattle.std.proofs.lemmas.Grind.{common_steps}
 use Rattle.mtp_desc.specs.PlainDescription.{plain_description}
 use Rattle.mtp_desc.specs.Form.{description_of}
-use Rattle.mtp_json.specs.Form.{nested_if_present}
 use Rattle.pol_events.specs.Events.{plain_event}
 use Rattle.pol_lines.specs.Objects.{IsObject, with_value}
 use Rattle.pol_lines.proofs.Making.{line_with_value}

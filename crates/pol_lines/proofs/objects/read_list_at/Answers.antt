@@ -1,4 +1,4 @@
-use Rattle.std.proofs.Common.{◌≡◌, [], ap, map, refl, sym, subst}
+use Rattle.std.proofs.Common.{ap, map, subst}
 use Rattle.serde_json.specs.Data.{array}
 use Rattle.std.specs.Prelude.{None, Some, suc}
 use Rattle.pol_lines.specs.Begins.{Begins}

@@ -1,5 +1,5 @@
 use Rattle.std.proofs.Common.{[], sym, subst}
-use Rattle.pol_lines.specs.Objects.{IsObject, Stands}
+use Rattle.pol_lines.specs.Objects.{Stands}
 use Rattle.pol_lines.proofs.Cuts.{flat_object}
 use Rattle.pol_lines.proofs.objects.read_object.Goals as goal
 

@@ -1,5 +1,5 @@
-use Rattle.std.proofs.Common.{◌≡◌, ap, refl, sym, subst, ◌∙◌}
-use Rattle.std.specs.Prelude.{None, Some, option_map}
+use Rattle.std.proofs.Common.{refl, sym, subst, ◌∙◌}
+use Rattle.std.specs.Prelude.{None, Some}
 use Rattle.pol_lines.specs.Begins.{Begins}
 use Rattle.pol_lines.proofs.Printed.{begins_within}
 use Rattle.pol_lines.proofs.objects.read_value_at.Goals as goal

@@ -1,4 +1,4 @@
-use Rattle.std.proofs.Common.{◌≡◌, [], refl, sym, subst, arith, codes}
+use Rattle.std.proofs.Common.{[], refl, sym, subst, arith, codes}
 use Rattle.std.specs.Prelude.{option_map}
 use Rattle.serde_json.specs.Data.{array}
 use Rattle.mtp_desc.specs.Form.{procedure_of}

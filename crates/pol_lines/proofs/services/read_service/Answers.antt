@@ -1,11 +1,11 @@
-use Rattle.std.proofs.Common.{◌≡◌, ◌<◌, [], ◌∷◌, length, refl, sym, subst, arith, codes}
+use Rattle.std.proofs.Common.{◌<◌, [], length, refl, sym, subst, arith, codes}
 use Rattle.std.proofs.lemmas.Grind.{common_steps}
-use Rattle.std.specs.Prelude.{None, Option, Some, map, option_map}
-use Rattle.serde_json.specs.Data.{Items, array}
-use Rattle.mtp_desc.specs.Form.{procedure_of, service_of}
+use Rattle.std.specs.Prelude.{map, option_map}
+use Rattle.serde_json.specs.Data.{array}
+use Rattle.mtp_desc.specs.Form.{service_of}
 use Rattle.mtp_desc.specs.PlainProcedure.{plain_procedure}
 use Rattle.mtp_desc.specs.PlainService.{plain_service}
-use Rattle.pol_lines.specs.Objects.{GivesEach, IsObject, Stands, with_value}
+use Rattle.pol_lines.specs.Objects.{IsObject, Stands, with_value}
 use Rattle.pol_lines.proofs.Cuts.{object_reads}
 use Rattle.pol_lines.proofs.Describing.{service_reads}
 use Rattle.pol_lines.proofs.services.read_service.Goals as goal

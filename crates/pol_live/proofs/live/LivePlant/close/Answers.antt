@@ -1,7 +1,7 @@
-use Rattle.std.proofs.Common.{◌≡◌, ◌∙◌, ap, length, reverse, sym, subst}
+use Rattle.std.proofs.Common.{◌∙◌, ap, length, reverse, sym, subst}
 use Rattle.pol_events.specs.Events.{plain_history}
 use Rattle.pol_site.specs.Actors.{actors}
-use Rattle.pol_live.specs.Parts.{AreParts, made_in_all}
+use Rattle.pol_live.specs.Parts.{AreParts}
 use Rattle.pol_live.proofs.AllCompared.{all_counted}
 use Rattle.pol_live.proofs.Makers.{owners_long, owners_within}
 use Rattle.pol_live.proofs.OwnParts.{all_own}
