@@ -1,5 +1,6 @@
 //! Worked charts, and what is wrong with others.
 
+use crate::given::refusal_text;
 use chart_core::Chart;
 use chart_json::{make_chart, node_at, read_chart, roles_at, write_chart};
 use mtp_json::{JsonRefusal, parse};
@@ -27,14 +28,7 @@ fn told(alloc: Global, read: Result<Chart, JsonRefusal>) -> Result<String, Fail>
             let recipe = json!(in alloc; {"chart": root, "roles": roles})?;
             Ok(recipe.to_string(alloc)?)
         }
-        Err(JsonRefusal::Memory) => Ok(String::from_str(alloc, "memory")?),
-        Err(JsonRefusal::Fault(fault)) => {
-            let path = String::from_utf8(fault.path.text(alloc)?)
-                .ok()
-                .ok_or("no text")?;
-            let kind = fault.kind;
-            Ok(format!(in alloc; "{kind:?} \"{path}\"")?)
-        }
+        Err(refusal) => refusal_text(alloc, refusal),
     }
 }
 

@@ -6,15 +6,12 @@ ghost use Rattle.chart_core.specs.Formulas.{plain_condition};
 ghost use Rattle.chart_core.specs.Trees.{Tree, plain_node, plain_finish};
 ghost use Rattle.chart_core.specs.Roles.{plain_role, are_roles_formed};
 
+use crate::given::named;
 use chart_core::{Chart, ChartFault, Condition, Node, Op, Role, Step};
-use mtp_codes::{Name, Reading, Short};
+use mtp_codes::{Reading, Short};
 use semver::VersionReq;
 use std::alloc::Global;
 use std::test::*;
-
-fn named(text: &str) -> Result<Name, Fail> {
-    Ok(Name::of_bytes(text.as_bytes()).ok_or("no name")?)
-}
 
 // A role for modules of this type, in the versions that the text allows.
 fn role(alloc: Global, name: &str, type_name: &str, wants: &str) -> Result<Role, Fail>

@@ -1,5 +1,6 @@
 //! Worked descriptions, and what is wrong with others.
 
+use crate::given::refusal_text;
 use mtp_codes::Name;
 use mtp_desc::{Description, read_description, write_description};
 use mtp_json::{JsonRefusal, parse};
@@ -15,14 +16,7 @@ fn read(alloc: Global, text: &str) -> Result<Description, JsonRefusal> {
 fn told(alloc: Global, text: &str) -> Result<String, Fail> {
     match read(alloc, text) {
         Ok(description) => Ok(write_description(alloc, &description)?.to_string(alloc)?),
-        Err(JsonRefusal::Memory) => Ok(String::from_str(alloc, "memory")?),
-        Err(JsonRefusal::Fault(fault)) => {
-            let path = String::from_utf8(fault.path.text(alloc)?)
-                .ok()
-                .ok_or("no text")?;
-            let kind = fault.kind;
-            Ok(format!(in alloc; "{kind:?} \"{path}\"")?)
-        }
+        Err(refusal) => refusal_text(alloc, refusal),
     }
 }
 

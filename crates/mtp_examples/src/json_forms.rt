@@ -1,6 +1,7 @@
 //! Readers and writers on worked texts, each with ample memory.
 
-use mtp_codes::{Command, Name, State};
+use crate::given::named;
+use mtp_codes::{Command, State};
 use mtp_json::{
     FaultKind, JsonRefusal, NameJson, Path, PathPart, command_at, form_at, form_if_there, get_name,
     get_u64, get_whole, i32_at, i64_at, list_if_there, list_of, list_or_none, name_at, nothing_but,
@@ -11,10 +12,6 @@ use mtp_json::{
 use serde_json::Value;
 use std::alloc::Global;
 use std::test::*;
-
-fn named(text: &str) -> Result<Name, Fail> {
-    Ok(Name::of_bytes(text.as_bytes()).ok_or("no name")?)
-}
 
 fn told<T: Drop>(alloc: Global, read: Result<T, JsonRefusal>) -> Result<String, Fail> {
     match read {

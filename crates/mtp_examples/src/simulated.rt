@@ -1,5 +1,6 @@
 //! Worked runs of simulated modules.
 
+use crate::given::named;
 use mtp_assembly::ServiceControl;
 use mtp_codes::{Command, Name, Value};
 use mtp_desc::{Description, read_description};
@@ -104,10 +105,6 @@ fn described(alloc: Global, text: &str) -> Result<Description, JsonRefusal> {
 fn module(alloc: Global, text: &str, plan: &SimPlan) -> Result<Sim, Fail> {
     let description = described(alloc, text).ok().ok_or("no description")?;
     Ok(Sim::new(alloc, Arc::new(alloc, description)?, plan)?)
-}
-
-fn named(text: &str) -> Result<Name, Fail> {
-    Ok(Name::of_bytes(text.as_bytes()).ok_or("no name")?)
 }
 
 fn service_text(alloc: Global, name: &Name, control: &ServiceControl) -> Result<String, Fail> {

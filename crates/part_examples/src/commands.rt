@@ -1,15 +1,12 @@
 //! Commands of the operator's to a worked service.
+use crate::given::named;
 use chart_core::LogEntry;
 use mtp_assembly::ServiceControl;
-use mtp_codes::{Command, Mode, Name, Origin, State};
+use mtp_codes::{Command, Mode, Origin, State};
 use mtp_modes::ServiceView;
 use pol_desk::desk;
 use pol_events::Rule;
 use std::test::*;
-
-fn named(text: &str) -> Result<Name, Fail> {
-    Ok(Name::of_bytes(text.as_bytes()).ok_or("no name")?)
-}
 
 // What is seen of a service whose one procedure completes by itself.
 fn seen(state: State, mask: u32, mode: Mode, origin: Origin, procedure: u16) -> ServiceView {

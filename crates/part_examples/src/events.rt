@@ -1,34 +1,17 @@
 //! Lines of a journal, read and written.
 
-ghost use Rattle.std.specs.Prelude.{◌≡◌, IfOk, IsTrue, Ok};
-ghost use Rattle.pol_events.specs.Events.{plain_event};
-ghost use Rattle.pol_events.specs.Lines.{event_of};
-ghost use Rattle.pol_events.specs.Orderly.{is_orderly};
+ghost use Rattle.std.specs.Prelude.{Ok};
 
-use pol_events::{Event, LineFault, LineRefusal, event_value, read_event};
-use std::alloc::{AllocError, Global};
+use crate::given::{fault_text, line_of};
+use pol_events::{LineFault, LineRefusal, read_event};
+use std::alloc::Global;
 use std::test::*;
 
-/// The line of an event: its text says the event again.
-fn line_of(alloc: Global, event: &Event) -> Result<Vec<u8>, AllocError>
-    requires { IsTrue (is_orderly (plain_event event.now)) }
-    ensures { IfOk result (λ line. event_of line.items ≡ Ok (plain_event event.now)) }
-{
-    let value = event_value(alloc, event)?;
-    value.to_vec(alloc)
-}
-
-fn fault_text(alloc: Global, fault: LineFault) -> Result<String, Fail> {
+fn line_fault_text(alloc: Global, fault: LineFault) -> Result<String, Fail> {
     match fault {
         LineFault::TooLong => Ok(String::from_str(alloc, "too long")?),
         LineFault::Chart(fault) => Ok(format!(in alloc; "{fault:?}")?),
-        LineFault::Json(fault) => {
-            let path = String::from_utf8(fault.path.text(alloc)?)
-                .ok()
-                .ok_or("no text")?;
-            let kind = fault.kind;
-            Ok(format!(in alloc; "{kind:?} \"{path}\"")?)
-        }
+        LineFault::Json(fault) => fault_text(alloc, &fault),
     }
 }
 
@@ -41,7 +24,7 @@ fn told(alloc: Global, line: &[u8]) -> Result<String, Fail> {
                 .ok_or("no text")?,
         ),
         Err(LineRefusal::Memory) => Ok(String::from_str(alloc, "memory")?),
-        Err(LineRefusal::Fault(fault)) => fault_text(alloc, fault),
+        Err(LineRefusal::Fault(fault)) => line_fault_text(alloc, fault),
     }
 }
 

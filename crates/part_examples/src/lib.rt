@@ -12,6 +12,8 @@ mod docked;
 #[cfg(test)]
 mod events;
 #[cfg(test)]
+mod given;
+#[cfg(test)]
 mod looking_back;
 #[cfg(test)]
 mod output_lines;

@@ -1,6 +1,6 @@
 //! A worked batch, answered event by event.
+use crate::given::named;
 use chart_core::LogEntry;
-use mtp_codes::Name;
 use pol_audit::says;
 use pol_events::{Answer, Entry, read_event};
 use std::test::*;
@@ -18,10 +18,6 @@ const START: &str =
     "{\"ev\":\"start\",\"at\":4,\"batch\":\"b1\",\"recipe\":\"r\",\"bind\":{\"A\":\"M1\"}}";
 
 const ADVANCE: &str = "{\"ev\":\"advance\",\"at\":5,\"batch\":\"b1\"}";
-
-fn named(text: &str) -> Result<Name, Fail> {
-    Ok(Name::of_bytes(text.as_bytes()).ok_or("no name")?)
-}
 
 #[test]
 fn a_batch_starts_the_first_step_on_the_module_that_it_was_bound_to(

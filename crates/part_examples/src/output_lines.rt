@@ -1,5 +1,6 @@
 //! Output lines, byte for byte.
 
+use crate::given::named;
 use chart_core::{ChartFault, LogEntry, Readings, Why};
 use mtp_codes::{Command, Forbid, Name, Reading, State};
 use mtp_json::{FaultKind, JsonFault, Path, PathPart};
@@ -10,10 +11,6 @@ use pol_record::{
 };
 use std::alloc::Global;
 use std::test::*;
-
-fn named(text: &str) -> Result<Name, Fail> {
-    Ok(Name::of_bytes(text.as_bytes()).ok_or("no name")?)
-}
 
 /// The lines of these answers, one after another.
 fn answer_lines(alloc: Global, answers: &[Answer]) -> Result<Vec<u8>, Fail> {

@@ -1,6 +1,6 @@
 //! A plant with ample memory: a worked journal, room that is taken first, and a full history.
+use crate::given::named;
 use chart_core::LogEntry;
-use mtp_codes::Name;
 use pol_core::{Docking, Plant};
 use pol_events::{Answer, Event, Rule, read_event};
 use std::test::*;
@@ -32,10 +32,6 @@ const START_C: &str = r#"{"at":9,"ev":"start","batch":"c","recipe":"one","bind":
 
 const END_M: &str =
     r#"{"at":10,"ev":"exchange_end","tag":"M","ticket":1,"desc":{"type":"Doser","version":"1.1.0","services":[{"name":"dose","procedures":[{"number":1,"default":true,"self_completing":true}]}]}}"#;
-
-fn named(text: &str) -> Result<Name, Fail> {
-    Ok(Name::of_bytes(text.as_bytes()).ok_or("no name")?)
-}
 
 // What the plant answers to a line.
 fn answered(rt: &HostRuntime, plant: &mut Plant, line: &str) -> Result<Answer, Fail> {

@@ -1,24 +1,12 @@
 //! Lines that are read without a tree, and lines that are not.
 
-ghost use Rattle.std.specs.Prelude.{◌≡◌, IfOk, IsTrue, Ok};
-ghost use Rattle.pol_events.specs.Events.{plain_event};
-ghost use Rattle.pol_events.specs.Lines.{event_of};
-ghost use Rattle.pol_events.specs.Orderly.{is_orderly};
+ghost use Rattle.std.specs.Prelude.{Ok};
 
-use pol_events::{Event, event_value};
+use crate::given::line_of;
 use pol_lines::{read_line, read_quick};
 use std::alloc::{AllocError, Global};
 use std::process::Abort;
 use std::test::*;
-
-/// The line of an event: its text says the event again.
-fn line_of(alloc: Global, event: &Event) -> Result<Vec<u8>, AllocError>
-    requires { IsTrue (is_orderly (plain_event event.now)) }
-    ensures { IfOk result (λ line. event_of line.items ≡ Ok (plain_event event.now)) }
-{
-    let value = event_value(alloc, event)?;
-    value.to_vec(alloc)
-}
 
 /// The written form of what a line says, or nothing.
 fn told(alloc: Global, line: &[u8]) -> Result<Vec<u8>, AllocError> {

@@ -1,6 +1,6 @@
 //! A whole site, and what is wrong with others.
 
-use mtp_json::{JsonFault, JsonRefusal};
+use crate::given::refusal_text;
 use pol_site::{Site, read_site};
 use std::alloc::Global;
 use std::test::*;
@@ -92,20 +92,11 @@ const CHANGES: &str = r#"
 "modules":[{"tag":"M1" -> "modules":[{"tag":"M1","desc":{"type":"D","version":"1.0.0","services":[{"name":"s"}]},"sim":{"ticks":1,"run":1,"drift":[{"name":"v","from":0,"by":0,"to":0}]}},{"tag":"M1" => Repeated "modules"
 "#;
 
-fn fault_text(alloc: Global, fault: &JsonFault) -> Result<String, Fail> {
-    let path = String::from_utf8(fault.path.text(alloc)?)
-        .ok()
-        .ok_or("no text")?;
-    let kind = fault.kind;
-    Ok(format!(in alloc; "{kind:?} \"{path}\"")?)
-}
-
 /// The first fault of the site that a line says, or `none`.
 fn told(alloc: Global, line: &str) -> Result<String, Fail> {
     match read_site(alloc, line.as_bytes()) {
         Ok(_) => Ok(String::from_str(alloc, "none")?),
-        Err(JsonRefusal::Memory) => Ok(String::from_str(alloc, "memory")?),
-        Err(JsonRefusal::Fault(fault)) => fault_text(alloc, &fault),
+        Err(refusal) => refusal_text(alloc, refusal),
     }
 }
 

@@ -61,6 +61,7 @@ IsOrder did (Some order) (Some sent) =
 IsOrder did None (Some sent) = ⊥
 IsOrder did (Some order) None = ⊥
 
+-- what an entry of a log commands is the same for the plant and for looking back
 order_of : (batch : Option (List ℕ)) (did : LogEntry) → IsOrder did (plant.entry_command batch did) (sent_by did)
 order_of batch (Start step tag service procedure) = (refl, refl, refl, refl)
 order_of batch (Finish step tag service) = (refl, refl, refl, refl)
@@ -106,6 +107,7 @@ same_did tag place did (Some order) (Some sent) is sends =
     by true false e own = cc
     by false true e own = cc
 
+-- in one entry of a history the plant finds what looking back finds
 same_one : (tag : List ℕ) (place : ℕ) (entry : PlainEntry) →
     IsFoundAs tag (place + 1) (plant.sent_to tag entry) (place + 1) (at_place tag place entry)
 same_one tag place entry = go entry.answer

@@ -48,6 +48,7 @@ mapped_item change [] place found at = cc
 mapped_item change (first ∷ others) zero found at = (first, refl, sym (same_Some (change first) found at))
 mapped_item change (first ∷ others) (suc place) found at = mapped_item change others place found at
 
+-- an item of two mapped lists, one behind the other, comes of an item of the first or of the second
 pub either_item : {A B E : Type 0} (here : A → E) (there : B → E) (front : List A) (back : List B) (place : ℕ)
     (found : E) →
     slice_get (map here front ++ map there back) place ≡ Some found → IsEither here there front back place found

@@ -49,29 +49,31 @@ position_later {A} test x xs is =
         by false = refl
 
 -- behind items that don't pass
-pub position_behind : {A B : Type 0} (test : B → Bool) (f : A → B) (xs : List A) (ys : List B) (place : ℕ) →
-    ((x : A) → test (f x) ≡ false) → position test ys ≡ Some place →
-    position test (map f xs ++ ys) ≡ Some (length xs + place)
-position_behind test f [] ys place none at = at ∙ ap Some (omega arith)
-position_behind test f (x ∷ xs) ys place none at =
-    position_later test (f x) (map f xs ++ ys) (none x)
-    ∙ ap (option_map suc) (position_behind test f xs ys place none at) ∙ ap Some (omega arith)
+pub position_behind : {A B : Type 0} (test : B → Bool) (change : A → B) (xs : List A) (ys : List B) (place : ℕ) →
+    ((item : A) → test (change item) ≡ false) → position test ys ≡ Some place →
+    position test (map change xs ++ ys) ≡ Some (length xs + place)
+position_behind test change [] ys place none at = at ∙ ap Some (omega arith)
+position_behind test change (item ∷ xs) ys place none at =
+    position_later test (change item) (map change xs ++ ys) (none item)
+    ∙ ap (option_map suc) (position_behind test change xs ys place none at) ∙ ap Some (omega arith)
 
 -- an item whose name no other item has
-pub position_named : {A B : Type 0} (name_of : A → List ℕ) (test : B → Bool) (f : A → B) (xs : List A) (ys : List B)
-    (place : ℕ) (x : A) → ((y : A) → test (f y) ≡ bytes_eq (name_of y) (name_of x)) →
-    repeats_by (λ one other. bytes_eq (name_of one) (name_of other)) xs ≡ false → slice_get xs place ≡ Some x →
-    position test (map f xs ++ ys) ≡ Some place
-position_named name_of test f [] ys place x named unlike at = cc
-position_named name_of test f (first ∷ others) ys zero x named unlike at =
-    position_here test (f first) (map f others ++ ys)
-    (named first ∙ ap (λ each. bytes_eq (name_of each) (name_of x)) (same_Some first x at) ∙ same_refl (name_of x))
-position_named name_of test f (first ∷ others) ys (suc place) x named unlike at =
+pub position_named : {A B : Type 0} (name_of : A → List ℕ) (test : B → Bool) (change : A → B) (xs : List A)
+    (ys : List B) (place : ℕ) (item : A) →
+    ((another : A) → test (change another) ≡ bytes_eq (name_of another) (name_of item)) →
+    repeats_by (λ one other. bytes_eq (name_of one) (name_of other)) xs ≡ false → slice_get xs place ≡ Some item →
+    position test (map change xs ++ ys) ≡ Some place
+position_named name_of test change [] ys place item named unlike at = cc
+position_named name_of test change (first ∷ others) ys zero item named unlike at =
+    position_here test (change first) (map change others ++ ys)
+    (named first ∙ ap (λ each. bytes_eq (name_of each) (name_of item)) (same_Some first item at)
+    ∙ same_refl (name_of item))
+position_named name_of test change (first ∷ others) ys (suc place) item named unlike at =
     let parts = neither (list_any (λ other. bytes_eq (name_of first) (name_of other)) others)
     (repeats_by (λ one other. bytes_eq (name_of one) (name_of other)) others) unlike in
-    position_later test (f first) (map f others ++ ys)
-    (named first ∙ none_at (λ other. bytes_eq (name_of first) (name_of other)) others place x parts.0 at)
-    ∙ ap (option_map suc) (position_named name_of test f others ys place x named parts.1 at)
+    position_later test (change first) (map change others ++ ys)
+    (named first ∙ none_at (λ other. bytes_eq (name_of first) (name_of other)) others place item parts.0 at)
+    ∙ ap (option_map suc) (position_named name_of test change others ys place item named parts.1 at)
 
 -- likewise in a list of such items alone
 pub position_at : {A : Type 0} (name_of : A → List ℕ) (xs : List A) (place : ℕ) (x : A) (name : List ℕ) →

@@ -107,6 +107,7 @@ pub record IsNext (site : PlainSite) (history : History) : Type 0 where
   pub orderly : IsOrderly history
   pub follows : FollowsSite site history
 
+-- so it is with an orderly event that the site allows, where the history has room
 pub next_kept : (site : PlainSite) (older : History) (at : ℕ) (event : PlainEvent) → is_full older ≡ false →
     is_orderly event ≡ true → IsAllowed site older event (answer_of older event) → IsLegal older → IsOrderly older →
     FollowsSite site older → IsNext site (entry_at older at event ∷ older)

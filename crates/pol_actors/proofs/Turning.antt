@@ -107,16 +107,19 @@ pub record HasRested (site : PlainSite) (tag : List ℕ) (history : History) (ma
   pub settled : is_settled_module site history tag ≡ true
   pub up : KeepsUp site tag made.place history made.sim
 
+-- where it looks it is not settled, and it keeps up
 pub record HasLooked (site : PlainSite) (tag : List ℕ) (history : History) (made : Made) : Type 0 where
   pub unsettled : is_settled_module site history tag ≡ false
   pub up : KeepsUp site tag made.place history made.sim
 
+-- what it reports is allowed and done, and with it in the history it keeps up
 pub record HasReported (site : PlainSite) (tag : List ℕ) (history : History) (made : Made)
     (told : SimReport) : Type 0 where
   pub allowed : IsAllowed site history (report_event 0 tag told) (answer_of history (report_event 0 tag told))
   pub done : answer_of history (report_event 0 tag told) ≡ Done
   pub up : (at : ℕ) → KeepsUp site tag made.place (paired (report_event at tag told) Done ∷ history) made.sim
 
+-- what holds of a module after its turn, by what it decided
 abbrev pub IsTurned : PlainSite → List ℕ → History → Made → Decision → Type 0
 IsTurned site tag history made Rests = HasRested site tag history made
 IsTurned site tag history made Looks = HasLooked site tag history made

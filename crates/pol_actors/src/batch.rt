@@ -25,7 +25,7 @@ pub enum Stage {
     Started,
 }
 
-// A start waits while this rule holds.
+// Whether this is a rule for which a start waits.
 fn is_passing(rule: &Rule) -> bool
     ensures { result ≡ is_passing rule.now }
 {
@@ -40,7 +40,7 @@ fn is_passing(rule: &Rule) -> bool
     )
 }
 
-// A start that would be answered so waits.
+// Whether a start that would be answered so waits.
 fn is_refusal_passing(would: &Result<(), Rule>) -> bool
     ensures { result ≡ is_refusal_passing would.now }
 {
@@ -50,7 +50,7 @@ fn is_refusal_passing(would: &Result<(), Rule>) -> bool
     }
 }
 
-// The start of the batch waits.
+// Whether the start of the batch waits.
 fn waits(batch: &SiteBatch, plant: &Plant) -> bool
     ensures { result ≡ is_refusal_passing (refusal (answer_of (plant_history plant.now)
         (start 0 batch.now.batch batch.now.recipe batch.now.bind.items))) }
@@ -86,7 +86,7 @@ fn start_event(alloc: Global, batch: &SiteBatch, plant: &Plant) -> Result<Option
     }))
 }
 
-// A batch of which this comes next goes on.
+// Whether a batch of which this comes next goes on.
 fn goes_on(next: &Option<Next>) -> bool
     ensures { result ≡ goes_on next.now }
 {

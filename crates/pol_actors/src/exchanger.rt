@@ -64,14 +64,14 @@ pub enum Errand {
     },
 }
 
-// An exchange waits while this rule holds.
+// Whether this is a rule for which an exchange waits.
 fn is_busy_rule(rule: &Rule) -> bool
     ensures { result ≡ is_busy_rule rule.now }
 {
     matches!(rule, Rule::ActiveStep { .. } | Rule::NotAtRest { .. })
 }
 
-// A begin that would be answered so waits.
+// Whether a begin that would be answered so waits.
 fn is_refusal_busy(would: &Result<(), Rule>) -> bool
     ensures { result ≡ is_refusal_busy would.now }
 {
@@ -81,7 +81,7 @@ fn is_refusal_busy(would: &Result<(), Rule>) -> bool
     }
 }
 
-// The exchange of the tag waits for its module.
+// Whether the exchange of the tag waits for its module.
 fn is_busy(tag: Name, plant: &Plant) -> bool
     ensures { result ≡ is_refusal_busy (refusal (answer_of (plant_history plant.now) (exchange_begin 0 tag))) }
 {
@@ -178,7 +178,7 @@ fn ended_standing(tag: Name, ticket: u32, answer: &Answer) -> Standing
     }
 }
 
-// Makes a recipe known.
+// The event that makes a recipe known.
 fn recipe_event(recipe: &SiteRecipe) -> Result<Event, AllocError>
     ensures { IfOk result (λ event. plain_event event ≡ know_event (plain_recipe recipe.now)) }
 {
@@ -189,7 +189,7 @@ fn recipe_event(recipe: &SiteRecipe) -> Result<Event, AllocError>
     })
 }
 
-// Plugs a module.
+// The event that plugs a module.
 fn plug_event(unit: &SiteModule) -> Result<Event, AllocError>
     ensures { IfOk result (λ event. plain_event event ≡ plug_event (plain_module unit.now)) }
 {
@@ -200,7 +200,7 @@ fn plug_event(unit: &SiteModule) -> Result<Event, AllocError>
     })
 }
 
-// Ends an exchange.
+// The event that ends an exchange.
 fn end_event(tag: Name, ticket: u32, exchange: &SiteExchange) -> Result<Event, AllocError>
     ensures { IfOk result (λ event. plain_event event ≡ end_event tag ticket (plain_exchange exchange.now)) }
 {
@@ -212,7 +212,7 @@ fn end_event(tag: Name, ticket: u32, exchange: &SiteExchange) -> Result<Event, A
     })
 }
 
-// Plugs the module at this place.
+// The event that plugs the module at this place.
 fn plugging_event(site: &Site, place: usize) -> Result<Option<Event>, AllocError>
     ensures { IfOk result (λ event. option_map plain_event event
         ≡ option_map plug_event (slice_get (plain_site site.now).modules place)) }
@@ -223,7 +223,7 @@ fn plugging_event(site: &Site, place: usize) -> Result<Option<Event>, AllocError
     }
 }
 
-// Makes the recipe at this place known, or plugs the module at this place after the recipes.
+// The event that makes the recipe at this place known, or plugs the module at this place after the recipes.
 fn opening_event(site: &Site, place: usize) -> Result<Option<Event>, AllocError>
     ensures { IfOk result (λ event. option_map plain_event event ≡ slice_get (openings (plain_site site.now)) place) }
 {
@@ -233,7 +233,7 @@ fn opening_event(site: &Site, place: usize) -> Result<Option<Event>, AllocError>
     }
 }
 
-// Ends the exchange at this place.
+// The event that ends the exchange at this place.
 fn ending_event(
     site: &Site,
     tag: Name,

@@ -1,8 +1,8 @@
 -- The answer by the first rule that holds.
-use Rattle.std.proofs.Common.{◌≡◌, ◌<◌, false, arith, ◌∷◌, [], List, length, map, Option, Some, None, suc, refl, ap, ◌∙◌}
+use Rattle.std.proofs.Common.{◌≡◌, ◌<◌, false, arith, ◌∷◌, [], List, length, map, Option, Some, None, refl, ap, ◌∙◌}
 use Rattle.std.specs.Prelude.{nat_le}
 use Rattle.std.proofs.lemmas.Bool.{false_from_ne_true, leb-true}
-use Rattle.std.proofs.lemmas.List.{length-reverse}
+use Rattle.std.proofs.lemmas.List.{length-map, length-reverse}
 use Rattle.mtp_codes.specs.Faults.{when, first_of}
 use Rattle.mtp_codes.specs.declared.limits.TheConstants.{LONGEST_HISTORY}
 use Rattle.pol_events.specs.Events.{PlainEvent, plain_entry, plain_history}
@@ -19,19 +19,16 @@ abbrev pub refused_or : Option Rule → Answer → Answer
 refused_or None answer = answer
 refused_or (Some rule) answer = Refused rule
 
+-- the answer by the first rule that holds is its refusal, or the answer itself where none holds
 answered_is : (rules : List (Option Rule)) (answer : Answer)
     → first_rule rules answer ≡ refused_or (first_of rules) answer
 answered_is [] answer = refl
 answered_is (Some rule ∷ rules) answer = refl
 answered_is (None ∷ rules) answer = answered_is rules answer
 
-length_map : {A B : Type 0} (f : A → B) (xs : List A) → length (map f xs) ≡ length xs
-length_map f [] = refl
-length_map f (x ∷ xs) = ap suc (length_map f xs)
-
 -- a history is as long as the list of its entries
 history_length : (entries : List Entry) → length (plain_history entries) ≡ length entries
-history_length entries = length-reverse (map plain_entry entries) ∙ length_map plain_entry entries
+history_length entries = length-reverse (map plain_entry entries) ∙ length-map entries plain_entry
 
 -- a history that has room is not full
 not_full : (history : History) → length history < LONGEST_HISTORY → is_full history ≡ false

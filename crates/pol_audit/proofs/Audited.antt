@@ -36,6 +36,7 @@ both : (one other : Bool) → (one && other) ≡ true → (one ≡ true) × (oth
 both true other is = (refl, is)
 both false other is = absurd (true≢false (sym is))
 
+-- each of the entries that are tested to be orderly has an orderly event
 each_orderly : (entries : List Entry) → IsTrue (are_orderly entries) →
     AllByRecursion (λ entry. is_orderly entry.event ≡ true) (map plain_entry entries)
 each_orderly [] all = tt

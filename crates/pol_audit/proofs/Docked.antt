@@ -18,6 +18,7 @@ left_is past (exchange_end at tag ticket description) answer = refl
 left_is past (exchange_cancel at tag ticket) answer = refl
 left_is past _ answer = refl
 
+-- what is seen of the first of two dockings that is there is the first of what is seen of the two
 seen_or : (first second : Option modules.Docking)
     → docking_seen (unwrap_or (option_or first second) modules.absent)
     ≡ unwrap_or (option_or (option_map docking_seen first) (option_map docking_seen second)) Absent
@@ -25,6 +26,7 @@ seen_or None None = refl
 seen_or None (Some docking) = refl
 seen_or (Some docking) second = refl
 
+-- what is seen of the last docking, if there is one, is what the last event leaves that changes it
 last_left : (whole past : History)
     → option_map docking_seen (last_of (λ entry. modules.docking_after whole entry.event entry.answer) past)
     ≡ last_of docking_left past
@@ -42,6 +44,7 @@ last_left whole (entry ∷ older) =
     go None is rest = rest ∙ rw (← is) refl
     go (Some docking) is rest = rw (← is) refl
 
+-- what is seen of a docking that may be missing is what is seen of it, or absence
 seen_unwrapped : (docking : Option modules.Docking)
     → docking_seen (unwrap_or docking modules.absent) ≡ unwrap_or (option_map docking_seen docking) Absent
 seen_unwrapped None = refl

@@ -1,7 +1,7 @@
 -- Judging a history: what is found of it, and the steps of the loop over its entries.
 use Rattle.std.proofs.Common.{◌≡◌, ◌≤◌, ◌<◌, ◌+◌, ◌∷◌, [], ◌++◌, ℕ, suc, length, map, take, drop, get_or, List, Bool, true, false, true≢false, Some, None, refl, sym, ap, ◌∙◌, subst, arith, append_assoc, reverse, take-append-drop, if◌then◌else◌}
 use Rattle.std.proofs.lemmas.Bool.{false_from_ne_true, leb-true}
-use Rattle.std.proofs.lemmas.List.{append-nil, length-reverse, length-take-le, map-append, reverse-append}
+use Rattle.std.proofs.lemmas.List.{append-nil, length-map, length-reverse, length-take-le, map-append, reverse-append, reverse-reverse}
 use Rattle.std.proofs.Math.Seq.{drop-cons, take-suc}
 use Rattle.std.specs.Prelude.{nat_le}
 use Rattle.mtp_codes.specs.declared.limits.TheConstants.{LONGEST_HISTORY}
@@ -26,29 +26,26 @@ abbrev JudgesAfter : History → List PlainEntry → Judged → Type 0
 JudgesAfter history later Good = IsLegal (reverse later ++ history)
 JudgesAfter history later (Wrong place says) = IsFirstWrong (reverse history ++ later) place says
 
+-- of entries that are turned round before others, the first one stands next to the others
 one_more : (front : List PlainEntry) (entry : PlainEntry) (rest : List PlainEntry)
     → reverse (entry ∷ front) ++ rest ≡ reverse front ++ entry ∷ rest
 one_more front entry rest =
     ap (λ turned. turned ++ rest) (reverse-append (entry ∷ []) front) ∙ append_assoc (reverse front) (entry ∷ []) rest
 
+-- what is found behind one more entry is found where that entry is the first of the later ones
 moved : (history : History) (entry : PlainEntry) (later : List PlainEntry) (found : Judged)
     → JudgesAfter (entry ∷ history) later found → JudgesAfter history (entry ∷ later) found
 moved history entry later Good legal = subst IsLegal (sym (one_more later entry history)) legal
 moved history entry later (Wrong place says) wrong =
     subst (λ entries. IsFirstWrong entries place says) (one_more history entry later) wrong
 
+-- a history that is no longer than what is judged is not full
 roomy : (history : History) → length history ≤ MOST_JUDGED → is_full history ≡ false
 roomy history few =
     false_from_ne_true (nat_le LONGEST_HISTORY (length history))
     (λ full. let over = leb-true LONGEST_HISTORY (length history) full in absurd (omega (arith, over, few)))
 
-twice : (history : History) → reverse (reverse history) ≡ history
-twice [] = refl
-twice (entry ∷ history) =
-    ap reverse (reverse-append (entry ∷ []) history)
-    ∙ reverse-append (reverse history) (entry ∷ [])
-    ∙ ap (λ rest. entry ∷ rest) (twice history)
-
+-- what is found of the later entries behind a legal history is right, where they are few together
 judges_after : (history : History) (later : List PlainEntry) → IsLegal history
     → length history + length later ≤ MOST_JUDGED → JudgesAfter history later (wrong_after history later)
 judges_after history [] legal few = legal
@@ -76,11 +73,12 @@ judges_after history (entry ∷ later) legal few =
           later = later;
           cut = refl;
           place_is = length-reverse history;
-          legal = subst IsLegal (sym (twice history)) legal;
-          right = ap (λ past. answer_of past entry.event) (sym (twice history));
+          legal = subst IsLegal (sym (reverse-reverse history)) legal;
+          right = ap (λ past. answer_of past entry.event) (sym (reverse-reverse history));
           wrong = λ is. true≢false (sym ((same_decides entry.answer right).1 is) ∙ same);
         }
 
+-- what is found of entries that are few is right
 pub judges_all : (entries : List PlainEntry) → length entries ≤ MOST_JUDGED → (found : Judged) →
     found ≡ judged entries → Judges entries found
 judges_all entries few found is =
@@ -90,21 +88,19 @@ judges_all entries few found is =
     go Good legal = subst IsLegal (append-nil (reverse entries)) legal
     go (Wrong place says) wrong = wrong
 
-length_map : {A B : Type 0} (f : A → B) (xs : List A) → length (map f xs) ≡ length xs
-length_map f [] = refl
-length_map f (x ∷ xs) = ap suc (length_map f xs)
-
 -- what is found of a history is right
 pub judges : (entries : List Entry) (found : Judged) → length entries ≤ MOST_JUDGED
     → found ≡ judged (map plain_entry entries) → Judges (map plain_entry entries) found
-judges entries found few is = judges_all (map plain_entry entries) (rw (length_map plain_entry entries) few) found is
+judges entries found few is = judges_all (map plain_entry entries) (rw (length-map entries plain_entry) few) found is
 
 -- ---- the loop
 
+-- the earlier part of an orderly history is orderly
 suffix_orderly : (later history : History) → IsOrderly (later ++ history) → IsOrderly history
 suffix_orderly [] history orderly = orderly
 suffix_orderly (entry ∷ later) history orderly = suffix_orderly later history orderly.1
 
+-- the history of some entries is that of those from a place on, and then that of those before the place
 cut_at : (entries : List Entry) (place : ℕ)
     → plain_history entries ≡ plain_history (drop place entries) ++ plain_history (take place entries)
 cut_at entries place =
@@ -119,13 +115,15 @@ orderly_before entries place orderly =
     suffix_orderly (plain_history (drop place entries)) (plain_history (take place entries))
     (subst IsOrderly (cut_at entries place) orderly)
 
+-- the history of the entries before a place has as many as the place says
 taken_length : (entries : List Entry) (place : ℕ) → place < length entries
     → length (plain_history (take place entries)) ≡ place
 taken_length entries place inside =
     length-reverse (map plain_entry (take place entries))
-    ∙ length_map plain_entry (take place entries)
+    ∙ length-map (take place entries) plain_entry
     ∙ length-take-le place entries (omega (arith, inside))
 
+-- the entries from a place on are the one at the place and those behind it
 cut_here : (entries : List Entry) (place : ℕ) (entry : Entry) → place < length entries
     → entry ≡ get_or entries place entry
     → drop place entries ≡ entry ∷ drop (suc place) entries
@@ -157,6 +155,7 @@ stops_here entries place entry says inside is wrong =
         let own : right ≡ says = cc in
         ap (λ n. Wrong n right) (taken_length entries place inside) ∙ ap (Wrong place) own
 
+-- the history of the entries up to a place is the entry there and then the history before it
 one_later : (entries : List Entry) (place : ℕ) (entry : Entry) → place < length entries
     → entry ≡ get_or entries place entry
     → plain_history (take (suc place) entries) ≡ plain_entry entry ∷ plain_history (take place entries)

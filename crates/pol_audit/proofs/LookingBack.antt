@@ -20,6 +20,7 @@ use Rattle.pol_history.specs.Modules.{is_begin, is_plug}
 
 -- ---- the entries of a history, the newest first
 
+-- what yields some views yields the forms of these views
 viewed : {State Item View Form : Type 0} (steps : State → Option Item → State → Type 0) (view : Item → View)
     (form : View → Form) (views : List View) (from : State) → AlwaysYields steps view from views
     → AlwaysYields steps (λ item. form (view item)) from (map form views)
@@ -30,6 +31,7 @@ viewed steps view form (_ ∷ views) from here = (
       let rest = here.1 item next step in (ap form rest.0, viewed steps view form views next rest.1),
 )
 
+-- entries that are turned round are their history
 turned : (entries : List Entry) → map plain_entry (reverse entries) ≡ plain_history entries
 turned [] = refl
 turned (entry ∷ later) =
@@ -48,6 +50,7 @@ entries_back {chain} entries is =
           (YieldsList-from_rev_slice {s = chain} entries is).runs;
     })
 
+-- one and a number together are the next number
 one_more : (count : ℕ) → 1 + count ≡ suc count
 one_more count = omega arith
 

@@ -26,6 +26,7 @@ use Rattle.pol_audit.specs.Verdict.{Line, entry_on, entries_of, run_from}
 abbrev IsOrderlyEntry : PlainEntry → Type 0
 IsOrderlyEntry entry = IsOrderly entry.event
 
+-- the entry that a value says has an orderly event, unless its chart has a fault
 form_orderly : (value : Data) → IfOk (entry_form value) IsOrderlyEntry
 unfolding entry_form
 form_orderly value =
@@ -35,14 +36,17 @@ form_orderly value =
     (told_inside IsOrderly (codes "event") event_in value_orderly value) (λ event orderly.
     any_before IsOrderlyEntry (nothing_but (codes "answer event") value) _ (λ _. orderly))))
 
+-- the entry that is read of a line has an orderly event, unless its chart has a fault
 read_orderly : (line : List ℕ) → IfOk (read_of line) IsOrderlyEntry
 read_orderly line = search (rules, any_before, form_orderly)
 
+-- an entry that passes because its chart has no fault has an orderly event
 valid_orderly : (found entry : PlainEntry) (fault : Option ChartFault) → fault_within found.event ≡ fault →
     IsOrderlyEntry found → unless_faulty found fault ≡ Ok entry → is_orderly entry.event ≡ true
 valid_orderly found entry None none orderly is = let same : found ≡ entry = cc in rw (← same) (orderly none)
 valid_orderly found entry (Some fault) some orderly is = absurd cc
 
+-- an entry that a line says by what was read of it has an orderly event
 said_orderly : (said : ReadResult PlainEntry) (entry : PlainEntry) → IfOk said IsOrderlyEntry
     → of_line said ≡ Ok entry →
     is_orderly entry.event ≡ true
@@ -60,6 +64,7 @@ entry_orderly line entry is = said_orderly (read_of line) entry (read_orderly li
 abbrev AreOrderly : List PlainEntry → Type 0
 AreOrderly entries = AllByRecursion (λ entry. is_orderly entry.event ≡ true) entries
 
+-- the entry on a line has an orderly event
 line_orderly : (line : Line) (entry : PlainEntry) → entry_on line ≡ Some entry → is_orderly entry.event ≡ true
 line_orderly None entry is = absurd cc
 line_orderly (Some bytes) entry is = go (entry_of bytes) refl is
@@ -69,6 +74,7 @@ line_orderly (Some bytes) entry is = go (entry_of bytes) refl is
     go (Ok own) said is = let same : own ≡ entry = cc in rw (← same) (entry_orderly bytes own said)
     go (Err fault) said is = absurd cc
 
+-- each of the entries that lines spell has an orderly event
 each_orderly : (lines : List Line) → AreOrderly (entries_of lines)
 each_orderly [] = tt
 each_orderly (line ∷ lines) = go (entry_on line) (line_orderly line) (each_orderly lines)

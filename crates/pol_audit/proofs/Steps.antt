@@ -23,6 +23,7 @@ use Rattle.pol_history.specs.Batches.{charted, chart_named}
 use Rattle.pol_history.specs.Runs.{IsOrderly}
 use Rattle.pol_audit.specs.Starts.{is_active_plan}
 
+-- the active ones of some steps are the steps of the active ones with their places
 filter_first : (log : List LogEntry) (all : List Placed)
     → filter (is_active_plan log) (map (λ placed. placed.step) all)
     ≡ map (λ placed. placed.step) (filter (is_active log) all)
@@ -49,10 +50,12 @@ pub role_or_itself : (tag : Option (List ℕ)) (role : List ℕ) → or_role tag
 role_or_itself None role = refl
 role_or_itself (Some tag) role = refl
 
+-- a fault that is tested not to be there is not there
 no_fault : (fault : Option ChartFault) → is_none fault ≡ true → fault ≡ None
 no_fault None none = refl
 no_fault (Some fault) none = cc
 
+-- a chart that passes the test of being valid is valid
 valid_from : (chart : PlainChart) → is_valid chart ≡ true → IsValid chart
 valid_from chart valid = no_fault (chart_fault chart) valid
 

@@ -20,6 +20,7 @@ tail_good : (count own : ℕ) (found : Option ℕ) → by_tail own found ≡ ver
 tail_good count own None is = (cc, refl)
 tail_good count own (Some place) is = absurd cc
 
+-- a good verdict is given of true histories alone
 pub good_is_true : GoodIsTrue
 unfolding verdict_of
 good_is_true lines count is = by_judged (judged (take MOST_JUDGED entries)) refl is

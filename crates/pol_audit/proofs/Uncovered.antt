@@ -17,12 +17,14 @@ abbrev pub held_back_for : List ℕ → Option (List ℕ) → Option Rule
 held_back_for batch None = None
 held_back_for batch (Some missing) = Some (HeldBack batch missing)
 
+-- the rule of a fault of covering, if there is one, is the rule with what is missing by it
 lacks : (batch role : List ℕ) (fault : Option CoverFault)
     → option_map (λ fault. HeldBack batch (missing_by role fault)) fault
     ≡ held_back_for batch (option_map (missing_by role) fault)
 lacks batch role None = refl
 lacks batch role (Some fault) = refl
 
+-- a new module holds a batch back for what it lacks of the role to which its tag is bound
 pub uncovered_is : (recipes past : History) (tag : List ℕ) (description : PlainDescription) (batch : List ℕ)
     (started : Started) (chart : PlainChart) (role : List ℕ) →
     start_by past ≡ Some started → chart_named started.recipe recipes ≡ Some chart

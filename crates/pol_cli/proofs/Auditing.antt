@@ -61,6 +61,7 @@ no_verdict_written held found = none_written held (verdict_text found) (some_ver
 
 -- ---- all lines
 
+-- an audit replies nothing to any line
 no_replies : (read : Read) (parts : List (List ℕ)) → replies audit_work read parts ≡ []
 no_replies read [] = refl
 no_replies read (piece ∷ parts) = no_replies (after_audited read (line_of piece)) parts
@@ -80,6 +81,7 @@ kept_of_filled read (piece ∷ parts) = by_line (is_filled (line_of piece)) (λ 
     by_line true rest = rest (after_line read (line_read (line_of piece)))
     by_line false rest = rest read
 
+-- behind all lines its verdict is the one of the whole input
 closed_with : (bytes : List ℕ) → verdict_after (after_all audit_work nothing_read (pieces bytes)) ≡ audit_of bytes
 closed_with bytes = ap verdict_after (kept_of_filled nothing_read (pieces bytes)) ∙ read_to_verdict (lines_read bytes)
 
@@ -98,6 +100,7 @@ each_orderly : (entries : List PlainEntry) → IsOrderly entries → AreOrderly 
 each_orderly [] orderly = tt
 each_orderly (entry ∷ entries) orderly = (orderly.0, each_orderly entries orderly.1)
 
+-- the events of an orderly history are orderly
 events_orderly : (history : History) → IsOrderly history → AreOrderly (events_of history)
 events_orderly history orderly =
     each_orderly (reverse history) (all_turned (λ entry. is_orderly entry.event ≡ true) history orderly)

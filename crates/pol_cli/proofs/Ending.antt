@@ -36,6 +36,7 @@ if_told P (Some bytes) every = every bytes
 good_completes : (source source' sink sink' : Edge) → Completes source source' sink sink' status.Good
 good_completes source source' sink sink' unread unwritten = if_told _ source.bytes (λ bytes fits. inl refl)
 
+-- where nothing failed there may have been no memory
 memory_completes : (source source' sink sink' : Edge) → Completes source source' sink sink' status.OutOfMemory
 memory_completes source source' sink sink' unread unwritten = if_told _ source.bytes (λ bytes fits. inr refl)
 

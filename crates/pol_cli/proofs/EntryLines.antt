@@ -41,6 +41,7 @@ each_orderly (entry ∷ entries) zero default orderly inside = orderly.0
 each_orderly (entry ∷ entries) (suc i) default orderly inside =
     each_orderly entries i default orderly.1 (omega arith)
 
+-- so is the entry at a place, where the history of the entries is orderly
 pub entry_orderly : (entries : List Entry) (i : ℕ) (entry : Entry) → IsOrderly (plain_history entries) →
     i < length entries →
     entry ≡ get_or entries i entry → is_orderly (plain_entry entry).event ≡ true

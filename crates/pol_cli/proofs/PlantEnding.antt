@@ -13,7 +13,7 @@ use Rattle.pol_io.specs.declared.limits.TheConstants.{LONGEST_INPUT}
 use Rattle.pol_io.proofs.Known.{Keeps_refl}
 use Rattle.pol_site.specs.Sites.{PlainSite}
 use Rattle.pol_site.specs.Texts.{site_of}
-use Rattle.pol_cli.specs.Ends.{Fits, IsTooMuch}
+use Rattle.pol_cli.specs.Ends.{Fits, IsTooMuch, TakesTooMuch}
 use Rattle.pol_cli.specs.SiteRuns.{IsDue, LeavesRun, PlantEnds, PutsPart, PutsRun, WritesRunPart}
 use Rattle.pol_cli.specs.SiteTexts.{Says}
 use Rattle.pol_cli.specs.Statuses.{status_of}
@@ -65,6 +65,7 @@ unbegun_plant source sink = record {
   write_fault = λ is. cc;
   written_well = λ is. refl;
   too_much = λ is. cc;
+  taken = λ is. cc;
   fits = λ unfailed some. absurd (some refl);
   complete = λ unread unwritten. unread_due source.bytes;
 }
@@ -72,9 +73,10 @@ unbegun_plant source sink = record {
 -- the input was not read to its end
 pub unread_ends : {T : Type 0} (source source' sink : Edge) (fault : JobFault) →
     (fault ≡ TooMuch → IsTooMuch source.bytes) →
+    (fault ≡ TooMuch → Between TakesTooMuch source.bytes source'.bytes) →
     HasCauseOf {T = T} Read source.faults source'.faults (Err fault) → fault ≢ Write →
     PlantEnds source source' sink sink (status_of (Err fault))
-unread_ends source source' sink Read much read only = record {
+unread_ends source source' sink Read much taken read only = record {
   good = λ is. cc;
   part = λ is. cc;
   memory = λ is. cc;
@@ -84,11 +86,12 @@ unread_ends source source' sink Read much read only = record {
   write_fault = λ is. cc;
   written_well = λ is. refl;
   too_much = λ is. cc;
+  taken = λ is. cc;
   fits = λ unfailed. absurd (unfailed refl);
   complete = λ unread. absurd (unread (read.failed refl));
 }
-unread_ends source source' sink Write much read only = absurd (only refl)
-unread_ends source source' sink Memory much read only = record {
+unread_ends source source' sink Write much taken read only = absurd (only refl)
+unread_ends source source' sink Memory much taken read only = record {
   good = λ is. cc;
   part = λ is. cc;
   memory = λ is. inl (Keeps_refl sink.bytes);
@@ -98,10 +101,11 @@ unread_ends source source' sink Memory much read only = record {
   write_fault = λ is. cc;
   written_well = λ is. refl;
   too_much = λ is. cc;
+  taken = λ is. cc;
   fits = λ unfailed some. absurd (some refl);
   complete = λ unread unwritten. unread_due source.bytes;
 }
-unread_ends source source' sink TooMuch much read only = record {
+unread_ends source source' sink TooMuch much taken read only = record {
   good = λ is. cc;
   part = λ is. cc;
   memory = λ is. cc;
@@ -111,6 +115,7 @@ unread_ends source source' sink TooMuch much read only = record {
   write_fault = λ is. cc;
   written_well = λ is. refl;
   too_much = λ is. much refl;
+  taken = λ is. taken refl;
   fits = λ unfailed some few. absurd (few refl);
   complete = λ unread unwritten. much_due source.bytes status.TooMuchInput (much refl);
 }
@@ -120,6 +125,7 @@ abbrev path_in : Status → List PathPart
 path_in (status.BadSite path fault) = path
 path_in _ = []
 
+-- the fault that a status tells, or else a given one
 abbrev kind_in : FaultKind → Status → FaultKind
 kind_in other (status.BadSite path fault) = fault
 kind_in other _ = other
@@ -142,6 +148,7 @@ faulty_ends source source' sink fault says fits read = record {
   write_fault = λ is. cc;
   written_well = λ is. refl;
   too_much = λ is. cc;
+  taken = λ is. cc;
   fits = λ unfailed some few. fits;
   complete = λ unread unwritten.
       due_said source.bytes source'.bytes (Err fault) (status.BadSite fault.path fault.kind) says (inl refl);
@@ -164,6 +171,7 @@ run_ends site source source' sink sink' (Ok done) says fits read puts leaves wro
   write_fault = λ is. cc;
   written_well = λ is. wrote.done;
   too_much = λ is. cc;
+  taken = λ is. cc;
   fits = λ unfailed some few. fits;
   complete = λ unread unwritten. due_said source.bytes source'.bytes (Ok site) status.Good says (inl refl);
 }
@@ -179,6 +187,7 @@ run_ends site source source' sink sink' (Err Write) says fits read puts leaves w
   write_fault = λ is. wrote.failed refl;
   written_well = λ is. absurd (is refl);
   too_much = λ is. cc;
+  taken = λ is. cc;
   fits = λ unfailed some few. fits;
   complete = λ unread unwritten. absurd (unwritten (wrote.failed refl));
 }
@@ -192,6 +201,7 @@ run_ends site source source' sink sink' (Err Memory) says fits read puts leaves 
   write_fault = λ is. cc;
   written_well = λ is. wrote.other (λ same. cc);
   too_much = λ is. cc;
+  taken = λ is. cc;
   fits = λ unfailed some few. fits;
   complete = λ unread unwritten. unread_due source.bytes;
 }

@@ -1,5 +1,5 @@
 -- What is told of a site text line by line is what it says.
-use Rattle.std.proofs.Common.{◌≡◌, ℕ, List, [], ◌∷◌, Bool, true, false, refl, sym, ap, ◌∙◌, length}
+use Rattle.std.proofs.Common.{◌≡◌, ℕ, List, [], ◌∷◌, ◌++◌, Bool, true, false, refl, sym, ap, ◌∙◌, append_assoc, length}
 use Rattle.std.proofs.lemmas.Bool.{lt-ltb}
 use Rattle.std.specs.List.{list_all}
 use Rattle.std.specs.Prelude.{Err, Option, filter, map, if◌then◌else◌}
@@ -13,9 +13,12 @@ use Rattle.pol_io.specs.declared.limits.TheConstants.{LONGEST_LINE}
 use Rattle.pol_io.proofs.Known.{between_weaker}
 use Rattle.pol_site.specs.Sites.{PlainSite}
 use Rattle.pol_site.specs.Texts.{is_filled, site_among, site_of, site_on}
-use Rattle.pol_cli.specs.LineWork.{IsShort, IsTooLong, after_all}
-use Rattle.pol_cli.specs.Moments.{Replied}
+use Rattle.pol_cli.specs.Ends.{TakesTooMuch, WritesTakenAndMore}
+use Rattle.pol_cli.specs.LineWork.{IsShort, IsTooLong, Output, after_all}
+use Rattle.pol_cli.specs.Moments.{Leaves, Replied}
 use Rattle.pol_cli.specs.SiteTexts.{Says, Told, none_yet, one, more, after_line, after_filled, line_says, told, site_work}
+use Rattle.pol_cli.specs.declared.job_fault.JobFault.{JobFault}
+use Rattle.pol_cli.specs.declared.job_fault.JobFault.TheVariants.{Read, Write, Memory, TooMuch}
 use Rattle.pol_cli.proofs.Spoken.{in_limit}
 
 -- ---- one line
@@ -108,3 +111,26 @@ text_says now held held' begin left said replied is =
       read = done.read;
       text = text_told bytes ∙ (ap told (sym done.state_is) ∙ sym is);
     }) replied
+
+-- ---- too much input
+
+-- what was written of an input that has too much tells how much of it was taken
+taken_too_much : (output : Output) (held held' : Option (List ℕ)) (bytes left : List ℕ) →
+    WritesTakenAndMore output.of_lines held held' bytes left → TakesTooMuch bytes left
+taken_too_much output held held' bytes left it =
+    let takes = it.taken.takes in
+    record {
+      taken = takes.whole ++ takes.part;
+      last = it.last;
+      cut = takes.cut ∙ sym (append_assoc takes.whole takes.part (it.last ∷ left));
+      full = it.full;
+    }
+
+-- so does what a fault left, where the source tells its bytes
+pub left_too_much : (output : Output) (fault : JobFault) (held held' begin left : Option (List ℕ)) →
+    Between (Leaves output fault held held') begin left → fault ≡ TooMuch → Between TakesTooMuch begin left
+left_too_much output Read held held' begin left leaves is = cc
+left_too_much output Write held held' begin left leaves is = cc
+left_too_much output Memory held held' begin left leaves is = cc
+left_too_much output TooMuch held held' begin left leaves is =
+    between_weaker (Leaves output TooMuch held held') TakesTooMuch begin left (taken_too_much output held held') leaves

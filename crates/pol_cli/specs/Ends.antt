@@ -59,6 +59,13 @@ abbrev pub LeavesPart : Output → Option (List ℕ) → Option (List ℕ) → L
 LeavesPart output held held' bytes left =
     WritesTakenPart output.of_lines held held' bytes left ⊎ WritesLess output held held' bytes left
 
+-- 268,435,456 bytes were taken, as many as an input may have, and another one came
+pub record TakesTooMuch (bytes left : List ℕ) : Type 0 where
+  pub taken : List ℕ
+  pub last : ℕ
+  pub cut : bytes ≡ taken ++ last ∷ left
+  pub full : length taken ≡ LONGEST_INPUT
+
 -- the input has at most 268,435,456 bytes
 abbrev pub Fits : Option (List ℕ) → Type 0
 Fits left = IfSome left (λ bytes. length bytes ≤ LONGEST_INPUT)

@@ -7,7 +7,7 @@ use Rattle.pol_history.specs.Paths.{ReportsArePaths}
 use Rattle.pol_safety.specs.Charts.{LogsFollowCharts}
 use Rattle.pol_safety.specs.Permitted.{CommandsArePermitted}
 use Rattle.pol_safety.specs.Sound.{EntriesAreRight, HistoriesAreSound, IsRight, IsSound}
-use Rattle.pol_removal.specs.Removal.{without, output_without}
+use Rattle.pol_removal.specs.Removal.{RemovalOfEvents, without, output_without}
 
 -- while the input was answered, the history was this at some time
 abbrev pub Was : List ℕ → History → Type 0
@@ -28,3 +28,4 @@ pub record Laws : Type 0 where
   pub permitted : CommandsArePermitted
   pub paths : ReportsArePaths
   pub charts : LogsFollowCharts
+  pub removal : RemovalOfEvents

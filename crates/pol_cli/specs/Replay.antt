@@ -1,14 +1,8 @@
 -- The replay of a journal: its plant, its work and its output.
-use Rattle.pol_events.specs.Events.{plain_history}
 use Rattle.pol_history.specs.Looking.{History}
 use Rattle.pol_record.specs.Lines.{meaning_of, answers_of, output_of, closing_text}
-use Rattle.pol_core.specs.Plants.{PlainPlant}
 use Rattle.pol_cli.specs.LineWork.{LineWork, Output}
 use Rattle.pol_cli.specs.Meanings.{reply_text, after_meaning}
-
--- the history of a plant, by what contracts see of it
-abbrev pub plant_history : PlainPlant → History
-plant_history plant = plain_history plant.entries
 
 -- what a replay does with each line, and at the end
 abbrev pub replay_work : LineWork History

@@ -20,7 +20,7 @@ use Rattle.pol_site.specs.Following.{FollowsSite}
 use Rattle.pol_site.specs.Settled.{IsSettled}
 use Rattle.pol_site.specs.Sites.{PlainSite}
 use Rattle.pol_site.specs.Texts.{site_of}
-use Rattle.pol_cli.specs.Ends.{Fits, IsTooMuch}
+use Rattle.pol_cli.specs.Ends.{Fits, IsTooMuch, TakesTooMuch}
 use Rattle.pol_cli.specs.SiteTexts.{Says}
 use Rattle.pol_cli.specs.Written.{WritesPart}
 use Rattle.pol_cli.specs.declared.job_fault.JobFault.{JobFault}
@@ -126,6 +126,7 @@ pub record PlantEnds (source source' sink sink' : Edge) (status : Status) : Type
   pub write_fault : status ≡ WriteFault → Rose sink.faults sink'.faults
   pub written_well : status ≢ WriteFault → sink'.faults ≡ sink.faults
   pub too_much : status ≡ TooMuchInput → IsTooMuch source.bytes
+  pub taken : status ≡ TooMuchInput → Between TakesTooMuch source.bytes source'.bytes
   pub fits : status ≢ ReadFault → status ≢ OutOfMemory → status ≢ TooMuchInput → Fits source.bytes
   pub complete : ¬ Rose source.faults source'.faults → ¬ Rose sink.faults sink'.faults
       → IfSome source.bytes (λ bytes. length bytes ≤ LONGEST_INPUT → IsDue (site_of bytes) status)

@@ -15,6 +15,7 @@ pub fn journals_are_sound()
 {
     histories_are_sound();
     removal_of_lines();
+    removal_of_events();
     commands_are_permitted();
     reports_are_paths();
     logs_follow_charts();

@@ -53,7 +53,7 @@ measured tag number places = leveled tag (value_of (drawn number (places + 1)))
 unfoldable pub each : (ℕ → Happening) → ℕ → List Happening
 each line count = map line (range_with_len 0 count)
 
--- behind each ninth batch another one is started on its module, which is busy then
+-- behind each tenth batch another one is started on its module, which is busy then
 unfoldable pub busy : ℕ → List ℕ → List Happening
 busy number tag = if number % 10 == 9 then started (busy_batch_of number) tag ∷ [] else []
 

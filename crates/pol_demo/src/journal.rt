@@ -198,7 +198,7 @@ fn dose(teller: &mut Teller, batch: Name, tag: Name) -> Result<(), AllocError>
     advance(teller, batch)
 }
 
-// Starts the batch of this number, and behind each ninth one another batch, on the same module.
+// Starts the batch of this number, and behind each tenth one another batch, on the same module.
 #[tactic(auto, unfolding(crate::specs::Journal::busy))]
 fn start_batch(
     alloc: Global,

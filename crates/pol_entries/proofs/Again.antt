@@ -42,6 +42,7 @@ use Rattle.mtp_json.specs.Leaf.{meaning_of}
 name_again : (bytes : List ℕ) → is_name bytes ≡ true → found_or (codes "-") (name (string bytes)) ≡ bytes
 name_again bytes named = rw named refl
 
+-- a number of 32 bits is one of 64 bits
 wider : (n : ℕ) → is_between 0 greatest_u32 n ≡ true → is_between 0 greatest_u64 n ≡ true
 wider n held =
     let both = and_parts (nat_le 0 n) (nat_le n greatest_u32) held in
@@ -104,10 +105,12 @@ forbid_again forbid.SelfCompletes = refl
 forbid_again forbid.StateForbids = refl
 forbid_again forbid.NotEnabled = refl
 
+-- a reading whose number is in range
 reading_again : (reading : Reading) → is_reading_in_range reading ≡ true → reading_of (reading_data reading) ≡ reading
 reading_again (Whole z) held = rw (whole_again z, held) refl
 reading_again (Bit bit) held = refl
 
+-- each of some readings whose numbers are in range
 each_again : (told : List Reading) → list_all is_reading_in_range told ≡ true
     → each_reading (items_of (map reading_data told)) ≡ told
 each_again [] held = refl

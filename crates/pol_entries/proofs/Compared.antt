@@ -40,22 +40,27 @@ fields_left (field ∷ fields) some = refl
 
 -- ---- what is told where all parts are the same
 
+-- a bit that is compared equal to another has the value of the other
 bit_is : (bit other : Bool) → same_bit bit other ≡ true → boolean other ≡ boolean bit
 bit_is true true same = refl
 bit_is true false same = absurd cc
 bit_is false true same = absurd cc
 bit_is false false same = refl
 
+-- a negative number that is compared equal to another is that number
 negative_is : (n : ℕ) (z : ℤ) → int_eq z (negsuc n) ≡ true
     → number_data (negative z) ≡ number_data (negative (negsuc n))
 negative_is n z same = ap (λ z. number_data (negative z)) ((Decides-int_eq z (negsuc n)).0 same)
 
-too_great : (n m : ℕ) (fits : Bool)
-    → is_there (λ z. int_eq z (negsuc n)) (if fits then Some (pos m) else None) ≡ true
-    → number_data (unsigned m) ≡ number_data (negative (negsuc n))
-too_great n m true same = let is : pos m ≡ negsuc n = (Decides-int_eq (pos m) (negsuc n)).0 same in absurd cc
-too_great n m false same = absurd cc
+-- a number without a sign that is compared equal to a negative one, as none is, is the same number
+too_great : (below amount : ℕ) (fits : Bool)
+    → is_there (λ found. int_eq found (negsuc below)) (if fits then Some (pos amount) else None) ≡ true
+    → number_data (unsigned amount) ≡ number_data (negative (negsuc below))
+too_great below amount true same =
+    let is : pos amount ≡ negsuc below = (Decides-int_eq (pos amount) (negsuc below)).0 same in absurd cc
+too_great below amount false same = absurd cc
 
+-- a value that is compared equal to a whole number is that number
 whole_is : (z : ℤ) (value : Data) → is_whole z value ≡ true → value ≡ number_data (of_integer z)
 whole_is (pos n) (number_data (unsigned m)) same = ap (λ k. number_data (unsigned k)) (eqb-true m n same)
 whole_is (pos n) (number_data (negative z)) same = absurd cc
@@ -74,6 +79,7 @@ whole_is (negsuc n) (string s) same = absurd cc
 whole_is (negsuc n) (array s) same = absurd cc
 whole_is (negsuc n) (object s) same = absurd cc
 
+-- a value that is compared equal to a reading is the value of that reading
 reading_is : (reading : Reading) (value : Data) → is_reading reading value ≡ true → value ≡ reading_data reading
 reading_is (Whole z) value same = whole_is z value same
 reading_is (Bit bit) (boolean other) same = bit_is bit other same
@@ -83,6 +89,7 @@ reading_is (Bit bit) (string s) same = absurd cc
 reading_is (Bit bit) (array s) same = absurd cc
 reading_is (Bit bit) (object s) same = absurd cc
 
+-- items that are compared equal to readings are the values of these readings
 readings_are : (told : List Reading) (values : Items) → are_readings told values ≡ true
     → values ≡ items_of (map reading_data told)
 readings_are [] no_items same = refl
@@ -92,6 +99,7 @@ readings_are (reading ∷ others) (item value rest) same =
     let both = and_parts (is_reading reading value) (are_readings others rest) same in
     rw (reading_is reading value both.0, readings_are others rest both.1) refl
 
+-- a value that is compared equal to what a field tells is the value of that
 value_is : (told : PlainFieldValue) (value : Data) → is_value told value ≡ true → value ≡ value_data told
 value_is (text told) (string found) same = ap string ((bytes_eq-Decides found told).0 same)
 value_is (text told) null same = absurd cc
@@ -115,6 +123,7 @@ value_is (readings told) (number_data n) same = absurd cc
 value_is (readings told) (string s) same = absurd cc
 value_is (readings told) (object s) same = absurd cc
 
+-- members that are compared equal to fields are the members of these fields
 members_are : (fields : List PlainField) (members : Members) → are_fields fields members ≡ true
     → members ≡ members_in fields
 members_are [] no_members same = refl
@@ -136,30 +145,37 @@ object_is fields (array s) same = absurd cc
 
 -- ---- what is told of itself
 
+-- a bit is compared equal to itself
 bit_same : (bit : Bool) → same_bit bit bit ≡ true
 bit_same true = refl
 bit_same false = refl
 
+-- bytes are compared equal to themselves
 bytes_same : (bytes : List ℕ) → bytes_eq bytes bytes ≡ true
 bytes_same bytes = (bytes_eq-Decides bytes bytes).1 refl
 
+-- a number is compared equal to itself
 number_same : (n : ℕ) → (n == n) ≡ true
 number_same n = (Decides-eqb n n).1 refl
 
+-- the value of a reading is compared equal to it
 reading_same : (reading : Reading) → is_reading reading (reading_data reading) ≡ true
 reading_same (Whole (pos n)) = number_same n
 reading_same (Whole (negsuc n)) = (Decides-int_eq (negsuc n) (negsuc n)).1 refl
 reading_same (Bit bit) = bit_same bit
 
+-- the values of readings are compared equal to them
 readings_same : (told : List Reading) → are_readings told (items_of (map reading_data told)) ≡ true
 readings_same [] = refl
 readings_same (reading ∷ others) = rw (reading_same reading, readings_same others) refl
 
+-- the value of what a field tells is compared equal to that
 value_same : (told : PlainFieldValue) → is_value told (value_data told) ≡ true
 value_same (text told) = bytes_same told
 value_same (number told) = number_same told
 value_same (readings told) = readings_same told
 
+-- the members of fields are compared equal to them
 members_same : (fields : List PlainField) → are_fields fields (members_in fields) ≡ true
 members_same [] = refl
 members_same (field ∷ fields) = rw (bytes_same field.key, value_same field.value, members_same fields) refl
@@ -168,6 +184,7 @@ members_same (field ∷ fields) = rw (bytes_same field.key, value_same field.val
 pub object_same : (fields : List PlainField) → is_object fields (fields_data fields) ≡ true
 object_same fields = members_same (in_order fields)
 
+-- a number that comes after another is not zero
 not_zero : (n : ℕ) → (suc n == 0) ≡ false
 not_zero n = grind (arith, nat_tests)
 

@@ -36,6 +36,7 @@ event_is : (text : List ℕ) (value : Data) → IsUtf8 text → read text ≡ So
 unfolding event_of json_of
 event_is text value utf8 is = rw (utf8_is text utf8, is) refl
 
+-- what tells the event of a text tells the event that the value of the text says
 pub event_told : (result : Result Event LineRefusal) (text : List ℕ) (value : Data) → IsUtf8 text
     → read text ≡ Some value
     → Tells result (event_of text) → Tells result (of_line (event_in value))
@@ -114,6 +115,7 @@ shallow line value is = go (is_utf8 line) is
     go true is = by (read line) refl is
     go false is = absurd cc
 
+-- what stands under a key of some members nests no deeper than they do
 member_below : (key : List ℕ) (members : Members) (inner : Data) → get_member key members ≡ Some inner
     → depth inner ≤ members_depth members
 member_below key no_members inner is = absurd cc

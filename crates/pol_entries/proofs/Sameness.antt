@@ -37,16 +37,19 @@ use Rattle.pol_entries.specs.Same.{same_answer, same_field, same_fields, same_re
 
 -- ---- fields tell what they are of
 
+-- the text in a value; of another value the empty one
 abbrev text_in : PlainFieldValue → List ℕ
 text_in (text told) = told
 text_in (number told) = []
 text_in (readings told) = []
 
+-- the number in a value; of another value zero
 abbrev number_in : PlainFieldValue → ℕ
 number_in (text told) = 0
 number_in (number told) = told
 number_in (readings told) = 0
 
+-- the readings in a value; of another value none
 abbrev readings_in : PlainFieldValue → List Reading
 readings_in (text told) = []
 readings_in (number told) = []
@@ -70,6 +73,7 @@ lookup_of fields =
       readings = λ key. readings_in (value_under key fields);
     }
 
+-- the number of a state tells the state
 state_told : (each : State) → unwrap_or (state_of (state_number each) state_codes) state.Idle ≡ each
 state_told state.Stopped = refl
 state_told state.Starting = refl
@@ -88,6 +92,7 @@ state_told state.Resetting = refl
 state_told state.Completing = refl
 state_told state.Completed = refl
 
+-- the number of a command tells the command
 command_told : (each : Command) → unwrap_or (command_of (command_number each) command_codes) command.Reset ≡ each
 command_told command.Reset = refl
 command_told command.Start = refl
@@ -100,6 +105,7 @@ command_told command.Abort = refl
 command_told command.Restart = refl
 command_told command.Complete = refl
 
+-- the name of why a command is forbidden tells why
 forbid_told : (each : Forbid) → unwrap_or (meaning_of (forbid_name each) forbid_words) forbid.NotEnabled ≡ each
 forbid_told forbid.ModeForbids = refl
 forbid_told forbid.SelfCompletes = refl
@@ -110,6 +116,7 @@ forbid_told forbid.NotEnabled = refl
 abbrev rule_of : List PlainField → Option Rule
 rule_of fields = rule_numbered (number_in (value_under (codes "refused") fields)) (lookup_of fields)
 
+-- the fields of a refusal tell its rule
 rule_told : (rule : Rule) → rule_of (refusal_fields rule) ≡ Some rule
 rule_told TagTaken = refl
 rule_told (NoModule tag) = refl
@@ -154,6 +161,7 @@ rule_told HistoryFull = refl
 abbrev entry_of : List PlainField → Option LogEntry
 entry_of fields = entry_named (text_in (value_under (codes "do") fields)) (lookup_of fields)
 
+-- the fields of a log entry tell the entry
 entry_told : (each : LogEntry) → entry_of (entry_fields each) ≡ Some each
 entry_told (entry.Start step tag service procedure) = refl
 entry_told (entry.Finish step tag service) = refl
@@ -172,6 +180,7 @@ entry_told (entry.Asked tag service command) = rw (command_told command) refl
 abbrev obstacle_of : List PlainField → Option Why
 obstacle_of fields = obstacle_named (text_in (value_under (codes "wait") fields)) (lookup_of fields)
 
+-- the fields of an obstacle tell the obstacle
 obstacle_told : (each : Why) → obstacle_of (obstacle_fields each) ≡ Some each
 obstacle_told why.Frozen = refl
 obstacle_told (why.Away tag) = refl
@@ -181,6 +190,7 @@ obstacle_told (why.Forbidden step by) = rw (forbid_told by) refl
 obstacle_told (why.Unmet step) = refl
 obstacle_told (why.NoArm node) = refl
 
+-- the name of an outcome tells the outcome
 outcome_told : (each : Outcome) → outcome_named (outcome_name each) ≡ Some each
 outcome_told Completed = refl
 outcome_told Broken = refl
@@ -194,18 +204,21 @@ told_apart told back again x y same = let both : Some x ≡ Some y = sym (again 
 
 -- ---- fields that are compared equal are equal
 
+-- bits that are compared equal are equal
 bit_is : (bit other : Bool) → same_bit bit other ≡ true → bit ≡ other
 bit_is true true same = refl
 bit_is true false same = absurd cc
 bit_is false true same = absurd cc
 bit_is false false same = refl
 
+-- readings that are compared equal are equal
 reading_is : (reading other : Reading) → same_reading reading other ≡ true → reading ≡ other
 reading_is (Whole z) (Whole y) same = ap Whole ((Decides-int_eq z y).0 same)
 reading_is (Whole z) (Bit bit) same = absurd cc
 reading_is (Bit bit) (Whole z) same = absurd cc
 reading_is (Bit bit) (Bit other) same = ap Bit (bit_is bit other same)
 
+-- lists of readings that are compared equal are equal
 readings_are : (told others : List Reading) → same_readings told others ≡ true → told ≡ others
 readings_are [] [] same = refl
 readings_are [] (other ∷ others) same = absurd cc
@@ -214,6 +227,7 @@ readings_are (reading ∷ told) (other ∷ others) same =
     let both = and_parts (same_reading reading other) (same_readings told others) same in
     rw (reading_is reading other both.0, readings_are told others both.1) refl
 
+-- values of fields that are compared equal are equal
 value_is : (told other : PlainFieldValue) → same_value told other ≡ true → told ≡ other
 value_is (text told) (text other) same = ap text ((bytes_eq-Decides told other).0 same)
 value_is (text told) (number other) same = absurd cc
@@ -225,6 +239,7 @@ value_is (readings told) (text other) same = absurd cc
 value_is (readings told) (number other) same = absurd cc
 value_is (readings told) (readings other) same = ap readings (readings_are told other same)
 
+-- fields that are compared equal are equal
 field_is : (told other : PlainField) → same_field told other ≡ true → told ≡ other
 field_is told other same =
     let both = and_parts (bytes_eq told.key other.key) (same_value told.value other.value) same in
@@ -232,6 +247,7 @@ field_is told other same =
     let its : told.value ≡ other.value = value_is told.value other.value both.1 in
     λ i. record { key = key_is i; value = its i }
 
+-- lists of fields that are compared equal are equal
 fields_are : (told others : List PlainField) → same_fields told others ≡ true → told ≡ others
 fields_are [] [] same = refl
 fields_are [] (other ∷ others) same = absurd cc
@@ -242,23 +258,28 @@ fields_are (field ∷ told) (other ∷ others) same =
 
 -- ---- and equal ones are
 
+-- a bit is compared equal to itself
 bit_same : (bit : Bool) → same_bit bit bit ≡ true
 bit_same true = refl
 bit_same false = refl
 
+-- a reading is compared equal to itself
 reading_same : (reading : Reading) → same_reading reading reading ≡ true
 reading_same (Whole z) = (Decides-int_eq z z).1 refl
 reading_same (Bit bit) = bit_same bit
 
+-- a list of readings is compared equal to itself
 readings_same : (told : List Reading) → same_readings told told ≡ true
 readings_same [] = refl
 readings_same (reading ∷ told) = rw (reading_same reading, readings_same told) refl
 
+-- the value of a field is compared equal to itself
 value_same : (told : PlainFieldValue) → same_value told told ≡ true
 value_same (text told) = (bytes_eq-Decides told told).1 refl
 value_same (number told) = (Decides-eqb told told).1 refl
 value_same (readings told) = readings_same told
 
+-- a list of fields is compared equal to itself
 fields_same : (told : List PlainField) → same_fields told told ≡ true
 fields_same [] = refl
 fields_same (field ∷ told) =
@@ -278,6 +299,7 @@ fields_left (field ∷ told) some = refl
 
 -- ---- answers
 
+-- answers that are compared equal are equal
 answer_is : (answer other : Answer) → same_answer answer other ≡ true → answer ≡ other
 answer_is Done Done same = refl
 answer_is Done (Ticket other) same = absurd cc
@@ -324,6 +346,7 @@ answer_is (Refused rule) (Refused other) same =
     ap Refused (told_apart refusal_fields rule_of rule_told rule other
     (fields_are (refusal_fields rule) (refusal_fields other) same))
 
+-- an answer is compared equal to itself
 answer_same : (answer : Answer) → same_answer answer answer ≡ true
 answer_same Done = refl
 answer_same (Ticket ticket) = (Decides-eqb ticket ticket).1 refl

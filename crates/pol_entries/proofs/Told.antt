@@ -27,6 +27,7 @@ use Rattle.pol_entries.proofs.Compared.{object_is, object_same}
 
 -- ---- what is said is the object
 
+-- what passes the check of a value has that value as the object of its fields
 checked_is : {A : Type 0} (fields : A → List PlainField) (value : Data) (told : Option A) (found : A)
     → checked fields value told ≡ Some found → value ≡ fields_data (fields found)
 checked_is fields value None found is = absurd cc
@@ -38,6 +39,7 @@ checked_is fields value (Some told) found is = go (is_object (fields told) value
         object_is (fields told) value same ∙ ap (λ told. fields_data (fields told)) own
     go false same is = absurd cc
 
+-- members that have a value alone under a key are the object of that value under the key
 alone_in_is : (key : List ℕ) (members : Members) (inner : Data) → alone_in key members ≡ Some inner
     → object members ≡ under_key key inner
 unfolding under_key
@@ -50,6 +52,7 @@ alone_in_is key (member other value no_members) inner is = go (bytes_eq other ke
     go true same is = let own : value ≡ inner = cc in rw ((bytes_eq-Decides other key).0 same, own) refl
     go false same is = absurd cc
 
+-- a value that has another alone under a key is the object of that one under the key
 alone_is : (key : List ℕ) (value inner : Data) → alone key value ≡ Some inner → value ≡ under_key key inner
 alone_is key (object members) inner is = alone_in_is key members inner is
 alone_is key null inner is = absurd cc
@@ -58,11 +61,13 @@ alone_is key (number_data n) inner is = absurd cc
 alone_is key (string s) inner is = absurd cc
 alone_is key (array s) inner is = absurd cc
 
+-- what a mapped option holds comes of what the option holds
 mapped : {A B : Type 0} (f : A → B) (told : Option A) (found : B) → option_map f told ≡ Some found
     → (own : A) × (told ≡ Some own) × (found ≡ f own)
 mapped f None found is = absurd cc
 mapped f (Some own) found is = (own, refl, cc)
 
+-- a value that says that a thing is done is the object of that answer
 done_is : (value : Data) (answer : Answer) → done_in value ≡ Some answer → value ≡ answer_data answer
 done_is value answer is = go (alone (codes "done") value) refl is
   where
@@ -83,6 +88,7 @@ done_is value answer is = go (alone (codes "done") value) refl is
     go None found is = absurd cc
     go (Some inner) found is = by inner (alone_is (codes "done") value inner found) is
 
+-- a value that says which log entry was done is the object of that answer
 did_is : (value : Data) (entry : LogEntry) → option_and_then entry_in (alone (codes "did") value) ≡ Some entry
     → value ≡ answer_data (Did entry)
 did_is value entry is = go (alone (codes "did") value) refl is
@@ -131,6 +137,7 @@ answer_is value answer is =
 
 -- ---- each object is said
 
+-- what is told passes the check of the object of its own fields
 checked_again : {A : Type 0} (fields : A → List PlainField) (told : Option A) (found : A)
     → told ≡ Some found → checked fields (fields_data (fields found)) told ≡ Some found
 checked_again fields told found is =
@@ -155,6 +162,7 @@ answer_again (Refused rule) held =
 
 -- ---- the reader's answer
 
+-- a value that says no answer is the object of none that a program holds
 not_said : (value : Data) → answer_in value ≡ None → IsNoAnswer value
 not_said value none answer held is =
     let said : answer_in value ≡ Some answer = ap answer_in is ∙ answer_again answer held in

@@ -5,7 +5,8 @@ ghost use Rattle.pol_events.specs.Bound.{ArePaired};
 ghost use Rattle.chart_cursor.specs.declared.sight.Sight.TheVariants as sight;
 ghost use Rattle.chart_cursor.specs.declared.sight.ReadingSight.TheVariants as reading_sight;
 
-use chart_core::{Chart, LogEntry, Next, Outcome, Why};
+use crate::given::named;
+use chart_core::{LogEntry, Next, Outcome, Why};
 use chart_cursor::{ReadingSight, Seen, Sight};
 use chart_json::read_chart;
 use mtp_assembly::ServiceControl;
@@ -47,10 +48,6 @@ impl Seen for OneModule {
     fn reading(&self, _role: Name, _var: Name) -> ReadingSight {
         ReadingSight::Unreported
     }
-}
-
-fn named(text: &str) -> Result<Name, Fail> {
-    Ok(Name::of_bytes(text.as_bytes()).ok_or("no name")?)
 }
 
 // What the module T1 shows of its service, whose procedure completes by itself and which may be started, stopped or

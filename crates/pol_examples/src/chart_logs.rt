@@ -1,9 +1,10 @@
 //! The log of a worked chart, and parts of it.
 
+use crate::given::named;
 use chart_core::{Chart, LogEntry, Readings};
 use chart_json::read_chart;
 use chart_runs::{is_part, is_whole};
-use mtp_codes::{Name, Reading};
+use mtp_codes::Reading;
 use mtp_json::parse;
 use std::alloc::Global;
 use std::test::*;
@@ -27,10 +28,6 @@ const MIX: &str = r#"{"seq":[
         {"step":"heat","role":"B","service":"heat","procedure":1}
     ]}
 ]}"#;
-
-fn named(text: &str) -> Result<Name, Fail> {
-    Ok(Name::of_bytes(text.as_bytes()).ok_or("no name")?)
-}
 
 fn mix(alloc: Global) -> Result<Chart, Fail> {
     let roles = parse(alloc, ROLES.as_bytes()).ok().ok_or("no value")?;

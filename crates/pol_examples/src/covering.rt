@@ -1,8 +1,8 @@
 //! Worked modules against the role of a worked chart.
 
+use crate::given::named;
 use chart_core::Chart;
 use chart_json::read_chart;
-use mtp_codes::Name;
 use mtp_desc::{Description, read_description};
 use mtp_json::{JsonRefusal, parse};
 use pol_bind::{covers, held_back_by};
@@ -46,10 +46,6 @@ const ROLES: &str = r#"[{"role":"A","type":"Doser","version":"^1.0"}]"#;
 fn description(alloc: Global, text: &str) -> Result<Description, JsonRefusal> {
     let value = parse(alloc, text.as_bytes())?;
     read_description(alloc, &value)
-}
-
-fn named(text: &str) -> Result<Name, Fail> {
-    Ok(Name::of_bytes(text.as_bytes()).ok_or("no name")?)
 }
 
 /// One step that doses this amount, until the level is this value.

@@ -4,6 +4,7 @@ ghost use Rattle.std.specs.Prelude.{Some};
 ghost use Rattle.chart_cursor.specs.declared.sight.Sight.TheVariants as sight;
 ghost use Rattle.chart_cursor.specs.declared.sight.ReadingSight.TheVariants as reading;
 
+use crate::given::named;
 use chart_core::{Chart, LogEntry, Readings, Why};
 use chart_cursor::{Cursor, CursorNext, ReadingSight, Seen, Sight, next_of_log};
 use chart_json::read_chart;
@@ -44,10 +45,6 @@ impl Seen for OneModule {
     fn reading(&self, role: Name, var: Name) -> ReadingSight {
         ReadingSight::Is(self.level)
     }
-}
-
-fn named(text: &str) -> Result<Name, Fail> {
-    Ok(Name::of_bytes(text.as_bytes()).ok_or("no name")?)
 }
 
 fn dosing(alloc: Global) -> Result<Chart, Fail> {

@@ -1,6 +1,7 @@
 //! Demands of worked steps on a worked description.
 
-use mtp_codes::{Name, Setting, Short, Value};
+use crate::given::named;
+use mtp_codes::{Setting, Short, Value};
 use mtp_desc::{Description, read_description};
 use mtp_json::{JsonRefusal, parse};
 use mtp_procs::{StepDemand, StepFault, check_step};
@@ -13,10 +14,6 @@ const DOSER: &str =
 fn doser(alloc: Global) -> Result<Description, JsonRefusal> {
     let value = parse(alloc, DOSER.as_bytes())?;
     read_description(alloc, &value)
-}
-
-fn named(text: &str) -> Result<Name, Fail> {
-    Ok(Name::of_bytes(text.as_bytes()).ok_or("no name")?)
 }
 
 // What `check_step` answers where the doser's service is to set one parameter.

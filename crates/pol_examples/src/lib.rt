@@ -24,6 +24,8 @@ mod exchanges;
 #[cfg(test)]
 mod faults;
 #[cfg(test)]
+mod given;
+#[cfg(test)]
 mod limits;
 #[cfg(test)]
 mod lines;

@@ -1,7 +1,8 @@
 //! A worked doser: what it tells, and its exchange.
+use crate::given::named;
 use chart_cursor::Sight;
 use mtp_assembly::ServiceControl;
-use mtp_codes::{Mode, Name, Origin, State, Value};
+use mtp_codes::{Mode, Origin, State, Value};
 use mtp_desc::{Description, read_description};
 use mtp_json::{JsonRefusal, parse};
 use mtp_modes::ServiceView;
@@ -22,10 +23,6 @@ fn doser(alloc: Global) -> Result<Description, JsonRefusal> {
 fn described(alloc: Global) -> Result<Arc<Description>, Fail> {
     let description = doser(alloc).ok().ok_or("no description")?;
     Ok(Arc::new(alloc, description)?)
-}
-
-fn named(text: &str) -> Result<Name, Fail> {
-    Ok(Name::of_bytes(text.as_bytes()).ok_or("no name")?)
 }
 
 fn docked(alloc: Global) -> Result<Slot, Fail> {

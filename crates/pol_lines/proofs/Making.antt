@@ -27,10 +27,12 @@ use Rattle.pol_events.specs.Lines.{event_of, fault_within}
 use Rattle.pol_events.specs.Words.{kind_words}
 use Rattle.pol_lines.specs.declared.flat.Member.{Member}
 use Rattle.pol_lines.specs.declared.key.Key.TheVariants as key
+use Rattle.pol_lines.specs.declared.objects.Cut.{Cut}
+use Rattle.pol_lines.specs.declared.objects.Cut.TheVariants.{End, More}
 use Rattle.pol_lines.specs.Begins.{Begins}
 use Rattle.pol_lines.specs.Flat.{flat_data}
 use Rattle.pol_lines.specs.Keys.{key_text}
-use Rattle.pol_lines.specs.Objects.{GivesEach, IsObject, Makes, with_value}
+use Rattle.pol_lines.specs.Objects.{GivesEach, IsEnd, Makes, Stands, with_value}
 use Rattle.pol_lines.proofs.Cuts.{flat_field}
 use Rattle.pol_lines.proofs.Printed.{begins_all}
 
@@ -43,11 +45,12 @@ unfolding event_of json_of
 line_says text value event utf8 is again none = rw (utf8_is text utf8, is, again, none) refl
 
 -- so is one object with nothing behind it, of whose members a faultless event is made
-pub line_of_object : (deep : ℕ) (line rest : List ℕ) (members : List Member) (others : List (List ℕ × Data))
-    (event : PlainEvent) → deep < 127 → IsUtf8 line
-    → IsObject deep line members others rest → rest ≡ [] → Makes event_in event members others
+pub line_of_object : (deep : ℕ) (line : List ℕ) (cut : Cut) (members : List Member)
+    (others : List (List ℕ × Data)) (event : PlainEvent) → deep < 127 → IsUtf8 line
+    → Stands deep line members others cut → IsEnd cut → Makes event_in event members others
     → fault_within event ≡ None → event_of line ≡ Ok event
-line_of_object deep line rest members others event fits utf8 is ends makes none =
+line_of_object deep line (More rest) members others event fits utf8 is ends makes none = absurd ends
+line_of_object deep line (End rest) members others event fits utf8 is ends makes none =
     line_says line (object is.found) event utf8
     (begins_all (suc deep) line (object is.found) (omega arith)
     (subst (λ s. Begins (suc deep) line (object is.found) s) ends is.begins))
@@ -63,15 +66,15 @@ given_value {A = A} form value made is = go (form value) is
     go (Err fault) none = absurd cc
 
 -- a line that is one object of flat members and a value, of which a form gave something, and its event
-pub line_with_value : {A : Type 0} (form : Data → ReadResult A) (made : A) (deep : ℕ) (line rest name : List ℕ)
+pub line_with_value : {A : Type 0} (form : Data → ReadResult A) (made : A) (deep : ℕ) (line name : List ℕ) (cut : Cut)
     (members : List Member) (value : Option Data) (event : PlainEvent)
     → deep < 127 → IsUtf8 line → nested_if_present form value ≡ Ok (Some made)
-    → IsObject deep line members (with_value name value []) rest → rest ≡ []
+    → Stands deep line members (with_value name value []) cut → IsEnd cut
     → ((given : Data) → form given ≡ Ok made → Makes event_in event members ((name, given) ∷ []))
     → fault_within event ≡ None → event_of line ≡ Ok event
-line_with_value form made deep line rest name members None event fits utf8 gives is ends makes none = absurd cc
-line_with_value form made deep line rest name members (Some value) event fits utf8 gives is ends makes none =
-    line_of_object deep line rest members ((name, value) ∷ []) event fits utf8 is ends
+line_with_value form made deep line name cut members None event fits utf8 gives is ends makes none = absurd cc
+line_with_value form made deep line name cut members (Some value) event fits utf8 gives is ends makes none =
+    line_of_object deep line cut members ((name, value) ∷ []) event fits utf8 is ends
     (makes value (given_value form value made gives)) none
 
 -- what flat members say they say as members of an object
@@ -163,22 +166,22 @@ recipe_of_parts members values chart at named roles root made is_kind is_at is_n
     rw (e1, e2, e3, e4, is_roles, e5, is_root, e6, is_made) refl
 
 -- a line that is one object of flat members, roles and a chart, and its recipe
-pub line_of_recipe : (line rest : List ℕ) (members : List Member) (values : Option Items) (chart : Option Data)
-    (roles : List PlainRole) (root : Tree) (event : PlainEvent)
+pub line_of_recipe : (line : List ℕ) (cut : Cut) (members : List Member) (values : Option Items)
+    (chart : Option Data) (roles : List PlainRole) (root : Tree) (event : PlainEvent)
     → IsUtf8 line → GivesEach role_of roles values → 0 < length roles → length roles ≤ 64
     → nested_if_present tree_of chart ≡ Ok (Some root)
-    → IsObject 35 line members (with_value (codes "chart") chart
-    (with_value (codes "roles") (option_map array values) [])) rest → rest ≡ []
+    → Stands 35 line members (with_value (codes "chart") chart
+    (with_value (codes "roles") (option_map array values) [])) cut → IsEnd cut
     → ((played : Items) (given : Data) → roles_of (array played) ≡ Ok roles → tree_of given ≡ Ok root
     → Makes event_in event members ((codes "chart", given) ∷ (codes "roles", array played) ∷ []))
     → fault_within event ≡ None → event_of line ≡ Ok event
-line_of_recipe line rest members None chart roles root event utf8 given some few gives is ends makes none =
+line_of_recipe line cut members None chart roles root event utf8 given some few gives is ends makes none =
     absurd (omega (arith, some, ap length given))
-line_of_recipe line rest members (Some values) None roles root event utf8 given some few gives is ends makes none =
+line_of_recipe line cut members (Some values) None roles root event utf8 given some few gives is ends makes none =
     absurd cc
-line_of_recipe line rest members (Some values) (Some chart) roles root event utf8 given some few gives is ends makes
+line_of_recipe line cut members (Some values) (Some chart) roles root event utf8 given some few gives is ends makes
     none =
-    line_of_object 35 line rest members ((codes "chart", chart) ∷ (codes "roles", array values) ∷ []) event
+    line_of_object 35 line cut members ((codes "chart", chart) ∷ (codes "roles", array values) ∷ []) event
     (omega arith) utf8 is ends
     (makes values chart (roles_in values roles given some few) (given_value tree_of chart root gives)) none
 

@@ -48,6 +48,11 @@ abbrev pub Stands : ℕ → List ℕ → List Member → List (List ℕ × Data)
 Stands deep text members others (More rest) = Holds deep text members others rest.now
 Stands deep text members others (End rest) = IsObject deep text members others rest.now
 
+-- the object ends there, and nothing stands behind it
+abbrev pub IsEnd : Cut → Type 0
+IsEnd (More rest) = ⊥
+IsEnd (End rest) = rest.now ≡ []
+
 -- what stands from the end of a value on, where the cut lies behind it
 abbrev pub cut_piece : Cut → List ℕ
 cut_piece (More rest) = 44 ∷ rest.now

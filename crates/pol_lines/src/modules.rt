@@ -18,8 +18,7 @@ use crate::descriptions::DescriptionFronts;
 use crate::fields::{count_at, kind_at, name_at};
 use crate::flat::Member;
 use crate::key::Key;
-use crate::objects::{Cut, read_flats, read_value_at};
-use crate::pieces::is_text;
+use crate::objects::{Cut, ends, read_flats, read_value_at};
 use arrayvec::ArrayVec;
 use mtp_desc::Description;
 use pol_events::{Event, EventKind};
@@ -106,13 +105,7 @@ pub fn read_described<'a>(
     let mut found = None;
     let cut = read_value_at::<DescriptionFronts>(alloc, cut, b"\"desc\":", &mut found)?;
     let description = found?;
-    let Cut::End(rest) = read_flats(cut, members) else {
-        return None;
-    };
-    if !rest.is_empty() {
-        return None;
-    }
-    if !is_text(line) {
+    if !ends(read_flats(cut, members), line) {
         return None;
     }
     let event = described_in(alloc, members.as_slice(), description)?;

@@ -1,16 +1,17 @@
 //! Objects at the front of a text, member by member: flat members, and between them members whose values are lists and
 //! objects.
-ghost use Rattle.std.specs.Prelude.{◌≡◌, ◌≤◌, ℕ, suc, List, [], IfSome, None, Some, length, map, option_map};
+ghost use Rattle.std.specs.Prelude.{◌≡◌, ◌≤◌, ℕ, suc, List, [], IfSome, IsTrue, None, Some, length, map, option_map};
+ghost use Rattle.std.specs.Str.{IsUtf8};
 ghost use Rattle.serde_json.specs.Data.{Data};
 ghost use Rattle.pol_lines.specs.declared.objects.Cut.{Cut};
 ghost use Rattle.pol_lines.specs.Begins.{Begins};
 ghost use Rattle.pol_lines.specs.Flat.{flat_data};
 ghost use Rattle.pol_lines.specs.Keys.{quoted};
-ghost use Rattle.pol_lines.specs.Objects.{IsOther, Passes, PassesList, PassesValue, Stands, cut_piece};
+ghost use Rattle.pol_lines.specs.Objects.{IsEnd, IsOther, Passes, PassesList, PassesValue, Stands, cut_piece};
 
 use crate::flat::{Member, read_member};
 use crate::lists::{Front, read_list};
-use crate::pieces::{eat, last};
+use crate::pieces::{eat, is_text, last};
 use arrayvec::ArrayVec;
 use std::alloc::Global;
 
@@ -84,6 +85,18 @@ pub fn read_object<'a>(text: &'a [u8], members: &mut ArrayVec<Member<'a>, 9>) ->
     match read_flats(cut, members) {
         Cut::End(rest) => Some(rest),
         Cut::More(_) => None,
+    }
+}
+
+/// Whether a cut is at the end of a line, and the line is text.
+#[inline(always)]
+pub fn ends(cut: Cut, line: &[u8]) -> bool
+    ensures ended { IsTrue result → IsEnd cut }
+    ensures text { IsTrue result → IsUtf8 line.now }
+{
+    match cut {
+        Cut::End(rest) => rest.is_empty() && is_text(line),
+        Cut::More(_) => false,
     }
 }
 

@@ -6,8 +6,7 @@ ghost use Rattle.pol_events.specs.Orderly.{is_orderly};
 
 use crate::events::read_members;
 use crate::modules::read_described;
-use crate::objects::{Cut, begin_object, read_flats};
-use crate::pieces::is_text;
+use crate::objects::{Cut, begin_object, ends, read_flats};
 use crate::recipes::read_recipe;
 use arrayvec::ArrayVec;
 use pol_events::{Event, LineRefusal, read_event};
@@ -24,21 +23,13 @@ pub fn read_quick(alloc: Global, line: &[u8]) -> Option<Event>
     let cut = begin_object(line)?;
     let cut = read_flats(cut, &mut members);
     match cut {
-        Cut::End(rest) => {
-            if !rest.is_empty() {
-                return None;
-            }
-            if !is_text(line) {
-                return None;
-            }
+        Cut::More([b'"', b'd', ..]) => read_described(alloc, line, cut, &mut members),
+        Cut::More([b'"', b'r', ..]) => read_recipe(alloc, line, cut, &mut members),
+        _ if ends(cut, line) => {
             let event = read_members(members.as_slice())?;
             Some(event)
         }
-        Cut::More(rest) => match rest {
-            [b'"', b'd', ..] => read_described(alloc, line, cut, &mut members),
-            [b'"', b'r', ..] => read_recipe(alloc, line, cut, &mut members),
-            _ => None,
-        },
+        _ => None,
     }
 }
 

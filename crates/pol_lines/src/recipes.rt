@@ -19,8 +19,7 @@ use crate::fields::{count_at, kind_at, name_at};
 use crate::flat::Member;
 use crate::key::Key;
 use crate::nodes::NodeFronts;
-use crate::objects::{Cut, read_flats, read_list_at, read_value_at};
-use crate::pieces::is_text;
+use crate::objects::{Cut, ends, read_flats, read_list_at, read_value_at};
 use crate::roles::RoleFronts;
 use arrayvec::ArrayVec;
 use chart_core::{Chart, ChartFault, MOST_ROLES, Node, Role};
@@ -100,13 +99,7 @@ pub fn read_recipe<'a>(
     let mut found = None;
     let cut = read_value_at::<NodeFronts>(alloc, cut, b"\"chart\":", &mut found)?;
     let root = found?;
-    let Cut::End(rest) = read_flats(cut, members) else {
-        return None;
-    };
-    if !rest.is_empty() {
-        return None;
-    }
-    if !is_text(line) {
+    if !ends(read_flats(cut, members), line) {
         return None;
     }
     if roles.is_empty() {

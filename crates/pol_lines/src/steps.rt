@@ -44,9 +44,9 @@ fn setting_in(members: &[Member]) -> Option<Setting>
     Some(Setting { name, value })
 }
 
-struct SettingForms;
+struct SettingFronts;
 
-impl Front for SettingForms {
+impl Front for SettingFronts {
     type Item = Setting;
 
     ghost Form = { SettingForm };
@@ -65,7 +65,7 @@ impl Front for SettingForms {
     }
 }
 
-impl Alike for SettingForms {
+impl Alike for SettingFronts {
     type Item = Setting;
 
     ghost Form = { SettingForm };
@@ -104,7 +104,7 @@ fn step_in(members: &[Member], settings: Vec<Setting>) -> Option<Step>
     let role = name_at(members, Key::Role)?;
     let service = name_at(members, Key::Service)?;
     let procedure = count_at(members, Key::Procedure, 1, 65535)? as u16;
-    if repeats::<SettingForms>(&settings) {
+    if repeats::<SettingFronts>(&settings) {
         return None;
     }
     Some(Step {
@@ -125,7 +125,7 @@ pub fn read_step(alloc: Global, text: &[u8]) -> Option<(Step, usize)>
     let cut = begin_object(text)?;
     let cut = read_flats(cut, &mut members);
     let mut settings = Vec::new(alloc);
-    let cut = read_list_at::<SettingForms>(
+    let cut = read_list_at::<SettingFronts>(
         alloc,
         cut,
         b"\"settings\":",

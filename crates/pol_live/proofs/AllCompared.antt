@@ -13,14 +13,17 @@ use Rattle.pol_live.specs.declared.turned.Placed.{Placed}
 
 -- ---- seats in the order of their actors
 
+-- the first name, or zero where there is none
 abbrev head : List ℕ → ℕ
 head [] = 0
 head (name ∷ names) = name
 
+-- the names behind the first
 abbrev tail : List ℕ → List ℕ
 tail [] = []
 tail (name ∷ names) = names
 
+-- in a range of actors, the seat at a place is that of the actor so many behind the first
 named_from : (from count place : ℕ) (seats : List Seated) (seat : Seated)
     → actors_of seats ≡ range_with_len from count →
     slice_get seats place ≡ Some seat → seat.actor ≡ from + place
@@ -51,6 +54,7 @@ part_of : (makers : List ℕ) (entries : List Entry) (seat : Seated) (actor : �
 part_of makers entries seat actor list named listed part =
     subst (IsPart seat.actor 0 makers entries) listed (subst (λ each. IsPart each 0 makers entries list) named part)
 
+-- a place that is below the next index but not below this one is this one
 same_next : (place index : ℕ) → nat_lt place index ≡ false → place < index + 1 → place ≡ index
 same_next place index is less = grind (arith, nat_tests)
 

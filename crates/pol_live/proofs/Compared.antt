@@ -91,11 +91,13 @@ pub record IsKeptAt (actor : ℕ) (makers : List ℕ) (entries : List Entry) (le
     pub there : slice_get entries place ≡ Some entry
     pub said : answer ≡ entry.answer
 
+-- an answer that is told only where the maker is the actor is the one of the entry that the actor made
 own_step : (own : Bool) (maker actor : ℕ) (entry : Entry) (answer : Answer) → (maker == actor) ≡ own →
     (if own then Some entry.answer else None) ≡ Some answer → (maker ≡ actor) × (answer ≡ entry.answer)
 own_step true maker actor entry answer is e = (eqb-true maker actor is, sym (same_Some entry.answer answer e))
 own_step false maker actor entry answer is e = cc
 
+-- where an answer is told of what was found, there is an entry, the actor made it, and the answer is its own
 by_step : (actor : ℕ) (maker : Option ℕ) (found : Option Entry) (answer : Answer) →
     answer_by actor maker found ≡ Some answer →
     (maker ≡ Some actor) × (entry : Entry) × (found ≡ Some entry) × (answer ≡ entry.answer)
@@ -104,6 +106,7 @@ by_step actor None (Some entry) answer e = cc
 by_step actor (Some maker) (Some entry) answer e =
     let own = own_step (maker == actor) maker actor entry answer refl e in (ap Some own.0, entry, refl, own.1)
 
+-- where a place is not too low and the actor has an answer there, the history has it there
 least_step : (below : Bool) (actor : ℕ) (makers : List ℕ) (entries : List Entry) (least place : ℕ) (answer : Answer) →
     nat_lt place least ≡ below →
     (if below then None else answer_by actor (slice_get makers place) (slice_get entries place)) ≡ Some answer →
@@ -119,6 +122,7 @@ least_step false actor makers entries least place answer is e =
       said = own.3;
     }
 
+-- the answer that is kept for an actor at a place is that of an entry that the actor made
 pub kept_tells : (actor : ℕ) (makers : List ℕ) (entries : List Entry) (least place : ℕ) (answer : Answer) →
     kept_at actor makers entries least place ≡ Some answer → IsKeptAt actor makers entries least place answer
 kept_tells actor makers entries least place answer e =

@@ -21,50 +21,65 @@ use Rattle.chart_core.specs.contracts.role.Role as role
 
 -- ---- plain parts
 
+-- a name may go to another thread
 pub name_send : IsSend name.the_row
 name_send = search (sendable, heap.crosses) depth 20
 
+-- a name may be read by other threads
 name_sync : IsSync name.the_row
 name_sync = search (sendable, heap.crosses) depth 20
 
+-- the comparison of a test may go to another thread
 op_send : IsSend op.the_row
 op_send = search (sendable, heap.crosses) depth 20
 
+-- the comparison of a test may be read by other threads
 op_sync : IsSync op.the_row
 op_sync = search (sendable, heap.crosses) depth 20
 
+-- a reading may go to another thread
 reading_send : IsSend reading.the_row
 reading_send = search (sendable, heap.crosses) depth 20
 
+-- a reading may be read by other threads
 reading_sync : IsSync reading.the_row
 reading_sync = search (sendable, heap.crosses) depth 20
 
+-- a setting may go to another thread
 setting_send : IsSend setting.the_row
 setting_send = search (sendable, heap.crosses) depth 20
 
+-- a setting may be read by other threads
 setting_sync : IsSync setting.the_row
 setting_sync = search (sendable, heap.crosses) depth 20
 
+-- a role may go to another thread
 role_send : IsSend role.the_row
 role_send = search (sendable, heap.crosses) depth 40 fits 100000
 
+-- a role may be read by other threads
 role_sync : IsSync role.the_row
 role_sync = search (sendable, heap.crosses) depth 40 fits 100000
 
+-- a field that is true or false may go to another thread
 bool_send : IsSend (as_row bool-field)
 bool_send = as_row_send bool-field (plain_send _ _ _ _ _)
 
+-- a field that is true or false may be read by other threads
 bool_sync : IsSync (as_row bool-field)
 bool_sync = as_row_sync bool-field (plain_sync _ _ _ _ _)
 
+-- a field that is a number of two bytes may go to another thread
 number_send : IsSend (as_row u16-field)
 number_send = as_row_send u16-field (plain_send _ _ _ _ _)
 
+-- a field that is a number of two bytes may be read by other threads
 number_sync : IsSync (as_row u16-field)
 number_sync = as_row_sync u16-field (plain_sync _ _ _ _ _)
 
 -- ---- conditions
 
+-- one layer of a condition may go to another thread, where the conditions in it may
 condition_layer_send : (h : RattleType) → IsSend h → IsSend (conditions.layer-Condition h h h)
 condition_layer_send h one =
     let many = as_row_send (row_field _) (heap.Vec-send h one) in
@@ -95,6 +110,7 @@ condition_layer_send h one =
       ),
     )
 
+-- one layer of a condition may be read by other threads, where the conditions in it may
 condition_layer_sync : (h : RattleType) → IsSync h → IsSync (conditions.layer-Condition h h h)
 condition_layer_sync h one =
     let many = as_row_sync (row_field _) (heap.Vec-sync h one) in
@@ -125,6 +141,7 @@ condition_layer_sync h one =
       ),
     )
 
+-- a layer of conditions may go to other threads and be read there, where those in it may
 each_condition : (member : conditions.the_members) → Crosses conditions.ring member
 each_condition =
     condition.by_members (Crosses conditions.ring) record {
@@ -132,6 +149,7 @@ each_condition =
       sync = λ h s y. condition_layer_sync (h conditions.member-Condition) (y conditions.member-Condition);
     }
 
+-- a condition may go to another thread
 condition_send : IsSend condition.the_row
 condition_send =
     let inner = both_send conditions.ring each_condition conditions.member-Condition in
@@ -150,6 +168,7 @@ condition_send =
       ),
     )
 
+-- a condition may be read by other threads
 condition_sync : IsSync condition.the_row
 condition_sync =
     let inner = both_sync conditions.ring each_condition conditions.member-Condition in
@@ -170,12 +189,15 @@ condition_sync =
 
 -- ---- nodes
 
+-- a step may go to another thread
 step_send : IsSend step.the_row
 step_send = search (sendable, heap.crosses, condition_send) depth 40 fits 100000
 
+-- a step may be read by other threads
 step_sync : IsSync step.the_row
 step_sync = search (sendable, heap.crosses, condition_sync) depth 40 fits 100000
 
+-- one layer of a node may go to another thread, where the nodes and arms in it may
 node_layer_send : (h a : RattleType) → IsSend h → IsSend a → IsSend (nodes.layer-Node h h a h)
 node_layer_send h a one two =
     let many = as_row_send (row_field _) (heap.Vec-send h one) in
@@ -193,6 +215,7 @@ node_layer_send h a one two =
       ),
     )
 
+-- one layer of a node may be read by other threads, where the nodes and arms in it may
 node_layer_sync : (h a : RattleType) → IsSync h → IsSync a → IsSync (nodes.layer-Node h h a h)
 node_layer_sync h a one two =
     let many = as_row_sync (row_field _) (heap.Vec-sync h one) in
@@ -210,16 +233,19 @@ node_layer_sync h a one two =
       ),
     )
 
+-- one layer of an arm may go to another thread, where the node in it may
 arm_layer_send : (h : RattleType) → IsSend h → IsSend (nodes.layer-Arm h)
 arm_layer_send h one =
     declared_send (nodes.type-Arm h)
     (as_row_send (row_field _) condition_send, (as_row_send (row_field _) one, tt))
 
+-- one layer of an arm may be read by other threads, where the node in it may
 arm_layer_sync : (h : RattleType) → IsSync h → IsSync (nodes.layer-Arm h)
 arm_layer_sync h one =
     declared_sync (nodes.type-Arm h)
     (as_row_sync (row_field _) condition_sync, (as_row_sync (row_field _) one, tt))
 
+-- a layer of nodes or arms may go to other threads and be read there, where those in it may
 each_node : (member : nodes.the_members) → Crosses nodes.ring member
 each_node =
     node.by_members (Crosses nodes.ring)
@@ -234,6 +260,7 @@ each_node =
       sync = λ h s y. arm_layer_sync (h nodes.member-Node) (y nodes.member-Node);
     }
 
+-- a node may go to another thread
 node_send : IsSend node.the_row
 node_send =
     let inner = both_send nodes.ring each_node nodes.member-Node in
@@ -253,6 +280,7 @@ node_send =
       ),
     )
 
+-- a node may be read by other threads
 node_sync : IsSync node.the_row
 node_sync =
     let inner = both_sync nodes.ring each_node nodes.member-Node in
@@ -274,8 +302,10 @@ node_sync =
 
 -- ---- charts
 
+-- a chart may go to another thread
 pub chart_send : IsSend chart.the_row
 chart_send = declared_send chart.the_type (heap.Vec-send role.the_row role_send, (node_send, tt))
 
+-- a chart may be read by other threads
 pub chart_sync : IsSync chart.the_row
 chart_sync = declared_sync chart.the_type (heap.Vec-sync role.the_row role_sync, (node_sync, tt))

@@ -13,7 +13,7 @@ use Rattle.pol_site.specs.Actors.{actors, owner_of, owns}
 use Rattle.pol_site.specs.Sites.{PlainSite}
 use Rattle.pol_live.proofs.OwnParts.{AreWithin}
 
--- a place that is found is within the list
+-- a number that is found only where it is below a bound is below it
 found_step : (within : Bool) (first count place : ℕ) → nat_lt first count ≡ within →
     cond within (Some first) None ≡ Some place → place < count
 found_step true first count place is e =
@@ -21,15 +21,18 @@ found_step true first count place is e =
     let less = ltb-true first count is in omega (arith, same, less)
 found_step false first count place is e = cc
 
+-- a place that is found is within the list
 position_within : {A : Type 0} (test : A → Bool) (xs : List A) (place : ℕ) → position test xs ≡ Some place
     → place < length xs
 position_within test xs place is =
     found_step (nat_lt (position_or_len test xs) (length xs)) (position_or_len test xs) (length xs) place refl is
 
+-- the first item, if there is one
 abbrev head : List (Option ℕ) → Option ℕ
 head [] = None
 head (first ∷ rest) = first
 
+-- the items behind the first
 abbrev tail : List (Option ℕ) → List (Option ℕ)
 tail [] = []
 tail (first ∷ rest) = rest

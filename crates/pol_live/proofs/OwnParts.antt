@@ -36,6 +36,7 @@ short_step true maker actor one made list Part shorter is (inr left) =
     record { short = omega (arith, less); whole = λ same. absurd (omega (arith, less, same)) }
 short_step false maker actor one made list Part shorter is (inr left) = shorter list left
 
+-- some of what an actor made is no longer than all of it, and where it is as long it is all of it
 part_short : (actor place : ℕ) (makers : List ℕ) (entries : List Entry) (list : List Placed) →
     IsPart actor place makers entries list → IsShort list (made_from actor place makers entries)
 part_short actor place [] entries list none =
@@ -54,11 +55,13 @@ abbrev count_of : ℕ → List ℕ → ℕ
 count_of actor [] = 0
 count_of actor (maker ∷ makers) = (if maker == actor then 1 else 0) + count_of actor makers
 
+-- with one entry more, of this maker or of another, list and count stay equally long
 long_step : (own : Bool) (one : Placed) (made : List Placed) (count : ℕ) → length made ≡ count →
     length (if own then one ∷ made else made) ≡ (if own then 1 else 0) + count
 long_step true one made count same = ap suc same ∙ omega arith
 long_step false one made count same = same ∙ omega arith
 
+-- an actor made as many entries as it has places among the makers
 made_long : (actor place : ℕ) (makers : List ℕ) (entries : List Entry) → length makers ≡ length entries →
     length (made_from actor place makers entries) ≡ count_of actor makers
 made_long actor place [] entries same = refl
@@ -77,13 +80,14 @@ count_all from (suc count) makers = count_of from makers + count_all (from + 1) 
 abbrev pub AreWithin : ℕ → ℕ → List ℕ → Type 0
 AreWithin from count makers = AllByRecursion (λ (maker : ℕ). (from ≤ maker) × (maker < from + count)) makers
 
--- a maker before the range counts nothing in it
+-- where neither the first of a range nor those behind it count a maker, the range does not
 before_step : (own : Bool) (from maker here rest again : ℕ) → maker < from → (maker == from) ≡ own → again ≡ rest →
     ((if own then 1 else 0) + here) + again ≡ here + rest
 before_step true from maker here rest again before is same =
     let equal = eqb-true maker from is in absurd (omega (arith, equal, before))
 before_step false from maker here rest again before is same = omega (arith, same)
 
+-- a maker before the range counts nothing in it
 count_before : (from count maker : ℕ) (makers : List ℕ) → maker < from →
     count_all from count (maker ∷ makers) ≡ count_all from count makers
 count_before from zero maker makers before = refl
@@ -92,10 +96,11 @@ count_before from (suc count) maker makers before =
     (count_all (from + 1) count (maker ∷ makers)) before refl
     (count_before (from + 1) count maker makers (omega (arith, before)))
 
--- one maker of the range counts once in it
+-- a maker of the range that is not its first is behind it
 later : (from maker : ℕ) → from ≤ maker → (maker == from) ≡ false → from < maker
 later from maker low is = grind (arith, nat_tests)
 
+-- the maker counts once, either as the first of the range or among the others
 one_step : (own : Bool) (from maker here rest again : ℕ) → (maker == from) ≡ own →
     ((maker ≡ from) → again ≡ rest) → (((maker == from) ≡ false) → again ≡ suc rest) →
     ((if own then 1 else 0) + here) + again ≡ suc (here + rest)
@@ -104,6 +109,7 @@ one_step true from maker here rest again is same more =
 one_step false from maker here rest again is same more =
     let all = more is in omega (arith, all)
 
+-- one maker of the range counts once in it
 count_one : (from count maker : ℕ) (makers : List ℕ) → from ≤ maker → maker < from + count →
     count_all from count (maker ∷ makers) ≡ suc (count_all from count makers)
 count_one from zero maker makers low high = absurd (omega (arith, low, high))
@@ -115,6 +121,7 @@ count_one from (suc count) maker makers low high =
     let above = later from maker low apart in
     count_one (from + 1) count maker makers (omega (arith, above)) (omega (arith, high)))
 
+-- of no makers nothing counts
 count_none : (from count : ℕ) → count_all from count [] ≡ 0
 count_none from zero = refl
 count_none from (suc count) = let again = count_none (from + 1) count in omega (arith, again)
@@ -133,14 +140,17 @@ record AreShort (makers : List ℕ) (entries : List Entry) (count : ℕ) (seats 
   pub short : made_in_all seats ≤ count
   pub whole : made_in_all seats ≡ count → AreOwnParts makers entries seats
 
+-- the first name, or zero where there is none
 abbrev head : List ℕ → ℕ
 head [] = 0
 head (name ∷ names) = name
 
+-- the names behind the first
 abbrev tail : List ℕ → List ℕ
 tail [] = []
 tail (name ∷ names) = names
 
+-- lists of a range of actors are no longer in all than what these made, and where as long each is all of it
 all_short : (makers : List ℕ) (entries : List Entry) (from count : ℕ) (seats : List Seated) →
     length makers ≡ length entries → actors_of seats ≡ range_with_len from count → AreParts makers entries seats →
     AreShort makers entries (count_all from count makers) seats

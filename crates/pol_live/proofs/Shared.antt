@@ -36,12 +36,15 @@ use Rattle.pol_live.proofs.Sending.{placed_send, plant_send, site_send, site_syn
 
 -- ---- where the actors of a plant stand
 
+-- where the exchanger stands may go to another thread
 exchanger_send : IsSend exchanger.the_row
 exchanger_send = search (sendable, heap.crosses) depth 20
 
+-- where a batch stands may go to another thread
 stage_send : IsSend stage.the_row
 stage_send = search (sendable, heap.crosses) depth 20
 
+-- where the desk stands may go to another thread
 orders_send : IsSend orders.the_row
 orders_send = search (sendable, heap.crosses) depth 20
 
@@ -122,6 +125,7 @@ module _ (J C : RattleType) (job : jobs.Ghosts J.Denot) (ledger : ledgers.Ghosts
         ),
       )
 
+-- the seat of an actor may go to another thread
 pub seat_send : (J : RattleType) (job : jobs.Ghosts J.Denot) (ledger : ledgers.Ghosts J.Denot) →
     IsSend (seat.the_row J job ledger)
 seat_send J job ledger =
@@ -136,6 +140,7 @@ seat_send J job ledger =
 
 -- ---- what the closure of an actor's thread has
 
+-- two shared things and one of its own may go to another thread with the closure
 pub captured_send : (name : List ℕ) (ty : Ty) (one other : NamedLft) (R C S : RattleType) → IsSync R → IsSync C →
     IsSend S → IsSend (param 2
     (arg ty no (TupleAt name (ShrRef one.mir one.lft R ∷ ShrRef other.mir other.lft C ∷ S ∷ []))))

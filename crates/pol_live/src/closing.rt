@@ -140,7 +140,7 @@ pub(crate) fn gather<J: Job>(rest: Share<J>, seats: Vec<ActorSeat<J>>) -> Share<
     whole
 }
 
-/// What a plant leaves that is done with.
+/// The history that a plant leaves, and who made each entry.
 pub(crate) fn leave<J: Job, C: Clock>(plant: LockedPlant<J, C>) -> Ran
     ensures entries { result.history.items ≡ plant.entries }
     ensures by { result.by.items ≡ plant.by }

@@ -70,7 +70,7 @@ pub(crate) fn enter<C: Clock>(
     Ok(Placed { place, answer })
 }
 
-/// The same of an event that takes no memory, where room was made before.
+/// The same for an event that takes no memory, where room was made before.
 pub(crate) fn enter_spared<C: Clock>(
     plant: &mut Plant,
     by: &mut Vec<u32>,

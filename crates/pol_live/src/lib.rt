@@ -2,8 +2,8 @@
 //! applies at most one event, stamped by the clock in that turn.
 //!
 //! Contracts see a locked plant as its history, who made each entry, and its clock (`specs/Turns.antt`). By its type
-//! the history is legal, follows its site, and each change has its command, whatever turns were taken, and the status
-//! board shows it; and a turn that rests tells that its actor is settled.
+//! the history is legal and follows its site, each change has its command, and the status board shows it, whatever
+//! turns were taken. A turn that rests tells that its actor is settled.
 #![tactic(auto)]
 
 mod acting;

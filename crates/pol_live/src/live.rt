@@ -126,7 +126,7 @@ impl<J: Job, C: Clock + Send> LivePlant<J, C> {
         turned
     }
 
-    /// So many watchers of the plant's board.
+    /// `count` watchers of the plant's board.
     ///
     /// # Errors
     ///

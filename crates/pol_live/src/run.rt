@@ -40,8 +40,8 @@ pub struct Ran {
 }
 
 /// Runs a site to its end: until no actor has anything to do, or the history is full. Each actor takes its turns in a
-/// thread of its own, where one can be made, and passes the gate before each; it may wait. So many watchers read the
-/// status board meanwhile, each in a thread of its own where one can be made.
+/// thread of its own, where one can be made, and passes the gate before each; it may wait. Meanwhile as
+/// many watchers as asked for read the status board, each in a thread of its own where one can be made.
 ///
 /// # Errors
 ///
@@ -152,7 +152,8 @@ fn run_by_turns<J: Job, R: Wait, C: Clock + Send, G: Gate>(
     finish(rt, live)
 }
 
-// What is left to do after the actors' own turns: rounds of turns by this thread alone, whose end is known to be one.
+// What is left to do after the actors' own turns: rounds of turns by this thread alone, at whose end each actor is
+// settled or the history is full.
 fn finish<J: Job, R: Wait, C: Clock + Send>(
     rt: &R,
     live: LivePlant<J, C>,

@@ -11,18 +11,23 @@ use Rattle.pol_board.specs.contracts.reader.Reader as reader
 use Rattle.pol_shown.specs.contracts.display.Display as display
 use Rattle.pol_shown.specs.contracts.watcher.Watcher as watcher
 
+-- a name may go to another thread
 name_send : IsSend name.the_row
 name_send = search (sendable, heap.crosses) depth 40 fits 100000
 
+-- a board may go to another thread
 board_send : IsSend board.the_row
 board_send = search (sendable, heap.crosses, tables.the_send, leases.the_send) depth 40 fits 100000
 
+-- a board may be read by other threads
 board_sync : IsSync board.the_row
 board_sync = search (sendable, heap.crosses, tables.the_sync, leases.the_sync) depth 40 fits 100000
 
+-- a publisher may go to another thread
 publisher_send : IsSend publisher.the_row
 publisher_send = search (sendable, heap.crosses, seats.the_send) depth 40 fits 100000
 
+-- a reader may go to another thread
 reader_send : IsSend reader.the_row
 reader_send = search (sendable, heap.crosses, seats.the_send) depth 40 fits 100000
 

@@ -7,6 +7,7 @@ use Rattle.pol_site.specs.Shown.{word_of_module}
 use Rattle.pol_site.specs.Sites.{PlainSite, PlainSiteModule}
 use Rattle.pol_shown.specs.Displays.{Displayed, Shows, name_of_module, said_by}
 
+-- a list of one item again and again reads as it at each place, and behind its end too
 alike : {A : Type 0} (count place : ℕ) (item : A) → slice_index_or (replicate count item) place item ≡ item
 alike count place item =
     ⊎_elim (λ inside. get_or-replicate count place item item inside)
@@ -14,10 +15,12 @@ alike count place item =
     (subst (λ long. long ≤ place) (sym (length-replicate count item)) past))
     (cases_lt place count)
 
+-- of the empty history a word says nothing
 nothing_said : (found : Option PlainSiteModule) (place : ℕ) → said_by (word_of_module found place []) ≡ 0
 nothing_said None place = refl
 nothing_said (Some unit) place = refl
 
+-- and has no name
 nothing_named : (found : Option PlainSiteModule) (place : ℕ) → name_of_module found place [] ≡ None
 nothing_named None place = refl
 nothing_named (Some unit) place = refl

@@ -102,6 +102,7 @@ none_behind site entry word behind unit there =
 
 -- ---- one word is published
 
+-- the published word says what is shown there, or where nothing is shown what it said before
 published_here : (shown : Option (Option State)) (word place : ℕ) (words : List ℕ) (old : BoardWord) →
     word < length words → slice_index words word ≡ said_by old →
     slice_index (published shown word (suc place) words) word ≡ said_by (word_after shown place old)
@@ -109,12 +110,14 @@ published_here None word place words old inside was = was
 published_here (Some state) word place words old inside was =
     get_or-set_same words word (word_of (suc place) state) 0 inside
 
+-- another word stays as it is
 published_elsewhere : (shown : Option (Option State)) (word number : ℕ) (words : List ℕ) (at : ℕ) → at ≢ word →
     slice_index (published shown word number words) at ≡ slice_index words at
 published_elsewhere None word number words at other = refl
 published_elsewhere (Some state) word number words at other =
     get_or-set_other words word at (word_of number state) 0 other
 
+-- there are as many words as before
 length_published : (shown : Option (Option State)) (word number : ℕ) (words : List ℕ) →
     length (published shown word number words) ≡ length words
 length_published None word number words = refl
@@ -244,6 +247,7 @@ abbrev pub IsAcceptedAt : PlainSite → PlainEntry → ℕ → Type 0
 IsAcceptedAt site entry place =
     option_map (λ unit. is_accepted_of unit.tag entry) (slice_get site.modules place) ≡ Some true
 
+-- where the module that is found has the entry as an accepted one, there is such a module
 unit_there : (entry : PlainEntry) (found : Option PlainSiteModule) →
     option_map (λ unit. is_accepted_of unit.tag entry) found ≡ Some true →
     (unit : PlainSiteModule) × (found ≡ Some unit) × (is_accepted_of unit.tag entry ≡ true)

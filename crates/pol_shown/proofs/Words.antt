@@ -16,6 +16,7 @@ use Rattle.pol_shown.specs.Followed.{accepted_tag, name_after, name_or, tag_in}
 
 -- ---- numbers
 
+-- no word of a module has a higher number than the history's length
 word_number_short : (tag : List ℕ) (place : ℕ) (history : History) → (word_of tag place history).number ≤ length history
 word_number_short tag place [] = omega arith
 word_number_short tag place (entry ∷ older) =
@@ -41,6 +42,7 @@ said_number word = number_said word.number word.state
 
 -- ---- an entry that isn't an accepted one of the module
 
+-- an entry that is no accepted one of the module that is found, if one is, leaves its word as it was
 quiet_found : (entry : PlainEntry) (older : History) (place : ℕ) (found : Option PlainSiteModule) →
     ((unit : PlainSiteModule) → found ≡ Some unit → is_accepted_of unit.tag entry ≡ false) →
     word_of_module found place (entry ∷ older) ≡ word_of_module found place older
@@ -49,6 +51,7 @@ quiet_found entry older place (Some unit) quiet =
     ap (λ accepted. word_after (if accepted then shown_by (name_at place (description_of older unit.tag)) entry.event
     else None) (length older) (word_of unit.tag place older)) (quiet unit refl)
 
+-- and the name at it
 quiet_named : (entry : PlainEntry) (older : History) (place : ℕ) (found : Option PlainSiteModule) →
     ((unit : PlainSiteModule) → found ≡ Some unit → is_accepted_of unit.tag entry ≡ false) →
     name_of_module found place (entry ∷ older) ≡ name_of_module found place older
@@ -86,6 +89,7 @@ word_followed site entry older word unit there accepted =
     ∙ ap (λ found. word_after (shown_by (name_of_module found (word % 32) older) entry.event) (length older)
     (word_of_module found (word % 32) older)) (sym there)
 
+-- the name is that in the newer description, or where there is none the name before
 name_described : (place : ℕ) (found before : Option PlainDescription) →
     name_at place (option_or found before) ≡ name_or found place (name_at place before)
 name_described place None before = refl
@@ -104,6 +108,7 @@ name_followed site entry older word unit there accepted =
 
 -- ---- whom an accepted entry is about
 
+-- what is accepted is about the module exactly where the tag that it is about is the one of the module
 tag_told : (tag : List ℕ) (told : Subject) (accepted : Bool) →
     (is_module tag told && accepted) ≡ is_name_of tag (if accepted then tag_in told else None)
 tag_told tag (of_module other) true = and-true _

@@ -30,7 +30,7 @@ impl Model for Watcher {
 }
 
 impl Watcher {
-    /// The reader with its board, which has so many words.
+    /// The reader with its board, which has this many words.
     pub(crate) fn new(board: Arc<Board>, reader: Reader, words: u32) -> Watcher
         requires board { reader.board ≡ board.value }
         requires words { words ≡ board.value.words }
@@ -53,7 +53,7 @@ impl Watcher {
         }
     }
 
-    /// Reads every word of the board so many times. At no word anything older is found than what was seen there or told
+    /// Reads every word of the board `times` times. At no word anything older is found than what was seen there or told
     /// before. It never waits.
     pub fn watch(&mut self, times: u32)
         ensures board { self.new.board ≡ self.old.board }

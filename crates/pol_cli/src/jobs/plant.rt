@@ -8,12 +8,14 @@ ghost use Rattle.pol_record.specs.Texts.{IsReadBack, entry_line_text};
 ghost use Rattle.pol_io.specs.Causes.{HasCauseOf};
 ghost use Rattle.pol_site.specs.PlainSite.{plain_site};
 ghost use Rattle.pol_cli.specs.Ends.{edge};
+ghost use Rattle.pol_cli.specs.Journal.{Laws};
 ghost use Rattle.pol_cli.specs.SiteRuns.{AreReadBack, IsRunOf, IsUnbegun, LeavesRun, PlantEnds, PutsRun, entries_text, entry_lines, run_text};
 ghost use Rattle.pol_cli.specs.Written.{WritesPart, WritesSome};
 
 use crate::job_fault::{JobFault, put, status_of};
 use crate::jobs::closing::close;
 use crate::jobs::site_text::read_text;
+use crate::journal::journals_are_sound;
 use crate::status::Status;
 use mtp_json::JsonFault;
 use pol_arguments::LiveTask;
@@ -94,7 +96,7 @@ fn put_run<K: Sink>(alloc: Global, history: &[Entry], sink: &mut K) -> Result<()
     close(alloc, history, sink)
 }
 
-// Runs a site to its end, each actor in a thread of its own, while so many watchers read its status board.
+// Runs a site to its end, each actor in a thread of its own, while as many watchers read its status board.
 fn run<R: Threads + Wait + Sync, C: Clock + Send, G: Gate>(
     rt: &R,
     alloc: Global,
@@ -145,7 +147,9 @@ pub fn live<R: Threads + Wait + Sync, S: Source, K: Sink, C: Clock + Send, G: Ga
         (edge (K.held sink.old) (K.faults sink.old)) (edge (K.held sink.new) (K.faults sink.new)) result }
     ensures unbegun { IsUnbegun result → sink.new ≡ sink.old }
     ensures words { result ≢ Status.BadWords }
+    ensures laws { Laws }
 {
+    journals_are_sound();
     match read_text(alloc, source) {
         Ok(Ok(site)) => status_of(run_and_put(rt, alloc, site, task.watchers, sink, clock, gate)),
         Ok(Err(JsonFault { kind, path })) => Status::BadSite { path, fault: kind },

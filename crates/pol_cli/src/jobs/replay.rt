@@ -5,7 +5,7 @@ ghost use Rattle.pol_events.specs.Orderly.{is_orderly};
 ghost use Rattle.pol_history.specs.Answers.{answer_of};
 ghost use Rattle.pol_history.specs.Runs.{entry_of, recorded};
 ghost use Rattle.pol_record.specs.Texts.{answer_text};
-ghost use Rattle.pol_cli.specs.Replay.{plant_history};
+ghost use Rattle.pol_core.specs.Plants.{plant_history};
 ghost use Rattle.pol_cli.specs.Meanings.{IsOrderly, plain_meaning, reply_text, after_meaning};
 
 use crate::job_fault::JobFault;
@@ -88,7 +88,8 @@ impl Replay {
 
 impl LineJob for Replay {
     ghost use Rattle.pol_history.specs.Looking.{History};
-    ghost use Rattle.pol_cli.specs.Replay.{plant_history, replay_work};
+    ghost use Rattle.pol_core.specs.Plants.{plant_history};
+    ghost use Rattle.pol_cli.specs.Replay.{replay_work};
 
     ghost State = { History };
 

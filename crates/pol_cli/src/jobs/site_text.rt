@@ -4,7 +4,7 @@ ghost use Rattle.mtp_json.specs.ReadsAs.{seen};
 ghost use Rattle.pol_io.specs.Causes.{HasCauseOf};
 ghost use Rattle.pol_io.specs.Known.{Between};
 ghost use Rattle.pol_site.specs.PlainSite.{plain_site};
-ghost use Rattle.pol_cli.specs.Ends.{Fits, IsTooMuch};
+ghost use Rattle.pol_cli.specs.Ends.{Fits, IsTooMuch, TakesTooMuch};
 ghost use Rattle.pol_cli.specs.LineWork.{IsShort, IsTooLong};
 ghost use Rattle.pol_cli.specs.SiteTexts.{Says, after_filled, line_says, none_yet, one, telling_of, told};
 
@@ -143,6 +143,7 @@ impl Sink for Nowhere {
 }
 
 /// The site that the source says, which is read to its end, or the first fault of its text.
+#[tactic(auto, using(crate::proofs::SiteTexts::left_too_much))]
 pub fn read_text<S: Source>(
     alloc: Global,
     source: &mut S,
@@ -150,6 +151,8 @@ pub fn read_text<S: Source>(
     ensures says { IfOk result (λ said. Between (Says (seen plain_site said)) (S.left source.old) (S.left source.new)) }
     ensures fits { OnOk result (Fits (S.left source.old)) }
     ensures too_much { IfErr result (λ fault. fault ≡ JobFault.TooMuch → IsTooMuch (S.left source.old)) }
+    ensures taken { IfErr result (λ fault. fault ≡ JobFault.TooMuch
+        → Between TakesTooMuch (S.left source.old) (S.left source.new)) }
     ensures cause { HasCauseOf JobFault.Read (S.faults source.old) (S.faults source.new) result }
     ensures only { IfErr result (λ fault. fault ≢ JobFault.Write) }
 {

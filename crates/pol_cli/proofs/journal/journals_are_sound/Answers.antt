@@ -12,4 +12,5 @@ returns-clause-laws c = record {
   permitted = c.commands_are_permitted.ensures;
   paths = c.reports_are_paths.ensures;
   charts = c.logs_follow_charts.ensures;
+  removal = c.removal_of_events.ensures;
 }

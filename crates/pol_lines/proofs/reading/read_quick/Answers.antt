@@ -3,7 +3,7 @@ use Rattle.std.proofs.lemmas.Grind.{common_steps}
 use Rattle.pol_events.specs.Events.{plain_event}
 use Rattle.pol_events.specs.Forms.{event_in}
 use Rattle.pol_events.proofs.Again.{faultless}
-use Rattle.pol_lines.specs.Objects.{IsObject, Stands}
+use Rattle.pol_lines.specs.Objects.{Stands}
 use Rattle.pol_lines.proofs.Making.{flat_makes, line_of_object}
 use Rattle.pol_lines.proofs.reading.read_quick.Goals as goal
 
@@ -25,10 +25,10 @@ returns-in_ok-event-in-End-clause-says c =
     let event = plain_event c.in_ok-event-in-End.event in
     let begun = subst (λ held. Stands 0 line held [] c.in_ok-cut.cut) (sym c.new-members.ensures)
     (c.in_ok-cut.ensures 0) in
-    let rest = c.in-End.rest.now in
-    let is = subst (λ held. IsObject 0 line held [] rest) (sym c.as_slice.ensures.value)
-    (rw c.in-End.is at (c.read_flats-cut.ensures 0 line [] begun)) in
-    let ends : rest ≡ [] = grind (arith, common_steps, c.if-not-is_empty.ensures) in
-    line_of_object 0 line rest c.as_slice.result.now [] event (omega arith) (c.if-not-is_text.ensures refl) is ends
+    let cut = c.read_flats-cut.result in
+    let stands = subst (λ held. Stands 0 line held [] cut) (sym c.as_slice.ensures.value)
+    (c.read_flats-cut.ensures 0 line [] begun) in
+    line_of_object 0 line cut c.as_slice.result.now [] event (omega arith) (c.if-ends.ensures.text refl) stands
+    (c.if-ends.ensures.ended refl)
     (flat_makes event_in event c.as_slice.result.now c.in_ok-event-in-End.ensures.says)
     (faultless event c.in_ok-event-in-End.ensures.orderly)

@@ -5,7 +5,7 @@ use Rattle.serde_json.specs.Data.{array}
 use Rattle.chart_core.specs.Roles.{plain_role}
 use Rattle.chart_core.specs.Trees.{plain_node}
 use Rattle.pol_events.specs.Events.{plain_event}
-use Rattle.pol_lines.specs.Objects.{IsObject, with_value}
+use Rattle.pol_lines.specs.Objects.{Stands, with_value}
 use Rattle.pol_lines.proofs.Making.{line_of_recipe, read_is_formed}
 use Rattle.pol_lines.proofs.recipes.read_recipe.Goals as goal
 
@@ -34,13 +34,11 @@ returns c =
     (record { plain = refl; no_key = refl }) in
     let rolled = with_value (codes "roles") (option_map array played.values) [] in
     let others = with_value (codes "chart") charted.value rolled in
-    let rest = c.in-End.rest.now in
     let read = c.read_flats.ensures 35 line others
     (charted.passes line _ rolled (played.passes line _ [] (c.requires 35))) in
-    let is = subst (λ held. IsObject 35 line held others rest) (sym c.as_slice.ensures.value)
-    (rw c.in-End.is at read) in
-    let ends : rest ≡ [] = grind (arith, common_steps, c.if-not-is_empty.ensures) in
-    line_of_recipe line rest c.as_slice.result.now played.values charted.value roles (plain_node c.in_ok-root.root)
-    (plain_event c.in_ok-event.event) (c.if-not-is_text.ensures refl) played.gives some few
-    (rw c.in_ok-root.was at charted.gives) is
-    ends c.in_ok-event.ensures.says c.in_ok-event.ensures.faultless
+    let stands = subst (λ held. Stands 35 line held others c.read_flats.result) (sym c.as_slice.ensures.value) read in
+    line_of_recipe line c.read_flats.result c.as_slice.result.now played.values charted.value roles
+    (plain_node c.in_ok-root.root)
+    (plain_event c.in_ok-event.event) (c.if-not-ends.ensures.text refl) played.gives some few
+    (rw c.in_ok-root.was at charted.gives) stands (c.if-not-ends.ensures.ended refl)
+    c.in_ok-event.ensures.says c.in_ok-event.ensures.faultless
