@@ -91,7 +91,7 @@ pub fn read_object<'a>(text: &'a [u8], members: &mut ArrayVec<Member<'a>, 9>) ->
 /// Whether a cut is at the end of a line, and the line is text.
 #[inline(always)]
 pub fn ends(cut: Cut, line: &[u8]) -> bool
-    ensures ended { IsTrue result → IsEnd cut }
+    ensures ended { IsTrue result → IsEnd cut.entry }
     ensures text { IsTrue result → IsUtf8 line.now }
 {
     match cut {

@@ -1,5 +1,4 @@
-use Rattle.std.proofs.Common.{◌≡◌, [], refl, sym, subst, arith, codes}
-use Rattle.std.proofs.lemmas.Grind.{common_steps}
+use Rattle.std.proofs.Common.{[], refl, sym, subst, arith, codes}
 use Rattle.mtp_desc.specs.PlainDescription.{plain_description}
 use Rattle.mtp_desc.specs.Form.{description_of}
 use Rattle.pol_events.specs.Events.{plain_event}

@@ -1,5 +1,4 @@
-use Rattle.std.proofs.Common.{◌≡◌, [], refl, sym, subst, arith}
-use Rattle.std.proofs.lemmas.Grind.{common_steps}
+use Rattle.std.proofs.Common.{[], refl, sym, subst, arith}
 use Rattle.pol_events.specs.Events.{plain_event}
 use Rattle.pol_events.specs.Forms.{event_in}
 use Rattle.pol_events.proofs.Again.{faultless}
@@ -19,10 +18,10 @@ read_recipe-requires c = λ deep.
     c.read_flats-cut.ensures deep line []
     (subst (λ held. Stands deep line held [] c.in_ok-cut.cut) (sym c.new-members.ensures) (c.in_ok-cut.ensures deep))
 
-pub returns-in_ok-event-in-End-clause-says : goal.returns-in_ok-event-in-End-clause-says
-returns-in_ok-event-in-End-clause-says c =
+pub returns-in_ok-event-in_default-clause-says : goal.returns-in_ok-event-in_default-clause-says
+returns-in_ok-event-in_default-clause-says c =
     let line = c.args.line.now in
-    let event = plain_event c.in_ok-event-in-End.event in
+    let event = plain_event c.in_ok-event-in_default.event in
     let begun = subst (λ held. Stands 0 line held [] c.in_ok-cut.cut) (sym c.new-members.ensures)
     (c.in_ok-cut.ensures 0) in
     let cut = c.read_flats-cut.result in
@@ -30,5 +29,5 @@ returns-in_ok-event-in-End-clause-says c =
     (c.read_flats-cut.ensures 0 line [] begun) in
     line_of_object 0 line cut c.as_slice.result.now [] event (omega arith) (c.if-ends.ensures.text refl) stands
     (c.if-ends.ensures.ended refl)
-    (flat_makes event_in event c.as_slice.result.now c.in_ok-event-in-End.ensures.says)
-    (faultless event c.in_ok-event-in-End.ensures.orderly)
+    (flat_makes event_in event c.as_slice.result.now c.in_ok-event-in_default.ensures.says)
+    (faultless event c.in_ok-event-in_default.ensures.orderly)

@@ -1,4 +1,4 @@
-use Rattle.std.proofs.Common.{◌≡◌, ◌<◌, ◌≤◌, [], length, map, refl, sym, subst, arith, codes}
+use Rattle.std.proofs.Common.{◌<◌, ◌≤◌, [], length, map, refl, sym, subst, arith, codes}
 use Rattle.std.proofs.lemmas.Grind.{common_steps}
 use Rattle.std.specs.Prelude.{option_map}
 use Rattle.serde_json.specs.Data.{array}
