@@ -264,3 +264,14 @@ desk_rests older (Some order) e = go (nat_lt (length older) order.after) e
         (if waits then None else Some (desk 0 order.tag order.service order.command)) ≡ None → waits ≡ true
     go true e = refl
     go false e = cc
+
+-- where it does something it isn't settled
+pub desk_acts : (older : History) (found : Option PlainSiteDesk) (event : PlainEvent) →
+    order_event (length older) found ≡ Some event → waits_to_order older found ≡ false
+desk_acts older None event e = cc
+desk_acts older (Some order) event e = go (nat_lt (length older) order.after) e
+  where
+    go : (waits : Bool) →
+        (if waits then None else Some (desk 0 order.tag order.service order.command)) ≡ Some event → waits ≡ false
+    go true e = cc
+    go false e = refl

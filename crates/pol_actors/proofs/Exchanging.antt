@@ -4,10 +4,11 @@ use Rattle.std.specs.Prelude.{◌&&◌, ◌||◌, ◌==◌, pred, nat_lt, nat_le
 use Rattle.std.specs.List.{list_any}
 use Rattle.std.specs.Option.{option_or}
 use Rattle.std.specs.Str.{bytes_eq}
-use Rattle.std.proofs.lemmas.Bool.{eqb-true}
+use Rattle.std.proofs.lemmas.Bool.{and_right, eqb-true}
 use Rattle.std.proofs.lemmas.Bool.Decides.{nat_tests}
 use Rattle.std.proofs.lemmas.List.{length-map}
-use Rattle.std.proofs.lemmas.Option.{same_Some}
+use Rattle.std.proofs.lemmas.Map.Keys.{any_passes_from_place}
+use Rattle.std.proofs.lemmas.Option.{cond_some, same_Some}
 use Rattle.mtp_codes.specs.declared.limits.TheConstants.{MOST_MODULES}
 use Rattle.mtp_codes.specs.Faults.{when, first_of}
 use Rattle.mtp_assembly.specs.declared.control.ServiceControl.{ServiceControl}
@@ -635,6 +636,12 @@ module _ (site : PlainSite) (older : History) (exchanger : Exchanger) (sound : I
       accepted = ap is_accepted (with_room older (exchange_cancel 0 tag ticket) room
           ∙ skipped (docking_of older tag) gone)
 
+-- each recipe and each module of the site has its opening
+openings_long : (site : PlainSite) → length (openings site) ≡ length site.recipes + length site.modules
+openings_long site =
+    length-append (map know_event site.recipes) (map plug_event site.modules)
+    ∙ (λ i. length-map site.recipes know_event i + length-map site.modules plug_event i)
+
 -- what it does next is an errand
 pub errand_next : (site : PlainSite) (older : History) (count : ℕ) (exchanger : Exchanger) (errand : Errand) →
     IsSite site → length site.modules ≤ MOST_MODULES → IsLegal older → FollowsSite site older → is_full older ≡ false →
@@ -646,9 +653,7 @@ errand_next site older count exchanger errand sound most legal follows room coun
     opens : exchanger.opened < length site.recipes + length site.modules →
         IsErrand site older exchanger (task.Open exchanger.opened)
     opens less =
-        let long : length (openings site) ≡ length site.recipes + length site.modules =
-        length-append (map know_event site.recipes) (map plug_event site.modules)
-        ∙ (λ i. length-map site.recipes know_event i + length-map site.modules plug_event i) in
+        let long = openings_long site in
         let found = item_within (openings site) exchanger.opened (omega (arith, less, long)) in
         one found.0 found.1
         (either_item know_event plug_event site.recipes site.modules exchanger.opened found.0 found.1)
@@ -706,7 +711,7 @@ errand_next site older count exchanger errand sound most legal follows room coun
     by false l e =
         by_standing (lt_not exchanger.opened (length site.recipes + length site.modules) l) exchanger.standing refl e
 
--- ---- when it has nothing to do
+-- ---- whether it has something to do
 
 -- where no item passes none does
 none_any : {A : Type 0} (test : A → Bool) (xs : List A) → ((x : A) → test x ≡ false) → list_any test xs ≡ false
@@ -731,12 +736,9 @@ exchanger_rests site older count exchanger legal follows counted stands is =
         is_settled_exchanger site older ≡ true
     settled all closed waits = rw (told, unaway, waits) refl
       where
-        long : length (openings site) ≡ length site.recipes + length site.modules
-        long = length-append (map know_event site.recipes) (map plug_event site.modules)
-            ∙ (λ i. length-map site.recipes know_event i + length-map site.modules plug_event i)
-
         told : nat_le (length (openings site)) (opened older) ≡ true
         told = let is = stands.opened_is in
+            let long = openings_long site in
             le_true (length (openings site)) (opened older) (omega (arith, long, is, all))
 
         none : exchanging older ≡ none_open
@@ -779,3 +781,118 @@ exchanger_rests site older count exchanger legal follows counted stands is =
     by true l e = cc
     by false l e =
         by_standing (lt_not exchanger.opened (length site.recipes + length site.modules) l) exchanger.standing refl e
+
+-- a module with a ticket is away
+is_gone : (docking : Docking) (ticket : ℕ) → ticket_of docking ≡ Some ticket → is_away docking ≡ true
+is_gone absent ticket is = cc
+is_gone (docked count) ticket is = cc
+is_gone (away other) ticket is = refl
+
+-- the exchange that is open is of a module of the site
+open_module : (site : PlainSite) (history : History) (tag : List ℕ) (ticket : ℕ) → IsSite site →
+    FollowsSite site history → open_ticket tag (exchanging history) ≡ Some ticket → has_module site.modules tag ≡ true
+open_module site [] tag ticket sound follows is = cc
+open_module site (entry ∷ older) tag ticket sound follows is =
+    go entry.event entry.answer follows.0 is (open_module site older tag ticket sound follows.1)
+  where
+    Goal : Type 0
+    Goal = has_module site.modules tag ≡ true
+
+    ended : (named : List ℕ) (given : ℕ) (answer : Answer) →
+        open_ticket tag (ended_with named given answer) ≡ Some ticket →
+        open_ticket tag (was_begun named given) ≡ Some ticket
+    ended named given (Refused (HeldBack batch missing)) held = held
+    ended named given _ held = cc
+
+    go : (event : PlainEvent) (answer : Answer) → IsAllowed site older event answer →
+        open_ticket tag (exchanging (record { event = event; answer = answer } ∷ older)) ≡ Some ticket →
+        (open_ticket tag (exchanging older) ≡ Some ticket → Goal) → Goal
+    go (exchange_begin at named) (Ticket given) allowed is again =
+        let own = same_true named tag (cond_some (bytes_eq named tag) given ticket is).0 in
+        ap (has_module site.modules) (sym own ∙ allowed.tag_is)
+        ∙ all_at (λ (exchange : PlainSiteExchange). has_module site.modules exchange.tag) site.exchanges
+        (begun_in older) allowed.exchange sound.known_tags allowed.listed
+    go (exchange_begin at named) answer allowed is again = cc
+    go (exchange_end at named given description) answer allowed is again =
+        again (ap (open_ticket tag) allowed.begun ∙ ended named given answer is)
+    go (exchange_cancel at named given) answer allowed is again = cc
+    go event answer allowed is again = again is
+
+-- where it has an errand it isn't settled
+pub exchanger_acts : (site : PlainSite) (older : History) (count : ℕ) (exchanger : Exchanger) (errand : Errand) →
+    IsSite site → IsLegal older → FollowsSite site older → count ≡ length older → IsExchanger site older exchanger →
+    errand_of site older count exchanger ≡ Some errand → is_settled_exchanger site older ≡ false
+exchanger_acts site older count exchanger errand sound legal follows counted stands is =
+    by (nat_lt exchanger.opened (length site.recipes + length site.modules)) refl is
+  where
+    is_out : PlainSiteModule → Bool
+    is_out unit = is_away (docking_of older unit.tag)
+
+    told : Bool
+    told = nat_le (length (openings site)) (opened older)
+
+    none_out : Bool
+    none_out = not (list_any is_out site.modules)
+
+    waits : Bool
+    waits = waits_to_begin older (slice_get site.exchanges (begun_in older))
+
+    opens : exchanger.opened < length site.recipes + length site.modules → is_settled_exchanger site older ≡ false
+    opens less =
+        let opened_is = stands.opened_is in
+        let long = openings_long site in
+        rw (lt_fails (length (openings site)) (opened older) (omega (arith, long, opened_is, less))) refl
+
+    begins : (found : Option PlainSiteExchange) → begin_errand older count found ≡ Some errand →
+        waits_to_begin older found ≡ false
+    begins None e = cc
+    begins (Some exchange) e =
+        early (nat_lt count exchange.after) (is_refusal_busy
+        (refusal (answer_of older (exchange_begin 0 exchange.tag))))
+        (ap (λ n. nat_lt n exchange.after) (sym counted)) (busy_by (answer_of older (exchange_begin 0 exchange.tag))) e
+      where
+        early : (waits busy : Bool) → nat_lt (length older) exchange.after ≡ waits →
+            is_busy (answer_of older (exchange_begin 0 exchange.tag)) ≡ busy →
+            (if waits then None else if busy then None else Some (task.Begin exchange.tag)) ≡ Some errand →
+            (nat_lt (length older) exchange.after || is_busy (answer_of older (exchange_begin 0 exchange.tag))) ≡ false
+        early true busy w b e = cc
+        early false true w b e = cc
+        early false false w b e = rw (w, b) refl
+
+    -- the ticket of an exchange is its own
+    own_ticket : (tag : List ℕ) (ticket : ℕ) → (if bytes_eq tag tag then Some ticket else None) ≡ Some ticket
+    own_ticket tag ticket = ap (λ b. if b then Some ticket else None) (same_refl tag)
+
+    -- while an exchange is open, its module is away
+    is_open : (tag : List ℕ) (ticket : ℕ) → open_ticket tag (exchanging older) ≡ Some ticket →
+        is_settled_exchanger site older ≡ false
+    is_open tag ticket here =
+        let found = has_at site.modules tag (open_module site older tag ticket sound follows here) in
+        let gone = is_gone (docking_of older found.1.tag) ticket
+        (open_away site older found.1.tag legal follows
+        ∙ ap (λ name. open_ticket name (exchanging older)) found.3 ∙ here) in
+        and_right told (none_out && waits)
+        (ap (λ any. not any && waits)
+        (any_passes_from_place is_out site.modules found.0 found.1 found.2 gone))
+
+    by_standing : (standing : Standing) → exchanger.standing ≡ standing →
+        exchange_errand site older count exchanger.begun standing ≡ Some errand →
+        is_settled_exchanger site older ≡ false
+    by_standing standing.Closed closed e =
+        and_right told (none_out && waits)
+        (and_right none_out waits
+        (begins (slice_get site.exchanges (begun_in older))
+        (ap (λ n. begin_errand older count (slice_get site.exchanges n)) (sym stands.begun_is) ∙ e)))
+    by_standing (standing.Begun tag ticket) begun e =
+        is_open tag ticket
+        (ap (open_ticket tag) (sym stands.standing_is ∙ ap exchanging_in begun) ∙ own_ticket tag ticket)
+    by_standing (standing.Held tag ticket) held e =
+        is_open tag ticket
+        (ap (open_ticket tag) (sym stands.standing_is ∙ ap exchanging_in held) ∙ own_ticket tag ticket)
+
+    by : (left : Bool) → nat_lt exchanger.opened (length site.recipes + length site.modules) ≡ left →
+        (if left then Some (task.Open exchanger.opened)
+        else exchange_errand site older count exchanger.begun exchanger.standing) ≡ Some errand →
+        is_settled_exchanger site older ≡ false
+    by true l e = opens (lt_holds exchanger.opened (length site.recipes + length site.modules) l)
+    by false l e = by_standing exchanger.standing refl e

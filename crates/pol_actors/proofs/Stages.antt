@@ -205,7 +205,7 @@ batch_turn site older place batch stage.Refused event room sound listed stands i
 batch_turn site older place batch stage.Started event room sound listed stands is =
     advance_turn site older batch event room stands is
 
--- ---- when it has nothing to do
+-- ---- whether it has something to do
 
 -- a batch that was started has a next entry
 next_there : (older : History) (batch : List ℕ) → IsLegal older → IsOrderly older →
@@ -249,3 +249,30 @@ batch_rests older batch stage.Started legal orderly stands none =
     go None (Some (next.Waiting obstacle)) is e = refl
     go None (Some (next.Did entry)) is e = cc
     go None (Some (next.Closed outcome)) is e = cc
+
+-- where it does something it isn't settled
+pub batch_acts : (older : History) (batch : PlainSiteBatch) (stage : Stage) (event : PlainEvent) →
+    IsStage older batch.batch stage → batch_event older batch stage ≡ Some event →
+    is_settled_batch older batch ≡ false
+batch_acts older batch stage.Unsent event stands is =
+    rw (stands.1, stands.0) (put_off_by (answer_of older own) ∙ go
+    (is_refusal_passing (refusal (answer_of older own))) is)
+  where
+    own : PlainEvent
+    own = start 0 batch.batch batch.recipe batch.binds
+
+    go : (waits : Bool) → (if waits then None else Some own) ≡ Some event → waits ≡ false
+    go true e = cc
+    go false e = refl
+batch_acts older batch stage.Refused event stands is = cc
+batch_acts older batch stage.Started event stands is =
+    rw (stands.1) (go (outcome_of older batch.batch) (next_of older batch.batch) is)
+  where
+    go : (outcome : Option Outcome) (following : Option Next) →
+        advance_event batch.batch (if is_none outcome then following else None) ≡ Some event →
+        (is_some outcome || is_waiting following) ≡ false
+    go (Some outcome) following e = cc
+    go None None e = cc
+    go None (Some (next.Waiting obstacle)) e = cc
+    go None (Some (next.Did entry)) e = refl
+    go None (Some (next.Closed outcome)) e = refl

@@ -1,6 +1,7 @@
 -- A turn of a module keeps what is kept of it.
 use Rattle.std.proofs.Common.{◌≡◌, ℕ, Bool, true, false, List, ◌∷◌, length, Option, Some, None, refl, sym, ◌∙◌, subst}
 use Rattle.std.specs.Prelude.{◌&&◌, not, option_and_then, slice_get, if◌then◌else◌}
+use Rattle.std.proofs.lemmas.Bool.{false_from_ne_true}
 use Rattle.mtp_json.specs.Form.{repeats_by}
 use Rattle.mtp_desc.specs.Plain.{same_service}
 use Rattle.mtp_sim.specs.declared.report.SimReport.{SimReport}
@@ -102,7 +103,7 @@ made_up site history place unit own sound listed there services is count counted
 
 -- ---- a turn
 
--- it rests where it is settled; it looks where it isn't; what it reports is allowed and done; and it keeps up
+-- where it rests it is settled, and it keeps up
 pub record HasRested (site : PlainSite) (tag : List ℕ) (history : History) (made : Made) : Type 0 where
   pub settled : is_settled_module site history tag ≡ true
   pub up : KeepsUp site tag made.place history made.sim
@@ -112,9 +113,10 @@ pub record HasLooked (site : PlainSite) (tag : List ℕ) (history : History) (ma
   pub unsettled : is_settled_module site history tag ≡ false
   pub up : KeepsUp site tag made.place history made.sim
 
--- what it reports is allowed and done, and with it in the history it keeps up
+-- where it reports it is not settled; what it reports is allowed and done, and with it in the history it keeps up
 pub record HasReported (site : PlainSite) (tag : List ℕ) (history : History) (made : Made)
     (told : SimReport) : Type 0 where
+  pub unsettled : is_settled_module site history tag ≡ false
   pub allowed : IsAllowed site history (report_event 0 tag told) (answer_of history (report_event 0 tag told))
   pub done : answer_of history (report_event 0 tag told) ≡ Done
   pub up : (at : ℕ) → KeepsUp site tag made.place (paired (report_event at tag told) Done ∷ history) made.sim
@@ -133,17 +135,12 @@ calm_rest sim is = first (is_pending sim) _ is
     first true rest is = cc
     first false rest is = refl
 
--- a Bool that isn't true
-not_true : (b : Bool) → (b ≡ true → ⊥) → b ≡ false
-not_true true never = absurd (never refl)
-not_true false never = refl
-
 module _ (site : PlainSite) (tag : List ℕ) (history : History) (count : ℕ) (legal : IsLegal history)
     (orderly : IsOrderly history) (follows : FollowsSite site history) (commanded : IsCommanded history)
     (room : is_full history ≡ false) (is_docked : docking_by (past tag history) ≡ docked count) where
   -- a tick
   tick_turned : (made : Made) → KeepsUp site tag made.place history made.sim →
-      (is_settled_module site history tag ≡ true → ⊥) →
+      is_settled_module site history tag ≡ false →
       IsTurned site tag history (made_ticked made) (decision_by (tick_report made.sim))
   tick_turned made up unsettled =
       go (tick_report made.sim) refl (λ at. ticks_up site tag at made.place history made.sim up)
@@ -151,13 +148,13 @@ module _ (site : PlainSite) (tag : List ℕ) (history : History) (count : ℕ) (
       go : (told : Option SimReport) → tick_report made.sim ≡ told →
           ((at : ℕ) → KeepsUp site tag made.place (after_report at tag told history) (ticked made.sim)) →
           IsTurned site tag history (made_ticked made) (decision_by told)
-      go None is after =
-          record { unsettled = not_true (is_settled_module site history tag) unsettled; up = after 0 }
+      go None is after = record { unsettled = unsettled; up = after 0 }
       go (Some (Service name control)) is after =
           let allowed = reports_allowed site tag history made.sim 0 count made.place
           (Service name control) is_docked room
           up.step up.kept up.served is in
           record {
+            unsettled = unsettled;
             allowed = allowed;
             done = accepted_otherwise history (report_event 0 tag (Service name control)) allowed.accepted;
             up = after;
@@ -167,6 +164,7 @@ module _ (site : PlainSite) (tag : List ℕ) (history : History) (count : ℕ) (
           (Variable name value) is_docked room
           up.step up.kept up.served is in
           record {
+            unsettled = unsettled;
             allowed = allowed;
             done = accepted_otherwise history (report_event 0 tag (Variable name value)) allowed.accepted;
             up = after;
@@ -201,7 +199,7 @@ module _ (site : PlainSite) (tag : List ℕ) (history : History) (count : ℕ) (
       free None (Some ahead) calm next found = absurd found
       free (Some order) (Some ahead) calm next found =
           record {
-            unsettled = not_true (is_settled_module site history tag)
+            unsettled = false_from_ne_true (is_settled_module site history tag)
                 (λ settled. let clash = sym next ∙ (rests settled).0 in cc);
             up = one order ahead calm next found;
           }
@@ -219,12 +217,14 @@ module _ (site : PlainSite) (tag : List ℕ) (history : History) (count : ℕ) (
               }
           at_rest false is =
               tick_turned (made_looked None after made) (idle next found)
-              (λ settled. let clash : true ≡ false = sym (rests settled).1 ∙ is in cc)
+              (false_from_ne_true (is_settled_module site history tag)
+              (λ settled. let clash : true ≡ false = sym (rests settled).1 ∙ is in cc))
 
       by : (pending : Bool) → is_pending made.sim ≡ pending →
           IsTurned site tag history (if pending then made_ticked made else free_after order after made)
           (if pending then decision_by (tick_report made.sim) else free_decides order made)
       by true pending =
           tick_turned made up
-          (λ settled. let clash : true ≡ false = sym pending ∙ calm_rest made.sim (rests settled).1 in cc)
+          (false_from_ne_true (is_settled_module site history tag)
+          (λ settled. let clash : true ≡ false = sym pending ∙ calm_rest made.sim (rests settled).1 in cc))
       by false calm = free order (next_command tag made.place history) calm refl found

@@ -46,9 +46,13 @@ pub record Enters (calls_before calls last : ℕ) (before after : History) (even
   pub entered : after ≡ record { event = stamped last event; answer = placed.answer } ∷ before
   pub rose : Rose calls_before calls
 
--- the history had room, and one event of the actor entered it, with the stamp that the clock gave in this turn
+-- the history had room, the actor wasn't settled, and one event of it entered the history, with the stamp that the
+-- clock gave in this turn
 pub record HasMade (site : PlainSite) (before after : Locked) (actor : ℕ) (placed : Placed) : Type 0 where
   pub room : is_full (history_of before) ≡ false
+  pub who : Actor
+  pub who_is : slice_get (actors site) actor ≡ Some who
+  pub unsettled : is_settled site (history_of before) who ≡ false
   pub event : PlainEvent
   pub owner : owner_of site event ≡ Some actor
   pub enters : Enters before.calls after.calls after.last (history_of before) (history_of after) event placed

@@ -2,6 +2,7 @@
 ghost use Rattle.std.specs.Prelude.{◌≡◌, ◌<◌, [], length, IfOk, OnErr};
 ghost use Rattle.pol_site.specs.Actors.{actors};
 ghost use Rattle.pol_live.specs.Seats.{ListAfter};
+ghost use Rattle.pol_live.specs.Turns.{Turns};
 
 use crate::job::Job;
 use crate::locked::LockedPlant;
@@ -72,6 +73,7 @@ impl<J: Job> ActorSeat<J> {
         book: &mut Book<J>,
     ) -> Result<Turned, AllocError>
         requires { book.old.total ≡ length plant.old.entries }
+        ensures turned { IfOk result (λ turned. Turns J.site plant.old plant.new self.old.actor turned) }
         ensures counted { book.new.total ≡ length plant.new.entries }
         ensures ok { IfOk result (λ turned. ListAfter self.old.list self.new.list turned) }
         ensures err { OnErr result (self.new.list ≡ self.old.list) }

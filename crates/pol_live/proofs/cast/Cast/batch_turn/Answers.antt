@@ -9,7 +9,7 @@ use Rattle.pol_site.specs.Sites.{PlainSite}
 use Rattle.pol_site.specs.PlainSite.{plain_site}
 use Rattle.pol_site.specs.Views.{plain_batch, plain_module}
 use Rattle.pol_actors.proofs.Owners.{actor_batch}
-use Rattle.pol_actors.proofs.Stages.{batch_rests, batch_turn}
+use Rattle.pol_actors.proofs.Stages.{batch_acts, batch_rests, batch_turn}
 use Rattle.pol_live.specs.Turns.{Locked, history_of}
 use Rattle.pol_live.proofs.Steps.{batch_at, batch_owner, batch_turned, own_at, rested}
 use Rattle.pol_live.proofs.cast.Cast.batch_turn.Goals as goal
@@ -92,12 +92,16 @@ returns-clause-ok g c =
     ∙ ap (λ site. length site.modules) (ap plain_site c.deref-2.ensures ∙ c.self.invariant.0) in
     let actor : (c.len.result + c.args.place) + 1 ≡ suc (length g.J.Job.site.modules + c.args.place) =
     omega (arith, one, modules) in
+    let is = sym c.in_ok-event.ensures ∙ ap (option_map plain_event) c.in-Some.is in
+    let stage_is = kept.stages_are c.args.place batch c.index-stage.result.now listed stands in
     let turn = batch_turn g.J.Job.site history c.args.place batch c.index-stage.result.now (plain_event c.in-Some.event)
     room
-    kept.sound listed (kept.stages_are c.args.place batch c.index-stage.result.now listed stands)
-    (sym c.in_ok-event.ensures ∙ ap (option_map plain_event) c.in-Some.is) in
+    kept.sound listed stage_is is in
     rw (← c.self.view_is) record {
-      room = ap (λ (locked : Locked). is_full (history_of locked)) c.self.view_is ∙ c.requires.room;
+      room = room;
+      who = a_batch batch;
+      who_is = actor_batch g.J.Job.site c.args.place batch listed;
+      unsettled = batch_acts history batch c.index-stage.result.now (plain_event c.in-Some.event) stage_is is;
       event = plain_event c.in-Some.event;
       owner = batch_owner g.J.Job.site history c.args.place batch c.index-stage.result.now (plain_event c.in-Some.event)
           kept.sound listed turn;

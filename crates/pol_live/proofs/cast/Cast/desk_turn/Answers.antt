@@ -10,7 +10,7 @@ use Rattle.pol_site.specs.Settled.{waits_to_order}
 use Rattle.pol_site.specs.PlainSite.{plain_site}
 use Rattle.pol_site.specs.Views.{plain_batch, plain_module}
 use Rattle.pol_actors.specs.Orders.{order_event}
-use Rattle.pol_actors.proofs.BatchTurns.{desk_rests}
+use Rattle.pol_actors.proofs.BatchTurns.{desk_acts, desk_rests}
 use Rattle.pol_actors.proofs.Owners.{actor_desk}
 use Rattle.pol_live.specs.Turns.{Locked, history_of}
 use Rattle.pol_live.proofs.Steps.{desk_owner, desk_turned, rested}
@@ -60,9 +60,13 @@ invariant_of-self-2 g c =
 
 pub returns-clause-ok : goal.returns-clause-ok
 returns-clause-ok g c =
+    let kept = c.self.invariant.1 in
+    let history = plant_history c.self.inside.plant in
     let held = ap plain_site c.deref.ensures ∙ c.self.invariant.0 in
-    let event = sym (ap (λ site. order_event (length c.history.result.now)
-    (slice_get site.desk c.self.inside.desk.ordered)) held)
+    let order = slice_get g.J.Job.site.desk c.self.inside.desk.ordered in
+    let count = ap length c.history.ensures.entries ∙ sym (length_history c.self.inside.plant.entries) in
+    let event = sym (ap (λ n. order_event n order) count)
+    ∙ sym (ap (λ site. order_event (length c.history.result.now) (slice_get site.desk c.self.inside.desk.ordered)) held)
     ∙ sym c.next_event.ensures ∙ ap (option_map plain_event) c.in-Some.is in
     let one : c.len.result ≡ length c.deref-2.result.now.modules.items = search rules in
     let other : c.len-2.result ≡ length c.deref-3.result.now.batches.items = search rules in
@@ -75,9 +79,12 @@ returns-clause-ok g c =
     omega (arith, one, other, modules, batches) in
     rw (← c.self.view_is) record {
       room = ap (λ (locked : Locked). is_full (history_of locked)) c.self.view_is ∙ c.requires.room;
+      who = the_desk;
+      who_is = actor_desk g.J.Job.site;
+      unsettled = ap (λ n. waits_to_order history (slice_get g.J.Job.site.desk n)) (sym kept.desk_is)
+          ∙ desk_acts history order (plain_event c.in-Some.event) event;
       event = plain_event c.in-Some.event;
-      owner = desk_owner g.J.Job.site (length c.history.result.now)
-          (slice_get g.J.Job.site.desk c.self.inside.desk.ordered) (plain_event c.in-Some.event) event;
+      owner = desk_owner g.J.Job.site (length history) order (plain_event c.in-Some.event) event;
       enters = c.in_ok-placed.ensures.ok;
       by_is = c.in_ok-placed.ensures.by ∙ ap (λ n. c.self.inside.by.items ++ n ∷ []) actor;
     }

@@ -10,7 +10,7 @@ use Rattle.pol_site.specs.Actors.{owner_of, the_exchanger}
 use Rattle.pol_site.specs.PlainSite.{plain_site}
 use Rattle.pol_actors.specs.Exchanges.{errand_of, event_of}
 use Rattle.pol_actors.specs.Moved.{units_after}
-use Rattle.pol_actors.proofs.Exchanging.{errand_next, exchanger_rests}
+use Rattle.pol_actors.proofs.Exchanging.{errand_next, exchanger_acts, exchanger_rests}
 use Rattle.pol_live.specs.Turns.{Locked, history_of}
 use Rattle.pol_live.proofs.Steps.{exchanger_turned, few_modules, rested}
 use Rattle.pol_live.proofs.cast.Cast.exchanger_turn.Goals as goal
@@ -96,16 +96,21 @@ returns-clause-ok g c =
     let room = ap (λ (locked : Locked). is_full (history_of locked)) c.self.view_is ∙ c.requires.room in
     let held = ap plain_site c.deref.ensures ∙ c.self.invariant.0 in
     let count = ap length c.history.ensures.entries ∙ sym (length_history c.self.inside.plant.entries) in
+    let is = ap (λ site. errand_of site history (length c.history.result.now) c.self.inside.exchanger) (sym held)
+    ∙ sym c.errand.ensures ∙ c.in-Some.is in
     let turn = errand_next g.J.Job.site history (length c.history.result.now) c.self.inside.exchanger c.in-Some.errand
-    kept.sound (few_modules g.J.Job.site kept.sound) kept.legal kept.follows room count kept.exchanger_is
-    (ap (λ site. errand_of site history (length c.history.result.now) c.self.inside.exchanger) (sym held)
-    ∙ sym c.errand.ensures ∙ c.in-Some.is) in
+    kept.sound (few_modules g.J.Job.site kept.sound) kept.legal kept.follows room count kept.exchanger_is is in
     let event = same_Some (plain_event c.in-Some-2.event) turn.event
     (ap (option_map plain_event) (sym c.in-Some-2.is) ∙ c.in_ok-event.ensures
     ∙ ap (λ site. event_of site c.in-Some.errand) (ap plain_site c.deref-2.ensures ∙ c.self.invariant.0)
     ∙ turn.event_is) in
     rw (← c.self.view_is) record {
-      room = ap (λ (locked : Locked). is_full (history_of locked)) c.self.view_is ∙ c.requires.room;
+      room = room;
+      who = the_exchanger;
+      who_is = refl;
+      unsettled = exchanger_acts g.J.Job.site history (length c.history.result.now) c.self.inside.exchanger
+          c.in-Some.errand
+          kept.sound kept.legal kept.follows count kept.exchanger_is is;
       event = plain_event c.in-Some-2.event;
       owner = ap (owner_of g.J.Job.site) event ∙ turn.owner;
       enters = c.in_ok-placed.ensures.ok;

@@ -340,9 +340,38 @@ returns-in-Reports-clause-ok g c =
     let here = subst (λ (site : PlainSite). c.args.place < length site.modules) (sym held) c.requires.place in
     let listed = ap (λ (site : PlainSite). slice_get site.modules c.args.place) (sym held)
     ∙ module_at c.deref.result.now c.args.place c.index-unit.result.now here c.index-unit.ensures in
+    let second = ap plain_site c.deref-2.ensures ∙ c.self.invariant.0 in
+    let entries = c.in_ok-reserve.ensures.entries in
+    let kept = subst (λ (site : PlainSite). IsKept site (plain_history c.reserve.new.self.entries)
+    c.self.inside.by.items
+    c.self.inside.exchanger c.self.inside.units.items c.self.inside.stages.items c.self.inside.desk) (sym second)
+    (subst (λ (es : List Entry). IsKept g.J.Job.site (plain_history es) c.self.inside.by.items c.self.inside.exchanger
+    c.self.inside.units.items c.self.inside.stages.items c.self.inside.desk) (sym entries) c.self.invariant.1) in
+    let room = ap (λ (es : List Entry). is_full (plain_history es)) entries
+    ∙ ap (λ (locked : Locked). is_full (history_of locked)) c.self.view_is ∙ c.requires.room in
+    let listed-2 = ap (λ (site : PlainSite). slice_get site.modules c.args.place) second ∙ listed in
+    let own = c.index_mut.result.now in
+    let stands = own_at c.self.inside.units.items (length g.J.Job.site.modules) c.args.place own
+    c.self.invariant.1.unit_count c.requires.place c.index_mut.ensures.value in
+    let docked_now = ap (λ (es : List Entry). is_docked (docking_of (plain_history es) unit.tag)) entries
+    ∙ sym c.is_docked.ensures ∙ c.if-not-is_docked.false in
+    let counted = ap length c.history.ensures.entries in
+    let made = made_after
+    (next_found unit.tag (made_of (plain_site c.deref-2.result.now) unit (length c.history.result.now) own)
+    c.reserve.new.self.entries) (made_of (plain_site c.deref-2.result.now) unit (length c.history.result.now) own) in
+    let turned = subst (IsTurned (plain_site c.deref-2.result.now) unit.tag (plain_history c.reserve.new.self.entries)
+    made)
+    (sym c.in_ok-turn.ensures.decides ∙ c.in-Reports.is)
+    (module_turn c.deref-2.result.now c.reserve.new.self.entries c.self.inside.by.items c.self.inside.exchanger
+    c.self.inside.units.items c.self.inside.stages.items c.self.inside.desk c.args.place c.index-unit.result.now own
+    (length c.history.result.now) kept room listed-2 stands docked_now counted) in
     let actor : c.args.place + 1 ≡ suc c.args.place = omega arith in
     rw (← c.self.view_is) record {
       room = ap (λ (locked : Locked). is_full (history_of locked)) c.self.view_is ∙ c.requires.room;
+      who = a_module unit;
+      who_is = actor_module g.J.Job.site c.args.place unit listed;
+      unsettled = settled_same g.J.Job.site (plain_site c.deref-2.result.now) (plain_history c.reserve.new.self.entries)
+          (plain_history c.self.inside.plant.entries) unit.tag false second (ap plain_history entries) turned.unsettled;
       event = plain_event c.report_event-event.result;
       owner = ap (owner_of g.J.Job.site) c.report_event-event.ensures
           ∙ report_owner g.J.Job.site c.args.place unit c.in-Reports.report c.self.invariant.1.sound listed;
