@@ -1,5 +1,5 @@
 -- What is told of a site text line by line is what it says.
-use Rattle.std.proofs.Common.{◌≡◌, ℕ, List, [], ◌∷◌, ◌++◌, Bool, true, false, refl, sym, ap, ◌∙◌, append_assoc, length}
+use Rattle.std.proofs.Common.{◌≡◌, ℕ, List, [], ◌∷◌, ◌++◌, Bool, true, false, refl, sym, ap, ◌∙◌, length}
 use Rattle.std.proofs.lemmas.Bool.{lt-ltb}
 use Rattle.std.specs.List.{list_all}
 use Rattle.std.specs.Prelude.{Err, Option, filter, map, if◌then◌else◌}
@@ -122,7 +122,7 @@ taken_too_much output held held' bytes left it =
     record {
       taken = takes.whole ++ takes.part;
       last = it.last;
-      cut = takes.cut ∙ sym (append_assoc takes.whole takes.part (it.last ∷ left));
+      cut = takes.cut;
       full = it.full;
     }
 
