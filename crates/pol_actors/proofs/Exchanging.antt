@@ -1,14 +1,12 @@
--- The exchanger: where it stands after one more entry, what it does next, and when it has nothing to do.
+-- The exchanger: where it stands after one more entry, and what it does next.
 use Rattle.std.proofs.Common.{◌≡◌, ◌<◌, ◌≤◌, ◌+◌, ℕ, suc, zero, Bool, true, false, cond, not, List, [], ◌∷◌, length, map, Option, Some, None, refl, ap, sym, ◌∙◌, subst, arith, length-append}
-use Rattle.std.specs.Prelude.{◌&&◌, ◌||◌, ◌==◌, pred, nat_lt, nat_le, is_some, filter, option_map, option_and_then, slice_get, if◌then◌else◌}
-use Rattle.std.specs.List.{list_any}
+use Rattle.std.specs.Prelude.{◌&&◌, ◌||◌, ◌==◌, pred, nat_lt, is_some, filter, option_map, option_and_then, slice_get, if◌then◌else◌}
 use Rattle.std.specs.Option.{option_or}
 use Rattle.std.specs.Str.{bytes_eq}
-use Rattle.std.proofs.lemmas.Bool.{and_right, eqb-true}
+use Rattle.std.proofs.lemmas.Bool.{eqb-true}
 use Rattle.std.proofs.lemmas.Bool.Decides.{nat_tests}
 use Rattle.std.proofs.lemmas.List.{length-map}
-use Rattle.std.proofs.lemmas.Map.Keys.{any_passes_from_place}
-use Rattle.std.proofs.lemmas.Option.{cond_some, same_Some}
+use Rattle.std.proofs.lemmas.Option.{same_Some}
 use Rattle.mtp_codes.specs.declared.limits.TheConstants.{MOST_MODULES}
 use Rattle.mtp_codes.specs.Faults.{when, first_of}
 use Rattle.mtp_assembly.specs.declared.control.ServiceControl.{ServiceControl}
@@ -37,12 +35,12 @@ use Rattle.pol_site.specs.Actors.{owner_of}
 use Rattle.pol_site.specs.Following.{FollowsSite, IsAllowed, begun_with, ended_with, exchanging, none_open, opened, openings, was_begun, was_held}
 use Rattle.pol_site.specs.Plans.{begun_in}
 use Rattle.pol_site.specs.Rules.{has_module}
-use Rattle.pol_site.specs.Settled.{is_away, is_busy, is_busy_rule, is_settled_exchanger, waits_to_begin}
+use Rattle.pol_site.specs.Settled.{is_busy, is_busy_rule}
 use Rattle.pol_site.specs.Sites.{PlainSite, PlainSiteModule, PlainSiteRecipe, PlainSiteExchange}
 use Rattle.pol_site.specs.Sound.{IsSite}
 use Rattle.pol_stillness.specs.Exchanges.{open_ticket}
 use Rattle.pol_stillness.proofs.Exchanges.{open_away}
-use Rattle.pol_simulated.proofs.Places.{le_true, lt_fails}
+use Rattle.pol_simulated.proofs.Places.{lt_fails}
 use Rattle.pol_actors.specs.Exchanges.{begin_errand, begun_standing, ended_standing, end_event, errand_of, event_of, exchange_errand, exchanger_after, exchanging_in, is_refusal_busy, know_event, plug_event}
 use Rattle.pol_actors.specs.Kept.{IsExchanger, is_begun}
 use Rattle.pol_actors.specs.Stamps.{stamped}
@@ -387,7 +385,7 @@ busy_rest past (Some description) =
     one name (Some control) = busy_when _ (NotAtRest name control.state) refl
 
 -- an exchange waits where its begin is refused so
-busy_by : (answer : Answer) → is_busy answer ≡ is_refusal_busy (refusal answer)
+pub busy_by : (answer : Answer) → is_busy answer ≡ is_refusal_busy (refusal answer)
 busy_by Done = refl
 busy_by (Ticket ticket) = refl
 busy_by (Did entry) = refl
@@ -430,7 +428,7 @@ begin_accepted older tag room there docked_now free =
     go (Some rule) other busy rests e = let clash : true ≡ false = sym busy ∙ e in cc
 
 -- a module of the site that has the tag
-has_at : (modules : List PlainSiteModule) (tag : List ℕ) → has_module modules tag ≡ true →
+pub has_at : (modules : List PlainSiteModule) (tag : List ℕ) → has_module modules tag ≡ true →
     (place : ℕ) × (unit : PlainSiteModule) × (slice_get modules place ≡ Some unit) × (unit.tag ≡ tag)
 has_at [] tag has = cc
 has_at (first ∷ others) tag has = go (bytes_eq first.tag tag) refl has (has_at others tag)
@@ -637,7 +635,7 @@ module _ (site : PlainSite) (older : History) (exchanger : Exchanger) (sound : I
           ∙ skipped (docking_of older tag) gone)
 
 -- each recipe and each module of the site has its opening
-openings_long : (site : PlainSite) → length (openings site) ≡ length site.recipes + length site.modules
+pub openings_long : (site : PlainSite) → length (openings site) ≡ length site.recipes + length site.modules
 openings_long site =
     length-append (map know_event site.recipes) (map plug_event site.modules)
     ∙ (λ i. length-map site.recipes know_event i + length-map site.modules plug_event i)
@@ -710,189 +708,3 @@ errand_next site older count exchanger errand sound most legal follows room coun
         (opens (lt_holds exchanger.opened (length site.recipes + length site.modules) l))
     by false l e =
         by_standing (lt_not exchanger.opened (length site.recipes + length site.modules) l) exchanger.standing refl e
-
--- ---- whether it has something to do
-
--- where no item passes none does
-none_any : {A : Type 0} (test : A → Bool) (xs : List A) → ((x : A) → test x ≡ false) → list_any test xs ≡ false
-none_any test [] none = refl
-none_any test (x ∷ xs) none = rw (none x) (none_any test xs none)
-
--- a module without a ticket isn't away
-not_away : (docking : Docking) → ticket_of docking ≡ None → is_away docking ≡ false
-not_away absent is = refl
-not_away (docked count) is = refl
-not_away (away ticket) is = cc
-
--- where it does nothing it is settled
-pub exchanger_rests : (site : PlainSite) (older : History) (count : ℕ) (exchanger : Exchanger) → IsLegal older →
-    FollowsSite site older → count ≡ length older → IsExchanger site older exchanger →
-    errand_of site older count exchanger ≡ None → is_settled_exchanger site older ≡ true
-exchanger_rests site older count exchanger legal follows counted stands is =
-    by (nat_lt exchanger.opened (length site.recipes + length site.modules)) refl is
-  where
-    settled : length site.recipes + length site.modules ≤ exchanger.opened → exchanger.standing ≡ standing.Closed →
-        waits_to_begin older (slice_get site.exchanges (begun_in older)) ≡ true →
-        is_settled_exchanger site older ≡ true
-    settled all closed waits = rw (told, unaway, waits) refl
-      where
-        told : nat_le (length (openings site)) (opened older) ≡ true
-        told = let is = stands.opened_is in
-            let long = openings_long site in
-            le_true (length (openings site)) (opened older) (omega (arith, long, is, all))
-
-        none : exchanging older ≡ none_open
-        none = sym stands.standing_is ∙ ap exchanging_in closed
-
-        unaway : list_any (λ (unit : PlainSiteModule). is_away (docking_of older unit.tag)) site.modules ≡ false
-        unaway = none_any (λ (unit : PlainSiteModule). is_away (docking_of older unit.tag)) site.modules
-            (λ unit. not_away (docking_of older unit.tag)
-            (open_away site older unit.tag legal follows ∙ ap (open_ticket unit.tag) none))
-
-    begins : (found : Option PlainSiteExchange) → begin_errand older count found ≡ None →
-        waits_to_begin older found ≡ true
-    begins None e = refl
-    begins (Some exchange) e =
-        early (nat_lt count exchange.after) (is_refusal_busy
-        (refusal (answer_of older (exchange_begin 0 exchange.tag))))
-        (ap (λ n. nat_lt n exchange.after) (sym counted)) (busy_by (answer_of older (exchange_begin 0 exchange.tag))) e
-      where
-        early : (waits busy : Bool) → nat_lt (length older) exchange.after ≡ waits →
-            is_busy (answer_of older (exchange_begin 0 exchange.tag)) ≡ busy →
-            (if waits then None else if busy then None else Some (task.Begin exchange.tag)) ≡ None →
-            (nat_lt (length older) exchange.after || is_busy (answer_of older (exchange_begin 0 exchange.tag))) ≡ true
-        early true busy w b e = rw w refl
-        early false true w b e = rw (w, b) refl
-        early false false w b e = cc
-
-    by_standing : length site.recipes + length site.modules ≤ exchanger.opened → (standing : Standing) →
-        exchanger.standing ≡ standing → exchange_errand site older count exchanger.begun standing ≡ None →
-        is_settled_exchanger site older ≡ true
-    by_standing all standing.Closed closed e =
-        settled all closed (begins (slice_get site.exchanges (begun_in older))
-        (ap (λ n. begin_errand older count (slice_get site.exchanges n)) (sym stands.begun_is) ∙ e))
-    by_standing all (standing.Begun tag ticket) begun e = cc
-    by_standing all (standing.Held tag ticket) held e = cc
-
-    by : (left : Bool) → nat_lt exchanger.opened (length site.recipes + length site.modules) ≡ left →
-        (if left then Some (task.Open exchanger.opened)
-        else exchange_errand site older count exchanger.begun exchanger.standing) ≡ None →
-        is_settled_exchanger site older ≡ true
-    by true l e = cc
-    by false l e =
-        by_standing (lt_not exchanger.opened (length site.recipes + length site.modules) l) exchanger.standing refl e
-
--- a module with a ticket is away
-is_gone : (docking : Docking) (ticket : ℕ) → ticket_of docking ≡ Some ticket → is_away docking ≡ true
-is_gone absent ticket is = cc
-is_gone (docked count) ticket is = cc
-is_gone (away other) ticket is = refl
-
--- the exchange that is open is of a module of the site
-open_module : (site : PlainSite) (history : History) (tag : List ℕ) (ticket : ℕ) → IsSite site →
-    FollowsSite site history → open_ticket tag (exchanging history) ≡ Some ticket → has_module site.modules tag ≡ true
-open_module site [] tag ticket sound follows is = cc
-open_module site (entry ∷ older) tag ticket sound follows is =
-    go entry.event entry.answer follows.0 is (open_module site older tag ticket sound follows.1)
-  where
-    Goal : Type 0
-    Goal = has_module site.modules tag ≡ true
-
-    ended : (named : List ℕ) (given : ℕ) (answer : Answer) →
-        open_ticket tag (ended_with named given answer) ≡ Some ticket →
-        open_ticket tag (was_begun named given) ≡ Some ticket
-    ended named given (Refused (HeldBack batch missing)) held = held
-    ended named given _ held = cc
-
-    go : (event : PlainEvent) (answer : Answer) → IsAllowed site older event answer →
-        open_ticket tag (exchanging (record { event = event; answer = answer } ∷ older)) ≡ Some ticket →
-        (open_ticket tag (exchanging older) ≡ Some ticket → Goal) → Goal
-    go (exchange_begin at named) (Ticket given) allowed is again =
-        let own = same_true named tag (cond_some (bytes_eq named tag) given ticket is).0 in
-        ap (has_module site.modules) (sym own ∙ allowed.tag_is)
-        ∙ all_at (λ (exchange : PlainSiteExchange). has_module site.modules exchange.tag) site.exchanges
-        (begun_in older) allowed.exchange sound.known_tags allowed.listed
-    go (exchange_begin at named) answer allowed is again = cc
-    go (exchange_end at named given description) answer allowed is again =
-        again (ap (open_ticket tag) allowed.begun ∙ ended named given answer is)
-    go (exchange_cancel at named given) answer allowed is again = cc
-    go event answer allowed is again = again is
-
--- where it has an errand it isn't settled
-pub exchanger_acts : (site : PlainSite) (older : History) (count : ℕ) (exchanger : Exchanger) (errand : Errand) →
-    IsSite site → IsLegal older → FollowsSite site older → count ≡ length older → IsExchanger site older exchanger →
-    errand_of site older count exchanger ≡ Some errand → is_settled_exchanger site older ≡ false
-exchanger_acts site older count exchanger errand sound legal follows counted stands is =
-    by (nat_lt exchanger.opened (length site.recipes + length site.modules)) refl is
-  where
-    is_out : PlainSiteModule → Bool
-    is_out unit = is_away (docking_of older unit.tag)
-
-    told : Bool
-    told = nat_le (length (openings site)) (opened older)
-
-    none_out : Bool
-    none_out = not (list_any is_out site.modules)
-
-    waits : Bool
-    waits = waits_to_begin older (slice_get site.exchanges (begun_in older))
-
-    opens : exchanger.opened < length site.recipes + length site.modules → is_settled_exchanger site older ≡ false
-    opens less =
-        let opened_is = stands.opened_is in
-        let long = openings_long site in
-        rw (lt_fails (length (openings site)) (opened older) (omega (arith, long, opened_is, less))) refl
-
-    begins : (found : Option PlainSiteExchange) → begin_errand older count found ≡ Some errand →
-        waits_to_begin older found ≡ false
-    begins None e = cc
-    begins (Some exchange) e =
-        early (nat_lt count exchange.after) (is_refusal_busy
-        (refusal (answer_of older (exchange_begin 0 exchange.tag))))
-        (ap (λ n. nat_lt n exchange.after) (sym counted)) (busy_by (answer_of older (exchange_begin 0 exchange.tag))) e
-      where
-        early : (waits busy : Bool) → nat_lt (length older) exchange.after ≡ waits →
-            is_busy (answer_of older (exchange_begin 0 exchange.tag)) ≡ busy →
-            (if waits then None else if busy then None else Some (task.Begin exchange.tag)) ≡ Some errand →
-            (nat_lt (length older) exchange.after || is_busy (answer_of older (exchange_begin 0 exchange.tag))) ≡ false
-        early true busy w b e = cc
-        early false true w b e = cc
-        early false false w b e = rw (w, b) refl
-
-    -- the ticket of an exchange is its own
-    own_ticket : (tag : List ℕ) (ticket : ℕ) → (if bytes_eq tag tag then Some ticket else None) ≡ Some ticket
-    own_ticket tag ticket = ap (λ b. if b then Some ticket else None) (same_refl tag)
-
-    -- while an exchange is open, its module is away
-    is_open : (tag : List ℕ) (ticket : ℕ) → open_ticket tag (exchanging older) ≡ Some ticket →
-        is_settled_exchanger site older ≡ false
-    is_open tag ticket here =
-        let found = has_at site.modules tag (open_module site older tag ticket sound follows here) in
-        let gone = is_gone (docking_of older found.1.tag) ticket
-        (open_away site older found.1.tag legal follows
-        ∙ ap (λ name. open_ticket name (exchanging older)) found.3 ∙ here) in
-        and_right told (none_out && waits)
-        (ap (λ any. not any && waits)
-        (any_passes_from_place is_out site.modules found.0 found.1 found.2 gone))
-
-    by_standing : (standing : Standing) → exchanger.standing ≡ standing →
-        exchange_errand site older count exchanger.begun standing ≡ Some errand →
-        is_settled_exchanger site older ≡ false
-    by_standing standing.Closed closed e =
-        and_right told (none_out && waits)
-        (and_right none_out waits
-        (begins (slice_get site.exchanges (begun_in older))
-        (ap (λ n. begin_errand older count (slice_get site.exchanges n)) (sym stands.begun_is) ∙ e)))
-    by_standing (standing.Begun tag ticket) begun e =
-        is_open tag ticket
-        (ap (open_ticket tag) (sym stands.standing_is ∙ ap exchanging_in begun) ∙ own_ticket tag ticket)
-    by_standing (standing.Held tag ticket) held e =
-        is_open tag ticket
-        (ap (open_ticket tag) (sym stands.standing_is ∙ ap exchanging_in held) ∙ own_ticket tag ticket)
-
-    by : (left : Bool) → nat_lt exchanger.opened (length site.recipes + length site.modules) ≡ left →
-        (if left then Some (task.Open exchanger.opened)
-        else exchange_errand site older count exchanger.begun exchanger.standing) ≡ Some errand →
-        is_settled_exchanger site older ≡ false
-    by true l e = opens (lt_holds exchanger.opened (length site.recipes + length site.modules) l)
-    by false l e = by_standing exchanger.standing refl e

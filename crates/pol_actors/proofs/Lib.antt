@@ -1,6 +1,7 @@
 pub mod Numbers
 pub mod Stages
 pub mod Exchanging
+pub mod ExchangerRests
 pub mod Owners
 pub mod Found
 pub mod Units

@@ -129,11 +129,12 @@ role_same rows history chart role mirror (Some tag) =
     part_same chart role tag (look tag rows) (past tag history) (holder_of history tag) (mirror tag)
 
 -- two rules that say the same of each say the same of a list
-first_same : {X : Type 0} (f g : X → Option Rule) → ((x : X) → f x ≡ g x) → (xs : List X) →
-    first_of (map f xs) ≡ first_of (map g xs)
-first_same f g same [] = refl
-first_same f g same (x ∷ xs) =
-    ap (λ found. option_or found (first_of (map f xs))) (same x) ∙ ap (option_or (g x)) (first_same f g same xs)
+first_same : {X : Type 0} (one other : X → Option Rule) → ((x : X) → one x ≡ other x) → (xs : List X) →
+    first_of (map one xs) ≡ first_of (map other xs)
+first_same one other same [] = refl
+first_same one other same (x ∷ xs) =
+    ap (λ found. option_or found (first_of (map one xs))) (same x)
+    ∙ ap (option_or (other x)) (first_same one other same xs)
 
 -- so do all roles
 unfit_same : (rows : Rows Slot) (history : History) (chart : PlainChart) (binds : List Bind)

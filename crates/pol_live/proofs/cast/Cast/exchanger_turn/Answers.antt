@@ -10,7 +10,8 @@ use Rattle.pol_site.specs.Actors.{owner_of, the_exchanger}
 use Rattle.pol_site.specs.PlainSite.{plain_site}
 use Rattle.pol_actors.specs.Exchanges.{errand_of, event_of}
 use Rattle.pol_actors.specs.Moved.{units_after}
-use Rattle.pol_actors.proofs.Exchanging.{errand_next, exchanger_acts, exchanger_rests}
+use Rattle.pol_actors.proofs.ExchangerRests.{exchanger_acts, exchanger_rests}
+use Rattle.pol_actors.proofs.Exchanging.{errand_next}
 use Rattle.pol_live.specs.Turns.{Locked, history_of}
 use Rattle.pol_live.proofs.Steps.{exchanger_turned, few_modules, rested}
 use Rattle.pol_live.proofs.cast.Cast.exchanger_turn.Goals as goal
