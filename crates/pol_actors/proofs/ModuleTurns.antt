@@ -28,7 +28,7 @@ use Rattle.pol_actors.specs.Turning.{simulated}
 use Rattle.pol_actors.specs.declared.batch.Stage.{Stage}
 use Rattle.pol_actors.specs.declared.desk.Desk.{Desk}
 use Rattle.pol_actors.specs.declared.exchanger.Exchanger.{Exchanger}
-use Rattle.pol_actors.specs.declared.made.Made.{Made}
+use Rattle.pol_actors.specs.declared.simulation.Simulation.{Simulation}
 use Rattle.pol_actors.specs.declared.unit.Unit.{Unit as Module}
 use Rattle.pol_actors.proofs.BatchTurns.{not_first}
 use Rattle.pol_actors.proofs.Commanded.{Commands, commanded_more, counted, untouched}
@@ -59,7 +59,7 @@ units_set site history units place unit own listed is others n other one at' at'
 
 -- it looked, or rested
 pub module_looked : (site : PlainSite) (history : History) (by : List ℕ) (exchanger : Exchanger) (units : List Module)
-    (stages : List Stage) (desk : Desk) (place : ℕ) (unit : PlainSiteModule) (own : Module) (made : Made) →
+    (stages : List Stage) (desk : Desk) (place : ℕ) (unit : PlainSiteModule) (own : Module) (made : Simulation) →
     slice_get site.modules place ≡ Some unit → slice_get units place ≡ Some own →
     is_there (docking_of history unit.tag) ≡ true → KeepsUp site unit.tag made.place history made.sim →
     IsKept site history by exchanger units stages desk →
@@ -85,7 +85,7 @@ module_looked site history by exchanger units stages desk place unit own made li
 
 -- its turn keeps all
 pub module_reported : (site : PlainSite) (older : History) (by : List ℕ) (exchanger : Exchanger) (units : List Module)
-    (stages : List Stage) (desk : Desk) (at place : ℕ) (unit : PlainSiteModule) (own : Module) (made : Made)
+    (stages : List Stage) (desk : Desk) (at place : ℕ) (unit : PlainSiteModule) (own : Module) (made : Simulation)
     (told : SimReport) → is_full older ≡ false → slice_get site.modules place ≡ Some unit →
     slice_get units place ≡ Some own → is_there (docking_of older unit.tag) ≡ true →
     HasReported site unit.tag older made told → IsKept site older by exchanger units stages desk →

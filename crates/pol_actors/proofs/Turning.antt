@@ -32,9 +32,9 @@ use Rattle.pol_stillness.proofs.Rested.{settled_rest}
 use Rattle.pol_stillness.proofs.Resting.{rests_settled}
 use Rattle.pol_actors.specs.Kept.{IsMadeUp, IsUnit}
 use Rattle.pol_actors.specs.Turning.{Origin, decision_by, first_made, free_after, free_decides, made_after, made_decides, made_looked, made_or, made_ticked, origin_by, origin_of}
-use Rattle.pol_actors.specs.declared.made.Decision.{Decision}
-use Rattle.pol_actors.specs.declared.made.Decision.TheVariants.{Reports, Looks, Rests}
-use Rattle.pol_actors.specs.declared.made.Made.{Made}
+use Rattle.pol_actors.specs.declared.simulation.Decision.{Decision}
+use Rattle.pol_actors.specs.declared.simulation.Decision.TheVariants.{Reports, Looks, Rests}
+use Rattle.pol_actors.specs.declared.simulation.Simulation.{Simulation}
 use Rattle.pol_actors.specs.declared.unit.Unit.{Unit as Module}
 use Rattle.pol_actors.proofs.Numbers.{all_at}
 use Rattle.pol_actors.proofs.Found.{IsFoundAs, IsFoundOne}
@@ -88,7 +88,7 @@ origin_sound site place unit brought sound listed = by brought
 pub made_up : (site : PlainSite) (history : History) (place : ℕ) (unit : PlainSiteModule) (own : Module) →
     IsSite site → slice_get site.modules place ≡ Some unit → is_there (docking_of history unit.tag) ≡ true →
     repeats_by same_service (origin_of site unit own.brought).description.services ≡ false →
-    IsUnit site unit history own → (count : ℕ) → count ≡ length history → (made : Option Made) →
+    IsUnit site unit history own → (count : ℕ) → count ≡ length history → (made : Option Simulation) →
     IsMadeUp site unit.tag history made →
     KeepsUp site unit.tag (made_or made (first_made (origin_of site unit own.brought) count)).place history
     (made_or made (first_made (origin_of site unit own.brought) count)).sim
@@ -104,17 +104,17 @@ made_up site history place unit own sound listed there services is count counted
 -- ---- a turn
 
 -- where it rests it is settled, and it keeps up
-pub record HasRested (site : PlainSite) (tag : List ℕ) (history : History) (made : Made) : Type 0 where
+pub record HasRested (site : PlainSite) (tag : List ℕ) (history : History) (made : Simulation) : Type 0 where
   pub settled : is_settled_module site history tag ≡ true
   pub up : KeepsUp site tag made.place history made.sim
 
 -- where it looks it is not settled, and it keeps up
-pub record HasLooked (site : PlainSite) (tag : List ℕ) (history : History) (made : Made) : Type 0 where
+pub record HasLooked (site : PlainSite) (tag : List ℕ) (history : History) (made : Simulation) : Type 0 where
   pub unsettled : is_settled_module site history tag ≡ false
   pub up : KeepsUp site tag made.place history made.sim
 
 -- where it reports it is not settled; what it reports is allowed and done, and with it in the history it keeps up
-pub record HasReported (site : PlainSite) (tag : List ℕ) (history : History) (made : Made)
+pub record HasReported (site : PlainSite) (tag : List ℕ) (history : History) (made : Simulation)
     (told : SimReport) : Type 0 where
   pub unsettled : is_settled_module site history tag ≡ false
   pub allowed : IsAllowed site history (report_event 0 tag told) (answer_of history (report_event 0 tag told))
@@ -122,7 +122,7 @@ pub record HasReported (site : PlainSite) (tag : List ℕ) (history : History) (
   pub up : (at : ℕ) → KeepsUp site tag made.place (paired (report_event at tag told) Done ∷ history) made.sim
 
 -- what holds of a module after its turn, by what it decided
-abbrev pub IsTurned : PlainSite → List ℕ → History → Made → Decision → Type 0
+abbrev pub IsTurned : PlainSite → List ℕ → History → Simulation → Decision → Type 0
 IsTurned site tag history made Rests = HasRested site tag history made
 IsTurned site tag history made Looks = HasLooked site tag history made
 IsTurned site tag history made (Reports told) = HasReported site tag history made told
@@ -139,7 +139,7 @@ module _ (site : PlainSite) (tag : List ℕ) (history : History) (count : ℕ) (
     (orderly : IsOrderly history) (follows : FollowsSite site history) (commanded : IsCommanded history)
     (room : is_full history ≡ false) (is_docked : docking_by (past tag history) ≡ docked count) where
   -- a tick
-  tick_turned : (made : Made) → KeepsUp site tag made.place history made.sim →
+  tick_turned : (made : Simulation) → KeepsUp site tag made.place history made.sim →
       is_settled_module site history tag ≡ false →
       IsTurned site tag history (made_ticked made) (decision_by (tick_report made.sim))
   tick_turned made up unsettled =
@@ -171,7 +171,7 @@ module _ (site : PlainSite) (tag : List ℕ) (history : History) (count : ℕ) (
           }
 
   -- a turn of a simulation that keeps up, with the next command that was found
-  pub made_turned : (made : Made) (order : Option Order) (after : ℕ) → KeepsUp site tag made.place history made.sim →
+  pub made_turned : (made : Simulation) (order : Option Order) (after : ℕ) → KeepsUp site tag made.place history made.sim →
       IsFoundAs tag (length history) order after (next_command tag made.place history) →
       IsTurned site tag history (made_after (order, after) made) (made_decides (order, after) made)
   made_turned made order after up found = by (is_pending made.sim) refl

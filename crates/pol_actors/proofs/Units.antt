@@ -35,7 +35,7 @@ use Rattle.pol_stillness.proofs.KeepingUp.{others_up, sends_up}
 use Rattle.pol_stillness.proofs.Still.{sent_still}
 use Rattle.pol_actors.specs.Kept.{IsBrought, IsMadeUp, IsUnit}
 use Rattle.pol_actors.specs.Turning.{origin_of}
-use Rattle.pol_actors.specs.declared.made.Made.{Made}
+use Rattle.pol_actors.specs.declared.simulation.Simulation.{Simulation}
 use Rattle.pol_actors.specs.declared.unit.Unit.{Unit as Module}
 
 -- ---- entries of others
@@ -52,7 +52,7 @@ unit_untouched site older entry unit own free is =
       made = go own.made is.made;
     }
   where
-    go : (made : Option Made) → IsMadeUp site unit.tag older made → IsMadeUp site unit.tag (entry ∷ older) made
+    go : (made : Option Simulation) → IsMadeUp site unit.tag older made → IsMadeUp site unit.tag (entry ∷ older) made
     go None fresh =
         let same = untouched_kept unit.tag older entry free in
         (ap since_docking same.0 ∙ fresh.0, ap since_docking same.1 ∙ fresh.1)
@@ -78,7 +78,7 @@ unit_sent site older at batch did sent unit own legal orderly follows commanded 
     entry : PlainEntry
     entry = paired (advance at batch) (Did did)
 
-    go : (made : Option Made) → IsMadeUp site unit.tag older made → IsMadeUp site unit.tag (entry ∷ older) made
+    go : (made : Option Simulation) → IsMadeUp site unit.tag older made → IsMadeUp site unit.tag (entry ∷ older) made
     go None fresh =
         let still = sent_still site older entry sent legal orderly follows commanded sends in
         absurd (unseen (past unit.tag older) sent.service still.view fresh.0
@@ -197,7 +197,7 @@ unit_plugged site older at place unit own unlike listed gone is =
 
 -- a report of it, with which its simulation keeps up
 pub unit_reported : (site : PlainSite) (older : History) (at : ℕ) (told : SimReport) (unit : PlainSiteModule)
-    (own : Module) (made : Made) → is_there (docking_of older unit.tag) ≡ true → IsUnit site unit older own →
+    (own : Module) (made : Simulation) → is_there (docking_of older unit.tag) ≡ true → IsUnit site unit older own →
     KeepsUp site unit.tag made.place (paired (report_event at unit.tag told) Done ∷ older) made.sim →
     IsUnit site unit (paired (report_event at unit.tag told) Done ∷ older)
     (record { made = Some made; brought = own.brought })
@@ -225,7 +225,7 @@ unit_reported site older at (Variable name value) unit own made there is up =
     }
 
 -- its simulation changes, and nothing is told
-pub unit_looked : (site : PlainSite) (history : History) (unit : PlainSiteModule) (own : Module) (made : Made) →
+pub unit_looked : (site : PlainSite) (history : History) (unit : PlainSiteModule) (own : Module) (made : Simulation) →
     is_there (docking_of history unit.tag) ≡ true → IsUnit site unit history own →
     KeepsUp site unit.tag made.place history made.sim →
     IsUnit site unit history (record { made = Some made; brought = own.brought })

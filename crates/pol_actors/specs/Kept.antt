@@ -21,7 +21,7 @@ use Rattle.pol_actors.specs.declared.desk.Desk.{Desk}
 use Rattle.pol_actors.specs.declared.exchanger.Exchanger.{Exchanger}
 use Rattle.pol_actors.specs.declared.exchanger.Standing.{Standing}
 use Rattle.pol_actors.specs.declared.exchanger.Standing.TheVariants as standing
-use Rattle.pol_actors.specs.declared.made.Made.{Made}
+use Rattle.pol_actors.specs.declared.simulation.Simulation.{Simulation}
 use Rattle.pol_actors.specs.declared.unit.Unit.{Unit as Module}
 use Rattle.pol_actors.specs.Exchanges.{exchanging_in}
 use Rattle.pol_actors.specs.Turning.{Origin, origin_of}
@@ -73,7 +73,7 @@ pub record IsBrought (site : PlainSite) (tag : List ℕ) (past : History) (origi
   pub planned : plan_by site tag past ≡ Some origin.plan
 
 -- its simulation keeps up with the history; before there is one nothing happened to the module since it was docked
-abbrev pub IsMadeUp : PlainSite → List ℕ → History → Option Made → Type 0
+abbrev pub IsMadeUp : PlainSite → List ℕ → History → Option Simulation → Type 0
 IsMadeUp site tag history None =
     (since_docking (past tag history) ≡ []) × (since_docking (story tag history) ≡ [])
 IsMadeUp site tag history (Some made) = KeepsUp site tag made.place history made.sim

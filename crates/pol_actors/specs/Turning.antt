@@ -10,9 +10,9 @@ use Rattle.pol_events.specs.declared.event.Entry.{Entry}
 use Rattle.pol_core.specs.Commands.{next_sent}
 use Rattle.pol_core.specs.declared.commands.Sent.{Sent}
 use Rattle.pol_site.specs.Sites.{PlainSite, PlainSiteModule, PlainSiteExchange}
-use Rattle.pol_actors.specs.declared.made.Decision.{Decision}
-use Rattle.pol_actors.specs.declared.made.Decision.TheVariants.{Reports, Looks, Rests}
-use Rattle.pol_actors.specs.declared.made.Made.{Made}
+use Rattle.pol_actors.specs.declared.simulation.Decision.{Decision}
+use Rattle.pol_actors.specs.declared.simulation.Decision.TheVariants.{Reports, Looks, Rests}
+use Rattle.pol_actors.specs.declared.simulation.Simulation.{Simulation}
 use Rattle.pol_actors.specs.declared.unit.Unit.{Unit as Module}
 
 -- ---- a turn of a simulated module
@@ -23,33 +23,33 @@ decision_by None = Looks
 decision_by (Some report) = Reports report
 
 -- after a tick
-abbrev pub made_ticked : Made → Made
+abbrev pub made_ticked : Simulation → Simulation
 made_ticked made = record { sim = ticked made.sim; place = made.place }
 
 -- after it looked at the next command, if there is one; it then looks from the place after it on
-abbrev pub made_looked : Option Sent → ℕ → Made → Made
+abbrev pub made_looked : Option Sent → ℕ → Simulation → Simulation
 made_looked None place made = record { sim = made.sim; place = place }
 made_looked (Some sent) place made =
     record { sim = after_command made.sim (took made.sim sent.service sent.command sent.procedure); place = place }
 
 -- what it does, with nothing pending
-abbrev pub free_decides : Option Sent → Made → Decision
+abbrev pub free_decides : Option Sent → Simulation → Decision
 free_decides (Some sent) made = Looks
 free_decides None made = if is_at_rest made.sim then Rests else decision_by (tick_report made.sim)
 
 -- and what it is then
-abbrev pub free_after : Option Sent → ℕ → Made → Made
+abbrev pub free_after : Option Sent → ℕ → Simulation → Simulation
 free_after (Some sent) place made = made_looked (Some sent) place made
 free_after None place made =
     if is_at_rest made.sim then made_looked None place made else made_ticked (made_looked None place made)
 
 -- what it does, where this is the next command, with the place after it
-abbrev pub made_decides : Option Sent × ℕ → Made → Decision
+abbrev pub made_decides : Option Sent × ℕ → Simulation → Decision
 made_decides found made =
     if is_pending made.sim then decision_by (tick_report made.sim) else free_decides found.0 made
 
 -- and what it is then
-abbrev pub made_after : Option Sent × ℕ → Made → Made
+abbrev pub made_after : Option Sent × ℕ → Simulation → Simulation
 made_after found made = if is_pending made.sim then made_ticked made else free_after found.0 found.1 made
 
 -- ---- a module that was docked
@@ -69,22 +69,22 @@ abbrev pub origin_of : PlainSite → PlainSiteModule → Option ℕ → Origin
 origin_of site unit brought = origin_by unit (option_and_then (slice_get site.exchanges) brought)
 
 -- its simulation at first, which looks from a place on
-abbrev pub first_made : Origin → ℕ → Made
+abbrev pub first_made : Origin → ℕ → Simulation
 first_made origin place = record { sim = first_sim origin.description origin.plan; place = place }
 
 -- the simulation that it has, or else a first one
-abbrev pub made_or : Option Made → Made → Made
+abbrev pub made_or : Option Simulation → Simulation → Simulation
 made_or None first = first
 made_or (Some made) first = made
 
 -- the simulation with which it takes its turn, where the history has this length
-abbrev pub made_of : PlainSite → PlainSiteModule → ℕ → Module → Made
+abbrev pub made_of : PlainSite → PlainSiteModule → ℕ → Module → Simulation
 made_of site unit count own = made_or own.made (first_made (origin_of site unit own.brought) count)
 
 -- the module with this simulation
-abbrev pub simulated : Module → Made → Module
+abbrev pub simulated : Module → Simulation → Module
 simulated own made = record { made = Some made; brought = own.brought }
 
 -- the next command to the module that the simulation looks for, by the plant's entries
-abbrev pub next_found : List ℕ → Made → List Entry → Option Sent × ℕ
+abbrev pub next_found : List ℕ → Simulation → List Entry → Option Sent × ℕ
 next_found tag made entries = next_sent tag made.place (map plain_entry (drop made.place entries))

@@ -10,13 +10,13 @@ mod batch;
 mod desk;
 mod exchanger;
 mod items;
-mod made;
 mod moving;
+mod simulation;
 mod unit;
 
 pub use batch::Stage;
 pub use desk::Desk;
 pub use exchanger::{Errand, Exchanger, Standing};
-pub use made::{Decision, Made};
 pub use moving::move_units;
+pub use simulation::{Decision, Simulation};
 pub use unit::Unit;

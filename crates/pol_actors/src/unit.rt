@@ -9,7 +9,7 @@ ghost use Rattle.pol_actors.specs.Turning.{first_made, made_after, made_decides,
 
 use crate::exchanger::Errand;
 use crate::items::item_at;
-use crate::made::{Decision, Made};
+use crate::simulation::{Decision, Simulation};
 use mtp_desc::Description;
 use mtp_sim::{Sim, SimPlan};
 use pol_core::Plant;
@@ -22,7 +22,7 @@ use std::sync::Arc;
 #[derive(Drop)]
 pub struct Unit {
     /// Its simulation, since its first turn after it was docked.
-    pub made: Option<Made>,
+    pub made: Option<Simulation>,
     /// The place of the exchange that brought the module, if one did; else it is the one that was plugged.
     pub brought: Option<usize>,
 }
@@ -33,13 +33,13 @@ fn first_made(
     description: &Arc<Description>,
     plan: &SimPlan,
     length: u32,
-) -> Result<Made, AllocError>
+) -> Result<Simulation, AllocError>
     ensures { IfOk result (λ made. made
         ≡ first_made (record { description = plain_description description.now.value; plan = plain_plan plan.now })
         length) }
 {
     let sim = Sim::new(alloc, description.clone()?, plan)?;
-    Ok(Made { sim, place: length })
+    Ok(Simulation { sim, place: length })
 }
 
 impl Unit {
@@ -61,7 +61,7 @@ impl Unit {
         site: &Site,
         unit: &SiteModule,
         length: u32,
-    ) -> Result<Made, AllocError>
+    ) -> Result<Simulation, AllocError>
         ensures { IfOk result (λ made. made
             ≡ first_made (origin_of (plain_site site.now) (plain_module unit.now) self.now.brought) length) }
     {

@@ -21,20 +21,20 @@ use Rattle.pol_events.specs.Orderly.{is_orderly, is_valid}
 use Rattle.pol_history.specs.Looking.{History, recipes, is_accepted_recipe}
 use Rattle.pol_history.specs.Batches.{charted, chart_named}
 use Rattle.pol_history.specs.Runs.{IsOrderly}
-use Rattle.pol_audit.specs.Starts.{is_active_plan}
+use Rattle.pol_audit.specs.Starts.{is_active_step}
 
 -- the active ones of some steps are the steps of the active ones with their places
 filter_first : (log : List LogEntry) (all : List Placed)
-    → filter (is_active_plan log) (map (λ placed. placed.step) all)
+    → filter (is_active_step log) (map (λ placed. placed.step) all)
     ≡ map (λ placed. placed.step) (filter (is_active log) all)
-unfolding is_active_plan
+unfolding is_active_step
 filter_first log [] = refl
 filter_first log (placed ∷ others) = go (is_running (phase_after log placed.step.name)) (filter_first log others)
   where
-    go : (running : Bool) → filter (is_active_plan log) (map (λ placed. placed.step) others)
+    go : (running : Bool) → filter (is_active_step log) (map (λ placed. placed.step) others)
         ≡ map (λ placed. placed.step) (filter (is_active log) others) →
-        cond running (placed.step ∷ filter (is_active_plan log) (map (λ placed. placed.step) others))
-        (filter (is_active_plan log) (map (λ placed. placed.step) others))
+        cond running (placed.step ∷ filter (is_active_step log) (map (λ placed. placed.step) others))
+        (filter (is_active_step log) (map (λ placed. placed.step) others))
         ≡ map (λ placed. placed.step)
         (cond running (placed ∷ filter (is_active log) others) (filter (is_active log) others))
     go true rest = ap (λ steps. placed.step ∷ steps) rest
@@ -42,7 +42,7 @@ filter_first log (placed ∷ others) = go (is_running (phase_after log placed.st
 
 -- the active ones of a chart's steps
 pub active_is : (chart : PlainChart) (log : List LogEntry)
-    → filter (is_active_plan log) (map (λ placed. placed.step) (steps chart.root 0)) ≡ active chart log
+    → filter (is_active_step log) (map (λ placed. placed.step) (steps chart.root 0)) ≡ active chart log
 active_is chart log = filter_first log (steps chart.root 0)
 
 -- the tag of a role, or the role itself

@@ -4,7 +4,6 @@ use Rattle.std.proofs.lemmas.Bool.{ltb-false}
 use Rattle.std.proofs.lemmas.List.{take_all}
 use Rattle.std.specs.Prelude.{nat_lt}
 use Rattle.pol_events.specs.Events.{PlainEntry}
-use Rattle.pol_record.specs.declared.verdicts.Verdict.{Verdict}
 use Rattle.pol_record.specs.declared.verdicts.Verdict.TheVariants as verdict
 use Rattle.pol_audit.specs.Judging.{judged}
 use Rattle.pol_audit.specs.Truth.{GoodIsTrue, IsTrueHistory, spelled}

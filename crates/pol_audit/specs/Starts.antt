@@ -11,5 +11,5 @@ abbrev pub started : Start → Started
 started start = record { recipe = start.recipe; binds = start.binds.now }
 
 -- the step is active after the log
-unfoldable pub is_active_plan : List LogEntry → PlainStep → Bool
-is_active_plan log step = is_running (phase_after log step.name)
+unfoldable pub is_active_step : List LogEntry → PlainStep → Bool
+is_active_step log step = is_running (phase_after log step.name)

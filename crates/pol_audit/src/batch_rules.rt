@@ -8,7 +8,7 @@ ghost use Rattle.pol_events.specs.Bound.{bound_tag, is_tag, step_on};
 ghost use Rattle.pol_history.specs.Looking.{past_of_batch, recipes};
 ghost use Rattle.pol_history.specs.Batches.{start_by};
 ghost use Rattle.pol_history.specs.Rules.{active_step, active_step_on, already_frozen, batch_closed, batch_known, batches_full, held_back, no_batch, not_frozen, recipe_known, recipes_full, uncovered_by};
-ghost use Rattle.pol_audit.specs.Starts.{is_active_plan};
+ghost use Rattle.pol_audit.specs.Starts.{is_active_step};
 
 use crate::batches::{
     chart_named, holder_of, is_frozen, log_of, outcome_of, recipe_count, start_count, start_of,
@@ -117,7 +117,7 @@ fn is_on(binds: &[Bind], role: Name, tag: Name) -> bool
 // The name of the first active step whose role has the tag.
 fn step_on(binds: &[Bind], tag: Name, steps: &[&Step], log: &[LogEntry]) -> Option<Name>
     ensures { result ≡ option_map (λ step. step.name)
-        (step_on binds.now tag (filter (is_active_plan log.now) (plans_seen steps.now))) }
+        (step_on binds.now tag (filter (is_active_step log.now) (plans_seen steps.now))) }
 {
     for step in steps {
         if !is_active_step(step, log) {

@@ -12,7 +12,7 @@ ghost use Rattle.pol_history.specs.Looking.{past, past_of_batch};
 ghost use Rattle.pol_history.specs.Batches.{is_frozen_by, log_by};
 ghost use Rattle.pol_history.specs.Following.{sights_by, next_of};
 ghost use Rattle.pol_history.specs.Runs.{IsOrderly};
-ghost use Rattle.pol_audit.specs.Starts.{is_active_plan};
+ghost use Rattle.pol_audit.specs.Starts.{is_active_step};
 
 use crate::batches::{Start, chart_named, is_frozen, log_of, start_of};
 use crate::sights::Sights;
@@ -39,9 +39,9 @@ pub fn was_stopped(log: &[LogEntry]) -> bool
 }
 
 /// Whether the step is active after the log.
-#[tactic(auto, unfolding(crate::specs::Starts::is_active_plan))]
+#[tactic(auto, unfolding(crate::specs::Starts::is_active_step))]
 pub fn is_active_step(step: &Step, log: &[LogEntry]) -> bool
-    ensures { result ≡ is_active_plan log.now (plain_step step.now) }
+    ensures { result ≡ is_active_step log.now (plain_step step.now) }
 {
     is_active(log, step.name)
 }
@@ -49,7 +49,7 @@ pub fn is_active_step(step: &Step, log: &[LogEntry]) -> bool
 /// The steps of the chart in chart order.
 pub fn chart_steps(alloc: Global, chart: &Chart) -> Result<Vec<&Step>, AllocError>
     ensures { IfOk result (λ steps. (log : List LogEntry)
-        → filter (is_active_plan log) (plans_seen steps.items) ≡ active (plain_chart chart.now) log) }
+        → filter (is_active_step log) (plans_seen steps.items) ≡ active (plain_chart chart.now) log) }
 {
     steps_in_order(alloc, chart)
 }
@@ -105,7 +105,7 @@ fn stop_seen(seen: &Sights, step: &Step) -> Next
 fn stop_next(seen: &Sights, broken: bool, steps: &[&Step], log: &[LogEntry]) -> Next
     ensures { result ≡ stop_next
         (sights_by seen.now.binds.now (λ tag. past tag (plain_history seen.now.history.now)))
-        broken (filter (is_active_plan log.now) (plans_seen steps.now)) }
+        broken (filter (is_active_step log.now) (plans_seen steps.now)) }
 {
     for step in steps {
         if is_active_step(step, log) {
@@ -141,7 +141,7 @@ fn broken_step(step: &Step, sight: Sight) -> Option<LogEntry>
 fn first_broken(seen: &Sights, steps: &[&Step], log: &[LogEntry]) -> Option<LogEntry>
     ensures { result ≡ first_broken
         (sights_by seen.now.binds.now (λ tag. past tag (plain_history seen.now.history.now)))
-        (filter (is_active_plan log.now) (plans_seen steps.now)) }
+        (filter (is_active_step log.now) (plans_seen steps.now)) }
 {
     for step in steps {
         if !is_active_step(step, log) {

@@ -11,6 +11,7 @@ use Rattle.chart_core.specs.declared.next.Outcome.{Outcome}
 use Rattle.chart_core.specs.declared.next.Outcome.TheVariants.{Completed, Broken, Stopped, Abandoned}
 use Rattle.chart_core.specs.declared.why.Why.{Why}
 use Rattle.chart_core.specs.declared.why.Why.TheVariants as why
+use Rattle.chart_core.specs.declared.limits.TheConstants.{MOST_READS}
 use Rattle.mtp_codes.specs.Codes.{command_codes, command_number, command_of, state_codes, state_number, state_of}
 use Rattle.mtp_codes.specs.Names.{is_name}
 use Rattle.mtp_codes.specs.Numbers.{greatest_u32, greatest_u64, is_between}
@@ -118,15 +119,15 @@ each_again (reading ∷ others) held =
     let both = and_parts (is_reading_in_range reading) (list_all is_reading_in_range others) held in
     rw (reading_again reading both.0, each_again others both.1) refl
 
--- readings are at most four, and their numbers have 64 bits
+-- readings are as many as a node reads at most, and their numbers have 64 bits
 abbrev pub are_held_readings : List Reading → Bool
-are_held_readings told = nat_le (length told) 4 && list_all is_reading_in_range told
+are_held_readings told = nat_le (length told) MOST_READS && list_all is_reading_in_range told
 
 -- readings
 readings_again : (told : List Reading) → are_held_readings told ≡ true
     → few_readings (items_of (map reading_data told)) ≡ told
 readings_again told held =
-    let both = and_parts (nat_le (length told) 4) (list_all is_reading_in_range told) held in
+    let both = and_parts (nat_le (length told) MOST_READS) (list_all is_reading_in_range told) held in
     rw (len_again reading_data told, both.0) (each_again told both.1)
 
 -- ---- rows

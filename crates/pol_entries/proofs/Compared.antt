@@ -14,6 +14,7 @@ use Rattle.serde_json.specs.View.{items_of, items_view}
 use Rattle.serde_json.specs.declared.value.Value.{Value}
 use Rattle.mtp_codes.specs.declared.value.Reading.{Reading}
 use Rattle.mtp_codes.specs.declared.value.Reading.TheVariants.{Whole, Bit}
+use Rattle.chart_core.specs.declared.limits.TheConstants.{MOST_READS}
 use Rattle.pol_events.specs.Fields.{PlainField, PlainFieldValue, plain_field, in_order, number, readings, text}
 use Rattle.pol_events.specs.declared.fields.Field.{Field}
 use Rattle.pol_record.specs.Objects.{fields_data, members_in, reading_data, value_data}
@@ -23,13 +24,13 @@ use Rattle.pol_entries.proofs.Sizes.{length_of_view}
 
 -- ---- goals of loops
 
--- all of at most four values were read
-pub few_read : (values left : List Value) (front : List Reading) → left ≡ [] → length values ≤ 4
+-- all of the values were read, where they are few
+pub few_read : (values left : List Value) (front : List Reading) → left ≡ [] → length values ≤ MOST_READS
     → front ++ each_reading (items_view left) ≡ each_reading (items_view values)
     → front ≡ few_readings (items_view values)
 few_read values left front none few read =
-    let small : nat_le (items_len (items_view values)) 4 ≡ true =
-    rw (length_of_view values) (le-leb (length values) 4 few) in
+    let small : nat_le (items_len (items_view values)) MOST_READS ≡ true =
+    rw (length_of_view values) (le-leb (length values) MOST_READS few) in
     sym (append-nil front) ∙ (rw none at read)
     ∙ sym (ap (λ fits. if fits then each_reading (items_view values) else []) small)
 

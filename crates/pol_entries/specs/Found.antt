@@ -12,6 +12,7 @@ use Rattle.mtp_codes.specs.declared.state.State.{State}
 use Rattle.mtp_codes.specs.declared.state.State.TheVariants.{Idle}
 use Rattle.mtp_codes.specs.declared.value.Reading.{Reading}
 use Rattle.mtp_codes.specs.declared.value.Reading.TheVariants.{Whole, Bit}
+use Rattle.chart_core.specs.declared.limits.TheConstants.{MOST_READS}
 use Rattle.mtp_json.specs.Form.{field}
 use Rattle.mtp_json.specs.Leaf.{count, items, meaning_of, name, text, truth, whole}
 use Rattle.mtp_json.specs.ReadResult.{Finding}
@@ -79,7 +80,7 @@ each_reading (item value rest) = reading_of value ∷ each_reading rest
 
 -- at most four readings
 abbrev pub few_readings : Items → List Reading
-few_readings values = if nat_le (items_len values) 4 then each_reading values else []
+few_readings values = if nat_le (items_len values) MOST_READS then each_reading values else []
 
 -- the readings under a key
 abbrev pub readings_at : List ℕ → Data → List Reading

@@ -5,6 +5,7 @@ use Rattle.mtp_codes.specs.Names.{is_name}
 use Rattle.mtp_codes.specs.Numbers.{greatest_i64, greatest_u32, is_between, is_within, least_i64}
 use Rattle.mtp_codes.specs.declared.value.Reading.{Reading}
 use Rattle.mtp_codes.specs.declared.value.Reading.TheVariants.{Whole, Bit}
+use Rattle.chart_core.specs.declared.limits.TheConstants.{MOST_READS}
 use Rattle.chart_core.specs.declared.entry.LogEntry.{LogEntry}
 use Rattle.chart_core.specs.declared.entry.LogEntry.TheVariants.{Start}
 use Rattle.pol_events.specs.Fields.{PlainField, PlainFieldValue, number, readings, text}
@@ -18,11 +19,11 @@ abbrev pub is_reading_in_range : Reading → Bool
 is_reading_in_range (Whole z) = is_within least_i64 greatest_i64 z
 is_reading_in_range (Bit bit) = true
 
--- a text is a name, a number has 32 bits, and readings are at most four
+-- a text is a name, a number has 32 bits, and readings are as many as a node reads at most
 abbrev pub is_value_in_range : PlainFieldValue → Bool
 is_value_in_range (text told) = is_name told
 is_value_in_range (number told) = is_between 0 greatest_u32 told
-is_value_in_range (readings told) = nat_le (length told) 4 && list_all is_reading_in_range told
+is_value_in_range (readings told) = nat_le (length told) MOST_READS && list_all is_reading_in_range told
 
 -- each field is so
 abbrev pub are_in_range : List PlainField → Bool

@@ -6,7 +6,7 @@ ghost use Rattle.mtp_json.specs.Leaf.{whole};
 ghost use Rattle.serde_json.specs.View.{items_view, view};
 ghost use Rattle.pol_entries.specs.Found.{command_at, few_readings, forbid_at, found_or, half_at, name_at, number_at, reading_of, readings_at, state_at, text_at};
 
-use chart_core::Readings;
+use chart_core::{MOST_READS, Readings};
 use mtp_codes::{Command, Forbid, Name, Reading, State};
 use mtp_json::{get_list, get_name, get_text, get_u64, whole_of};
 use serde_json::Value;
@@ -42,7 +42,7 @@ pub fn number_at(value: &Value, key: &str) -> u32
     ensures { result ≡ number_at key.now (view value.now) }
 {
     match get_u64(value, key) {
-        Ok(number) if number <= 4294967295 => number as u32,
+        Ok(number) if number <= u64::from(u32::MAX) => number as u32,
         _ => 0,
     }
 }
@@ -52,7 +52,7 @@ pub fn half_at(value: &Value, key: &str) -> u16
     ensures { result ≡ half_at key.now (view value.now) }
 {
     let number = number_at(value, key);
-    if number <= 65535 { number as u16 } else { 0 }
+    if number <= u32::from(u16::MAX) { number as u16 } else { 0 }
 }
 
 /// The state whose code stands under a key.
@@ -104,7 +104,7 @@ fn few_readings(values: &[Value]) -> Readings
     ensures { result ≡ few_readings (items_view values.now) }
 {
     let mut readings = Readings::new();
-    if values.len() > 4 {
+    if values.len() > MOST_READS {
         return readings;
     }
     for value in values {
@@ -113,7 +113,7 @@ fn few_readings(values: &[Value]) -> Readings
     readings
 }
 
-/// The readings under a key, if they are at most four.
+/// The readings under a key, if a node reads as many.
 pub fn readings_at(value: &Value, key: &str) -> Readings
     ensures { result ≡ readings_at key.now (view value.now) }
 {

@@ -7,8 +7,8 @@ use Rattle.pol_core.specs.declared.commands.Sent.{Sent}
 use Rattle.pol_events.specs.declared.event.Entry.{Entry}
 use Rattle.pol_site.specs.Sites.{PlainSite, PlainSiteModule}
 use Rattle.pol_actors.specs.Turning.{decision_by, free_after, free_decides, made_after, made_decides, made_looked, made_of, made_ticked, next_found}
-use Rattle.pol_actors.specs.declared.made.Decision.TheVariants.{Looks, Rests}
-use Rattle.pol_actors.specs.declared.made.Made.{Made}
+use Rattle.pol_actors.specs.declared.simulation.Decision.TheVariants.{Looks, Rests}
+use Rattle.pol_actors.specs.declared.simulation.Simulation.{Simulation}
 use Rattle.pol_actors.specs.declared.unit.Unit.{Unit as Module}
 use Rattle.pol_live.specs.Turns.{IsLook, took_command, ticked_in_vain}
 
@@ -18,7 +18,7 @@ in_vain None is = refl
 in_vain (Some report) is = cc
 
 -- it took a command, or its tick gave nothing
-is_look : (found : Option Sent × ℕ) (made : Made) → made_decides found made ≡ Looks →
+is_look : (found : Option Sent × ℕ) (made : Simulation) → made_decides found made ≡ Looks →
     IsLook found made (made_after found made)
 is_look found made is = go (is_pending made.sim) refl is
   where
@@ -42,7 +42,7 @@ is_look found made is = go (is_pending made.sim) refl is
 
 -- the same by the site, the entries and their number
 pub look_of : (site held : PlainSite) (unit : PlainSiteModule) (entries same : List Entry) (count : ℕ) (own : Module)
-    (turned : Made) → held ≡ site → same ≡ entries → count ≡ length same →
+    (turned : Simulation) → held ≡ site → same ≡ entries → count ≡ length same →
     turned ≡ made_after (next_found unit.tag (made_of held unit count own) same) (made_of held unit count own) →
     made_decides (next_found unit.tag (made_of held unit count own) same) (made_of held unit count own) ≡ Looks →
     IsLook (next_found unit.tag (made_of site unit (length entries) own) entries)
@@ -54,7 +54,7 @@ look_of site held unit entries same count own turned here alike counted turned_i
     (made_of held unit (length each) own) turned) alike
     (subst (λ (n : ℕ). IsLook (next_found unit.tag (made_of held unit n own) same) (made_of held unit n own) turned)
     counted
-    (subst (λ (made : Made). IsLook (next_found unit.tag (made_of held unit count own) same)
+    (subst (λ (made : Simulation). IsLook (next_found unit.tag (made_of held unit count own) same)
     (made_of held unit count own) made)
     (sym turned_is)
     (is_look (next_found unit.tag (made_of held unit count own) same) (made_of held unit count own) is))))

@@ -41,7 +41,7 @@ use Rattle.pol_actors.specs.declared.batch.Stage.{Stage}
 use Rattle.pol_actors.specs.declared.desk.Desk.{Desk}
 use Rattle.pol_actors.specs.declared.exchanger.Errand.{Errand}
 use Rattle.pol_actors.specs.declared.exchanger.Exchanger.{Exchanger}
-use Rattle.pol_actors.specs.declared.made.Made.{Made}
+use Rattle.pol_actors.specs.declared.simulation.Simulation.{Simulation}
 use Rattle.pol_actors.specs.declared.unit.Unit.{Unit as Module}
 use Rattle.pol_actors.proofs.BatchTurns.{batch_kept, desk_kept}
 use Rattle.pol_actors.proofs.Exchanging.{IsErrand}
@@ -256,7 +256,7 @@ module _ (site : Site) (entries : List Entry) (by : List ℕ) (ex : Exchanger) (
     (listed : slice_get (plain_site site).modules place ≡ Some (plain_module unit))
     (stands : slice_get units place ≡ Some own)
     (is_here : is_docked (docking_of (plain_history entries) unit.tag) ≡ true) (counted : count ≡ length entries) where
-  made : Made
+  made : Simulation
   made = made_of (plain_site site) (plain_module unit) count own
 
   pub module_there : is_there (docking_of (plain_history entries) unit.tag) ≡ true
@@ -303,7 +303,7 @@ report_owner site place unit (Variable name value) sound listed =
 
 -- the parts of a plant whose module looked, rested or reported
 pub module_kept : (site held : PlainSite) (one other : History) (by by' : List ℕ) (ex : Exchanger) (units : List Module)
-    (stages : List Stage) (orders : Desk) (place : ℕ) (own turned : Module) (made : Made) → held ≡ site → one ≡ other →
+    (stages : List Stage) (orders : Desk) (place : ℕ) (own turned : Module) (made : Simulation) → held ≡ site → one ≡ other →
     by ≡ by' → turned ≡ simulated own made →
     IsKept held one by ex (slice_set units place (simulated own made)) stages orders →
     IsKept site other by' ex (slice_set units place turned) stages orders

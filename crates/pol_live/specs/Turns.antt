@@ -13,12 +13,12 @@ use Rattle.pol_site.specs.Shown.{board_word}
 use Rattle.pol_site.specs.Sites.{PlainSite, PlainSiteModule}
 use Rattle.pol_actors.specs.Stamps.{stamped}
 use Rattle.pol_actors.specs.Turning.{made_looked, made_of, next_found, simulated}
-use Rattle.pol_actors.specs.declared.made.Made.{Made as Simulation}
+use Rattle.pol_actors.specs.declared.simulation.Simulation.{Simulation}
 use Rattle.pol_actors.specs.declared.unit.Unit.{Unit as Module}
 use Rattle.pol_core.specs.declared.commands.Sent.{Sent}
 use Rattle.mtp_sim.specs.Ticks.{is_pending, tick_report, ticked}
-use Rattle.pol_live.specs.declared.role.Role.{Role}
-use Rattle.pol_live.specs.declared.role.Role.TheVariants as role
+use Rattle.pol_live.specs.declared.actor_kind.ActorKind.{ActorKind}
+use Rattle.pol_live.specs.declared.actor_kind.ActorKind.TheVariants as kind
 use Rattle.pol_live.specs.declared.turned.Placed.{Placed}
 use Rattle.pol_live.specs.declared.turned.Turned.{Turned}
 use Rattle.pol_live.specs.declared.turned.Turned.TheVariants.{Made, Looked, Rested, Full}
@@ -125,9 +125,9 @@ Turns site before after actor Rested = HasRested site before after actor
 Turns site before after actor Full = WasFull before after
 
 -- who the actor with this number is
-abbrev pub IsRole : PlainSite → ℕ → Role → Type 0
-IsRole site actor role.Exchanger = actor ≡ 0
-IsRole site actor (role.Module place) = (actor ≡ suc place) × (place < length site.modules)
-IsRole site actor (role.Batch place) =
+abbrev pub IsActorKind : PlainSite → ℕ → ActorKind → Type 0
+IsActorKind site actor kind.Exchanger = actor ≡ 0
+IsActorKind site actor (kind.Module place) = (actor ≡ suc place) × (place < length site.modules)
+IsActorKind site actor (kind.Batch place) =
     (actor ≡ suc (length site.modules + place)) × (place < length site.batches)
-IsRole site actor role.Desk = actor ≡ suc (length site.modules + (length site.batches + 0))
+IsActorKind site actor kind.Desk = actor ≡ suc (length site.modules + (length site.batches + 0))

@@ -11,13 +11,42 @@ use pol_io::Clock;
 use std::sync::Wait;
 use std::sync::atomic::{AtomicU64, Ordering};
 
-/// What all threads of a run share. `refused` is one more than the number of the actor for which no thread could be
-/// made, and else 0.
+// No actor has this number.
+const NOBODY: u64 = u64::MAX;
+
+/// What all threads of a run share. `refused` is the number of the actor for which no thread could be made, and else
+/// that of nobody.
 #[derive(Drop)]
 pub(crate) struct Crew<'a, J: Job, C: Clock + Send, G: Gate> {
     pub(crate) live: &'a LivePlant<J, C>,
     pub(crate) gate: &'a G,
-    pub(crate) refused: AtomicU64,
+    refused: AtomicU64,
+}
+
+impl<'a, J: Job, C: Clock + Send, G: Gate> Crew<'a, J, C, G> {
+    /// A crew in which each actor may have its thread.
+    pub(crate) fn new(live: &'a LivePlant<J, C>, gate: &'a G) -> Crew<'a, J, C, G> {
+        Crew {
+            live,
+            gate,
+            refused: AtomicU64::new(NOBODY),
+        }
+    }
+
+    /// Whether it is this actor for which no thread could be made.
+    fn has_refused(&self, actor: u32) -> bool {
+        self.refused.load(Ordering::SeqCst) == u64::from(actor)
+    }
+
+    /// Notes that no thread could be made for this actor.
+    pub(crate) fn refuse(&self, actor: u32) {
+        self.refused.store(u64::from(actor), Ordering::SeqCst);
+    }
+
+    /// Notes that its seat was handed back.
+    pub(crate) fn refuse_nobody(&self) {
+        self.refused.store(NOBODY, Ordering::SeqCst);
+    }
 }
 
 // One turn. True where the run is over.
@@ -48,7 +77,7 @@ pub(crate) fn act<J: Job, R: Wait, C: Clock + Send, G: Gate>(
 {
     let mut seat = seat;
     let actor = seat.actor();
-    if crew.refused.load(Ordering::SeqCst) == u64::from(actor) + 1 {
+    if crew.has_refused(actor) {
         return seat;
     }
     let mut turn = 0u64;

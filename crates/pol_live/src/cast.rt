@@ -9,8 +9,8 @@ ghost use Rattle.pol_history.specs.Answers.{is_full};
 ghost use Rattle.pol_actors.specs.Kept.{AreFirstStages, AreFirstUnits, AreOwners};
 ghost use Rattle.pol_live.specs.Turns.{Turns, history_of};
 
+use crate::actor_kind::{ActorKind, actor_kind, actors_of};
 use crate::job::Job;
-use crate::role::{Role, actors_of, role_of};
 use crate::turned::Turned;
 use mtp_codes::LONGEST_HISTORY;
 use pol_actors::{Desk, Exchanger, Stage, Unit};
@@ -34,8 +34,8 @@ pub(crate) struct Cast<J: Job, C: Clock> {
     pub(crate) stages: Vec<Stage>,
     pub(crate) desk: Desk,
     pub(crate) by: Vec<u32>,
-    // For each actor one more than the length of the history at which it rested last; 0 where it never did.
-    pub(crate) noted: Vec<usize>,
+    // For each actor the length of the history at which it rested last.
+    pub(crate) noted: Vec<Option<usize>>,
     pub(crate) of: PhantomData<J>,
 }
 
@@ -103,7 +103,7 @@ impl<J: Job, C: Clock> Cast<J, C> {
     {
         let units = first_units(alloc, site.modules.len())?;
         let stages = first_stages(alloc, site.batches.len())?;
-        let noted = vec![in alloc; 0usize; actors_of(&site) as usize]?;
+        let noted = vec![in alloc; None; actors_of(&site) as usize]?;
         Ok(Cast {
             alloc,
             site,
@@ -142,17 +142,16 @@ impl<J: Job, C: Clock> Cast<J, C> {
 
     /// Whether the actor rested at the history's length.
     pub(crate) fn rests(&self, actor: u32) -> bool {
-        let now = self.plant.history().len().saturating_add(1);
         match self.noted.get(actor as usize) {
-            Some(noted) => *noted == now,
+            Some(noted) => *noted == Some(self.plant.history().len()),
             None => true,
         }
     }
 
     /// Whether no actor has a turn to make, as far as the notes tell.
     pub(crate) fn is_over(&self) -> bool {
-        let now = self.plant.history().len().saturating_add(1);
-        now > LONGEST_HISTORY || self.noted.iter().all(|noted| *noted == now)
+        let length = self.plant.history().len();
+        length >= LONGEST_HISTORY || self.noted.iter().all(|noted| *noted == Some(length))
     }
 
     // Whether the history is full.
@@ -166,9 +165,9 @@ impl<J: Job, C: Clock> Cast<J, C> {
     fn note(&mut self, actor: u32)
         ensures { self.new ≡ self.old }
     {
-        let now = self.plant.history().len().saturating_add(1);
+        let length = self.plant.history().len();
         if let Some(noted) = self.noted.get_mut(actor as usize) {
-            *noted = now;
+            *noted = Some(length);
         }
     }
 
@@ -179,11 +178,11 @@ impl<J: Job, C: Clock> Cast<J, C> {
         ensures ok { IfOk result (λ turned. Turns J.site self.old self.new actor turned) }
         ensures err { OnErr result ((self.new.entries ≡ self.old.entries) × (self.new.by ≡ self.old.by)) }
     {
-        match role_of(&self.site, actor) {
-            Role::Exchanger => self.exchanger_turn(),
-            Role::Module { place } => self.module_turn(place),
-            Role::Batch { place } => self.batch_turn(place),
-            Role::Desk => self.desk_turn(),
+        match actor_kind(&self.site, actor) {
+            ActorKind::Exchanger => self.exchanger_turn(),
+            ActorKind::Module { place } => self.module_turn(place),
+            ActorKind::Batch { place } => self.batch_turn(place),
+            ActorKind::Desk => self.desk_turn(),
         }
     }
 

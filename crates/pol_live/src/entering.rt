@@ -18,21 +18,21 @@ fn stamped(mut event: Event, now: u64) -> Event
     ensures { plain_event result ≡ stamped now (plain_event event) }
 {
     match &mut event {
-        Event::Plug { at, .. } => *at = now,
-        Event::Unplug { at, .. } => *at = now,
-        Event::Report { at, .. } => *at = now,
-        Event::Variable { at, .. } => *at = now,
-        Event::Recipe { at, .. } => *at = now,
-        Event::Start { at, .. } => *at = now,
-        Event::Advance { at, .. } => *at = now,
-        Event::Freeze { at, .. } => *at = now,
-        Event::Thaw { at, .. } => *at = now,
-        Event::StopBatch { at, .. } => *at = now,
-        Event::Abandon { at, .. } => *at = now,
-        Event::Desk { at, .. } => *at = now,
-        Event::ExchangeBegin { at, .. } => *at = now,
-        Event::ExchangeEnd { at, .. } => *at = now,
-        Event::ExchangeCancel { at, .. } => *at = now,
+        Event::Plug { at, .. }
+        | Event::Unplug { at, .. }
+        | Event::Report { at, .. }
+        | Event::Variable { at, .. }
+        | Event::Recipe { at, .. }
+        | Event::Start { at, .. }
+        | Event::Advance { at, .. }
+        | Event::Freeze { at, .. }
+        | Event::Thaw { at, .. }
+        | Event::StopBatch { at, .. }
+        | Event::Abandon { at, .. }
+        | Event::Desk { at, .. }
+        | Event::ExchangeBegin { at, .. }
+        | Event::ExchangeEnd { at, .. }
+        | Event::ExchangeCancel { at, .. } => *at = now,
     }
     event
 }
@@ -41,7 +41,8 @@ fn stamped(mut event: Event, now: u64) -> Event
 ///
 /// # Errors
 ///
-/// Where there is no memory. Then neither the history nor the list of actors changed.
+/// Where there is no memory. Then neither the history nor the list of actors changed, and of an event that takes no
+/// memory the clock wasn't asked.
 pub(crate) fn enter<C: Clock>(
     plant: &mut Plant,
     by: &mut Vec<u32>,
@@ -55,7 +56,10 @@ pub(crate) fn enter<C: Clock>(
         (plant_history plant.old) (plant_history plant.new) (plain_event event) placed) }
     ensures by { IfOk result (λ placed. by.new.items ≡ by.old.items ++ actor ∷ []) }
     ensures err { OnErr result ((plant.new.entries ≡ plant.old.entries) × (by.new.items ≡ by.old.items)) }
+    ensures unasked { OnErr result
+        (IsTrue (is_spared (plain_event event)) → C.calls clock.new ≡ C.calls clock.old) }
 {
+    plant.reserve(1)?;
     by.reserve(1)?;
     let place = plant.history().len() as u32;
     let now = clock.now();

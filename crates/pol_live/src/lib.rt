@@ -7,6 +7,7 @@
 #![tactic(auto)]
 
 mod acting;
+mod actor_kind;
 mod cast;
 mod closing;
 mod entering;
@@ -14,19 +15,18 @@ mod gate;
 mod job;
 mod live;
 mod locked;
-mod role;
 mod rounds;
 mod run;
 mod seat;
 mod turned;
 mod turns;
 
+pub use actor_kind::actors_of;
 pub use closing::Strayed;
 pub use gate::{Gate, OpenGate};
 pub use job::Job;
 pub use live::LivePlant;
 pub use locked::LockedPlant;
-pub use role::actors_of;
 pub use run::{Ran, SeatOf, run_in_turn, run_site};
 pub use seat::ActorSeat;
 pub use turned::{Placed, Turned};

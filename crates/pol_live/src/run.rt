@@ -12,10 +12,10 @@ ghost use Rattle.pol_actors.specs.Kept.{AreOwners};
 ghost use Rattle.pol_live.specs.Seats.{AreSeated};
 
 use crate::acting::{Crew, act, rotate};
+use crate::actor_kind::actors_of;
 use crate::gate::Gate;
 use crate::job::Job;
 use crate::live::LivePlant;
-use crate::role::actors_of;
 use crate::rounds::settle;
 use crate::seat::ActorSeat;
 use pol_events::Entry;
@@ -24,7 +24,6 @@ use pol_shown::Watcher;
 use pol_site::Site;
 use std::alloc::{AllocError, Global};
 use std::marker::Brand;
-use std::sync::atomic::{AtomicU64, Ordering};
 use std::sync::ledger::Blank;
 use std::sync::{Arc, Wait};
 use std::thread;
@@ -87,11 +86,7 @@ fn run_by_threads<J: Job + Send + Sync, R: Threads + Wait + Sync, C: Clock + Sen
     let site = Arc::new(alloc, site)?;
     let (live, seats) = LivePlant::<J, C>::new(alloc, site, clock, blank)?;
     let watchers = live.watchers(rt, alloc, watchers)?;
-    let crew = Crew {
-        live: &live,
-        gate,
-        refused: AtomicU64::new(0),
-    };
+    let crew = Crew::new(&live, gate);
     let driven = drive_watched(rt, alloc, &crew, seats, watchers);
     drop(crew);
     driven?;
@@ -142,11 +137,7 @@ fn run_by_turns<J: Job, R: Wait, C: Clock + Send, G: Gate>(
 {
     let site = Arc::new(alloc, site)?;
     let (live, mut seats) = LivePlant::<J, C>::new(alloc, site, clock, blank)?;
-    let crew = Crew {
-        live: &live,
-        gate,
-        refused: AtomicU64::new(0),
-    };
+    let crew = Crew::new(&live, gate);
     rotate(rt, &crew, &mut seats);
     drop(crew);
     finish(rt, live)
@@ -205,17 +196,17 @@ fn drive<J: Job + Send + Sync, R: Threads + Wait + Sync, C: Clock + Send, G: Gat
             here.reserve(seats.len())?;
             for seat in seats {
                 if !here.is_empty() {
-                    here.push(seat)?;
+                    here.push_reserved(seat);
                     continue;
                 }
                 let actor = seat.actor();
                 match scope.spawn_with(SeatOf(actor), move || act(rt, crew, seat)) {
-                    Ok(child) => children.push(child)?,
+                    Ok(child) => children.push_reserved(child),
                     Err(refused) => {
-                        crew.refused.store(u64::from(actor) + 1, Ordering::SeqCst);
+                        crew.refuse(actor);
                         let seat = (refused.value)();
-                        crew.refused.store(0, Ordering::SeqCst);
-                        here.push(seat)?;
+                        crew.refuse_nobody();
+                        here.push_reserved(seat);
                     },
                 }
             }

@@ -5,12 +5,12 @@ use Rattle.chart_cursor.specs.NextEntry.{first_broken}
 use Rattle.pol_events.specs.Events.{plain_history}
 use Rattle.pol_history.specs.Looking.{past}
 use Rattle.pol_history.specs.Following.{sights_by}
-use Rattle.pol_audit.specs.Starts.{is_active_plan}
+use Rattle.pol_audit.specs.Starts.{is_active_step}
 use Rattle.pol_audit.proofs.following.first_broken.Given as goal
 
 abbrev pub invariant-loop-step : goal.invariant-loop-step
 invariant-loop-step l =
     first_broken (sights_by l.seen.binds.now (λ tag. past tag (plain_history l.seen.history.now)))
-    (filter (is_active_plan l.log) (plans_seen (drop l.step-index l.steps)))
+    (filter (is_active_step l.log) (plans_seen (drop l.step-index l.steps)))
     ≡ first_broken (sights_by l.seen.binds.now (λ tag. past tag (plain_history l.seen.history.now)))
-    (filter (is_active_plan l.log) (plans_seen l.steps))
+    (filter (is_active_step l.log) (plans_seen l.steps))

@@ -22,7 +22,7 @@ pub enum Decision {
 
 /// A simulated module that is docked, and the place of the history from which on it looks for commands.
 #[derive(Drop)]
-pub struct Made {
+pub struct Simulation {
     /// The simulation.
     pub sim: Sim,
     /// The place from which on it looks for commands.
@@ -39,7 +39,7 @@ fn decision_by(report: Option<SimReport>) -> Decision
     }
 }
 
-impl Made {
+impl Simulation {
     // A tick.
     fn tick(&mut self) -> Decision
         ensures decides { result ≡ decision_by (tick_report self.old.sim) }

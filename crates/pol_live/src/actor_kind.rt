@@ -2,13 +2,13 @@
 ghost use Rattle.std.specs.Prelude.{◌≡◌, ◌<◌, length};
 ghost use Rattle.pol_site.specs.Actors.{actors};
 ghost use Rattle.pol_site.specs.PlainSite.{plain_site};
-ghost use Rattle.pol_live.specs.Turns.{IsRole};
+ghost use Rattle.pol_live.specs.Turns.{IsActorKind};
 
 use pol_site::Site;
 
 /// Who an actor is: the exchanger, a module or a batch by its place, or the desk.
 #[derive(Clone, Copy, Debug, PartialEq, Eq)]
-pub(crate) enum Role {
+pub(crate) enum ActorKind {
     Exchanger,
     Module { place: usize },
     Batch { place: usize },
@@ -23,22 +23,22 @@ pub fn actors_of(site: &Site) -> u32
 }
 
 /// Who the actor with this number is.
-pub(crate) fn role_of(site: &Site, actor: u32) -> Role
+pub(crate) fn actor_kind(site: &Site, actor: u32) -> ActorKind
     requires { actor < length (actors (plain_site site.now)) }
-    ensures { IsRole (plain_site site.now) actor result }
+    ensures { IsActorKind (plain_site site.now) actor result }
 {
     let modules = site.modules.len();
     let batches = site.batches.len();
     let actor = actor as usize;
     if actor == 0 {
-        Role::Exchanger
+        ActorKind::Exchanger
     } else if actor <= modules {
-        Role::Module { place: actor - 1 }
+        ActorKind::Module { place: actor - 1 }
     } else if actor <= modules + batches {
-        Role::Batch {
+        ActorKind::Batch {
             place: actor - 1 - modules,
         }
     } else {
-        Role::Desk
+        ActorKind::Desk
     }
 }
