@@ -171,7 +171,8 @@ module _ (site : PlainSite) (tag : List ℕ) (history : History) (count : ℕ) (
           }
 
   -- a turn of a simulation that keeps up, with the next command that was found
-  pub made_turned : (made : Simulation) (order : Option Order) (after : ℕ) → KeepsUp site tag made.place history made.sim →
+  pub made_turned : (made : Simulation) (order : Option Order) (after : ℕ) →
+      KeepsUp site tag made.place history made.sim →
       IsFoundAs tag (length history) order after (next_command tag made.place history) →
       IsTurned site tag history (made_after (order, after) made) (made_decides (order, after) made)
   made_turned made order after up found = by (is_pending made.sim) refl

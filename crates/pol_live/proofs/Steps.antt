@@ -303,8 +303,8 @@ report_owner site place unit (Variable name value) sound listed =
 
 -- the parts of a plant whose module looked, rested or reported
 pub module_kept : (site held : PlainSite) (one other : History) (by by' : List ℕ) (ex : Exchanger) (units : List Module)
-    (stages : List Stage) (orders : Desk) (place : ℕ) (own turned : Module) (made : Simulation) → held ≡ site → one ≡ other →
-    by ≡ by' → turned ≡ simulated own made →
+    (stages : List Stage) (orders : Desk) (place : ℕ) (own turned : Module) (made : Simulation) → held ≡ site →
+    one ≡ other → by ≡ by' → turned ≡ simulated own made →
     IsKept held one by ex (slice_set units place (simulated own made)) stages orders →
     IsKept site other by' ex (slice_set units place turned) stages orders
 module_kept site held one other by by' ex units stages orders place own turned made here same by_is after kept =
