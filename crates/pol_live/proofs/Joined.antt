@@ -1,7 +1,8 @@
 -- The seats that come back are those that were promised.
-use Rattle.std.proofs.Common.{◌≡◌, ◌<◌, ℕ, List, [], ◌∷◌, ◌++◌, suc, length, get_or, refl, sym, ap, ◌∙◌, arith, append-nil}
+use Rattle.std.proofs.Common.{◌≡◌, ◌<◌, ℕ, List, [], ◌∷◌, ◌++◌, suc, length, get_or, refl, sym, ap, ◌∙◌, arith, append-nil, length-append}
 use Rattle.std.specs.List.{range_with_len}
-use Rattle.std.proofs.lemmas.List.{map-append}
+use Rattle.std.proofs.lemmas.List.{length-map, map-append}
+use Rattle.std.proofs.lemmas.List.FromFn.{length-range_with_len}
 use Rattle.std.specs.declared.thread.PromisedHandle.{PromisedHandle}
 use Rattle.pol_live.specs.declared.run.SeatOf.{SeatOf}
 use Rattle.pol_live.specs.Seats.{AreSeated, Seated, actors_of}
@@ -39,3 +40,21 @@ all_home count handles home here turned rest all none back same =
     (same ∙ sym (append-nil (actors_of here))
     ∙ ap (λ (actors : List ℕ). actors_of here ++ actors) (sym (none_left rest none)))
     ∙ all
+
+-- where a seat is left, the threads and the seats that stayed here are fewer than all seats
+pub room_left : (count : ℕ) (handles : List (PromisedHandle Seated SeatOf)) (here rest : List Seated) →
+    promised handles ++ (actors_of here ++ actors_of rest) ≡ range_with_len 0 count → 0 < length rest →
+    length handles + length here < count
+room_left count handles here rest all some =
+    let long : length (promised handles ++ (actors_of here ++ actors_of rest)) ≡ count =
+    ap length all ∙ length-range_with_len 0 count in
+    let parts : length (promised handles ++ (actors_of here ++ actors_of rest))
+    ≡ length handles + (length here + length rest) =
+    rw (
+      length-append (promised handles) (actors_of here ++ actors_of rest),
+      length-append (actors_of here) (actors_of rest),
+      length-map (λ (handle : PromisedHandle Seated SeatOf). handle.promise.0) handles,
+      length-map (λ (seat : Seated). seat.actor) here,
+      length-map (λ (seat : Seated). seat.actor) rest,
+    ) refl in
+    omega (arith, long, parts, some)

@@ -1,5 +1,6 @@
 pub mod Entered
 pub mod Steps
+pub mod ModuleSteps
 pub mod Seats
 pub mod Joined
 pub mod Crossing

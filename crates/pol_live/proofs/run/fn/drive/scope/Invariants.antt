@@ -1,5 +1,5 @@
--- The seats that are promised, those that stay here and those that are left are all seats.
-use Rattle.std.specs.Prelude.{◌≡◌, ◌++◌, length}
+-- The seats that are promised, those that stay here and those that are left are all seats, and there is room for all.
+use Rattle.std.specs.Prelude.{◌≡◌, ◌≤◌, ◌++◌, length, vec_capacity}
 use Rattle.std.specs.List.{range_with_len}
 use Rattle.std.specs.Vec.Iter.{into_iter_items}
 use Rattle.pol_site.specs.Actors.{actors}
@@ -12,3 +12,4 @@ invariant-loop-seat g l =
     ((goal.iterator-loop-seat g).can_next l.seat-iterator) × ((goal.iterator-loop-seat g).is_finite l.seat-iterator)
     × (promised l.children.items ++ (actors_of l.here.items ++ actors_of (into_iter_items l.seat-iterator))
     ≡ range_with_len 0 (length (actors g.J.Job.site)))
+    × (length (actors g.J.Job.site) ≤ vec_capacity l.children) × (length (actors g.J.Job.site) ≤ vec_capacity l.here)
