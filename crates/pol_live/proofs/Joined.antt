@@ -1,5 +1,5 @@
 -- The seats that come back are those that were promised.
-use Rattle.std.proofs.Common.{◌≡◌, ◌<◌, ℕ, List, [], ◌∷◌, ◌++◌, suc, length, get_or, refl, sym, ap, ◌∙◌, arith, append-nil, length-append}
+use Rattle.std.proofs.Common.{◌≡◌, ◌<◌, ℕ, List, [], ◌∷◌, ◌++◌, ◌+◌, suc, length, get_or, refl, sym, ap, ◌∙◌, arith, append-nil, length-append}
 use Rattle.std.specs.List.{range_with_len}
 use Rattle.std.proofs.lemmas.List.{length-map, map-append}
 use Rattle.std.proofs.lemmas.List.FromFn.{length-range_with_len}
@@ -53,8 +53,13 @@ room_left count handles here rest all some =
     rw (
       length-append (promised handles) (actors_of here ++ actors_of rest),
       length-append (actors_of here) (actors_of rest),
-      length-map (λ (handle : PromisedHandle Seated SeatOf). handle.promise.0) handles,
-      length-map (λ (seat : Seated). seat.actor) here,
-      length-map (λ (seat : Seated). seat.actor) rest,
+      length-map handles (λ (handle : PromisedHandle Seated SeatOf). handle.promise.0),
+      length-map here (λ (seat : Seated). seat.actor),
+      length-map rest (λ (seat : Seated). seat.actor),
     ) refl in
     omega (arith, long, parts, some)
+
+-- as many seats as actors
+pub seated_long : (count : ℕ) (seats : List Seated) → AreSeated count seats → length seats ≡ count
+seated_long count seats is =
+    sym (length-map seats (λ (seat : Seated). seat.actor)) ∙ ap length is ∙ length-range_with_len 0 count

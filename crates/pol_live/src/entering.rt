@@ -13,26 +13,26 @@ use pol_events::Event;
 use pol_io::Clock;
 use std::alloc::AllocError;
 
-// The event with this stamp.
+// The event with this stamp. The proof goes by kinds, so each has its arm.
 fn stamped(mut event: Event, now: u64) -> Event
     ensures { plain_event result ≡ stamped now (plain_event event) }
 {
     match &mut event {
-        Event::Plug { at, .. }
-        | Event::Unplug { at, .. }
-        | Event::Report { at, .. }
-        | Event::Variable { at, .. }
-        | Event::Recipe { at, .. }
-        | Event::Start { at, .. }
-        | Event::Advance { at, .. }
-        | Event::Freeze { at, .. }
-        | Event::Thaw { at, .. }
-        | Event::StopBatch { at, .. }
-        | Event::Abandon { at, .. }
-        | Event::Desk { at, .. }
-        | Event::ExchangeBegin { at, .. }
-        | Event::ExchangeEnd { at, .. }
-        | Event::ExchangeCancel { at, .. } => *at = now,
+        Event::Plug { at, .. } => *at = now,
+        Event::Unplug { at, .. } => *at = now,
+        Event::Report { at, .. } => *at = now,
+        Event::Variable { at, .. } => *at = now,
+        Event::Recipe { at, .. } => *at = now,
+        Event::Start { at, .. } => *at = now,
+        Event::Advance { at, .. } => *at = now,
+        Event::Freeze { at, .. } => *at = now,
+        Event::Thaw { at, .. } => *at = now,
+        Event::StopBatch { at, .. } => *at = now,
+        Event::Abandon { at, .. } => *at = now,
+        Event::Desk { at, .. } => *at = now,
+        Event::ExchangeBegin { at, .. } => *at = now,
+        Event::ExchangeEnd { at, .. } => *at = now,
+        Event::ExchangeCancel { at, .. } => *at = now,
     }
     event
 }

@@ -1,9 +1,33 @@
-use Rattle.std.proofs.Common.{rules, ◌≡◌, length}
+use Rattle.std.proofs.Common.{rules, ◌≡◌, ◌<◌, length, arith}
 use denote.Param.{param}
 use Rattle.pol_site.specs.Actors.{actors}
 use Rattle.pol_live.proofs.Shared.{captured_send, crew_sync, seat_send}
-use Rattle.pol_live.proofs.Joined.{joined, all_home}
+use Rattle.pol_live.proofs.Joined.{joined, all_home, room_left, seated_long}
 use Rattle.pol_live.proofs.run.fn.drive.scope.Goals as goal
+
+pub loop-seat-init : goal.loop-seat-init
+loop-seat-init g c =
+    let long = seated_long (length (actors g.J.Job.site)) c.captures.seats.items c.requires.5 in (
+      tt,
+      tt,
+      search rules,
+      omega (arith, long, c.captures.seats.ok.0, c.len.ensures, c.in_ok-reserve.ensures.ok),
+      omega (arith, long, c.captures.seats.ok.0, c.len-2.ensures, c.in_ok-reserve-2.ensures.ok),
+    )
+
+pub push_reserved-requires : goal.push_reserved-requires
+push_reserved-requires g c =
+    let some : 0 < length c.loop-seat.seat-iterator.rest.items = search rules in
+    let room = room_left (length (actors g.J.Job.site)) c.loop-seat.children.items c.loop-seat.here.items _
+    c.loop-seat.invariant.2 some in
+    omega (arith, room, c.loop-seat.here.ok.0, c.loop-seat.invariant.4)
+
+pub push_reserved-requires-in-Ok : goal.push_reserved-requires-in-Ok
+push_reserved-requires-in-Ok g c =
+    let some : 0 < length c.loop-seat.seat-iterator.rest.items = search rules in
+    let room = room_left (length (actors g.J.Job.site)) c.loop-seat.children.items c.loop-seat.here.items _
+    c.loop-seat.invariant.2 some in
+    omega (arith, room, c.loop-seat.children.ok.0, c.loop-seat.invariant.3)
 
 pub returns : goal.returns
 returns g c =
