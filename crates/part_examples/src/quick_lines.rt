@@ -59,6 +59,56 @@ const RECIPES: &str = r#"
 {"recipe":"mix","roles":[{"role":"A","type":"Doser","version":"^1"}],"chart":{"step":"s1","role":"A","service":"dose","procedure":1,"settings":[]},"ev":"recipe","at":4} => {"at":4,"chart":{"procedure":1,"role":"A","service":"dose","settings":[],"step":"s1"},"ev":"recipe","recipe":"mix","roles":[{"role":"A","type":"Doser","version":"^1"}]}
 "#;
 
+/// A recipe with a step's finish, a selection and a loop, `@` for each condition, in the order of the documents.
+const DOCUMENTED: &str = r#"
+{"ev":"recipe","at":4,"recipe":"mix","roles":[{"role":"A","type":"Doser","version":"^1"}],"chart":{"seq":[
+{"step":"s1","role":"A","service":"dose","procedure":1,"settings":[],"finish":@},
+{"sel":[{"when":@,"then":{"loop":{"step":"s2","role":"A","service":"dose","procedure":1},"until":@}}]}]}}
+"#;
+
+/// The same with the keys of its chart sorted.
+const SORTED: &str = r#"
+{"ev":"recipe","at":4,"recipe":"mix","roles":[{"role":"A","type":"Doser","version":"^1"}],"chart":{"seq":[
+{"finish":@,"procedure":1,"role":"A","service":"dose","settings":[],"step":"s1"},
+{"sel":[{"then":{"loop":{"procedure":1,"role":"A","service":"dose","settings":[],"step":"s2"},"until":@},"when":@}]}]}}
+"#;
+
+/// Its written form.
+const WRITTEN: &str = r#"
+{"at":4,"chart":{"seq":[
+{"finish":@,"procedure":1,"role":"A","service":"dose","settings":[],"step":"s1"},
+{"sel":[{"then":{"loop":{"procedure":1,"role":"A","service":"dose","settings":[],"step":"s2"},"until":@},"when":@}]}]},
+"ev":"recipe","recipe":"mix","roles":[{"role":"A","type":"Doser","version":"^1"}]}
+"#;
+
+/// Conditions, `@` for a test, each with its written form.
+const CONDITIONS: &str = r#"
+{"const":true} => {"const":true}
+{"const":false} => {"const":false}
+@ => @
+{"test":"level","op":"lt","value":-5,"role":"A"} => {"op":"lt","role":"A","test":"level","value":-5}
+{"value":true,"op":"ne","test":"open","role":"A"} => {"op":"ne","role":"A","test":"open","value":true}
+{"all":[{"not":@},{"any":[{"const":true},@]}]} => {"all":[{"not":@},{"any":[{"const":true},@]}]}
+{"not":{"not":{"all":[{"not":{"any":[{"not":{"not":@}}]}}]}}} => {"not":{"not":{"all":[{"not":{"any":[{"not":{"not":@}}]}}]}}}
+{"any":[@,@,@,@,@,@,@,@,@,@,@,@,@,@,@,@]} => {"any":[@,@,@,@,@,@,@,@,@,@,@,@,@,@,@,@]}
+"#;
+
+/// Conditions that a recipe may not have, `@` for a test.
+const REFUSED: &str = r#"
+{"test":"open","role":"A","op":"lt","value":true}
+{"test":"open","role":"A","op":"is","value":1}
+{"test":"open","role":"A","op":"eq","value":"x"}
+{"test":"open","role":"A","op":"eq"}
+{"test":"open","role":"A","op":"eq","value":1,"name":"x"}
+{"const":1}
+{"const":true,"not":{"const":true}}
+{"all":[]}
+{"any":[@,]}
+{"not":{"not":{"not":{"all":[{"not":{"any":[{"not":{"not":@}}]}}]}}}}
+{"all":[{"any":[@,@,@,@,@,@,@,@]},{"any":[@,@,@,@,@,@,@,@,@]}]}
+{"all":[{"const":true},@,@,@,@,@,@,@,@,@,@,@,@,@,@,@,@]}
+"#;
+
 /// Lines that say an event and take the slow way, each with the event's written form.
 const SLOW: &str = r#"
 {"ev": "unplug", "at": 2, "tag": "M1"} => {"at":2,"ev":"unplug","tag":"M1"}
@@ -68,7 +118,7 @@ const SLOW: &str = r#"
 {"ev":"variable","at":3,"tag":"M1","name":"note","value":"a \"b\""} => {"at":3,"ev":"variable","name":"note","tag":"M1","value":"a \"b\""}
 {"ev":"start","at":5,"batch":"b1","recipe":"mix","bind":{"B":"M2","A":"M1"}} => {"at":5,"batch":"b1","bind":{"A":"M1","B":"M2"},"ev":"start","recipe":"mix"}
 {"ev":"start","at":5,"batch":"b1","recipe":"mix","bind":{}} => {"at":5,"batch":"b1","bind":{},"ev":"start","recipe":"mix"}
-{"ev":"recipe","at":4,"recipe":"mix","roles":[{"role":"A","type":"Doser","version":"^1"}],"chart":{"step":"s1","role":"A","service":"dose","procedure":1,"settings":[],"finish":{"const":true}}} => {"at":4,"chart":{"finish":{"const":true},"procedure":1,"role":"A","service":"dose","settings":[],"step":"s1"},"ev":"recipe","recipe":"mix","roles":[{"role":"A","type":"Doser","version":"^1"}]}
+{"ev":"recipe","at":4,"recipe":"mix","roles":[{"role":"A","type":"Doser","version":"^1"}],"chart":{"until":{"const":true},"loop":{"step":"s1","role":"A","service":"dose","procedure":1,"settings":[]}}} => {"at":4,"chart":{"loop":{"procedure":1,"role":"A","service":"dose","settings":[],"step":"s1"},"until":{"const":true}},"ev":"recipe","recipe":"mix","roles":[{"role":"A","type":"Doser","version":"^1"}]}
 "#;
 
 /// Lines that say no event.
@@ -147,6 +197,54 @@ fn descriptions_are_read_without_a_tree(rt: HostRuntime) -> Result<(), Fail> {
 #[test]
 fn recipes_without_conditions_are_read_without_a_tree(rt: HostRuntime) -> Result<(), Fail> {
     read_rows(&rt, rt.alloc(), RECIPES, true)
+}
+
+/// The lines of a text as one line, with this for each `@`.
+fn filled(alloc: Global, frame: &str, with: &str) -> Result<String, AllocError> {
+    let mut line = String::new(alloc);
+    for part in frame.trim().lines() {
+        for (i, piece) in part.split('@').enumerate() {
+            if i > 0 {
+                line.push_str(with)?;
+            }
+            line.push_str(piece)?;
+        }
+    }
+    Ok(line)
+}
+
+/// The recipe with this condition, of which `@` is a test.
+fn with_condition(alloc: Global, frame: &str, condition: &str) -> Result<String, AllocError> {
+    let test = r#"{"op":"ge","role":"A","test":"level","value":250}"#;
+    let condition = filled(alloc, condition, test)?;
+    filled(alloc, frame, condition.as_str())
+}
+
+#[test]
+fn recipes_with_conditions_are_read_without_a_tree(rt: HostRuntime) -> Result<(), Fail> {
+    let alloc = rt.alloc();
+    for row in CONDITIONS.trim().lines() {
+        let (condition, written) = row.split_once(" => ").ok_or("no row")?;
+        let wanted = with_condition(alloc, WRITTEN, written)?;
+        for frame in [DOCUMENTED, SORTED] {
+            let line = with_condition(alloc, frame, condition)?;
+            assert!(rt; read_quick(alloc, line.as_bytes()).is_some(), "at {line}");
+            let told = told(alloc, line.as_bytes())?;
+            assert!(rt; told.as_slice() == wanted.as_bytes(), "at {line}");
+        }
+    }
+    Ok(())
+}
+
+#[test]
+fn recipes_with_other_conditions_are_refused(rt: HostRuntime) -> Result<(), Fail> {
+    let alloc = rt.alloc();
+    for condition in REFUSED.trim().lines() {
+        let line = with_condition(alloc, DOCUMENTED, condition)?;
+        assert!(rt; read_quick(alloc, line.as_bytes()).is_none(), "at {line}");
+        assert!(rt; read_line(alloc, line.as_bytes()).is_err(), "at {line}");
+    }
+    Ok(())
 }
 
 #[test]

@@ -3,9 +3,11 @@ pub mod Digits
 pub mod Printed
 pub mod Lookups
 pub mod Members
+pub mod Braces
 pub mod Cuts
 pub mod Listing
 pub mod Describing
+pub mod Formulas
 pub mod Stepping
 pub mod Noding
 pub mod Making

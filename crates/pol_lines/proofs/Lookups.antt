@@ -14,7 +14,7 @@ use Rattle.mtp_json.specs.Form.{all_listed, is_listed, only_keys}
 use Rattle.mtp_json.specs.Leaf.{meaning_of}
 use Rattle.pol_lines.specs.declared.flat.Member.{Member}
 use Rattle.pol_lines.specs.declared.key.Key.{Key}
-use Rattle.pol_lines.specs.declared.key.Key.TheVariants.{At, Ev, Tag, Name, Value, Service, Batch, Ticket, StateCur, CommandEn, CommandOp, Mode, Src, ProcedureCur, Role, TypeName, Version, Step, Procedure, Recipe, Kind, Min, Max, Number, IsDefault, SelfCompleting}
+use Rattle.pol_lines.specs.declared.key.Key.TheVariants.{At, Ev, Tag, Name, Value, Service, Batch, Ticket, StateCur, CommandEn, CommandOp, Mode, Src, ProcedureCur, Role, TypeName, Version, Step, Procedure, Recipe, Kind, Min, Max, Number, IsDefault, SelfCompleting, Test, Op}
 use Rattle.pol_lines.specs.Flat.{flat_data, put_all}
 use Rattle.pol_lines.specs.Keys.{IsNoKey, key_rows, key_text}
 use Rattle.pol_lines.specs.Leaves.{leaf_data}
@@ -49,6 +49,8 @@ key_by_text Max = refl
 key_by_text Number = refl
 key_by_text IsDefault = refl
 key_by_text SelfCompleting = refl
+key_by_text Test = refl
+key_by_text Op = refl
 
 -- keys of one text are one key
 same_text_same_key : (key other : Key) → key_text key ≡ key_text other → key ≡ other

@@ -170,7 +170,7 @@ pub line_of_recipe : (line : List ℕ) (cut : Cut) (members : List Member) (valu
     (chart : Option Data) (roles : List PlainRole) (root : Tree) (event : PlainEvent)
     → IsUtf8 line → GivesEach role_of roles values → 0 < length roles → length roles ≤ 64
     → nested_if_present tree_of chart ≡ Ok (Some root)
-    → Stands 35 line members (with_value (codes "chart") chart
+    → Stands 64 line members (with_value (codes "chart") chart
     (with_value (codes "roles") (option_map array values) [])) cut → IsEnd cut
     → ((played : Items) (given : Data) → roles_of (array played) ≡ Ok roles → tree_of given ≡ Ok root
     → Makes event_in event members ((codes "chart", given) ∷ (codes "roles", array played) ∷ []))
@@ -181,7 +181,7 @@ line_of_recipe line cut members (Some values) None roles root event utf8 given s
     absurd cc
 line_of_recipe line cut members (Some values) (Some chart) roles root event utf8 given some few gives is ends makes
     none =
-    line_of_object 35 line cut members ((codes "chart", chart) ∷ (codes "roles", array values) ∷ []) event
+    line_of_object 64 line cut members ((codes "chart", chart) ∷ (codes "roles", array values) ∷ []) event
     (omega arith) utf8 is ends
     (makes values chart (roles_in values roles given some few) (given_value tree_of chart root gives)) none
 

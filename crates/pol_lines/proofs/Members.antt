@@ -68,6 +68,8 @@ key_printed key.Max = refl
 key_printed key.Number = refl
 key_printed key.IsDefault = refl
 key_printed key.SelfCompleting = refl
+key_printed key.Test = refl
+key_printed key.Op = refl
 
 -- a value as JSON
 abbrev leaf_json : Leaf → json.Json

@@ -1,31 +1,22 @@
 -- Nodes by their parts.
-use Rattle.std.proofs.Common.{◌≡◌, ℕ, suc, ◌≤◌, ◌<◌, List, [], ◌∷◌, ◌++◌, length, true, Option, Some, None, Ok, refl, sym, ap, ◌∙◌, subst, arith, codes}
+use Rattle.std.proofs.Common.{◌≡◌, ℕ, suc, ◌≤◌, ◌<◌, List, ◌∷◌, ◌++◌, length, true, Option, Some, None, Ok, refl, ◌∙◌, subst, arith, codes}
 use Rattle.std.specs.Prelude.{is_some, nat_le}
-use Rattle.std.specs.List.{list_all}
-use Rattle.json.specs.Run.{is_plain}
 use Rattle.std.proofs.lemmas.Grind.{common_steps}
 use Rattle.serde_json.specs.Data.{Data, Items, null, boolean, number, string, array, object, Members, member, no_members}
 use Rattle.serde_json.specs.Events.{items_len}
 use Rattle.serde_json.specs.Find.{get_member}
+use Rattle.mtp_codes.specs.Numbers.{is_between}
 use Rattle.mtp_json.specs.Form.{each}
 use Rattle.mtp_json.specs.ReadResult.{ReadResult, ◌>>=◌}
-use Rattle.chart_core.specs.Trees.{PlainStep, Tree, leaf, par, seq, trees_of}
-use Rattle.chart_json.specs.Form.{node_by_key, par_form, seq_form, step_form, step_of, tree_of}
+use Rattle.chart_core.specs.Formulas.{Formula}
+use Rattle.chart_core.specs.Trees.{PlainArm, PlainStep, Tree, arms_of, choice, leaf, loop, par, seq, trees_of}
+use Rattle.chart_core.specs.declared.limits.TheConstants.{MOST_ARMS}
+use Rattle.chart_json.specs.Form.{arm_of, condition_of, loop_form, node_by_key, par_form, sel_form, seq_form, step_form, step_of, tree_of}
 use Rattle.chart_json.proofs.Within.{tree_steps}
 use Rattle.pol_lines.specs.Begins.{Begins, Reads, ReadsList, last_of}
+use Rattle.pol_lines.proofs.Braces.{one_member, two_members}
 use Rattle.pol_lines.proofs.Cutting.{reads_last}
-use Rattle.pol_lines.proofs.Members.{plain_key}
-use Rattle.pol_lines.proofs.Printed.{begins_object, begins_within, opens_none}
-
--- what nests less deep does so too
-pub reads_within : {A : Type 0} (form : Data → ReadResult A) (deep more : ℕ) (text : List ℕ) (found : A)
-    (rest : List ℕ) → deep ≤ more
-    → Reads form deep text found rest → Reads form more text found rest
-reads_within form deep more text found rest fits reads = record {
-  value = reads.value;
-  begins = begins_within deep more text reads.value rest fits reads.begins;
-  gives = reads.gives;
-}
+use Rattle.pol_lines.proofs.Printed.{reads_as}
 
 -- what reads as a step has the key `step`
 has_step : (held : Members) (step : PlainStep) → step_of (object held) ≡ Ok step
@@ -52,21 +43,10 @@ step_is_node (object held) step is = tree_steps (object held) ∙ rw (has_step h
     by_step read is_step = rw is_step refl
 
 -- so does the front of a text
-pub step_node : (deep : ℕ) (text rest : List ℕ) (step : PlainStep) → 3 ≤ deep → Reads step_of 3 text step rest
+pub step_node : (deep : ℕ) (text rest : List ℕ) (step : PlainStep) → Reads step_of deep text step rest
     → Reads tree_of deep text (leaf step) rest
-step_node deep text rest step fits reads =
-    reads_within tree_of 3 deep text (leaf step) rest fits (record
-    { value = reads.value; begins = reads.begins; gives = step_is_node reads.value step reads.gives })
-
--- a list at one key, and the closing brace
-one_list : (deep : ℕ) (text key inner after : List ℕ) (values : Items) → list_all is_plain key ≡ true
-    → text ≡ 123 ∷ (34 ∷ (key ++ 34 ∷ 58 ∷ []) ++ inner)
-    → Begins deep inner (array values) (125 ∷ after) → Begins (suc deep) text
-    (object (member key (array values) no_members)) after
-one_list deep text key inner after values plain piece begins =
-    begins_object deep text key (34 ∷ (key ++ 34 ∷ 58 ∷ []) ++ inner) inner after no_members (array values)
-    (opens_none deep text (34 ∷ (key ++ 34 ∷ 58 ∷ []) ++ inner) piece)
-    (ap (λ s. s ++ inner) (sym (plain_key key plain))) begins
+step_node deep text rest step reads =
+    record { value = reads.value; begins = reads.begins; gives = step_is_node reads.value step reads.gives }
 
 -- nodes in sequence
 seq_value : (values : Items) (nodes : List Tree) → each tree_of 0 values ≡ Ok nodes → nat_le 1 (items_len values) ≡ true
@@ -89,7 +69,7 @@ pub seq_node : (deep : ℕ) (text inner behind after : List ℕ) (nodes : List T
 seq_node deep text inner behind after nodes piece list closing some =
     reads_last tree_of (suc deep) text (seq (trees_of nodes)) after (record {
       value = object (member (codes "seq") (array list.values) no_members);
-      begins = one_list deep text (codes "seq") inner after list.values refl piece
+      begins = one_member deep text (codes "seq") inner after (array list.values) refl piece
           (subst (λ s. Begins deep inner (array list.values) s) closing list.begins);
       gives = seq_value list.values nodes list.gives (grind (arith, common_steps, list.many, some));
     })
@@ -101,7 +81,100 @@ pub par_node : (deep : ℕ) (text inner behind after : List ℕ) (nodes : List T
 par_node deep text inner behind after nodes piece list closing some =
     reads_last tree_of (suc deep) text (par (trees_of nodes)) after (record {
       value = object (member (codes "par") (array list.values) no_members);
-      begins = one_list deep text (codes "par") inner after list.values refl piece
+      begins = one_member deep text (codes "par") inner after (array list.values) refl piece
           (subst (λ s. Begins deep inner (array list.values) s) closing list.begins);
       gives = par_value list.values nodes list.gives (grind (arith, common_steps, list.many, some));
+    })
+
+-- ---- selections
+
+-- an arm
+arm_value : (when body : Data) (condition : Formula) (node : Tree) → condition_of when ≡ Ok condition
+    → tree_of body ≡ Ok node
+    → arm_of tree_of (object (member (codes "then") body (member (codes "when") when no_members)))
+    ≡ Ok (record { when = condition; body = node })
+unfolding arm_of
+arm_value when body condition node is_when is_body = rw (is_when, is_body) refl
+
+-- the front of a text behind the condition and the node of an arm
+pub when_first : (deep : ℕ) (text inner between then behind after : List ℕ) (condition : Formula) (node : Tree)
+    → text ≡ codes "{\"when\":" ++ inner → Reads condition_of 15 inner condition between
+    → between ≡ codes ",\"then\":" ++ then → Reads tree_of deep then node behind → behind ≡ 125 ∷ after → 15 ≤ deep
+    → Reads (arm_of tree_of) (suc deep) text (record { when = condition; body = node }) (last_of (length after) text)
+when_first deep text inner between then behind after condition node piece when next body closing fits =
+    let asked = reads_as condition_of 15 deep inner condition condition between refl fits when in
+    reads_last (arm_of tree_of) (suc deep) text (record { when = condition; body = node }) after (record {
+      value = object (member (codes "then") body.value (member (codes "when") asked.value no_members));
+      begins = two_members deep text (codes "when") inner (34 ∷ (codes "then\":" ++ then)) (codes "then") then after
+          asked.value body.value refl refl piece
+          (subst (λ s. Begins deep inner asked.value s) next asked.begins) refl
+          (subst (λ s. Begins deep then body.value s) closing body.begins);
+      gives = arm_value asked.value body.value condition node asked.gives body.gives;
+    })
+
+-- the same where the node stands first
+pub then_first : (deep : ℕ) (text inner between when behind after : List ℕ) (condition : Formula) (node : Tree)
+    → text ≡ codes "{\"then\":" ++ inner → Reads tree_of deep inner node between
+    → between ≡ codes ",\"when\":" ++ when → Reads condition_of 15 when condition behind → behind ≡ 125 ∷ after
+    → 15 ≤ deep
+    → Reads (arm_of tree_of) (suc deep) text (record { when = condition; body = node }) (last_of (length after) text)
+then_first deep text inner between when behind after condition node piece body next is_when closing fits =
+    let asked = reads_as condition_of 15 deep when condition condition behind refl fits is_when in
+    reads_last (arm_of tree_of) (suc deep) text (record { when = condition; body = node }) after (record {
+      value = object (member (codes "then") body.value (member (codes "when") asked.value no_members));
+      begins = two_members deep text (codes "then") inner (34 ∷ (codes "when\":" ++ when)) (codes "when") when after
+          body.value asked.value refl refl piece
+          (subst (λ s. Begins deep inner body.value s) next body.begins) refl
+          (subst (λ s. Begins deep when asked.value s) closing asked.begins);
+      gives = arm_value asked.value body.value condition node asked.gives body.gives;
+    })
+
+-- arms to choose from
+sel_value : (values : Items) (arms : List PlainArm) → each (arm_of tree_of) 0 values ≡ Ok arms
+    → is_between 1 MOST_ARMS (items_len values) ≡ true
+    → tree_of (object (member (codes "sel") (array values) no_members)) ≡ Ok (choice (arms_of arms))
+unfolding node_by_key sel_form
+sel_value values arms gives sized = tree_steps (object (member (codes "sel") (array values) no_members))
+    ∙ rw (sized, gives) refl
+
+-- the front of a text behind the key of a selection
+pub sel_node : (deep : ℕ) (text inner behind after : List ℕ) (arms : List PlainArm) → text ≡ codes "{\"sel\":" ++ inner
+    → ReadsList (arm_of tree_of) deep inner arms behind → behind ≡ 125 ∷ after
+    → 1 ≤ length arms → length arms ≤ MOST_ARMS
+    → Reads tree_of (suc deep) text (choice (arms_of arms)) (last_of (length after) text)
+sel_node deep text inner behind after arms piece list closing some few =
+    reads_last tree_of (suc deep) text (choice (arms_of arms)) after (record {
+      value = object (member (codes "sel") (array list.values) no_members);
+      begins = one_member deep text (codes "sel") inner after (array list.values) refl piece
+          (subst (λ s. Begins deep inner (array list.values) s) closing list.begins);
+      gives = sel_value list.values arms list.gives (grind (arith, common_steps, list.many, some, few));
+    })
+
+-- ---- loops
+
+-- a node, and the condition that ends it
+loop_value : (body until : Data) (node : Tree) (condition : Formula) → tree_of body ≡ Ok node
+    → condition_of until ≡ Ok condition
+    → tree_of (object (member (codes "loop") body (member (codes "until") until no_members)))
+    ≡ Ok (loop node condition)
+unfolding node_by_key loop_form
+loop_value body until node condition is_body is_until =
+    tree_steps (object (member (codes "loop") body (member (codes "until") until no_members)))
+    ∙ rw (is_body, is_until) refl
+
+-- the front of a text behind the node and the condition of a loop
+pub loop_node : (deep : ℕ) (text inner between until behind after : List ℕ) (node : Tree) (condition : Formula)
+    → text ≡ codes "{\"loop\":" ++ inner → Reads tree_of deep inner node between
+    → between ≡ codes ",\"until\":" ++ until → Reads condition_of 15 until condition behind → behind ≡ 125 ∷ after
+    → 15 ≤ deep
+    → Reads tree_of (suc deep) text (loop node condition) (last_of (length after) text)
+loop_node deep text inner between until behind after node condition piece body next is_until closing fits =
+    let asked = reads_as condition_of 15 deep until condition condition behind refl fits is_until in
+    reads_last tree_of (suc deep) text (loop node condition) after (record {
+      value = object (member (codes "loop") body.value (member (codes "until") asked.value no_members));
+      begins = two_members deep text (codes "loop") inner (34 ∷ (codes "until\":" ++ until)) (codes "until") until after
+          body.value asked.value refl refl piece
+          (subst (λ s. Begins deep inner body.value s) next body.begins) refl
+          (subst (λ s. Begins deep until asked.value s) closing asked.begins);
+      gives = loop_value body.value asked.value node condition body.gives asked.gives;
     })

@@ -8,7 +8,8 @@ use Rattle.json.proofs.Printed.Tokens.{print_from-append, tokens-print}
 use Rattle.json.proofs.Printed.Trees.{ArePrintable-json_tokens, value-json_tokens}
 use Rattle.serde_json.specs.Data.{Data, Members, no_members, object, put}
 use Rattle.serde_json.specs.Read.{of_json, of_members, read}
-use Rattle.pol_lines.specs.Begins.{Begins, Opens, member_pieces}
+use Rattle.mtp_json.specs.ReadResult.{ReadResult}
+use Rattle.pol_lines.specs.Begins.{Begins, Opens, Reads, member_pieces}
 
 -- ---- a tree and what stands behind it
 
@@ -164,6 +165,15 @@ begins_within deep more text value rest fits begins = record {
   numbers = begins.numbers;
   shallow = omega (arith, begins.shallow);
   means = begins.means;
+}
+
+-- what was read is read so, where it nests less deep, and of what is the same
+pub reads_as : {A : Type 0} (form : Data → ReadResult A) (deep more : ℕ) (text : List ℕ) (made found : A)
+    (rest : List ℕ) → found ≡ made → deep ≤ more → Reads form deep text made rest → Reads form more text found rest
+reads_as form deep more text made found rest same fits reads = record {
+  value = reads.value;
+  begins = begins_within deep more text reads.value rest fits reads.begins;
+  gives = rw same reads.gives;
 }
 
 -- the last member and the closing brace

@@ -2,7 +2,7 @@
 use Rattle.std.specs.Prelude.{◌≡◌, ℕ, List, [], ◌∷◌, ◌++◌, None, codes}
 use Rattle.mtp_json.specs.Leaf.{meaning_of}
 use Rattle.pol_lines.specs.declared.key.Key.{Key}
-use Rattle.pol_lines.specs.declared.key.Key.TheVariants.{At, Ev, Tag, Name, Value, Service, Batch, Ticket, StateCur, CommandEn, CommandOp, Mode, Src, ProcedureCur, Role, TypeName, Version, Step, Procedure, Recipe, Kind, Min, Max, Number, IsDefault, SelfCompleting}
+use Rattle.pol_lines.specs.declared.key.Key.TheVariants.{At, Ev, Tag, Name, Value, Service, Batch, Ticket, StateCur, CommandEn, CommandOp, Mode, Src, ProcedureCur, Role, TypeName, Version, Step, Procedure, Recipe, Kind, Min, Max, Number, IsDefault, SelfCompleting, Test, Op}
 
 -- the text of a key
 abbrev pub key_text : Key → List ℕ
@@ -32,6 +32,8 @@ key_text Max = codes "max"
 key_text Number = codes "number"
 key_text IsDefault = codes "default"
 key_text SelfCompleting = codes "self_completing"
+key_text Test = codes "test"
+key_text Op = codes "op"
 
 -- a name as a line writes it in front of a value: in quotes, with a colon
 abbrev pub quoted : List ℕ → List ℕ
@@ -51,7 +53,7 @@ key_rows =
     (key_text Version, Version)
     ∷ (key_text Step, Step) ∷ (key_text Procedure, Procedure) ∷ (key_text Recipe, Recipe) ∷ (key_text Kind, Kind)
     ∷ (key_text Min, Min) ∷ (key_text Max, Max) ∷ (key_text Number, Number) ∷ (key_text IsDefault, IsDefault)
-    ∷ (key_text SelfCompleting, SelfCompleting) ∷ []
+    ∷ (key_text SelfCompleting, SelfCompleting) ∷ (key_text Test, Test) ∷ (key_text Op, Op) ∷ []
 
 -- a name that is no key of a flat member
 abbrev pub IsNoKey : List ℕ → Type 0

@@ -3,3 +3,4 @@ pub mod Flat
 pub mod Keys
 pub mod Leaves
 pub mod Objects
+pub mod Steps

@@ -6,6 +6,7 @@ ghost use Rattle.mtp_codes.specs.Codes.{command_codes, state_codes};
 ghost use Rattle.mtp_codes.specs.Numbers.{greatest_u32, greatest_u64, is_within};
 ghost use Rattle.mtp_json.specs.Form.{field, present_or};
 ghost use Rattle.mtp_json.specs.Leaf.{code, count, meaning_of, name, scalar, text_to, truth, whole, word};
+ghost use Rattle.chart_json.specs.Form.{compared};
 ghost use Rattle.pol_events.specs.Words.{kind_words, mode_words, origin_words};
 ghost use Rattle.pol_lines.specs.Flat.{flat_data};
 ghost use Rattle.pol_lines.specs.Keys.{key_text};
@@ -14,7 +15,7 @@ ghost use Rattle.pol_lines.specs.Leaves.{leaf_data};
 use crate::flat::Member;
 use crate::key::Key;
 use crate::leaf::Leaf;
-use mtp_codes::{Command, Mode, Name, Origin, Short, State, Value};
+use mtp_codes::{Command, Mode, Name, Origin, Reading, Short, State, Value};
 use pol_events::EventKind;
 
 /// The value at a key: the last one, where the key stands more than once.
@@ -186,6 +187,17 @@ pub fn scalar_at(members: &[Member], key: Key) -> Option<Value>
         Leaf::Text(bytes) => text_value(bytes),
         Leaf::Whole(number) => Some(Value::Whole(number)),
         Leaf::Bit(bit) => Some(Value::Bit(bit)),
+    }
+}
+
+/// What a test compares with, at a key: a whole number or a truth value.
+pub fn compared_at(members: &[Member], key: Key) -> Option<Reading>
+    ensures { IfSome result (λ found. field (key_text key) compared (flat_data members.now) ≡ Ok found) }
+{
+    match leaf_at(members, key)? {
+        Leaf::Text(_) => None,
+        Leaf::Whole(number) => Some(Reading::Whole(number)),
+        Leaf::Bit(bit) => Some(Reading::Bit(bit)),
     }
 }
 

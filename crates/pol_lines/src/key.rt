@@ -33,6 +33,8 @@ pub enum Key {
     Number,
     IsDefault,
     SelfCompleting,
+    Test,
+    Op,
 }
 
 /// The key at the front of a text, with what follows its colon.
@@ -49,6 +51,7 @@ pub fn read_key(text: &[u8]) -> Option<(Key, &[u8])>
         b't' => match text[2] {
             b'a' => Some((Key::Tag, eat(text, b"\"tag\":")?)),
             b'y' => Some((Key::TypeName, eat(text, b"\"type\":")?)),
+            b'e' => Some((Key::Test, eat(text, b"\"test\":")?)),
             _ => Some((Key::Ticket, eat(text, b"\"ticket\":")?)),
         },
         b'n' => match text[2] {
@@ -68,6 +71,7 @@ pub fn read_key(text: &[u8]) -> Option<(Key, &[u8])>
             b'o' => Some((Key::Role, eat(text, b"\"role\":")?)),
             _ => Some((Key::Recipe, eat(text, b"\"recipe\":")?)),
         },
+        b'o' => Some((Key::Op, eat(text, b"\"op\":")?)),
         b'p' => Some((Key::Procedure, eat(text, b"\"procedure\":")?)),
         b'k' => Some((Key::Kind, eat(text, b"\"kind\":")?)),
         b'm' => match text[2] {

@@ -1,13 +1,15 @@
 //! The lines of a journal read fast. A compact line is read without a tree, whatever the order of its keys: a flat one,
 //! of numbers, names, texts and truth values; one with a description, whose variables stand behind its services; and a
-//! recipe of steps in sequence and in parallel that have no condition, whose chart stands behind its roles. All other
-//! lines are read by `read_event`, which alone tells faults.
+//! recipe, whose chart stands behind its roles. In a chart the condition of a step stands in front of its other keys or
+//! behind its settings, and the condition of a loop behind its node. All other lines are read by `read_event`, which
+//! alone tells faults.
 //!
 //! `read_line` has the contract of `read_event`. What stands below it is sound and not complete: each reader says that
 //! the text begins with what JSON writes of a value (`specs/Begins.antt`), of which the form gives what was found. An
 //! object is read member by member, from cut to cut (`specs/Objects.antt`).
 #![tactic(auto)]
 
+mod conditions;
 mod descriptions;
 mod events;
 mod fields;

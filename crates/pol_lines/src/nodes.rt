@@ -1,31 +1,55 @@
 //! Nodes at the front of a text.
-ghost use Rattle.std.specs.Prelude.{◌≡◌, ◌+◌, ◌*◌, [], IfSome, map};
-ghost use Rattle.chart_core.specs.Trees.{Tree, leaf, par, seq, plain_step, plain_node, trees_of};
-ghost use Rattle.chart_json.specs.Form.{tree_of};
+ghost use Rattle.std.specs.Prelude.{◌≡◌, ◌≤◌, ◌+◌, ◌*◌, [], IfSome, length, map};
+ghost use Rattle.chart_core.specs.Formulas.{plain_condition};
+ghost use Rattle.chart_core.specs.Trees.{Tree, arms, choice, leaf, loop, par, plain_arm, plain_node, plain_step, seq, trees};
+ghost use Rattle.chart_core.specs.declared.limits.TheConstants.{MOST_ARMS};
+ghost use Rattle.chart_json.specs.Form.{arm_of, tree_of};
 ghost use Rattle.pol_lines.specs.Begins.{Reads, ReadsList, last_of};
 
+use crate::conditions::read_condition;
 use crate::lists::Front;
 use crate::pieces::{eat, last};
 use crate::steps::read_step;
-use chart_core::{Node, Step};
+use chart_core::{Arm, Condition, MOST_ARMS, Node, Step};
 use std::alloc::Global;
 
 fn in_sequence(nodes: Vec<Node>) -> Node
-    ensures { plain_node result ≡ seq (trees_of (map plain_node nodes.items)) }
+    ensures { plain_node result ≡ seq (trees nodes.items) }
 {
     Node::Seq(nodes)
 }
 
 fn in_parallel(nodes: Vec<Node>) -> Node
-    ensures { plain_node result ≡ par (trees_of (map plain_node nodes.items)) }
+    ensures { plain_node result ≡ par (trees nodes.items) }
 {
     Node::Par(nodes)
+}
+
+fn by_choice(each: Vec<Arm>) -> Node
+    ensures { plain_node result ≡ choice (arms each.items) }
+{
+    Node::Sel(each)
+}
+
+fn in_loop(alloc: Global, body: Node, until: Condition) -> Option<Node>
+    ensures { IfSome result (λ node. plain_node node ≡ loop (plain_node body) (plain_condition until)) }
+{
+    match Box::new(alloc, body) {
+        Ok(body) => Some(Node::Loop(body, until)),
+        Err(_) => None,
+    }
 }
 
 fn of_step(step: Step) -> Node
     ensures { plain_node result ≡ leaf (plain_step step) }
 {
     Node::Step(step)
+}
+
+fn of_arm(when: Condition, body: Node) -> Arm
+    ensures { plain_arm result ≡ record { when = plain_condition when; body = plain_node body } }
+{
+    Arm { when, body }
 }
 
 /// Reads at most 256 nodes into an empty list; it answers what follows them.
@@ -38,7 +62,7 @@ fn read_inner<'a>(
 ) -> Option<&'a [u8]>
     requires { nodes.old.items ≡ [] }
     ensures { IfSome result
-        (λ rest. ReadsList tree_of (2 * levels + 4) text.now (map plain_node nodes.new.items) rest.now) }
+        (λ rest. ReadsList tree_of (3 * levels + 17) text.now (map plain_node nodes.new.items) rest.now) }
 {
     let mut rest = eat(text, b"[")?;
     for _ in 0..256u32 {
@@ -55,42 +79,163 @@ fn read_inner<'a>(
     None
 }
 
-/// The node at the front of a text, with how many bytes follow it: its steps are in sequence and in parallel, and no
-/// condition is in it. It nests at most `levels` lists.
+/// The nodes in sequence at the front of a text, with how many bytes follow them.
 #[cycle(node)]
-fn read_node(alloc: Global, text: &[u8], levels: u32) -> Option<(Node, usize)>
+fn read_seq(alloc: Global, text: &[u8], levels: u32) -> Option<(Node, usize)>
     ensures { IfSome result
-        (λ read. Reads tree_of (2 * levels + 3) text.now (plain_node read.0) (last_of read.1 text.now)) }
+        (λ read. Reads tree_of (3 * levels + 19) text.now (plain_node read.0) (last_of read.1 text.now)) }
 {
-    if let Some(inner) = eat(text, b"{\"seq\":") {
-        if levels == 0 {
-            return None;
-        }
-        let mut nodes = Vec::new(alloc);
-        let rest = read_inner(alloc, inner, levels - 1, &mut nodes)?;
-        let rest = eat(rest, b"}")?;
-        if nodes.is_empty() {
-            return None;
-        }
-        return Some((in_sequence(nodes), rest.len()));
+    let inner = eat(text, b"{\"seq\":")?;
+    let mut nodes = Vec::new(alloc);
+    let rest = read_inner(alloc, inner, levels, &mut nodes)?;
+    let rest = eat(rest, b"}")?;
+    if nodes.is_empty() {
+        return None;
     }
-    if let Some(inner) = eat(text, b"{\"par\":") {
-        if levels == 0 {
-            return None;
-        }
-        let mut nodes = Vec::new(alloc);
-        let rest = read_inner(alloc, inner, levels - 1, &mut nodes)?;
-        let rest = eat(rest, b"}")?;
-        if nodes.len() < 2 {
-            return None;
-        }
-        return Some((in_parallel(nodes), rest.len()));
+    Some((in_sequence(nodes), rest.len()))
+}
+
+/// The nodes in parallel at the front of a text, with how many bytes follow them.
+#[cycle(node)]
+fn read_par(alloc: Global, text: &[u8], levels: u32) -> Option<(Node, usize)>
+    ensures { IfSome result
+        (λ read. Reads tree_of (3 * levels + 19) text.now (plain_node read.0) (last_of read.1 text.now)) }
+{
+    let inner = eat(text, b"{\"par\":")?;
+    let mut nodes = Vec::new(alloc);
+    let rest = read_inner(alloc, inner, levels, &mut nodes)?;
+    let rest = eat(rest, b"}")?;
+    if nodes.len() < 2 {
+        return None;
     }
+    Some((in_parallel(nodes), rest.len()))
+}
+
+/// The arm at the front of a text, behind whose condition its node stands, with how many bytes follow it.
+#[cycle(node)]
+fn read_when_first(alloc: Global, text: &[u8], levels: u32) -> Option<(Arm, usize)>
+    ensures { IfSome result
+        (λ read. Reads (arm_of tree_of) (3 * levels + 17) text.now (plain_arm read.0) (last_of read.1 text.now)) }
+{
+    let inner = eat(text, b"{\"when\":")?;
+    let (when, left) = read_condition(alloc, inner)?;
+    let then = eat(last(inner, left), b",\"then\":")?;
+    let (body, left) = read_node(alloc, then, levels)?;
+    let rest = eat(last(then, left), b"}")?;
+    Some((of_arm(when, body), rest.len()))
+}
+
+/// The arm at the front of a text, behind whose node its condition stands, with how many bytes follow it.
+#[cycle(node)]
+fn read_then_first(alloc: Global, text: &[u8], levels: u32) -> Option<(Arm, usize)>
+    ensures { IfSome result
+        (λ read. Reads (arm_of tree_of) (3 * levels + 17) text.now (plain_arm read.0) (last_of read.1 text.now)) }
+{
+    let inner = eat(text, b"{\"then\":")?;
+    let (body, left) = read_node(alloc, inner, levels)?;
+    let when = eat(last(inner, left), b",\"when\":")?;
+    let (condition, left) = read_condition(alloc, when)?;
+    let rest = eat(last(when, left), b"}")?;
+    Some((of_arm(condition, body), rest.len()))
+}
+
+/// The arm at the front of a text, with how many bytes follow it.
+#[cycle(node)]
+fn read_arm(alloc: Global, text: &[u8], levels: u32) -> Option<(Arm, usize)>
+    ensures { IfSome result
+        (λ read. Reads (arm_of tree_of) (3 * levels + 17) text.now (plain_arm read.0) (last_of read.1 text.now)) }
+{
+    // The first letter of the key, behind the brace and the quote.
+    match text {
+        [_, _, b'w', ..] => read_when_first(alloc, text, levels),
+        _ => read_then_first(alloc, text, levels),
+    }
+}
+
+/// Reads at most 16 arms into an empty list; it answers what follows them.
+#[cycle(node)]
+fn read_arms<'a>(
+    alloc: Global,
+    text: &'a [u8],
+    levels: u32,
+    each: &mut Vec<Arm>,
+) -> Option<&'a [u8]>
+    requires { each.old.items ≡ [] }
+    ensures list { IfSome result
+        (λ rest. ReadsList (arm_of tree_of) (3 * levels + 18) text.now (map plain_arm each.new.items) rest.now) }
+    ensures some { IfSome result (λ _. 1 ≤ length each.new.items) }
+    ensures few { IfSome result (λ _. length each.new.items ≤ MOST_ARMS) }
+{
+    let mut rest = eat(text, b"[")?;
+    while each.len() < MOST_ARMS {
+        let (arm, left) = read_arm(alloc, rest, levels)?;
+        let Ok(()) = each.push(arm) else {
+            return None;
+        };
+        match last(rest, left) {
+            [b',', more @ ..] => rest = more,
+            [b']', more @ ..] => return Some(more),
+            _ => return None,
+        }
+    }
+    None
+}
+
+/// The selection at the front of a text, with how many bytes follow it.
+#[cycle(node)]
+fn read_sel(alloc: Global, text: &[u8], levels: u32) -> Option<(Node, usize)>
+    ensures { IfSome result
+        (λ read. Reads tree_of (3 * levels + 19) text.now (plain_node read.0) (last_of read.1 text.now)) }
+{
+    let inner = eat(text, b"{\"sel\":")?;
+    let mut each = Vec::new(alloc);
+    let rest = read_arms(alloc, inner, levels, &mut each)?;
+    let rest = eat(rest, b"}")?;
+    Some((by_choice(each), rest.len()))
+}
+
+/// The loop at the front of a text, with how many bytes follow it.
+#[cycle(node)]
+fn read_loop(alloc: Global, text: &[u8], levels: u32) -> Option<(Node, usize)>
+    ensures { IfSome result
+        (λ read. Reads tree_of (3 * levels + 19) text.now (plain_node read.0) (last_of read.1 text.now)) }
+{
+    let inner = eat(text, b"{\"loop\":")?;
+    let (body, left) = read_node(alloc, inner, levels)?;
+    let until = eat(last(inner, left), b",\"until\":")?;
+    let (condition, left) = read_condition(alloc, until)?;
+    let rest = eat(last(until, left), b"}")?;
+    let node = in_loop(alloc, body, condition)?;
+    Some((node, rest.len()))
+}
+
+/// The step at the front of a text as a node, with how many bytes follow it.
+fn read_leaf(alloc: Global, text: &[u8]) -> Option<(Node, usize)>
+    ensures { IfSome result
+        (λ read. Reads tree_of 16 text.now (plain_node read.0) (last_of read.1 text.now)) }
+{
     let (step, left) = read_step(alloc, text)?;
     Some((of_step(step), left))
 }
 
-/// The form of a node at the front of a text, which nests at most 16 lists.
+/// The node at the front of a text, with how many bytes follow it: none of its steps lies in more than `levels` other
+/// nodes.
+#[cycle(node)]
+fn read_node(alloc: Global, text: &[u8], levels: u32) -> Option<(Node, usize)>
+    ensures { IfSome result
+        (λ read. Reads tree_of (3 * levels + 16) text.now (plain_node read.0) (last_of read.1 text.now)) }
+{
+    // The first letters of the key, behind the brace and the quote, tell which it may be.
+    match text {
+        [_, _, b's', b'e', b'q', ..] if levels > 0 => read_seq(alloc, text, levels - 1),
+        [_, _, b's', b'e', b'l', ..] if levels > 0 => read_sel(alloc, text, levels - 1),
+        [_, _, b'p', b'a', ..] if levels > 0 => read_par(alloc, text, levels - 1),
+        [_, _, b'l', ..] if levels > 0 => read_loop(alloc, text, levels - 1),
+        _ => read_leaf(alloc, text),
+    }
+}
+
+/// The form of a node at the front of a text: none of its steps lies in more than 16 other nodes.
 pub struct NodeFronts;
 
 impl Front for NodeFronts {
@@ -102,7 +247,7 @@ impl Front for NodeFronts {
 
     ghost form = { tree_of };
 
-    ghost deep = { 35 };
+    ghost deep = { 64 };
 
     fn read(alloc: Global, text: &[u8]) -> Option<(Node, usize)> {
         read_node(alloc, text, 16)

@@ -35,8 +35,7 @@ pub fn read_quick(alloc: Global, line: &[u8]) -> Option<Event>
 
 /// The event that a line of a journal says; else the line's first fault in reading order, with its path; else, where
 /// the line makes a recipe known, the fault of its chart. A line is one JSON object (RFC 8259) without its line feed.
-/// It never answers `TooLong`. It answers what `read_event` answers, sooner where the line is compact and has no
-/// condition and no bind.
+/// It never answers `TooLong`. It answers what `read_event` answers, sooner where the line is compact and has no bind.
 #[tactic(auto, using(pol_events::proofs::Orderly::line_orderly))]
 pub fn read_line(alloc: Global, line: &[u8]) -> Result<Event, LineRefusal>
     ensures tells { Tells result (event_of line.now) }

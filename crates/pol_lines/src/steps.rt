@@ -1,24 +1,26 @@
 //! Steps at the front of a text.
-ghost use Rattle.std.specs.Prelude.{◌≡◌, ◌≤◌, [], Option, IfSome, Ok, codes, length, option_map};
+ghost use Rattle.std.specs.Prelude.{◌≡◌, ◌≤◌, ℕ, List, IfSome, Ok, codes, length};
 ghost use Rattle.std.specs.List.{list_all};
-ghost use Rattle.serde_json.specs.Data.{Items, array};
+ghost use Rattle.serde_json.specs.Data.{Data};
 ghost use Rattle.mtp_json.specs.Form.{is_listed};
 ghost use Rattle.mtp_codes.specs.declared.value.Setting.{Setting as SettingForm};
-ghost use Rattle.chart_core.specs.Trees.{plain_step};
+ghost use Rattle.chart_core.specs.Trees.{plain_finish, plain_step};
 ghost use Rattle.chart_json.specs.Form.{same_setting, setting_of, step_of};
 ghost use Rattle.chart_core.specs.declared.limits.TheConstants.{MOST_SETTINGS};
 ghost use Rattle.pol_lines.specs.Begins.{Reads, last_of};
 ghost use Rattle.pol_lines.specs.Flat.{flat_data};
 ghost use Rattle.pol_lines.specs.Keys.{key_text};
-ghost use Rattle.pol_lines.specs.Objects.{GivesEach, Makes, with_value};
+ghost use Rattle.pol_lines.specs.Objects.{Makes};
+ghost use Rattle.pol_lines.specs.Steps.{GivesStep};
 
+use crate::conditions::ConditionFronts;
 use crate::fields::{count_at, name_at, scalar_at};
 use crate::flat::Member;
 use crate::key::Key;
 use crate::lists::Front;
-use crate::objects::{Cut, begin_object, read_flats, read_list_at, read_object};
+use crate::objects::{Cut, begin_object, read_flats, read_list_at, read_object, read_value_at};
 use arrayvec::ArrayVec;
-use chart_core::{MOST_SETTINGS, Step};
+use chart_core::{Condition, MOST_SETTINGS, Step};
 use mtp_codes::Setting;
 use mtp_json::{Alike, repeats};
 use std::alloc::Global;
@@ -91,11 +93,12 @@ fn are_of_step(members: &[Member]) -> bool
     })
 }
 
-/// A step of these flat members and these settings, by its form.
-fn step_in(members: &[Member], settings: Vec<Setting>) -> Option<Step>
+/// A step of these flat members, these settings and this condition, by its form.
+fn step_in(members: &[Member], settings: Vec<Setting>, finish: Option<Condition>) -> Option<Step>
     requires { length settings.items ≤ MOST_SETTINGS }
-    ensures { IfSome result (λ step. (values : Option Items) → GivesEach setting_of settings.items values
-        → Makes step_of (plain_step step) members.now (with_value (codes "settings") (option_map array values) [])) }
+    ensures { IfSome result (λ step. (others : List (List ℕ × Data))
+        → GivesStep settings.items (plain_finish finish) others
+        → Makes step_of (plain_step step) members.now others) }
 {
     if !are_of_step(members) {
         return None;
@@ -113,16 +116,20 @@ fn step_in(members: &[Member], settings: Vec<Setting>) -> Option<Step>
         service,
         procedure,
         settings,
-        finish: None,
+        finish,
     })
 }
 
-/// The step at the front of a text, with how many bytes follow it: its settings stand last, and it has no condition.
+/// The step at the front of a text, with how many bytes follow it: its condition stands first or behind its settings.
+// Never inlined: each call of a node around the steps would else set up a step's lists.
+#[inline(never)]
 pub fn read_step(alloc: Global, text: &[u8]) -> Option<(Step, usize)>
-    ensures { IfSome result (λ read. Reads step_of 3 text.now (plain_step read.0) (last_of read.1 text.now)) }
+    ensures { IfSome result (λ read. Reads step_of 16 text.now (plain_step read.0) (last_of read.1 text.now)) }
 {
     let mut members = ArrayVec::new();
     let cut = begin_object(text)?;
+    let mut early = None;
+    let cut = read_value_at::<ConditionFronts>(alloc, cut, b"\"finish\":", &mut early)?;
     let cut = read_flats(cut, &mut members);
     let mut settings = Vec::new(alloc);
     let cut = read_list_at::<SettingFronts>(
@@ -132,9 +139,12 @@ pub fn read_step(alloc: Global, text: &[u8]) -> Option<(Step, usize)>
         MOST_SETTINGS,
         &mut settings,
     )?;
+    let cut = read_flats(cut, &mut members);
+    let mut late = None;
+    let cut = read_value_at::<ConditionFronts>(alloc, cut, b"\"finish\":", &mut late)?;
     let Cut::End(rest) = read_flats(cut, &mut members) else {
         return None;
     };
-    let step = step_in(members.as_slice(), settings)?;
+    let step = step_in(members.as_slice(), settings, late.or(early))?;
     Some((step, rest.len()))
 }

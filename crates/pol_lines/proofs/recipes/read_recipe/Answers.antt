@@ -16,7 +16,7 @@ recipe_in-requires c =
     let few : length roles ≤ 64 = grind (arith, common_steps, c.in_ok-cut.ensures.few) in
     let played = c.in_ok-cut.ensures.list 2 (codes "roles") (omega arith) refl
     (record { plain = refl; no_key = refl }) in
-    let charted = c.in_ok-cut-2.ensures 35 (codes "chart") (omega arith) refl
+    let charted = c.in_ok-cut-2.ensures 64 (codes "chart") (omega arith) refl
     (record { plain = refl; no_key = refl }) in
     let formed = read_is_formed played.values charted.value roles (plain_node c.in_ok-root.root) played.gives some few
     (rw c.in_ok-root.was at charted.gives) in
@@ -28,15 +28,15 @@ returns c =
     let roles = map plain_role c.read_list_at.new.found.items in
     let some : 0 < length roles = grind (arith, common_steps, c.if-is_empty.ensures) in
     let few : length roles ≤ 64 = grind (arith, common_steps, c.in_ok-cut.ensures.few) in
-    let played = c.in_ok-cut.ensures.list 35 (codes "roles") (omega arith) refl
+    let played = c.in_ok-cut.ensures.list 64 (codes "roles") (omega arith) refl
     (record { plain = refl; no_key = refl }) in
-    let charted = c.in_ok-cut-2.ensures 35 (codes "chart") (omega arith) refl
+    let charted = c.in_ok-cut-2.ensures 64 (codes "chart") (omega arith) refl
     (record { plain = refl; no_key = refl }) in
     let rolled = with_value (codes "roles") (option_map array played.values) [] in
     let others = with_value (codes "chart") charted.value rolled in
-    let read = c.read_flats.ensures 35 line others
-    (charted.passes line _ rolled (played.passes line _ [] (c.requires 35))) in
-    let stands = subst (λ held. Stands 35 line held others c.read_flats.result) (sym c.as_slice.ensures.value) read in
+    let read = c.read_flats.ensures 64 line others
+    (charted.passes line _ rolled (played.passes line _ [] (c.requires 64))) in
+    let stands = subst (λ held. Stands 64 line held others c.read_flats.result) (sym c.as_slice.ensures.value) read in
     line_of_recipe line c.read_flats.result c.as_slice.result.now played.values charted.value roles
     (plain_node c.in_ok-root.root)
     (plain_event c.in_ok-event.event) (c.if-not-ends.ensures.text refl) played.gives some few
