@@ -52,7 +52,11 @@ pub fn half_at(value: &Value, key: &str) -> u16
     ensures { result ≡ half_at key.now (view value.now) }
 {
     let number = number_at(value, key);
-    if number <= u32::from(u16::MAX) { number as u16 } else { 0 }
+    if number <= u32::from(u16::MAX) {
+        number as u16
+    } else {
+        0
+    }
 }
 
 /// The state whose code stands under a key.
