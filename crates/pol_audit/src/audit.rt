@@ -1,5 +1,5 @@
 //! An audit: it reads the lines of an input one after another, and then has its verdict.
-ghost use Rattle.std.specs.Prelude.{◌≡◌, ◌≤◌, IfOk, IsTrue, OnOk, Some, None, length, take};
+ghost use Rattle.std.specs.Prelude.{◌≡◌, ◌≤◌, IfOk, IsTrue, OnErr, OnOk, Some, None, length, take};
 ghost use Rattle.pol_events.specs.Events.{plain_entry, plain_event};
 ghost use Rattle.pol_events.specs.Orderly.{is_orderly};
 ghost use Rattle.pol_audit.specs.Reading.{are_orderly};
@@ -50,8 +50,9 @@ impl Audit {
     }
 
     fn keep(&mut self, line: Option<Vec<u8>>) -> Result<(), AllocError>
-        ensures { OnOk result (plain_audit self.new
+        ensures kept { OnOk result (plain_audit self.new
             ≡ with_behind (plain_audit self.old) (option_map (λ line. line.items) line)) }
+        ensures unchanged { OnErr result (plain_audit self.new ≡ plain_audit self.old) }
     {
         self.behind.push(line)?;
         Ok(())
@@ -59,7 +60,8 @@ impl Audit {
 
     // Keeps one more line behind the entries.
     fn keep_line(&mut self, line: &[u8]) -> Result<(), AllocError>
-        ensures { OnOk result (plain_audit self.new ≡ with_behind (plain_audit self.old) (Some line.now)) }
+        ensures kept { OnOk result (plain_audit self.new ≡ with_behind (plain_audit self.old) (Some line.now)) }
+        ensures unchanged { OnErr result (plain_audit self.new ≡ plain_audit self.old) }
     {
         let kept = line.to_vec(self.alloc)?;
         self.keep(Some(kept))
@@ -67,8 +69,9 @@ impl Audit {
 
     fn keep_entry(&mut self, entry: Entry) -> Result<(), AllocError>
         requires { IsTrue (is_orderly (plain_event entry.event)) }
-        ensures { OnOk result (plain_audit self.new
+        ensures kept { OnOk result (plain_audit self.new
             ≡ with_front (plain_audit self.old) (Some (plain_entry entry)) None) }
+        ensures unchanged { OnErr result (plain_audit self.new ≡ plain_audit self.old) }
     {
         self.entries.push(entry)?;
         Ok(())
@@ -77,8 +80,9 @@ impl Audit {
     // Reads one more line, where each line before it was an entry.
     #[tactic(auto, using(crate::proofs::Audited::entry_read, crate::proofs::Audited::fault_read))]
     fn read_front(&mut self, line: &[u8]) -> Result<(), AllocError>
-        ensures { OnOk result (plain_audit self.new
+        ensures kept { OnOk result (plain_audit self.new
             ≡ with_front (plain_audit self.old) (entry_on (Some line.now)) (Some line.now)) }
+        ensures unchanged { OnErr result (plain_audit self.new ≡ plain_audit self.old) }
     {
         match read_entry(self.alloc, line) {
             Ok(entry) => self.keep_entry(entry),
@@ -89,7 +93,8 @@ impl Audit {
 
     // Reads one more line, which may be an entry where each line before it was one.
     fn read_next(&mut self, line: &[u8]) -> Result<(), AllocError>
-        ensures { OnOk result (plain_audit self.new ≡ with_line (plain_audit self.old) (Some line.now)) }
+        ensures kept { OnOk result (plain_audit self.new ≡ with_line (plain_audit self.old) (Some line.now)) }
+        ensures unchanged { OnErr result (plain_audit self.new ≡ plain_audit self.old) }
     {
         if self.behind.is_empty() {
             self.read_front(line)
@@ -102,9 +107,10 @@ impl Audit {
     ///
     /// # Errors
     ///
-    /// AllocError where memory is wanting.
+    /// AllocError where memory is wanting; then what was read stays as it was.
     pub fn read_line(&mut self, line: &[u8]) -> Result<(), AllocError>
-        ensures { OnOk result (plain_audit self.new ≡ after_line (plain_audit self.old) (Some line.now)) }
+        ensures read { OnOk result (plain_audit self.new ≡ after_line (plain_audit self.old) (Some line.now)) }
+        ensures unchanged { OnErr result (plain_audit self.new ≡ plain_audit self.old) }
     {
         if self.is_decided() {
             return Ok(());
@@ -116,9 +122,10 @@ impl Audit {
     ///
     /// # Errors
     ///
-    /// AllocError where memory is wanting.
+    /// AllocError where memory is wanting; then what was read stays as it was.
     pub fn read_too_long(&mut self) -> Result<(), AllocError>
-        ensures { OnOk result (plain_audit self.new ≡ after_line (plain_audit self.old) None) }
+        ensures read { OnOk result (plain_audit self.new ≡ after_line (plain_audit self.old) None) }
+        ensures unchanged { OnErr result (plain_audit self.new ≡ plain_audit self.old) }
     {
         if self.is_decided() {
             return Ok(());

@@ -1,5 +1,5 @@
 //! A plant to which a journal is told.
-ghost use Rattle.std.specs.Prelude.{◌≡◌, ◌+◌, ◌<◌, ◌^◌, [], IfOk, IsTrue, OnOk};
+ghost use Rattle.std.specs.Prelude.{◌≡◌, ◌+◌, ◌≤◌, ◌<◌, ◌^◌, [], IfOk, IsTrue, OnErr, OnOk};
 ghost use Rattle.pol_events.specs.Events.{plain_event};
 ghost use Rattle.pol_events.specs.Orderly.{is_orderly};
 ghost use Rattle.pol_demo.specs.Telling.{event_told, told_by};
@@ -19,19 +19,21 @@ pub struct Teller {
 impl Teller {
     /// Nothing was told yet. There is room for so many lines, unless memory is wanting.
     pub fn new(alloc: Global, lines: u32) -> Result<Teller, AllocError>
-        ensures { IfOk result (λ teller. told_by teller ≡ record { history = []; at = 1 }) }
+        ensures nothing { IfOk result (λ teller. told_by teller ≡ record { history = []; at = 1 }) }
+        ensures room { IfOk result (λ teller. lines ≤ teller.plant.spare) }
     {
         let mut plant = Plant::new(alloc);
         plant.reserve(lines)?;
         Ok(Teller { plant, at: 1 })
     }
 
-    /// Tells an event as the next line.
+    /// Tells an event as the next line; where memory is wanting, nothing is told.
     pub fn tell(&mut self, event: Event) -> Result<(), AllocError>
         requires orderly { IsTrue (is_orderly (plain_event event)) }
         requires room { self.old.at + 1 < 2 ^ 64 }
         ensures told { OnOk result (told_by self.new ≡ event_told (plain_event event) (told_by self.old)) }
         ensures at { OnOk result (self.new.at ≡ self.old.at + 1) }
+        ensures unchanged { OnErr result (told_by self.new ≡ told_by self.old) }
     {
         match self.plant.apply(event) {
             Ok(_) => {
