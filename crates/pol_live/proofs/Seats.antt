@@ -1,10 +1,13 @@
 -- Seats in the order of their actors.
-use Rattle.std.proofs.Common.{◌≡◌, ℕ, ◌+◌, List, [], ◌∷◌, ◌++◌, get_or, length, set, sym, ap, ◌∙◌, arith, add-one, suc, zero}
+use Rattle.std.proofs.Common.{◌≡◌, ℕ, ◌+◌, List, [], ◌∷◌, ◌++◌, get_or, length, set, sym, ap, ◌∙◌, arith, add-one, suc, zero, Ok, Err, IfOk, Result}
 use Rattle.std.specs.List.{range_with_len}
 use Rattle.std.proofs.lemmas.List.{map-append}
 use Rattle.std.proofs.Math.Seq.{map-set_same}
+use Rattle.pol_site.specs.Sites.{PlainSite}
 use Rattle.pol_live.specs.Parts.{made_in_all}
 use Rattle.pol_live.specs.Seats.{AreSeated, Seated, actors_of}
+use Rattle.pol_live.specs.Turns.{Locked, TookTurn, Turns}
+use Rattle.pol_live.specs.declared.turned.Turned.{Turned}
 
 -- a range with one number more at its end
 range_suc : (from count : ℕ) → range_with_len from (suc count) ≡ range_with_len from count ++ (from + count) ∷ []
@@ -42,3 +45,9 @@ pub seat_kept : (seats : List Seated) (place : ℕ) (seat other : Seated)
     → seat.actor ≡ (get_or seats place other).actor →
     actors_of (set seats place seat) ≡ actors_of seats
 seat_kept seats place seat other same = map-set_same (λ (each : Seated). each.actor) seats place seat other same
+
+-- a turn of an actor at a plant is one that it took
+pub took_turn : {E : Type 0} (site : PlainSite) (before after : Locked) (actor : ℕ) (result : Result Turned E) →
+    IfOk result (λ turned. Turns site before after actor turned) → IfOk result (λ turned. TookTurn site actor turned)
+took_turn site before after actor (Ok turned) turns = record { before = before; after = after; turns = turns }
+took_turn site before after actor (Err refused) turns = tt

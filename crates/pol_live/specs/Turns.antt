@@ -124,6 +124,12 @@ Turns site before after actor Looked = HasLooked site before after actor
 Turns site before after actor Rested = HasRested site before after actor
 Turns site before after actor Full = WasFull before after
 
+-- there is a plant at which the actor took such a turn
+pub record TookTurn (site : PlainSite) (actor : ℕ) (turned : Turned) : Type 0 where
+  pub before : Locked
+  pub after : Locked
+  pub turns : Turns site before after actor turned
+
 -- who the actor with this number is
 abbrev pub IsActorKind : PlainSite → ℕ → ActorKind → Type 0
 IsActorKind site actor kind.Exchanger = actor ≡ 0

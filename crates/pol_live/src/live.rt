@@ -4,6 +4,7 @@ ghost use Rattle.pol_site.specs.Actors.{actors};
 ghost use Rattle.pol_site.specs.PlainSite.{plain_site};
 ghost use Rattle.pol_live.specs.Parts.{AreOwnParts, IsRun, IsStray, made_in_all};
 ghost use Rattle.pol_live.specs.Seats.{AreSeated, ListAfter};
+ghost use Rattle.pol_live.specs.Turns.{TookTurn};
 
 use crate::closing::{Strayed, compare_all, gather, leave};
 use crate::job::Job;
@@ -33,6 +34,7 @@ struct Under<J: Job, C: Clock> {
 impl<J: Job, C: Clock> Under<J, C> {
     // One turn of the seat's actor.
     fn turn(&mut self, seat: &mut ActorSeat<J>) -> Result<Turned, AllocError>
+        ensures turned { IfOk result (λ turned. TookTurn J.site seat.old.actor turned) }
         ensures ok { IfOk result (λ turned. ListAfter seat.old.list seat.new.list turned) }
         ensures err { OnErr result (seat.new.list ≡ seat.old.list) }
         ensures actor { seat.new.actor ≡ seat.old.actor }
@@ -115,6 +117,7 @@ impl<J: Job, C: Clock + Send> LivePlant<J, C> {
     ///
     /// Where there is no memory. Then the seat's list is as before.
     pub fn turn<R: Wait>(&self, rt: &R, seat: &mut ActorSeat<J>) -> Result<Turned, AllocError>
+        ensures turned { IfOk result (λ turned. TookTurn J.site seat.old.actor turned) }
         ensures ok { IfOk result (λ turned. ListAfter seat.old.list seat.new.list turned) }
         ensures err { OnErr result (seat.new.list ≡ seat.old.list) }
         ensures actor { seat.new.actor ≡ seat.old.actor }
