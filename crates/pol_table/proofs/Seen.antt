@@ -1,17 +1,17 @@
 -- The rows of a table, by its holdings and by who watches what.
-use Rattle.std.proofs.Common.{◌≡◌, ℕ, suc, ◌+◌, ◌<◌, arith, get_or, drop, Bool, true, false, not, cond, List, [], ◌∷◌, ◌++◌, length, Option, Some, None, refl, sym, ap, ◌∙◌, true≢false, is_some, option_map}
-use Rattle.std.specs.Prelude.{◌||◌, IsSome, Result, Ok, Err, OnOk, OnErr, filter, slice_get, unwrap_or, if◌then◌else◌}
+use Rattle.std.proofs.Common.{◌≡◌, ℕ, suc, ◌+◌, ◌<◌, arith, get_or, drop, Bool, true, false, not, cond, List, [], ◌∷◌, ◌++◌, length, map, Option, Some, None, refl, sym, ap, ◌∙◌, true≢false, is_some, option_map}
+use Rattle.std.specs.Prelude.{IsSome, Result, Ok, Err, OnOk, OnErr, filter, slice_get, unwrap_or, if◌then◌else◌}
 use Rattle.std.proofs.lemmas.Bool.{or_left, or_right}
-use Rattle.std.specs.List.{AllByRecursion, IsDistinct, cons_option}
+use Rattle.std.specs.List.{cons_option}
 use Rattle.std.specs.Option.{option_and_then}
 use Rattle.std.specs.Str.{bytes_eq}
-use Rattle.std.proofs.lemmas.List.{length-map, append-nil}
+use Rattle.std.proofs.lemmas.List.{length-map}
 use Rattle.std.proofs.Math.Seq.{drop-cons}
 use Rattle.mtp_codes.specs.Names.{is_among}
 use Rattle.pol_table.specs.HeldRows as held
 use Rattle.pol_table.specs.HeldRows.{HeldRow, HeldRows}
 use Rattle.pol_table.specs.HeldAnswers as held_answers
-use Rattle.pol_table.specs.Rows.{Row, look, part_of, holder_of, watchers_of, with_part, held_by, watched_by, freed_from, batches_without}
+use Rattle.pol_table.specs.Rows.{Row, look, part_of, holder_of, watchers_of, with_part, held_by, watched_among, freed_from, batches_without}
 use Rattle.pol_table.specs.Answers.{dock_fault, leaving, parting_from, parting_unless, missing_at, busy_at, holding}
 use Rattle.pol_table.specs.declared.faults.LeaveFault.TheVariants.{Held, Watched}
 use Rattle.pol_table.specs.Reasons.{dock_reason, missing_reason, busy_reason}
@@ -297,28 +297,20 @@ watchers_append (watch ∷ watches) more tag = go (bytes_eq watch.tag tag) (watc
     go true rest = ap (λ others. watch.batch ∷ others) rest
     go false rest = rest
 
--- none of these tags is this one
-none_of : (tag : List ℕ) (tags : List (List ℕ)) → AllByRecursion (λ other. bytes_eq tag other ≡ false) tags →
-    is_among tags tag ≡ false
-none_of tag [] apart = refl
-none_of tag (other ∷ tags) apart = rw (apart_back tag other apart.0, none_of tag tags apart.1) refl
-
--- of the watches of one batch, each of its tags has one watcher
-pub watchers_new : (batch : List ℕ) (tags : List (List ℕ)) (tag : List ℕ) → IsDistinct bytes_eq tags →
-    watchers_in tag (watches_of batch tags) ≡ cond (is_among tags tag) (batch ∷ []) []
-unfolding IsDistinct
-watchers_new batch [] tag distinct = refl
-watchers_new batch (first ∷ tags) tag distinct = go (bytes_eq first tag) refl (watchers_new batch tags tag distinct.1)
+-- of the watches of one batch, a tag has a watcher for each time that it stands among the tags
+watchers_new : (batch : List ℕ) (tags : List (List ℕ)) (tag : List ℕ) →
+    watchers_in tag (watches_of batch tags) ≡ map (λ other. batch) (filter (λ other. bytes_eq other tag) tags)
+watchers_new batch [] tag = refl
+watchers_new batch (first ∷ tags) tag = go (bytes_eq first tag) (watchers_new batch tags tag)
   where
-    go : (same : Bool) → bytes_eq first tag ≡ same →
-        watchers_in tag (watches_of batch tags) ≡ cond (is_among tags tag) (batch ∷ []) [] →
+    named : List (List ℕ)
+    named = filter (λ other. bytes_eq other tag) tags
+
+    go : (same : Bool) → watchers_in tag (watches_of batch tags) ≡ map (λ other. batch) named →
         cons_option (cond same (Some batch) None) (watchers_in tag (watches_of batch tags))
-        ≡ cond (same || is_among tags tag) (batch ∷ []) []
-    go true same rest =
-        ap (λ more. batch ∷ more)
-        (rest ∙ ap (λ among. cond among (batch ∷ []) [])
-        (ap (is_among tags) (sym (one_tag first tag same)) ∙ none_of first tags distinct.0))
-    go false same rest = rest
+        ≡ map (λ other. batch) (cond same (first ∷ named) named)
+    go true rest = ap (λ more. batch ∷ more) rest
+    go false rest = rest
 
 -- ---- what the calls leave
 
@@ -390,28 +382,23 @@ module _ {T : Type 0} where
   there_added (Err fault) batch tags old new rows added same there docked = rw same there
 
   -- the rows of these tags are watched by the batch too, behind all others
-  pub watched_seen : (batch : List ℕ) (tags : List (List ℕ)) (watches : List Watch) (rows : HeldRows T) →
-      IsDistinct bytes_eq tags → (tag : List ℕ) →
+  pub watched_seen : (batch : List ℕ) (tags : List (List ℕ)) (watches : List Watch) (rows : HeldRows T) (tag : List ℕ) →
       look tag (seen_rows (watches ++ watches_of batch tags) rows)
-      ≡ option_map (λ row. if is_among tags tag then watched_by batch row else row)
-      (look tag (seen_rows watches rows))
-  watched_seen batch tags watches rows distinct tag =
+      ≡ option_map (watched_among tags batch tag) (look tag (seen_rows watches rows))
+  watched_seen batch tags watches rows tag =
       rw (look_seen (watches ++ watches_of batch tags) rows tag, look_seen watches rows tag)
-      (go (is_among tags tag) (held.look tag rows)
+      (go (held.look tag rows)
       (watchers_append watches (watches_of batch tags) tag
-      ∙ ap (λ more. watchers_in tag watches ++ more) (watchers_new batch tags tag distinct)))
+      ∙ ap (λ more. watchers_in tag watches ++ more) (watchers_new batch tags tag)))
     where
-      go : (among : Bool) (found : Option (HeldRow T)) →
+      go : (found : Option (HeldRow T)) →
           watchers_in tag (watches ++ watches_of batch tags)
-          ≡ watchers_in tag watches ++ cond among (batch ∷ []) [] →
+          ≡ watchers_in tag watches ++ map (λ other. batch) (filter (λ other. bytes_eq other tag) tags) →
           option_map (seen_row (watches ++ watches_of batch tags) tag) found
-          ≡ option_map (λ row. cond among (watched_by batch row) row) (option_map (seen_row watches tag) found)
-      go among None is = refl
-      go true (Some row) is =
+          ≡ option_map (watched_among tags batch tag) (option_map (seen_row watches tag) found)
+      go None is = refl
+      go (Some row) is =
           ap (λ watchers. Some (record { part = row.part; holder = row.holder; watchers = watchers })) is
-      go false (Some row) is =
-          ap (λ watchers. Some (record { part = row.part; holder = row.holder; watchers = watchers }))
-          (is ∙ append-nil (watchers_in tag watches))
 
   -- after a dock, done or refused, each tag that is watched is docked
   pub there_after_dock : {X E : Type 0} (result : Result X E) (watches : List Watch) (tag : List ℕ) (part : T)

@@ -1,5 +1,5 @@
 -- What contracts see of a table: each docked part under its tag, the batch that holds it, and those that watch it.
-use Rattle.std.specs.Prelude.{ℕ, not, List, [], ◌∷◌, ◌++◌, filter, map, Option, Some, if◌then◌else◌, unwrap_or, refl}
+use Rattle.std.specs.Prelude.{ℕ, not, List, [], ◌++◌, filter, map, Option, Some, if◌then◌else◌, unwrap_or, refl}
 use Rattle.std.specs.Map.{lookup}
 use Rattle.std.specs.Option.{option_map, option_and_then}
 use Rattle.std.specs.Str.{bytes_eq}
@@ -55,9 +55,10 @@ module _ {T : Type 0} where
   abbrev pub held_by : List ℕ → Row T → Row T
   held_by batch row = record row { holder = Some batch }
 
-  -- the row, watched by this batch behind all others
-  abbrev pub watched_by : List ℕ → Row T → Row T
-  watched_by batch row = record row { watchers = row.watchers ++ batch ∷ [] }
+  -- the row of a tag, watched by this batch behind all others, once for each time that the tag stands among these
+  abbrev pub watched_among : List (List ℕ) → List ℕ → List ℕ → Row T → Row T
+  watched_among tags batch tag row =
+      record row { watchers = row.watchers ++ map (λ other. batch) (filter (λ other. bytes_eq other tag) tags) }
 
   -- the row, free where this batch held it, and not watched by it any more
   abbrev pub freed_from : List ℕ → Row T → Row T

@@ -1,11 +1,10 @@
 //! The table of docked parts.
 ghost use Rattle.std.specs.Prelude.{◌≡◌, ℕ, ◌+◌, List, [], length, OnOk, OnErr, IfErr, IsSome, true, slice_get, if◌then◌else◌, unwrap_or, option_copied};
 ghost use Rattle.std.specs.Borrow.{LendsIf, sem};
-ghost use Rattle.std.specs.List.{IsDistinct};
 ghost use Rattle.std.specs.Option.{option_copied_mut, option_map};
 ghost use Rattle.std.specs.Str.{bytes_eq};
 ghost use Rattle.mtp_codes.specs.Names.{is_among};
-ghost use Rattle.pol_table.specs.Rows.{look, part_of, holder_of, watchers_of, with_part, held_by, watched_by, freed_from};
+ghost use Rattle.pol_table.specs.Rows.{look, part_of, holder_of, watchers_of, with_part, held_by, watched_among, freed_from};
 ghost use Rattle.pol_table.specs.Answers.{dock_fault, leaving, holding};
 ghost use Rattle.pol_table.specs.Watches.{watchers_in};
 
@@ -146,13 +145,12 @@ impl<T: Drop> Table<T> {
         self.holdings.hold_all(tags, batch)
     }
 
-    /// Lets the batch watch all of these tags, which are docked and distinct, behind all others; for want of memory
-    /// none.
+    /// Lets the batch watch all of these tags, which are docked, behind all others; a tag that is named twice is
+    /// watched twice. For want of memory it watches none.
     pub fn watch_all(&mut self, tags: &[Name], batch: Name) -> Result<(), AllocError>
-        requires there { (tag : List ℕ) → is_among tags.now tag ≡ true → IsSome (look tag self.old) }
-        requires distinct { IsDistinct bytes_eq tags.now }
+        requires { (tag : List ℕ) → is_among tags.now tag ≡ true → IsSome (look tag self.old) }
         ensures watched { OnOk result ((tag : List ℕ) → look tag self.new
-            ≡ option_map (λ row. if is_among tags.now tag then watched_by batch row else row) (look tag self.old)) }
+            ≡ option_map (watched_among tags.now batch tag) (look tag self.old)) }
         ensures count { length self.new ≡ length self.old }
         ensures unchanged { OnErr result (self.new ≡ self.old) }
     {
