@@ -35,7 +35,7 @@ use Rattle.pol_history.proofs.Holders.{started}
 use Rattle.pol_slots.specs.declared.slot.Slot.{Slot}
 use Rattle.pol_table.specs.Answers.{missing_at, busy_at, holding}
 use Rattle.pol_table.specs.Rows as tables
-use Rattle.pol_table.specs.Rows.{Row, Rows, look, part_of, held_by, watched_by}
+use Rattle.pol_table.specs.Rows.{Row, Rows, look, part_of, held_by}
 use Rattle.pol_table.specs.declared.faults.HoldFault.{HoldFault}
 use Rattle.pol_table.specs.declared.faults.HoldFault.TheVariants as fault
 use Rattle.pol_runs.specs.Runs.{PlainRun}
@@ -43,7 +43,7 @@ use Rattle.pol_core.specs.Batches.{IsRun}
 use Rattle.pol_core.specs.Judging.{part_rule, role_rule, table_unfit, tag_busy, table_busy, bind_rule, chart_rule}
 use Rattle.pol_core.specs.Mirrors.{Mirrors, Answers}
 use Rattle.pol_core.specs.Recipes.{RecipesMirror}
-use Rattle.pol_core.specs.Starting.{Begins}
+use Rattle.pol_core.specs.Starting.{Begins, watched_by}
 use Rattle.pol_core.proofs.Judging.{ruled}
 use Rattle.pol_core.proofs.Starts.{seats_started, runs_started}
 use Rattle.pol_core.proofs.Together.{known_same, refused_all}

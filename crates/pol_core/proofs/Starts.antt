@@ -1,7 +1,9 @@
 -- The tables after an accepted start.
 use Rattle.std.proofs.Common.{◌≡◌, ℕ, Bool, true, false, cond, List, [], ◌∷◌, ◌++◌, Option, Some, None, is_some, refl, ap, sym, ◌∙◌, subst, inl, inr}
-use Rattle.std.specs.Prelude.{map, Result, Ok, Err, ⊤, OnOk, OnErr, is_ok}
+use Rattle.std.specs.Prelude.{◌||◌, filter, map, Result, Ok, Err, ⊤, OnOk, OnErr, is_ok}
 use Rattle.std.proofs.lemmas.Bool.{or_cases}
+use Rattle.std.proofs.lemmas.List.{append-nil}
+use Rattle.std.specs.List.{AllByRecursion, IsDistinct}
 use Rattle.std.specs.Option.{option_or, option_map, option_and_then}
 use Rattle.std.proofs.Math.Path.{fun_ext}
 use Rattle.std.specs.Str.{bytes_eq}
@@ -11,20 +13,20 @@ use Rattle.chart_core.specs.Roles.{PlainChart}
 use Rattle.pol_events.specs.Bound.{PlainAllocation, tags_of}
 use Rattle.pol_history.specs.Batches.{chart_named, holder_of, watchers_of}
 use Rattle.pol_history.specs.Looking.{History, past, past_of_batch, recipes}
-use Rattle.pol_history.proofs.Holders.{started}
+use Rattle.pol_history.proofs.Holders.{started, apart_back}
 use Rattle.pol_history.proofs.Names.{same_true}
 use Rattle.pol_history.proofs.Pasts.{module_past_same}
 use Rattle.pol_slots.specs.declared.slot.Slot.{Slot}
 use Rattle.pol_table.specs.Answers.{missing_at, busy_at, hold_fault, holding}
 use Rattle.pol_table.specs.Reasons.{missing_reason, busy_reason}
 use Rattle.pol_table.specs.Rows as tables
-use Rattle.pol_table.specs.Rows.{Row, Rows, look, held_by, watched_by}
+use Rattle.pol_table.specs.Rows.{Row, Rows, look, held_by, watched_among}
 use Rattle.pol_table.specs.declared.faults.HoldFault.{HoldFault}
 use Rattle.pol_runs.specs.Runs.{PlainRun}
 use Rattle.pol_core.specs.Batches.{RunKeeps, RunsMirror}
 use Rattle.pol_core.specs.Seats.{users_of, IsSeated, SeatsMirror}
 use Rattle.pol_core.proofs.Used.{users_with, users_started}
-use Rattle.pol_core.specs.Starting.{Begins, Holds, Watches}
+use Rattle.pol_core.specs.Starting.{Begins, Holds, Watches, watched_by}
 use Rattle.pol_core.proofs.Stepping.{runs_changed}
 
 -- ---- all tags that were held together are there
@@ -163,6 +165,51 @@ pub holds_now : (tags : List (List ℕ)) (batch : List ℕ) (old new : Rows Slot
     Holds tags batch old new
 holds_now tags batch old new (Ok done) ok answer held = record { free = sym answer; held = held }
 holds_now tags batch old new (Err fault) ok answer held = cc
+
+-- ---- tags that are watched together
+
+-- none of these tags is this one
+none_of : (tag : List ℕ) (tags : List (List ℕ)) → AllByRecursion (λ other. bytes_eq tag other ≡ false) tags →
+    is_among tags tag ≡ false
+none_of tag [] apart = refl
+none_of tag (other ∷ tags) apart = rw (apart_back tag other apart.0, none_of tag tags apart.1) refl
+
+-- a tag stands among distinct ones once, or not at all
+once_among : (batch : List ℕ) (tags : List (List ℕ)) (tag : List ℕ) → IsDistinct bytes_eq tags →
+    map (λ other. batch) (filter (λ other. bytes_eq other tag) tags) ≡ cond (is_among tags tag) (batch ∷ []) []
+unfolding IsDistinct
+once_among batch [] tag distinct = refl
+once_among batch (first ∷ tags) tag distinct = go (bytes_eq first tag) refl (once_among batch tags tag distinct.1)
+  where
+    named : List (List ℕ)
+    named = filter (λ other. bytes_eq other tag) tags
+
+    go : (same : Bool) → bytes_eq first tag ≡ same →
+        map (λ other. batch) named ≡ cond (is_among tags tag) (batch ∷ []) [] →
+        map (λ other. batch) (cond same (first ∷ named) named) ≡ cond (same || is_among tags tag) (batch ∷ []) []
+    go true same rest =
+        ap (λ more. batch ∷ more)
+        (rest ∙ ap (λ among. cond among (batch ∷ []) [])
+        (ap (is_among tags) (sym (same_true first tag same)) ∙ none_of first tags distinct.0))
+    go false same rest = rest
+
+-- so distinct tags are each watched once more
+pub watches_now : (tags : List (List ℕ)) (batch : List ℕ) (old new : Rows Slot) → IsDistinct bytes_eq tags →
+    ((tag : List ℕ) → look tag new ≡ option_map (watched_among tags batch tag) (look tag old)) →
+    Watches tags batch old new
+watches_now tags batch old new distinct watched tag =
+    watched tag ∙ go (is_among tags tag) (once_among batch tags tag distinct) (look tag old)
+  where
+    go : (among : Bool) →
+        map (λ other. batch) (filter (λ other. bytes_eq other tag) tags) ≡ cond among (batch ∷ []) [] →
+        (found : Option (Row Slot)) →
+        option_map (watched_among tags batch tag) found
+        ≡ option_map (λ row. cond among (watched_by batch row) row) found
+    go among is None = refl
+    go true is (Some row) = ap (λ more. Some (record row { watchers = row.watchers ++ more })) is
+    go false is (Some row) =
+        ap (λ more. Some (record row { watchers = row.watchers ++ more })) is
+        ∙ ap (λ watchers. Some (record row { watchers = watchers })) (append-nil row.watchers)
 
 -- that some of them are watched doesn't change what can be held
 pub holding_watched : (tags : List (List ℕ)) (batch : List ℕ) (old new : Rows Slot) → Watches tags batch old new →

@@ -1,5 +1,5 @@
 -- What a start changes in the tables.
-use Rattle.std.specs.Prelude.{ℕ, ◌≡◌, ◌+◌, IsSome, length, true, false, List, [], Some, None, if◌then◌else◌, Ok}
+use Rattle.std.specs.Prelude.{ℕ, ◌≡◌, ◌+◌, IsSome, length, true, false, List, [], ◌∷◌, ◌++◌, Some, None, if◌then◌else◌, Ok}
 use Rattle.std.specs.Map.{lookup}
 use Rattle.std.specs.Option.{option_map}
 use Rattle.std.specs.Str.{bytes_eq}
@@ -10,7 +10,7 @@ use Rattle.pol_events.specs.Bound.{PlainAllocation, given, tags_of}
 use Rattle.pol_events.specs.declared.event.Bind.{Bind}
 use Rattle.pol_slots.specs.declared.slot.Slot.{Slot}
 use Rattle.pol_table.specs.Answers.{holding}
-use Rattle.pol_table.specs.Rows.{Rows, look, held_by, watched_by}
+use Rattle.pol_table.specs.Rows.{Row, Rows, look, held_by}
 use Rattle.pol_runs.specs.Logs.{Follows}
 use Rattle.pol_runs.specs.Runs.{PlainRun}
 
@@ -29,7 +29,11 @@ pub record Holds (tags : List (List ℕ)) (batch : List ℕ) (old new : Rows Slo
   pub held : (tag : List ℕ) →
       look tag new ≡ option_map (λ row. if is_among tags tag then held_by batch row else row) (look tag old)
 
--- the batch watches all of these tags
+-- the row, watched by this batch behind all others
+abbrev pub watched_by : List ℕ → Row Slot → Row Slot
+watched_by batch row = record row { watchers = row.watchers ++ batch ∷ [] }
+
+-- the batch watches all of these tags, which are distinct
 abbrev pub Watches : List (List ℕ) → List ℕ → Rows Slot → Rows Slot → Type 0
 Watches tags batch old new = (tag : List ℕ) →
     look tag new ≡ option_map (λ row. if is_among tags tag then watched_by batch row else row) (look tag old)
