@@ -38,6 +38,7 @@ const WRITTEN: &str = r#"
 {"ev":"variable","at":3,"tag":"M1","name":"note","value":"half full"} => {"at":3,"ev":"variable","name":"note","tag":"M1","value":"half full"}
 {"ev":"recipe","at":4,"recipe":"mix","roles":[{"role":"A","type":"Doser","version":"^1"},{"role":"B","type":"Mixer","version":"^2"}],"chart":{"seq":[{"loop":{"step":"fill","role":"A","service":"dose","procedure":1,"settings":[{"name":"amount","value":1500}]},"until":{"test":"level","role":"A","op":"ge","value":1500}},{"par":[{"step":"stir","role":"B","service":"stir","procedure":1,"settings":[],"finish":{"test":"temp","role":"B","op":"ge","value":60}},{"step":"heat","role":"B","service":"heat","procedure":1,"settings":[]}]}]}} => {"at":4,"chart":{"seq":[{"loop":{"procedure":1,"role":"A","service":"dose","settings":[{"name":"amount","value":1500}],"step":"fill"},"until":{"op":"ge","role":"A","test":"level","value":1500}},{"par":[{"finish":{"op":"ge","role":"B","test":"temp","value":60},"procedure":1,"role":"B","service":"stir","settings":[],"step":"stir"},{"procedure":1,"role":"B","service":"heat","settings":[],"step":"heat"}]}]},"ev":"recipe","recipe":"mix","roles":[{"role":"A","type":"Doser","version":"^1"},{"role":"B","type":"Mixer","version":"^2"}]}
 {"ev":"start","at":5,"batch":"b1","recipe":"mix","bind":{"B":"M2","A":"M1","C":"M3"}} => {"at":5,"batch":"b1","bind":{"A":"M1","B":"M2","C":"M3"},"ev":"start","recipe":"mix"}
+{"ev":"start","at":5,"watch":{"C":"M3","B":"M2"},"batch":"b1","recipe":"mix","bind":{"A":"M1"}} => {"at":5,"batch":"b1","bind":{"A":"M1"},"ev":"start","recipe":"mix","watch":{"B":"M2","C":"M3"}}
 {"ev":"advance","at":6,"batch":"b1"} => {"at":6,"batch":"b1","ev":"advance"}
 {"ev":"freeze","at":6,"batch":"b1"} => {"at":6,"batch":"b1","ev":"freeze"}
 {"ev":"thaw","at":6,"batch":"b1"} => {"at":6,"batch":"b1","ev":"thaw"}
@@ -52,6 +53,7 @@ const WRITTEN: &str = r#"
 /// Lines that leave keys out, each with the event's written form.
 const SHORT: &str = r#"
 {"ev":"plug","at":1,"tag":"M1","desc":{"services":[{"name":"dose"}],"type":"Doser","version":"1.0.0"}} => {"at":1,"desc":{"services":[{"name":"dose","procedures":[{"default":true,"number":1,"params":[],"self_completing":false}]}],"type":"Doser","variables":[],"version":"1.0.0"},"ev":"plug","tag":"M1"}
+{"ev":"start","at":1,"batch":"b","recipe":"r","bind":{"A":"M1"},"watch":{}} => {"at":1,"batch":"b","bind":{"A":"M1"},"ev":"start","recipe":"r"}
 {"ev":"recipe","at":1,"recipe":"r","roles":[{"role":"A","type":"Doser","version":"^1"}],"chart":{"procedure":1,"role":"A","service":"dose","step":"s1"}} => {"at":1,"chart":{"procedure":1,"role":"A","service":"dose","settings":[],"step":"s1"},"ev":"recipe","recipe":"r","roles":[{"role":"A","type":"Doser","version":"^1"}]}
 "#;
 
@@ -87,6 +89,10 @@ plug => NotJson ""
 {"at":1,"ev":"start","batch":"b","recipe":"r","bind":{"A":"M 1","B":2}} => WrongKind "bind"
 {"at":1,"ev":"start","batch":"b","recipe":"r","bind":{"A A":"M1"}} => OutOfRange "bind"
 {"at":1,"ev":"start","batch":"b","recipe":"r","bind":{"A":"M 1"}} => OutOfRange "bind"
+{"at":1,"ev":"start","batch":"b","recipe":"r","bind":{"A":"M1"},"watch":{"A A":"M1"}} => OutOfRange "watch"
+{"at":1,"ev":"start","batch":"b","recipe":"r","bind":{"A":"M1"},"watch":["M2"]} => WrongKind "watch"
+{"at":1,"ev":"start","batch":"b","recipe":"r","bind":{"A":"M1","B":"M2"},"watch":{"B":"M3","C":"M4"}} => Repeated "watch"
+{"at":1,"ev":"start","batch":"b","recipe":"r","bind":{"A":"M1"},"watch":{"A":"M2"},"x":1} => Unknown ""
 {"at":1,"ev":"recipe","recipe":"r","roles":[],"chart":{"procedure":1,"role":"A","service":"dose","step":"s1"}} => OutOfRange "roles"
 {"at":1,"ev":"recipe","recipe":"r","roles":[{"role":"A","type":"Doser","version":"^1"},{"role":"A","type":"Doser","version":"^1"}],"chart":{}} => Missing "chart.step"
 {"at":1,"ev":"recipe","recipe":"r","roles":[{"role":"A","type":"Doser","version":"^1"},{"role":"A","type":"Doser","version":"^1"}],"chart":{"procedure":1,"role":"A","service":"dose","step":"s1"},"x":1} => Unknown ""

@@ -439,6 +439,7 @@ fn started(alloc: Global, batch: Name, tag: Name) -> Result<Entry, Fail> {
             batch,
             recipe,
             bind,
+            watch: Vec::new(alloc),
         },
         answer: Answer::Done,
     })

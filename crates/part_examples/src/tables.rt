@@ -1,4 +1,4 @@
-//! A table that is filled, left and filled again, and held tags.
+//! A table that is filled, left and filled again, held tags, and watched ones.
 use mtp_codes::Name;
 use pol_table::{DockFault, HoldFault, LeaveFault, Table};
 use std::process::Abort;
@@ -64,5 +64,36 @@ fn a_batch_holds_all_of_its_tags_or_none(rt: HostRuntime) -> Result<(), Fail> {
     }
     table.release(mixing);
     assert_eq!(rt; table.leave(second), Ok(21));
+    Ok(())
+}
+
+#[test]
+fn a_watched_tag_stays_until_its_last_watcher_is_released(rt: HostRuntime) -> Result<(), Fail> {
+    let (first, second) = (tag(&rt, 1), tag(&rt, 2));
+    let (filling, mixing, dosing) = (
+        name(&rt, b"filling"),
+        name(&rt, b"mixing"),
+        name(&rt, b"dosing"),
+    );
+    let mut table = Table::new(rt.alloc());
+    assert!(rt; table.dock(first, 10u8).is_ok());
+    assert!(rt; table.dock(second, 20).is_ok());
+    assert!(rt; table.watch_all(&[first, second], mixing).is_ok());
+    assert!(rt; table.watch_all(&[first], dosing).is_ok());
+    assert_eq!(rt; table.hold_all(&[first], filling), Ok(()));
+    assert_eq!(rt; table.watcher(first, 0), Some(mixing));
+    assert_eq!(rt; table.watcher(first, 1), Some(dosing));
+    assert_eq!(rt; table.watcher(first, 2), None);
+    assert_eq!(rt; table.watcher(second, 0), Some(mixing));
+    assert_eq!(rt; table.watcher(second, 1), None);
+    assert_eq!(rt; table.leave(first), Err(LeaveFault::Held(filling)));
+    table.release(filling);
+    assert_eq!(rt; table.leave(first), Err(LeaveFault::Watched(mixing)));
+    table.release(mixing);
+    assert_eq!(rt; table.leave(first), Err(LeaveFault::Watched(dosing)));
+    assert_eq!(rt; table.leave(second), Ok(20));
+    table.release(dosing);
+    assert_eq!(rt; table.watcher(first, 0), None);
+    assert_eq!(rt; table.leave(first), Ok(10));
     Ok(())
 }

@@ -13,7 +13,7 @@ use Rattle.mtp_assembly.specs.declared.control.ServiceControl.{ServiceControl}
 use Rattle.mtp_desc.specs.Plain.{PlainDescription, PlainService}
 use Rattle.chart_core.specs.Trees.{PlainStep}
 use Rattle.chart_cursor.specs.Logs.{active}
-use Rattle.pol_events.specs.Bound.{step_on}
+use Rattle.pol_events.specs.Bound.{given, step_on}
 use Rattle.pol_events.specs.Events.{PlainEvent, PlainEntry, plug, unplug, report, variable, recipe, start, advance, freeze, thaw, stop_batch, abandon, desk, exchange_begin, exchange_end, exchange_cancel}
 use Rattle.pol_events.specs.Orderly.{is_orderly}
 use Rattle.pol_events.specs.Refusals.{in_exchange, service_not_at_rest, wrong_ticket}
@@ -369,7 +369,7 @@ busy_active : (older : History) (tag : List ℕ) → IsBusy (active_step older t
 busy_active older tag =
     busy_then _ (λ batch. busy_then _ (λ started. busy_then _
     (λ chart. busy_mapped (λ (step : PlainStep). ActiveStep batch step.name) (λ step. refl)
-    (step_on started.binds tag (active chart (log_by (past_of_batch batch older)))))
+    (step_on (given started.binds) tag (active chart (log_by (past_of_batch batch older)))))
     (chart_by (recipes older) (Some started))) (start_by (past_of_batch batch older))) (holder_of older tag)
 
 -- a module that isn't at rest

@@ -13,7 +13,7 @@ use Rattle.pol_events.specs.Orderly.{is_orderly}
 use Rattle.pol_events.specs.declared.answer.Answer.{Answer}
 use Rattle.pol_events.specs.declared.answer.Answer.TheVariants.{Done, Ticket, Did, Waiting, Closed, Refused}
 use Rattle.pol_events.specs.declared.answer.Rule.TheVariants.{BatchClosed}
-use Rattle.pol_events.specs.declared.event.Bind.{Bind}
+use Rattle.pol_events.specs.Bound.{PlainAllocation}
 use Rattle.pol_history.specs.Answers.{advanced, answer_of, first_rule, is_full}
 use Rattle.pol_history.specs.Batches.{Started, chart_by, outcome_of, start_by, start_of}
 use Rattle.pol_history.specs.Following.{next_of, next_of_started}
@@ -54,7 +54,7 @@ stage_other older batch entry stage apart stands =
         (past_of_batch batch older))) apart
 
 -- its start
-pub stage_started : (older : History) (at : ℕ) (batch recipe : List ℕ) (binds : List Bind) (answer : Answer) →
+pub stage_started : (older : History) (at : ℕ) (batch recipe : List ℕ) (binds : PlainAllocation) (answer : Answer) →
     IsStage older batch stage.Unsent →
     IsStage (paired (start at batch recipe binds) answer ∷ older) batch (stage_after stage.Unsent answer)
 stage_started older at batch recipe binds answer stands = by (bytes_eq batch batch) answer (same_refl batch)

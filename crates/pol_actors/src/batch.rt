@@ -53,9 +53,10 @@ fn is_refusal_passing(would: &Result<(), Rule>) -> bool
 // Whether the start of the batch waits.
 fn waits(batch: &SiteBatch, plant: &Plant) -> bool
     ensures { result ≡ is_refusal_passing (refusal (answer_of (plant_history plant.now)
-        (start 0 batch.now.batch batch.now.recipe batch.now.bind.items))) }
+        (start 0 batch.now.batch batch.now.recipe
+        (record { held = batch.now.bind.items; watched = batch.now.watch.items })))) }
 {
-    is_refusal_passing(&plant.would_start(batch.batch, batch.recipe, &batch.bind))
+    is_refusal_passing(&plant.would_start(batch.batch, batch.recipe, &batch.bind, &batch.watch))
 }
 
 // The binds once more.
@@ -78,11 +79,13 @@ fn start_event(alloc: Global, batch: &SiteBatch, plant: &Plant) -> Result<Option
         return Ok(None);
     }
     let bind = copied(alloc, &batch.bind)?;
+    let watch = copied(alloc, &batch.watch)?;
     Ok(Some(Event::Start {
         at: 0,
         batch: batch.batch,
         recipe: batch.recipe,
         bind,
+        watch,
     }))
 }
 

@@ -6,6 +6,7 @@ pub mod Steps
 pub mod Ruled
 pub mod Answered
 pub mod Uncovered
+pub mod Watching
 pub mod Asked
 pub mod Found
 pub mod Reading

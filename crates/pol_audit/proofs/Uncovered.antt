@@ -7,7 +7,7 @@ use Rattle.mtp_procs.specs.Covers.{cover_fault, missing_by}
 use Rattle.chart_core.specs.Roles.{PlainChart}
 use Rattle.pol_events.specs.declared.answer.Rule.{Rule}
 use Rattle.pol_events.specs.declared.answer.Rule.TheVariants.{HeldBack}
-use Rattle.pol_events.specs.Bound.{bound_role}
+use Rattle.pol_events.specs.Bound.{bound_role, given}
 use Rattle.pol_history.specs.Looking.{History}
 use Rattle.pol_history.specs.Batches.{Started, start_by, chart_named}
 use Rattle.pol_history.specs.Rules.{uncovered_by}
@@ -28,7 +28,7 @@ lacks batch role (Some fault) = refl
 pub uncovered_is : (recipes past : History) (tag : List ℕ) (description : PlainDescription) (batch : List ℕ)
     (started : Started) (chart : PlainChart) (role : List ℕ) →
     start_by past ≡ Some started → chart_named started.recipe recipes ≡ Some chart
-    → bound_role started.binds tag ≡ Some role →
+    → bound_role (given started.binds) tag ≡ Some role →
     uncovered_by recipes tag description batch past
     ≡ held_back_for batch (option_map (missing_by role) (cover_fault chart role description))
 uncovered_is recipes past tag description batch started chart role is charted bound =

@@ -1,14 +1,23 @@
 -- What contracts see of a batch's start, and of its active steps.
-use Rattle.std.specs.Prelude.{List, Bool}
+use Rattle.std.specs.Prelude.{ℕ, List, Bool}
+use Rattle.std.specs.List.{filter_map}
 use Rattle.chart_core.specs.Active.{phase_after, is_running}
 use Rattle.chart_core.specs.Trees.{PlainStep}
 use Rattle.chart_core.specs.declared.entry.LogEntry.{LogEntry}
-use Rattle.pol_history.specs.Batches.{Started}
+use Rattle.pol_events.specs.Bound.{plain_allocation}
+use Rattle.pol_events.specs.Events.{plain_entry}
+use Rattle.pol_events.specs.declared.event.Entry.{Entry}
+use Rattle.pol_history.specs.Batches.{Started, if_open, watches}
+use Rattle.pol_history.specs.Looking.{History}
 use Rattle.pol_audit.specs.declared.batches.Start.{Start}
 
 -- the recipe and the binds
 abbrev pub started : Start → Started
-started start = record { recipe = start.recipe; binds = start.binds.now }
+started start = record { recipe = start.recipe; binds = plain_allocation start.binds }
+
+-- those of the batches that these entries start which watch the module and aren't closed, in the order of the entries
+abbrev pub watchers_in : History → List ℕ → List Entry → List (List ℕ)
+watchers_in history tag entries = filter_map (λ entry. if_open history (watches tag (plain_entry entry))) entries
 
 -- the step is active after the log
 unfoldable pub is_active_step : List LogEntry → PlainStep → Bool

@@ -5,6 +5,7 @@ ghost use Rattle.mtp_codes.specs.declared.limits.TheConstants.{LONGEST_HISTORY};
 ghost use Rattle.mtp_desc.specs.PlainDescription.{plain_description};
 ghost use Rattle.chart_core.specs.Charts.{plain_chart};
 ghost use Rattle.chart_core.specs.Roles.{role_names};
+ghost use Rattle.pol_events.specs.Bound.{plain_allocation};
 ghost use Rattle.pol_events.specs.Events.{plain_event, plain_history, unplug, report, variable, start, freeze, thaw, desk, exchange_begin, exchange_end, exchange_cancel};
 ghost use Rattle.pol_history.specs.Looking.{past, past_of_batch, recipes};
 ghost use Rattle.pol_history.specs.Modules.{docking_by};
@@ -16,7 +17,7 @@ ghost use Rattle.pol_bind.specs.Roles.{names_in};
 
 use crate::batch_rules::{
     active_step, already_frozen, batch_closed, batch_known, batches_full, held_back, no_batch,
-    not_frozen, recipe_known, recipes_full,
+    not_frozen, recipe_known, recipes_full, watched,
 };
 use crate::batches::{chart_named, log_of};
 use crate::following::{has_broken, next_of, was_stopped};
@@ -30,8 +31,8 @@ use chart_core::{Chart, LogEntry, Role};
 use mtp_assembly::ServiceControl;
 use mtp_codes::{Command, LONGEST_HISTORY, Name, Value};
 use mtp_desc::Description;
-use pol_bind::{one_module_twice, role_unbound, role_unknown};
-use pol_events::{Answer, Bind, Entry, Event, Next, Outcome, Rule};
+use pol_bind::{one_module_twice, role_unbound, role_unknown, watched_step};
+use pol_events::{Allocation, Answer, Entry, Event, Next, Outcome, Rule};
 use std::alloc::{AllocError, Global};
 
 fn plug_rule(alloc: Global, history: &[Entry], tag: Name) -> Result<Option<Rule>, AllocError>
@@ -48,6 +49,7 @@ fn unplug_rule(history: &[Entry], tag: Name) -> Option<Rule>
         no_module(history, tag),
         in_exchange(history, tag),
         held(history, tag),
+        watched(history, tag),
     ])
 }
 
@@ -98,9 +100,10 @@ fn start_rule(
     history: &[Entry],
     batch: Name,
     name: Name,
-    binds: &[Bind],
+    binds: Allocation<'_>,
 ) -> Result<Option<Rule>, AllocError>
-    ensures { IfOk result (λ rule. rule ≡ first_of (rules (plain_history history.now) (start 0 batch name binds.now))) }
+    ensures { IfOk result (λ rule. rule ≡ first_of
+        (rules (plain_history history.now) (start 0 batch name (plain_allocation binds.entry)))) }
 {
     let Some(chart) = chart_named(history, name) else {
         return Ok(Some(Rule::NoRecipe));
@@ -111,8 +114,9 @@ fn start_rule(
         role_unbound(binds, roles),
         role_unknown(binds, roles),
         one_module_twice(binds, roles),
+        watched_step(binds.watched, &chart.root, roles),
         modules_unfit(alloc, history, chart, binds)?,
-        busy(history, binds, roles),
+        busy(history, binds.held, roles),
         batches_full(history),
     ]))
 }
@@ -201,8 +205,15 @@ fn event_rule(alloc: Global, history: &[Entry], event: &Event) -> Result<Option<
             batch,
             recipe,
             bind,
+            watch,
             ..
-        } => start_rule(alloc, history, *batch, *recipe, bind),
+        } => {
+            let binds = Allocation {
+                held: bind,
+                watched: watch,
+            };
+            start_rule(alloc, history, *batch, *recipe, binds)
+        }
         Event::Advance { batch, .. }
         | Event::StopBatch { batch, .. }
         | Event::Abandon { batch, .. } => Ok(open_rule(history, *batch)),
@@ -292,8 +303,8 @@ fn otherwise(alloc: Global, history: &[Entry], event: &Event) -> Result<Answer, 
 /// with HistoryFull where the history has 200,000 entries; else with the first rule that holds, of those that the
 /// event's kind has, in their order; and where none holds, the answer that the kind is given otherwise.
 ///
-/// The charts of the history are valid, and the binds of each start are at most 64 and rise by role, as those of every
-/// line do.
+/// The charts of the history are valid, and each start holds at most 64 modules and watches at most 64, both in byte
+/// order of the roles, each role once, as that of every line does.
 ///
 /// # Errors
 ///

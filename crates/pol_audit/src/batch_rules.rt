@@ -1,24 +1,27 @@
 //! The rules that recipes, a batch's past and the holders of modules decide.
-ghost use Rattle.std.specs.Prelude.{◌≡◌, IfOk, filter};
+ghost use Rattle.std.specs.Prelude.{◌≡◌, IfOk, Some, filter, map, option_and_then};
 ghost use Rattle.std.specs.Option.{option_map};
+ghost use Rattle.mtp_codes.specs.Faults.{first_of};
 ghost use Rattle.chart_core.specs.Order.{plans_seen};
 ghost use Rattle.mtp_desc.specs.PlainDescription.{plain_description};
 ghost use Rattle.pol_events.specs.Events.{plain_history};
-ghost use Rattle.pol_events.specs.Bound.{bound_tag, is_tag, step_on};
+ghost use Rattle.pol_events.specs.Bound.{bound_tag, given, is_tag, plain_allocation, step_on};
+ghost use Rattle.pol_events.specs.declared.answer.Rule.TheVariants.{Watched};
 ghost use Rattle.pol_history.specs.Looking.{past_of_batch, recipes};
-ghost use Rattle.pol_history.specs.Batches.{start_by};
-ghost use Rattle.pol_history.specs.Rules.{active_step, active_step_on, already_frozen, batch_closed, batch_known, batches_full, held_back, no_batch, not_frozen, recipe_known, recipes_full, uncovered_by};
-ghost use Rattle.pol_audit.specs.Starts.{is_active_step};
+ghost use Rattle.pol_history.specs.Batches.{holder_of, start_by};
+ghost use Rattle.pol_history.specs.Rules.{active_step, active_step_on, already_frozen, batch_closed, batch_known, batches_full, held_back, no_batch, not_frozen, recipe_known, recipes_full, uncovered_by, uncovered_in, watched};
+ghost use Rattle.pol_audit.specs.Starts.{is_active_step, watchers_in};
 
 use crate::batches::{
     chart_named, holder_of, is_frozen, log_of, outcome_of, recipe_count, start_count, start_of,
+    watcher_by,
 };
 use crate::following::{chart_steps, is_active_step};
 use chart_core::{LogEntry, Step};
 use mtp_codes::{MOST_BATCHES, MOST_RECIPES, Name};
 use mtp_desc::Description;
 use pol_bind::held_back_by;
-use pol_events::{Bind, Entry, Rule, bound_role, bound_tag};
+use pol_events::{Allocation, Entry, Rule};
 use std::alloc::{AllocError, Global};
 
 /// A recipe of this name is known.
@@ -105,19 +108,19 @@ pub fn batches_full(history: &[Entry]) -> Option<Rule>
     }
 }
 
-fn is_on(binds: &[Bind], role: Name, tag: Name) -> bool
-    ensures { result ≡ is_tag tag (bound_tag binds.now role) }
+fn is_on(binds: Allocation<'_>, role: Name, tag: Name) -> bool
+    ensures { result ≡ is_tag tag (bound_tag (given (plain_allocation binds.entry)) role) }
 {
-    match bound_tag(binds, role) {
+    match binds.tag_of(role) {
         Some(other) => other == tag,
         None => false,
     }
 }
 
 // The name of the first active step whose role has the tag.
-fn step_on(binds: &[Bind], tag: Name, steps: &[&Step], log: &[LogEntry]) -> Option<Name>
+fn step_on(binds: Allocation<'_>, tag: Name, steps: &[&Step], log: &[LogEntry]) -> Option<Name>
     ensures { result ≡ option_map (λ step. step.name)
-        (step_on binds.now tag (filter (is_active_step log.now) (plans_seen steps.now))) }
+        (step_on (given (plain_allocation binds.entry)) tag (filter (is_active_step log.now) (plans_seen steps.now))) }
 {
     for step in steps {
         if !is_active_step(step, log) {
@@ -180,7 +183,7 @@ fn uncovered_by(
     let Some(chart) = chart_named(history, start.recipe) else {
         return None;
     };
-    let Some(role) = bound_role(start.binds, tag) else {
+    let Some(role) = start.binds.role_of(tag) else {
         return None;
     };
     match held_back_by(chart, role, description) {
@@ -189,10 +192,59 @@ fn uncovered_by(
     }
 }
 
-/// The new module doesn't cover its role in the batch that holds the tag.
-pub fn held_back(history: &[Entry], tag: Name, description: &Description) -> Option<Rule>
-    ensures { result ≡ held_back (plain_history history.now) tag (plain_description description.now) }
+// The first of the batches that watch the module, as a rule.
+fn first_watcher(history: &[Entry], tag: Name) -> Option<Rule>
+    ensures { result ≡ first_of (map (λ batch. Some (Watched batch))
+        (watchers_in (plain_history history.now) tag history.now)) }
+{
+    for entry in history {
+        if let Some(batch) = watcher_by(history, entry, tag) {
+            return Some(Rule::Watched { batch });
+        }
+    }
+    None
+}
+
+/// The module is watched.
+#[tactic(auto, using(crate::proofs::Watching::watched_is))]
+pub fn watched(history: &[Entry], tag: Name) -> Option<Rule>
+    ensures { result ≡ watched (plain_history history.now) tag }
+{
+    first_watcher(history, tag)
+}
+
+// The new module doesn't cover its role in the batch that holds the tag.
+fn held_back_by_holder(history: &[Entry], tag: Name, description: &Description) -> Option<Rule>
+    ensures { result ≡ option_and_then
+        (uncovered_in (plain_history history.now) tag (plain_description description.now))
+        (holder_of (plain_history history.now) tag) }
 {
     let batch = holder_of(history, tag)?;
     uncovered_by(history, tag, description, batch)
+}
+
+// The new module doesn't cover its role in a batch that watches the tag; the first such batch.
+fn held_back_by_watcher(history: &[Entry], tag: Name, description: &Description) -> Option<Rule>
+    ensures { result ≡ first_of (map (uncovered_in (plain_history history.now) tag (plain_description description.now))
+        (watchers_in (plain_history history.now) tag history.now)) }
+{
+    for entry in history {
+        if let Some(batch) = watcher_by(history, entry, tag) {
+            if let Some(rule) = uncovered_by(history, tag, description, batch) {
+                return Some(rule);
+            }
+        }
+    }
+    None
+}
+
+/// The new module doesn't cover its role in the batch that holds the tag, or else in one that watches it.
+#[tactic(auto, using(crate::proofs::Watching::held_back_is))]
+pub fn held_back(history: &[Entry], tag: Name, description: &Description) -> Option<Rule>
+    ensures { result ≡ held_back (plain_history history.now) tag (plain_description description.now) }
+{
+    match held_back_by_holder(history, tag, description) {
+        Some(rule) => Some(rule),
+        None => held_back_by_watcher(history, tag, description),
+    }
 }

@@ -1,25 +1,25 @@
 //! Looking back at a batch, at the recipes and at the holders of modules.
-ghost use Rattle.std.specs.Prelude.{◌≡◌, IfOk, None, filter, if◌then◌else◌, length};
+ghost use Rattle.std.specs.Prelude.{◌≡◌, IfOk, Some, None, filter, if◌then◌else◌, length};
 ghost use Rattle.std.specs.Option.{option_map};
 ghost use Rattle.mtp_codes.specs.Names.{is_among};
 ghost use Rattle.chart_core.specs.Charts.{plain_chart};
 ghost use Rattle.pol_events.specs.Events.{plain_entry, plain_event, plain_history};
 ghost use Rattle.pol_events.specs.Bound.{tags_of};
 ghost use Rattle.pol_history.specs.Looking.{is_accepted_of_batch, is_accepted_recipe, past_of_batch, recipes, last_of};
-ghost use Rattle.pol_history.specs.Batches.{starting, start_by, charted, chart_named, closing, outcome_by, freezing, is_frozen_by, taken, log_by, takes, holder_of, is_start};
+ghost use Rattle.pol_history.specs.Batches.{starting, start_by, charted, chart_named, closing, outcome_by, freezing, if_open, is_frozen_by, taken, log_by, takes, holder_of, is_start, watches};
 ghost use Rattle.pol_audit.specs.Starts.{started};
 
 use crate::entries::{is_of_batch, is_of_recipe};
 use chart_core::{Chart, LogEntry};
 use mtp_codes::Name;
-use pol_events::{Answer, Bind, Entry, Event, Outcome};
+use pol_events::{Allocation, Answer, Bind, Entry, Event, Outcome};
 use std::alloc::{AllocError, Global};
 
 /// What a batch was started with.
 #[derive(Clone, Copy)]
 pub struct Start<'a> {
     pub recipe: Name,
-    pub binds: &'a [Bind],
+    pub binds: Allocation<'a>,
 }
 
 fn charted(event: &Event, name: Name) -> Option<&Chart>
@@ -64,9 +64,17 @@ fn starting(event: &Event) -> Option<Start<'_>>
     ensures { option_map started result ≡ starting (plain_event event.now) }
 {
     match event {
-        Event::Start { recipe, bind, .. } => Some(Start {
+        Event::Start {
+            recipe,
+            bind,
+            watch,
+            ..
+        } => Some(Start {
             recipe: *recipe,
-            binds: bind,
+            binds: Allocation {
+                held: bind,
+                watched: watch,
+            },
         }),
         _ => None,
     }
@@ -194,15 +202,42 @@ fn taker(history: &[Entry], tag: Name) -> Option<Name>
     history.iter().rev().find_map(|entry| takes(entry, tag))
 }
 
+// The batch, where it isn't closed.
+fn if_open(history: &[Entry], batch: Name) -> Option<Name>
+    ensures { result ≡ if_open (plain_history history.now) (Some batch) }
+{
+    match outcome_of(history, batch) {
+        Some(_) => None,
+        None => Some(batch),
+    }
+}
+
 /// The batch that holds the module: that of the last start on it, where that batch isn't closed.
 pub fn holder_of(history: &[Entry], tag: Name) -> Option<Name>
     ensures { result ≡ holder_of (plain_history history.now) tag }
 {
     let batch = taker(history, tag)?;
-    match outcome_of(history, batch) {
-        Some(_) => None,
-        None => Some(batch),
+    if_open(history, batch)
+}
+
+// The batch of the entry, where it is an accepted start that watches the module.
+fn watches(entry: &Entry, tag: Name) -> Option<Name>
+    ensures { result ≡ watches tag (plain_entry entry.now) }
+{
+    match &entry.event {
+        Event::Start { batch, watch, .. } if entry.answer.is_accepted() && binds(watch, tag) => {
+            Some(*batch)
+        }
+        _ => None,
     }
+}
+
+/// The batch of the entry, where it is an accepted start that watches the module and that batch isn't closed.
+pub fn watcher_by(history: &[Entry], entry: &Entry, tag: Name) -> Option<Name>
+    ensures { result ≡ if_open (plain_history history.now) (watches tag (plain_entry entry.now)) }
+{
+    let batch = watches(entry, tag)?;
+    if_open(history, batch)
 }
 
 fn is_start(entry: &Entry) -> bool

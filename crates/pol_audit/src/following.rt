@@ -7,6 +7,7 @@ ghost use Rattle.chart_core.specs.declared.entry.LogEntry.{LogEntry};
 ghost use Rattle.chart_core.specs.Valid.{IsValid};
 ghost use Rattle.chart_cursor.specs.Logs.{has_broken, was_stopped, chart_entries, active};
 ghost use Rattle.chart_cursor.specs.NextEntry.{is_broken_state, broken_step, first_broken, stop_next, stop_step, run_next, next_by};
+ghost use Rattle.pol_events.specs.Bound.{given, plain_allocation};
 ghost use Rattle.pol_events.specs.Events.{plain_history};
 ghost use Rattle.pol_history.specs.Looking.{past, past_of_batch};
 ghost use Rattle.pol_history.specs.Batches.{is_frozen_by, log_by};
@@ -89,7 +90,7 @@ fn stop_step(step: Name, service: Name, tag: Name, sight: Sight) -> Next
 fn stop_seen(seen: &Sights, step: &Step) -> Next
     ensures { (broken : Bool) (others : List PlainStep)
         → result ≡ stop_next
-        (sights_by seen.now.binds.now (λ tag. past tag (plain_history seen.now.history.now)))
+        (sights_by (given (plain_allocation seen.now.binds)) (λ tag. past tag (plain_history seen.now.history.now)))
         broken (plain_step step.now ∷ others) }
 {
     let tag = seen.tag(step.role).unwrap_or(step.role);
@@ -104,7 +105,7 @@ fn stop_seen(seen: &Sights, step: &Step) -> Next
 // A batch that is stopped: its first active step, and when there is none it is closed.
 fn stop_next(seen: &Sights, broken: bool, steps: &[&Step], log: &[LogEntry]) -> Next
     ensures { result ≡ stop_next
-        (sights_by seen.now.binds.now (λ tag. past tag (plain_history seen.now.history.now)))
+        (sights_by (given (plain_allocation seen.now.binds)) (λ tag. past tag (plain_history seen.now.history.now)))
         broken (filter (is_active_step log.now) (plans_seen steps.now)) }
 {
     for step in steps {
@@ -140,7 +141,7 @@ fn broken_step(step: &Step, sight: Sight) -> Option<LogEntry>
 // The entry Broke of the first active step whose service is stopped or aborted.
 fn first_broken(seen: &Sights, steps: &[&Step], log: &[LogEntry]) -> Option<LogEntry>
     ensures { result ≡ first_broken
-        (sights_by seen.now.binds.now (λ tag. past tag (plain_history seen.now.history.now)))
+        (sights_by (given (plain_allocation seen.now.binds)) (λ tag. past tag (plain_history seen.now.history.now)))
         (filter (is_active_step log.now) (plans_seen steps.now)) }
 {
     for step in steps {
@@ -173,7 +174,7 @@ fn next_by(
 ) -> Result<Next, AllocError>
     requires { IsValid (plain_chart chart.now) }
     ensures { IfOk result (λ next. next ≡ next_by (plain_chart chart.now) frozen log.now
-        (sights_by seen.now.binds.now (λ tag. past tag (plain_history seen.now.history.now)))) }
+        (sights_by (given (plain_allocation seen.now.binds)) (λ tag. past tag (plain_history seen.now.history.now)))) }
 {
     if frozen {
         return Ok(Next::Waiting(Why::Frozen));
@@ -202,7 +203,7 @@ fn next_of_start(
     ensures { IfOk result (λ next. next ≡ next_by (plain_chart chart.now)
         (is_frozen_by (past_of_batch batch (plain_history history.now)))
         (log_by (past_of_batch batch (plain_history history.now)))
-        (sights_by start.entry.binds.now (λ tag. past tag (plain_history history.now)))) }
+        (sights_by (given (plain_allocation start.entry.binds)) (λ tag. past tag (plain_history history.now)))) }
 {
     let seen = Sights {
         history,

@@ -6,7 +6,7 @@ use crate::modules::{Docking, docking_of, value_of, view_of};
 use chart_cursor::{ReadingSight, Seen, Sight};
 use mtp_codes::{Name, Reading, Value};
 use mtp_modes::ServiceView;
-use pol_events::{Bind, Entry, bound_tag};
+use pol_events::{Allocation, Entry};
 
 fn sight_of_view(view: Option<ServiceView>) -> Sight
     ensures { result ≡ sight_of_view view }
@@ -32,23 +32,25 @@ fn reading_of_value(value: Option<Value>) -> ReadingSight
 #[derive(Clone, Copy)]
 pub struct Sights<'a> {
     pub history: &'a [Entry],
-    pub binds: &'a [Bind],
+    pub binds: Allocation<'a>,
 }
 
 impl Seen for Sights<'_> {
+    ghost use Rattle.pol_events.specs.Bound.{given, plain_allocation};
     ghost use Rattle.pol_events.specs.Events.{plain_history};
     ghost use Rattle.pol_history.specs.Looking.{past};
     ghost use Rattle.pol_history.specs.Following.{sights_by};
 
-    ghost sights = { λ seen. sights_by seen.binds.now (λ tag. past tag (plain_history seen.history.now)) };
+    ghost sights = { λ seen. sights_by (given (plain_allocation seen.binds))
+        (λ tag. past tag (plain_history seen.history.now)) };
 
     fn tag(&self, role: Name) -> Option<Name> {
-        bound_tag(self.binds, role)
+        self.binds.tag_of(role)
     }
 
     #[tactic(auto, using(crate::proofs::Seeing::sight_is))]
     fn view(&self, role: Name, service: Name) -> Sight {
-        let Some(tag) = bound_tag(self.binds, role) else {
+        let Some(tag) = self.binds.tag_of(role) else {
             return Sight::Unreported;
         };
         match docking_of(self.history, tag) {
@@ -60,7 +62,7 @@ impl Seen for Sights<'_> {
 
     #[tactic(auto, using(crate::proofs::Seeing::reading_is))]
     fn reading(&self, role: Name, var: Name) -> ReadingSight {
-        let Some(tag) = bound_tag(self.binds, role) else {
+        let Some(tag) = self.binds.tag_of(role) else {
             return ReadingSight::Unreported;
         };
         match docking_of(self.history, tag) {

@@ -6,12 +6,12 @@ ghost use Rattle.chart_core.specs.Charts.{plain_chart};
 ghost use Rattle.chart_core.specs.Roles.{role_names};
 ghost use Rattle.chart_core.specs.Order.{plans_seen};
 ghost use Rattle.pol_events.specs.Events.{plain_history};
-ghost use Rattle.pol_events.specs.Bound.{bound_tag};
+ghost use Rattle.pol_events.specs.Bound.{given, plain_allocation};
 ghost use Rattle.pol_history.specs.Looking.{past};
 ghost use Rattle.pol_history.specs.Modules.{description_by};
-ghost use Rattle.pol_history.specs.Rules.{busy, busy_role, module_rule, modules_unfit, not_covered, not_ready, unready};
+ghost use Rattle.pol_history.specs.Rules.{busy, busy_role, module_rule, modules_unfit, not_covered, not_ready, steps_in, unready};
 ghost use Rattle.pol_bind.specs.Roles.{names_in};
-ghost use Rattle.pol_audit.specs.Holding.{services_in, steps_of};
+ghost use Rattle.pol_audit.specs.Holding.{services_in};
 
 use crate::batches::holder_of;
 use crate::module_rules::{in_exchange, no_module, not_idle, not_reported};
@@ -19,7 +19,7 @@ use crate::modules::description_of;
 use chart_core::{Chart, Role, Step, steps_in_order};
 use mtp_codes::Name;
 use pol_bind::covers;
-use pol_events::{Bind, Entry, Rule, bound_tag};
+use pol_events::{Allocation, Bind, Entry, Rule, bound_tag};
 use std::alloc::{AllocError, Global};
 
 // The module can't play the role.
@@ -71,7 +71,7 @@ fn module_rule(
     role: Name,
     tag: Option<Name>,
 ) -> Option<Rule>
-    requires { plans_seen steps.now ≡ steps_of (plain_chart chart.now) }
+    requires { plans_seen steps.now ≡ steps_in (plain_chart chart.now) }
     ensures { result ≡ module_rule (plain_history history.now) (plain_chart chart.now) role tag }
 {
     let tag = tag?;
@@ -86,22 +86,16 @@ fn module_rule(
 fn first_unfit(
     history: &[Entry],
     chart: &Chart,
-    binds: &[Bind],
+    binds: Allocation<'_>,
     steps: &[&Step],
     roles: &[Role],
 ) -> Option<Rule>
-    requires { plans_seen steps.now ≡ steps_of (plain_chart chart.now) }
-    ensures { result ≡ modules_unfit (plain_history history.now) (plain_chart chart.now) binds.now
-        (names_in roles.now) }
+    requires { plans_seen steps.now ≡ steps_in (plain_chart chart.now) }
+    ensures { result ≡ modules_unfit (plain_history history.now) (plain_chart chart.now)
+        (given (plain_allocation binds.entry)) (names_in roles.now) }
 {
     for role in roles {
-        if let Some(rule) = module_rule(
-            history,
-            chart,
-            steps,
-            role.role,
-            bound_tag(binds, role.role),
-        ) {
+        if let Some(rule) = module_rule(history, chart, steps, role.role, binds.tag_of(role.role)) {
             return Some(rule);
         }
     }
@@ -113,10 +107,10 @@ pub fn modules_unfit(
     alloc: Global,
     history: &[Entry],
     chart: &Chart,
-    binds: &[Bind],
+    binds: Allocation<'_>,
 ) -> Result<Option<Rule>, AllocError>
     ensures { IfOk result (λ rule. rule
-        ≡ modules_unfit (plain_history history.now) (plain_chart chart.now) binds.now
+        ≡ modules_unfit (plain_history history.now) (plain_chart chart.now) (given (plain_allocation binds.entry))
         (role_names (plain_chart chart.now))) }
 {
     let steps = steps_in_order(alloc, chart)?;

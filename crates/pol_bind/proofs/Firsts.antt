@@ -3,26 +3,15 @@ use Rattle.std.specs.Prelude.{ℕ, ◌≡◌, ◌+◌, List, [], ◌∷◌, ◌+
 use Rattle.std.specs.List.{list_any}
 use Rattle.std.specs.Option.{option_or}
 use Rattle.std.proofs.Common.{refl, ap, sym, ◌∙◌}
-use Rattle.std.proofs.lemmas.List.Folds.{find-append}
 use Rattle.mtp_codes.specs.Names.{same_name}
 use Rattle.mtp_desc.specs.Plain.{PlainDescription}
 use Rattle.chart_core.specs.Formulas.{Formula, Formulas, constant, all_of, any_of, not_of, test, no_formulas, more_formulas}
 use Rattle.chart_core.specs.Trees.{arm_conditions, PlainStep, Placed, Tree, Trees, Arms, leaf, seq, par, choice, loop, no_trees, more_trees, no_arms, more_arms, size, steps, all_steps, arm_steps}
 use Rattle.mtp_procs.specs.Tests.{PlainTest, tests_of, tests_of_all, finish_tests, tests_in, tests_in_all, tests_in_arms}
 use Rattle.mtp_procs.specs.Covers.{name_of_first, variable_of_first, is_test_misfit, is_test_misfit_of, is_test_refused}
+use Rattle.pol_events.proofs.Lists.{found_append}
 use Rattle.pol_bind.specs.TestMisfits.{is_test_misfit_for}
 use Rattle.pol_bind.specs.Walks.{variable_in, variable_among, variable_in_finish, variable_under, variable_under_all, variable_under_arms, first_name, first_name_among, first_name_in_arms}
-
-map_or : {X Y : Type 0} (part : X → Y) (one other : Option X)
-    → option_map part (option_or one other) ≡ option_or (option_map part one) (option_map part other)
-map_or part None other = refl
-map_or part (Some x) other = refl
-
-found_append : {X Y : Type 0} (part : X → Y) (property : X → Bool) (xs ys : List X)
-    → option_map part (find property (xs ++ ys))
-    ≡ option_or (option_map part (find property xs)) (option_map part (find property ys))
-found_append part property xs ys = ap (option_map part) (find-append property xs ys)
-    ∙ map_or part (find property xs) (find property ys)
 
 variable_append :
     (property : PlainTest → Bool) (xs ys : List PlainTest)

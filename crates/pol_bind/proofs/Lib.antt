@@ -1,3 +1,4 @@
 pub mod Firsts
 pub mod Requirements
 pub mod Twice
+pub mod Stepped

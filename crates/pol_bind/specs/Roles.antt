@@ -1,7 +1,9 @@
 -- Roles of a chart as code has them, and the rule on a module that is bound twice in the order in which code finds it.
-use Rattle.std.specs.Prelude.{ℕ, List, [], ◌∷◌, ◌++◌, map, Option, None}
+use Rattle.std.specs.Prelude.{ℕ, Bool, List, [], ◌∷◌, ◌++◌, map, Option, None}
 use Rattle.std.specs.Option.{option_or}
+use Rattle.mtp_codes.specs.Names.{same_name}
 use Rattle.chart_core.specs.Roles.{plain_role}
+use Rattle.chart_core.specs.Trees.{PlainStep}
 use Rattle.chart_core.specs.declared.role.Role.{Role}
 use Rattle.pol_events.specs.BindRules.{twice}
 use Rattle.pol_events.specs.Bound.{bound_tag}
@@ -17,3 +19,7 @@ abbrev pub twice_from : List Bind → List (List ℕ) → List (List ℕ) → Op
 twice_from binds front [] = None
 twice_from binds front (role ∷ roles) =
     option_or (twice binds front (bound_tag binds role)) (twice_from binds (front ++ role ∷ []) roles)
+
+-- the step is of the role
+abbrev pub is_of_role : List ℕ → PlainStep → Bool
+is_of_role role step = same_name step.role role

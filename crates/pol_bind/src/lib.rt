@@ -2,10 +2,11 @@
 //!
 //! It knows nothing of a plant's state: whether the module is docked, idle or held is asked elsewhere. `covers` answers
 //! exactly the first fault that the definition `cover_fault` of mtp_procs names, as a rule; `held_back_by` tells what
-//! is missing by that fault. `role_unbound`, `role_unknown` and `one_module_twice` are the rules that binds break by
-//! themselves. None takes memory.
+//! is missing by that fault. `role_unbound`, `role_unknown`, `one_module_twice` and `watched_step` are the rules that
+//! binds break by themselves. None takes memory.
 #![tactic(auto)]
 
+mod choices;
 mod cover;
 mod picks;
 mod roles;
@@ -13,4 +14,4 @@ mod steps;
 mod variables;
 
 pub use cover::{covers, held_back_by};
-pub use roles::{one_module_twice, role_unbound, role_unknown};
+pub use roles::{one_module_twice, role_unbound, role_unknown, watched_step};

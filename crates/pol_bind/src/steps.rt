@@ -1,12 +1,14 @@
-//! The first step of a role that a module can't do.
+//! The steps of a role: whether there is one, and the first that a module can't do.
 
-ghost use Rattle.std.specs.Prelude.{◌≡◌};
+ghost use Rattle.std.specs.Prelude.{◌≡◌, map};
 ghost use Rattle.mtp_desc.specs.PlainDescription.{plain_description};
-ghost use Rattle.chart_core.specs.Trees.{arms, plain_step, steps, plain_node, trees};
+ghost use Rattle.chart_core.specs.Trees.{plain_step, steps, plain_node};
 ghost use Rattle.mtp_procs.specs.Covers.{is_refused, is_refused_step, name_of_first};
-ghost use Rattle.pol_bind.specs.Walks.{first_name, first_name_among, first_name_in_arms};
+ghost use Rattle.pol_bind.specs.Roles.{is_of_role};
+ghost use Rattle.pol_events.specs.BindRules.{has_step};
 
-use chart_core::{Arm, Node, Step};
+use crate::choices::{Chooses, first_step};
+use chart_core::{Node, Step};
 use mtp_codes::Name;
 use mtp_desc::Description;
 use mtp_procs::{StepDemand, check_step};
@@ -27,54 +29,48 @@ fn is_refused(step: &Step, description: &Description) -> bool
     }
 }
 
-#[cycle(walk)]
-fn walk(node: &Node, role: Name, description: &Description) -> Option<Name>
-    ensures { result ≡ first_name (is_refused_step role (plain_description description.now)) (plain_node node.now) }
-{
-    match node {
-        Node::Step(step) => {
-            if step.role == role && is_refused(step, description) {
-                Some(step.name)
-            } else {
-                None
-            }
-        }
-        Node::Seq(kids) => walk_among(kids, role, description),
-        Node::Par(kids) => walk_among(kids, role, description),
-        Node::Sel(each) => walk_arms(each, role, description),
-        Node::Loop(body, _) => walk(body, role, description),
+// The steps of a role.
+#[derive(Clone, Copy)]
+struct OfRole {
+    role: Name,
+}
+
+impl Chooses for OfRole {
+    ghost property = { λ wanted step. is_of_role wanted.role step };
+
+    fn chooses(&self, step: &Step) -> bool {
+        step.role == self.role
     }
 }
 
-#[cycle(walk)]
-fn walk_among(kids: &[Node], role: Name, description: &Description) -> Option<Name>
-    ensures { result ≡ first_name_among (is_refused_step role (plain_description description.now)) (trees kids.now) }
-{
-    for kid in kids {
-        if let Some(name) = walk(kid, role, description) {
-            return Some(name);
-        }
-    }
-    None
+// Of the steps of a role: those that the module can't do.
+#[derive(Clone, Copy)]
+struct Refused<'a> {
+    role: Name,
+    description: &'a Description,
 }
 
-#[cycle(walk)]
-fn walk_arms(each: &[Arm], role: Name, description: &Description) -> Option<Name>
-    ensures { result ≡ first_name_in_arms (is_refused_step role (plain_description description.now)) (arms each.now) }
-{
-    for arm in each {
-        if let Some(name) = walk(&arm.body, role, description) {
-            return Some(name);
-        }
+impl<'a> Chooses for Refused<'a> {
+    ghost property = { λ wanted step. is_refused_step wanted.role (plain_description wanted.description.now) step };
+
+    fn chooses(&self, step: &Step) -> bool {
+        step.role == self.role && is_refused(step, self.description)
     }
-    None
+}
+
+/// Whether a step of the chart is of the role. Walks the chart until it finds one.
+pub fn has_step(root: &Node, role: Name) -> bool
+    ensures { result ≡ has_step (map (λ placed. placed.step) (steps (plain_node root.now) 0)) role }
+{
+    let wanted = OfRole { role };
+    first_step(root, &wanted).is_some()
 }
 
 /// The name of the first step of the role in chart order that the module can't do. Walks the chart once.
-#[tactic(auto, using(crate::proofs::Firsts::first_is))]
 pub fn refused_step(root: &Node, role: Name, description: &Description) -> Option<Name>
     ensures { result ≡ name_of_first (is_refused_step role (plain_description description.now))
         (steps (plain_node root.now) 0) }
 {
-    walk(root, role, description)
+    let wanted = Refused { role, description };
+    first_step(root, &wanted)
 }

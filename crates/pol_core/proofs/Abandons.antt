@@ -43,6 +43,8 @@ abandon_answered history at batch run rows freed runs after seats counted mirror
           (record {
             batch_is = keeps.batch_is;
             recipe = keeps.recipe;
+            binds = keeps.binds;
+            binds_are = keeps.binds_are;
             started = keeps.started;
             charted = keeps.charted;
             follows = record {

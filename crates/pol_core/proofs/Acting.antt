@@ -7,7 +7,7 @@ use Rattle.chart_core.specs.Charts.{plain_chart}
 use Rattle.chart_core.specs.Trees.{PlainStep}
 use Rattle.chart_core.specs.declared.entry.LogEntry.{LogEntry}
 use Rattle.chart_cursor.specs.Logs.{active}
-use Rattle.pol_events.specs.Bound.{step_on}
+use Rattle.pol_events.specs.Bound.{given, step_on}
 use Rattle.pol_events.specs.declared.answer.Rule.{Rule}
 use Rattle.pol_events.specs.declared.answer.Rule.TheVariants.{ActiveStep}
 use Rattle.pol_history.specs.Batches.{Started, chart_by, log_by}
@@ -66,14 +66,16 @@ run_acts history tag batch rows runs run step mirror batches is found says =
     = subst (λ found. IsRun batch found (past_of_batch batch history) (recipes history)) found (batches batch) in
     ap (option_map (ActiveStep batch)) (says (log_by (past_of_batch batch history)) keeps.follows)
     ∙ sym (mapped batch (step_on run.binds tag (active (plain_chart run.chart) (log_by (past_of_batch batch history)))))
+    ∙ ap (λ binds. option_map (λ step. ActiveStep batch step.name)
+    (step_on binds tag (active (plain_chart run.chart) (log_by (past_of_batch batch history))))) keeps.binds_are
     ∙ sym (held_acts history tag batch rows mirror is
     ∙ ap (λ found. option_and_then (by_chart found) found) keeps.started
     ∙ ap (option_and_then (λ chart. option_map (λ step. ActiveStep batch step.name)
-    (step_on run.binds tag (active chart (log_by (past_of_batch batch history)))))) keeps.charted)
+    (step_on (given keeps.binds) tag (active chart (log_by (past_of_batch batch history)))))) keeps.charted)
   where
     by_chart : Option Started → Started → Option Rule
     by_chart found started =
         option_and_then
         (λ chart. option_map (λ step. ActiveStep batch step.name)
-        (step_on started.binds tag (active chart (log_by (past_of_batch batch history)))))
+        (step_on (given started.binds) tag (active chart (log_by (past_of_batch batch history)))))
         (chart_by (recipes history) (Some started))

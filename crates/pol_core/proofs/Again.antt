@@ -1,15 +1,17 @@
 -- Another module in place of the one that is away.
 use Rattle.std.proofs.Common.{◌≡◌, ℕ, ◌+◌, suc, Bool, true, false, cond, List, ◌∷◌, Option, Some, None, is_some, refl, ap, sym, ◌∙◌, subst, arith}
-use Rattle.std.specs.Prelude.{if◌then◌else◌, option_and_then}
+use Rattle.std.specs.Prelude.{if◌then◌else◌, map, option_and_then}
 use Rattle.std.specs.Map.{lookup}
-use Rattle.std.specs.Option.{option_map}
+use Rattle.std.specs.Option.{option_map, option_or}
+use Rattle.std.proofs.Math.Path.{fun_ext}
+use Rattle.mtp_codes.specs.Faults.{first_of}
 use Rattle.std.specs.Str.{bytes_eq}
 use Rattle.mtp_codes.specs.declared.cover.CoverFault.{CoverFault}
 use Rattle.mtp_desc.specs.Plain.{PlainDescription}
 use Rattle.mtp_procs.specs.Covers.{cover_fault, missing_by}
 use Rattle.chart_core.specs.Charts.{plain_chart}
 use Rattle.chart_core.specs.Roles.{PlainChart}
-use Rattle.pol_events.specs.Bound.{bound_role}
+use Rattle.pol_events.specs.Bound.{bound_role, given}
 use Rattle.pol_events.specs.Events.{exchange_end}
 use Rattle.pol_events.specs.declared.answer.Answer.TheVariants.{Done}
 use Rattle.pol_events.specs.declared.answer.Rule.{Rule}
@@ -17,7 +19,7 @@ use Rattle.pol_events.specs.declared.answer.Rule.TheVariants.{HeldBack}
 use Rattle.pol_history.specs.Batches.{Started, chart_by, holder_of}
 use Rattle.pol_history.specs.Looking.{History, past, past_of_batch, recipes}
 use Rattle.pol_history.specs.Modules.{dockings_by}
-use Rattle.pol_history.specs.Rules.{uncovered_by, held_back}
+use Rattle.pol_history.specs.Rules.{uncovered_by, uncovered_in, held_back}
 use Rattle.pol_history.proofs.Accepted.{paired}
 use Rattle.pol_history.proofs.Names.{same_true}
 use Rattle.pol_slots.specs.Slots.{slot_ticket, slot_begins, IsDocked}
@@ -25,14 +27,14 @@ use Rattle.pol_slots.specs.declared.slot.Slot.{Slot}
 use Rattle.pol_table.specs.Rows as tables
 use Rattle.pol_table.specs.Rows.{Row, Rows, look, part_of}
 use Rattle.pol_runs.specs.Runs.{PlainRun}
-use Rattle.pol_core.specs.Batches.{RunKeeps, IsRun, RunsMirror}
-use Rattle.pol_core.specs.Exchanges.{StaysAway}
-use Rattle.pol_core.specs.Seats.{SlotKeeps, IsTaken, IsSeated, SeatsMirror, IsCounted}
+use Rattle.pol_core.specs.Batches.{IsRun, RunsMirror}
+use Rattle.pol_core.specs.Exchanges.{StaysAway, run_lacks, lacks}
+use Rattle.pol_core.specs.Seats.{users_of, SlotKeeps, IsTaken, IsSeated, SeatsMirror, IsCounted}
 use Rattle.pol_core.proofs.Counting.{counted_part}
 use Rattle.pol_core.proofs.Keeping.{unchanged_keeps}
 use Rattle.pol_core.proofs.Seating.{part_changes}
 use Rattle.pol_core.proofs.Telling.{has_row, seated_slot}
-use Rattle.pol_core.proofs.Unfit.{holder_same}
+use Rattle.pol_core.proofs.Unfit.{holder_same, watchers_same}
 
 -- where the module was away and no exchange was begun since, it was docked once more
 pub docked_once_more : (begins again dockings : ℕ) → again ≡ begins → begins + 1 ≡ dockings + 1
@@ -67,21 +69,22 @@ stays_mirrored history tag slot old new found stays mirror other =
     let keeps = seated_slot history tag old slot mirror found in
     let after = unchanged_keeps tag slot stays.after (past tag history) stays.same.same_module
     stays.same.controls stays.same.values keeps in
-    let taken : IsTaken tag has.row (past tag history) (holder_of history tag)
-    = subst (λ found. IsSeated tag found (past tag history) (holder_of history tag)) has.found (mirror tag) in
-    subst (λ found. IsSeated other found (past other history) (holder_of history other))
+    let taken : IsTaken tag has.row (past tag history) (users_of history tag)
+    = subst (λ found. IsSeated tag found (past tag history) (users_of history tag)) has.found (mirror tag) in
+    subst (λ found. IsSeated other found (past other history) (users_of history other))
     (sym (ap (look other) stays.table ∙ part_changes tag has.row old stays.after has.found other))
-    (go has.row after taken.held_by (bytes_eq tag other) refl)
+    (go has.row after taken.held_by taken.watched_by (bytes_eq tag other) refl)
   where
     go : (row : Row Slot) → SlotKeeps tag stays.after (past tag history) →
-        row.holder ≡ holder_of history tag → (same : Bool) → bytes_eq tag other ≡ same →
+        row.holder ≡ (users_of history tag).holder → row.watchers ≡ (users_of history tag).watchers →
+        (same : Bool) → bytes_eq tag other ≡ same →
         IsSeated other (cond same (Some (record row { part = stays.after })) (look other old))
-        (past other history) (holder_of history other)
-    go row after held false apart = mirror other
-    go row after held true same =
+        (past other history) (users_of history other)
+    go row after held watched false apart = mirror other
+    go row after held watched true same =
         subst (λ other. IsSeated other (Some (record row { part = stays.after })) (past other history)
-        (holder_of history other)) (same_true tag other same)
-        (record { slot_keeps = after; held_by = held })
+        (users_of history other)) (same_true tag other same)
+        (record { slot_keeps = after; held_by = held; watched_by = watched })
 
 -- nor does a count
 pub stays_counted : (history : History) (tag : List ℕ) (slot : Slot) (old new : Rows Slot) →
@@ -107,31 +110,53 @@ then_held : (batch : List ℕ) (chart : PlainChart) (description : PlainDescript
 then_held batch chart description None = refl
 then_held batch chart description (Some role) = mapped_held batch role (cover_fault chart role description)
 
--- what the holder's run lacks is what the rule names
-pub run_holds_back : (history : History) (tag batch : List ℕ) (description : PlainDescription)
-    (rows : Rows Slot) (runs : List (List ℕ × PlainRun)) (run : PlainRun)
-    (missing : Option (List ℕ)) → SeatsMirror rows history → RunsMirror runs history →
-    tables.holder_of tag rows ≡ Some batch → lookup (bytes_eq batch) runs ≡ Some run →
-    missing ≡ option_and_then
-    (λ role. option_map (missing_by role) (cover_fault (plain_chart run.chart) role description))
-    (bound_role run.binds tag) →
-    option_map (HeldBack batch) missing ≡ held_back history tag description
-run_holds_back history tag batch description rows runs run missing mirror batches is found says =
-    let keeps : RunKeeps batch run (past_of_batch batch history) (recipes history)
-    = subst (λ found. IsRun batch found (past_of_batch batch history) (recipes history)) found (batches batch) in
-    ap (option_map (HeldBack batch)) says
-    ∙ sym (then_held batch (plain_chart run.chart) description (bound_role run.binds tag))
-    ∙ sym (ap (option_and_then (λ batch. uncovered_by (recipes history) tag description batch
-    (past_of_batch batch history))) (sym (holder_same rows history tag mirror) ∙ is)
-    ∙ ap (λ found. option_and_then (by_chart found) found) keeps.started
+-- what a run lacks is what the rule of its batch names
+lacks_kept : (history : History) (tag batch : List ℕ) (description : PlainDescription) (found : Option PlainRun) →
+    IsRun batch found (past_of_batch batch history) (recipes history) →
+    option_and_then (run_lacks tag description batch) found ≡ uncovered_in history tag description batch
+lacks_kept history tag batch description None keeps =
+    sym (ap (λ past. uncovered_by (recipes history) tag description batch past) keeps)
+lacks_kept history tag batch description (Some run) keeps =
+    sym (then_held batch (plain_chart run.chart) description (bound_role run.binds tag))
+    ∙ ap (λ binds. by_role run (bound_role binds tag)) keeps.binds_are
+    ∙ sym (ap (λ found. option_and_then (by_chart found) found) keeps.started
     ∙ ap (option_and_then
     (λ chart. option_and_then (λ role. option_map (λ fault. HeldBack batch (missing_by role fault))
     (cover_fault chart role description))
-    (bound_role run.binds tag))) keeps.charted)
+    (bound_role (given keeps.binds) tag))) keeps.charted)
   where
+    by_role : PlainRun → Option (List ℕ) → Option Rule
+    by_role run role =
+        option_and_then (λ role. option_map (λ fault. HeldBack batch (missing_by role fault))
+        (cover_fault (plain_chart run.chart) role description)) role
+
     by_chart : Option Started → Started → Option Rule
     by_chart found started =
         option_and_then
         (λ chart. option_and_then (λ role. option_map (λ fault. HeldBack batch (missing_by role fault))
-        (cover_fault chart role description)) (bound_role started.binds tag))
+        (cover_fault chart role description)) (bound_role (given started.binds) tag))
         (chart_by (recipes history) (Some started))
+
+-- what the runs lack is what the rules of their batches name
+lacks_same : (history : History) (tag : List ℕ) (description : PlainDescription)
+    (runs : List (List ℕ × PlainRun)) → RunsMirror runs history → (batch : List ℕ) →
+    lacks runs tag description batch ≡ uncovered_in history tag description batch
+lacks_same history tag description runs batches batch =
+    lacks_kept history tag batch description (lookup (bytes_eq batch) runs) (batches batch)
+
+-- so HeldBack by the tables is the defined rule
+pub held_back_same : (history : History) (tag : List ℕ) (description : PlainDescription)
+    (rows : Rows Slot) (runs : List (List ℕ × PlainRun)) → SeatsMirror rows history → RunsMirror runs history →
+    option_or (option_and_then (lacks runs tag description) (tables.holder_of tag rows))
+    (first_of (map (lacks runs tag description) (tables.watchers_of tag rows)))
+    ≡ held_back history tag description
+held_back_same history tag description rows runs mirror batches =
+    ap (λ rule. option_or (option_and_then rule (tables.holder_of tag rows))
+    (first_of (map rule (tables.watchers_of tag rows))))
+    (fun_ext (lacks_same history tag description runs batches))
+    ∙ ap (λ holder. option_or (option_and_then (uncovered_in history tag description) holder)
+    (first_of (map (uncovered_in history tag description) (tables.watchers_of tag rows))))
+    (holder_same rows history tag mirror)
+    ∙ ap (λ watchers. option_or (option_and_then (uncovered_in history tag description) (holder_of history tag))
+    (first_of (map (uncovered_in history tag description) watchers)))
+    (watchers_same rows history tag mirror)

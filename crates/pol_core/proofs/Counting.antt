@@ -10,7 +10,7 @@ use Rattle.pol_history.specs.Looking.{History}
 use Rattle.pol_history.specs.Modules.{tags_without, present_tags}
 use Rattle.pol_slots.specs.declared.slot.Slot.{Slot}
 use Rattle.pol_table.specs.Rows.{Row, Rows, look, with_part}
-use Rattle.pol_table.proofs.Parts.{look_with_part, length_with_part}
+use Rattle.pol_table.proofs.Changed.{look_changed, length_changed}
 use Rattle.pol_core.specs.Batches.{freed_if}
 use Rattle.pol_core.specs.Seats.{IsCounted}
 use Rattle.pol_core.proofs.Seating.{Changes}
@@ -64,12 +64,15 @@ pub counted_part : (history : History) (tag : List ℕ) (slot : Slot) (rows : Ro
     IsCounted rows history → IsCounted (with_part tag rows slot) history
 counted_part history tag slot rows counted =
     record {
-      members = λ other. counted.members other ∙ sym (ap is_some (look_with_part tag slot rows other)
+      members = λ other. counted.members other ∙ sym (ap is_some (look_changed tag set rows other)
           ∙ mapped (λ row. cond (bytes_eq tag other) (record row { part = slot }) row) (look other rows));
       once = counted.once;
-      count = length_with_part tag slot rows ∙ counted.count;
+      count = length_changed tag set rows ∙ counted.count;
     }
   where
+    set : Row Slot → Row Slot
+    set row = record row { part = slot }
+
     mapped : (change : Row Slot → Row Slot) (found : Option (Row Slot)) →
         is_some (option_map change found) ≡ is_some found
     mapped change None = refl

@@ -1,6 +1,7 @@
 -- What an answer of a call tells of what was found.
 use Rattle.std.proofs.Common.{◌≡◌, Option, Some, None, Result, Ok, Err, refl, ap}
 use Rattle.std.specs.Prelude.{⊤}
+use Rattle.std.specs.Option.{option_or}
 use Rattle.std.specs.Result.{result_err}
 use Rattle.mtp_codes.specs.Faults.{done_unless}
 
@@ -25,3 +26,13 @@ err_of (Some fault) = refl
 pub none_left : {A : Type 0} (found : Option A) → ((x : A) → found ≡ Some x → ⊥) → found ≡ None
 none_left None other = refl
 none_left (Some x) other = absurd (other x refl)
+
+-- the first of some rules, where there is one
+pub this_rule : {A : Type 0} (one rest : Option A) (found : A) → Some found ≡ one → Some found ≡ option_or one rest
+this_rule None rest found is = cc
+this_rule (Some x) rest found is = is
+
+-- what comes after it, where there is none
+pub next_rule : {A : Type 0} (one rest found : Option A) → None ≡ one → found ≡ rest → found ≡ option_or one rest
+next_rule None rest found none is = is
+next_rule (Some x) rest found none is = cc

@@ -184,6 +184,8 @@ frozen_keeps batch run past recipes after to starts logs outcomes frozen keeps =
     record {
       batch_is = keeps.batch_is;
       recipe = keeps.recipe;
+      binds = keeps.binds;
+      binds_are = keeps.binds_are;
       started = starts ∙ keeps.started;
       charted = keeps.charted;
       follows = record {
@@ -274,8 +276,9 @@ stopped_keeps batch at is_new run after past recipes stops keeps =
     record {
       batch_is = stops.same_batch.batch ∙ keeps.batch_is;
       recipe = keeps.recipe;
-      started = keeps.started ∙ ap (λ binds. Some (record { recipe = keeps.recipe; binds = binds }))
-          (sym stops.same_batch.binds);
+      binds = keeps.binds;
+      binds_are = stops.same_batch.binds ∙ keeps.binds_are;
+      started = keeps.started;
       charted = keeps.charted ∙ ap (λ chart. Some (plain_chart chart)) (sym stops.same_batch.chart);
       follows = follows is_new (stops.log (log_by past) keeps.follows);
       frozen_is = stops.frozen_is;

@@ -17,8 +17,8 @@ use Rattle.pol_events.specs.declared.answer.Answer.{Answer}
 use Rattle.pol_events.specs.declared.answer.Answer.TheVariants.{Done, Refused}
 use Rattle.pol_events.specs.declared.answer.Rule.TheVariants.{RecipeKnown, RecipesFull}
 use Rattle.pol_history.specs.Answers.{first_rule, answer_of, is_full}
-use Rattle.pol_history.specs.Batches.{chart_named, takes, if_open, holder_of}
-use Rattle.pol_history.specs.Looking.{History, is_accepted, past, past_of_batch, recipes, last_of}
+use Rattle.pol_history.specs.Batches.{chart_named}
+use Rattle.pol_history.specs.Looking.{History, is_accepted, past, past_of_batch, recipes}
 use Rattle.pol_history.specs.Rules.{recipes_full}
 use Rattle.pol_history.specs.Runs.{entry_of}
 use Rattle.pol_history.proofs.Accepted.{paired, with_room}
@@ -32,6 +32,7 @@ use Rattle.pol_core.specs.Mirrors.{Mirrors, Answers}
 use Rattle.pol_core.specs.Recipes.{AreValid, RecipesMirror, AnswersRecipe}
 use Rattle.pol_core.specs.Seats.{IsSeated}
 use Rattle.pol_core.proofs.Counting.{counted_same}
+use Rattle.pol_core.proofs.Used.{recipe_users_same}
 use Rattle.pol_core.proofs.Together.{known_same}
 
 -- a chart without a fault is valid
@@ -187,8 +188,8 @@ module _ {Z : Type 0} where
       record {
         answer_is = takes'.answer_is;
         mirrors = record {
-          seats = λ tag. subst (IsSeated tag (look tag rows) (past tag history)) (sym (holders tag))
-              (mirrors.seats tag);
+          seats = λ tag. subst (IsSeated tag (look tag rows) (past tag history))
+              (sym (recipe_users_same history entry name refl tag)) (mirrors.seats tag);
           batches = λ batch. run batch (lookup (bytes_eq batch) runs) (mirrors.batches batch);
           counted = counted_same history entry rows refl mirrors.counted;
           recipes = takes'.known_is;
@@ -199,20 +200,6 @@ module _ {Z : Type 0} where
       entry : PlainEntry
       entry = entry_of history (recipe at name chart)
 
-      opens : (found : Option (List ℕ)) → if_open (entry ∷ history) found ≡ if_open history found
-      opens None = refl
-      opens (Some batch) = refl
-
-      none : (kept : Bool) → cond {A = Option (List ℕ)} kept None None ≡ None
-      none true = refl
-      none false = refl
-
-      holders : (tag : List ℕ) → holder_of (entry ∷ history) tag ≡ holder_of history tag
-      holders tag =
-          ap (λ found. if_open (entry ∷ history) (option_or found (last_of (takes tag) history)))
-          (none (is_accepted (answer_of history (recipe at name chart))))
-          ∙ opens (last_of (takes tag) history)
-
       run : (batch : List ℕ) (found : Option PlainRun) → IsRun batch found (past_of_batch batch history)
           (recipes history) →
           IsRun batch found (past_of_batch batch history) (recipes (entry ∷ history))
@@ -221,6 +208,8 @@ module _ {Z : Type 0} where
           record {
             batch_is = keeps.batch_is;
             recipe = keeps.recipe;
+            binds = keeps.binds;
+            binds_are = keeps.binds_are;
             started = keeps.started;
             charted = takes'.names keeps.recipe (plain_chart kept.chart) keeps.charted;
             follows = keeps.follows;

@@ -1,5 +1,6 @@
 pub mod Keeping
 pub mod Judging
+pub mod Used
 pub mod Seating
 pub mod Telling
 pub mod Runs

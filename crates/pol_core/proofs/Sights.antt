@@ -5,7 +5,6 @@ use Rattle.mtp_codes.specs.declared.value.Value.{Value}
 use Rattle.mtp_modes.specs.declared.view.ServiceView.{ServiceView}
 use Rattle.pol_events.specs.Bound.{bound_tag}
 use Rattle.pol_events.specs.declared.event.Bind.{Bind}
-use Rattle.pol_history.specs.Batches.{holder_of}
 use Rattle.pol_history.specs.Following.{sight_in, reading_in, service_sight, variable_sight, sights_by}
 use Rattle.pol_history.specs.Looking.{History, past}
 use Rattle.pol_history.specs.Modules.{Docking, absent, docked, away, docking_by, ticket_of, seen_with, control_by, view_by, value_by}
@@ -13,7 +12,7 @@ use Rattle.pol_slots.specs.Sights.{sight_of, reading_of, slot_sight, slot_readin
 use Rattle.pol_slots.specs.Slots.{slot_ticket, slot_description}
 use Rattle.pol_slots.specs.declared.slot.Slot.{Slot}
 use Rattle.pol_table.specs.Rows.{Row, Rows, look}
-use Rattle.pol_core.specs.Seats.{SlotKeeps, IsSeated, SeatsMirror}
+use Rattle.pol_core.specs.Seats.{Users, users_of, SlotKeeps, IsSeated, SeatsMirror}
 use Rattle.pol_core.specs.Seen.{slot_sees, slot_reads, tag_sees, tag_reads, table_sights}
 
 -- what is seen of a service of a module that is there, by its ticket
@@ -51,20 +50,20 @@ slot_reading_is tag name slot past keeps =
     ∙ reading_there (docking_by past) (value_by name past) keeps.is_there
 
 -- so it is of a tag, whether it has a row or not
-seen_seated : (tag service : List ℕ) (found : Option (Row Slot)) (past : History) (holder : Option (List ℕ)) →
-    IsSeated tag found past holder →
+seen_seated : (tag service : List ℕ) (found : Option (Row Slot)) (past : History) (users : Users) →
+    IsSeated tag found past users →
     slot_sees (option_map (λ row. row.part) found) service ≡ sight_in (docking_by past) (view_by service past)
-seen_seated tag service None past holder seated =
+seen_seated tag service None past users seated =
     ap (λ docking. sight_in docking (view_by service past)) (sym seated.is_absent)
-seen_seated tag service (Some row) past holder seated = slot_sight_is tag service row.part past seated.slot_keeps
+seen_seated tag service (Some row) past users seated = slot_sight_is tag service row.part past seated.slot_keeps
 
 -- so is what is read of it
-read_seated : (tag name : List ℕ) (found : Option (Row Slot)) (past : History) (holder : Option (List ℕ)) →
-    IsSeated tag found past holder →
+read_seated : (tag name : List ℕ) (found : Option (Row Slot)) (past : History) (users : Users) →
+    IsSeated tag found past users →
     slot_reads (option_map (λ row. row.part) found) name ≡ reading_in (docking_by past) (value_by name past)
-read_seated tag name None past holder seated =
+read_seated tag name None past users seated =
     ap (λ docking. reading_in docking (value_by name past)) (sym seated.is_absent)
-read_seated tag name (Some row) past holder seated = slot_reading_is tag name row.part past seated.slot_keeps
+read_seated tag name (Some row) past users seated = slot_reading_is tag name row.part past seated.slot_keeps
 
 -- what a batch sees by the table is what it sees by the pasts
 pub sights_same : (rows : Rows Slot) (history : History) (binds : List Bind) → SeatsMirror rows history →
@@ -86,10 +85,10 @@ sights_same rows history binds mirror =
         ≡ service_sight (λ tag. past tag history) service tag
     sees None service = refl
     sees (Some tag) service = seen_seated tag service (look tag rows) (past tag history)
-        (holder_of history tag) (mirror tag)
+        (users_of history tag) (mirror tag)
 
     reads : (tag : Option (List ℕ)) (name : List ℕ) → tag_reads rows tag name
         ≡ variable_sight (λ tag. past tag history) name tag
     reads None name = refl
-    reads (Some tag) name = read_seated tag name (look tag rows) (past tag history) (holder_of history tag)
+    reads (Some tag) name = read_seated tag name (look tag rows) (past tag history) (users_of history tag)
         (mirror tag)

@@ -9,6 +9,7 @@ use Rattle.chart_core.specs.Charts.{plain_chart}
 use Rattle.chart_core.specs.declared.next.Next.{Next}
 use Rattle.chart_core.specs.declared.next.Next.TheVariants as next
 use Rattle.chart_cursor.specs.NextEntry.{next_by}
+use Rattle.pol_events.specs.Bound.{given}
 use Rattle.pol_events.specs.Events.{PlainEntry, advance}
 use Rattle.pol_events.specs.declared.answer.Rule.TheVariants.{BatchClosed}
 use Rattle.pol_history.specs.Answers.{advanced, first_rule, answer_of, is_full}
@@ -46,16 +47,19 @@ pub next_of_is : (history : History) (batch : List ℕ) (rows : Rows Slot) (run 
 next_of_is history batch rows run next mirror keeps comes =
     let past' = past_of_batch batch history in
     let same : next ≡ next_by (plain_chart run.chart) (is_frozen_by past') (log_by past')
-    (sights_by run.binds (λ tag. past tag history))
+    (sights_by (given keeps.binds) (λ tag. past tag history))
     = comes (log_by past') keeps.follows
     ∙ ap (λ seen. next_by (plain_chart run.chart) run.frozen (log_by past') seen)
     (sights_same rows history run.binds mirror)
     ∙ ap (λ frozen. next_by (plain_chart run.chart) frozen (log_by past')
     (sights_by run.binds (λ tag. past tag history)))
-    keeps.frozen_is in
+    keeps.frozen_is
+    ∙ ap (λ binds. next_by (plain_chart run.chart) (is_frozen_by past') (log_by past')
+    (sights_by binds (λ tag. past tag history)))
+    keeps.binds_are in
     ap begins keeps.started
     ∙ ap (option_map (λ chart. next_by chart (is_frozen_by past') (log_by past')
-    (sights_by run.binds (λ tag. past tag history)))) keeps.charted
+    (sights_by (given keeps.binds) (λ tag. past tag history)))) keeps.charted
     ∙ ap Some (sym same)
   where
     begins : Option Started → Option Next
@@ -104,8 +108,9 @@ settled_keeps past recipes at batch run after next settles keeps =
     record {
       batch_is = settles.same_batch.batch ∙ keeps.batch_is;
       recipe = keeps.recipe;
-      started = keeps.started ∙ ap (λ binds. Some (record { recipe = keeps.recipe; binds = binds }))
-          (sym settles.same_batch.binds);
+      binds = keeps.binds;
+      binds_are = settles.same_batch.binds ∙ keeps.binds_are;
+      started = keeps.started;
       charted = keeps.charted ∙ ap (λ chart. Some (plain_chart chart)) (sym settles.same_batch.chart);
       follows = subst (Follows after) (sym (log_is past at batch next)) (settles.log (log_by past) keeps.follows);
       frozen_is = settles.frozen_is ∙ keeps.frozen_is;

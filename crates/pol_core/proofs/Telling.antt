@@ -8,7 +8,6 @@ use Rattle.pol_events.specs.Events.{PlainEvent, PlainEntry}
 use Rattle.pol_events.specs.declared.answer.Answer.{Answer}
 use Rattle.pol_events.specs.declared.answer.Rule.{Rule}
 use Rattle.pol_history.specs.Answers.{answer_of}
-use Rattle.pol_history.specs.Batches.{holder_of}
 use Rattle.pol_history.specs.Looking.{History, of_module, subject, is_accepted, past}
 use Rattle.pol_history.specs.Modules.{present_tags}
 use Rattle.pol_history.specs.Runs.{entry_of}
@@ -17,7 +16,7 @@ use Rattle.pol_history.proofs.Pasts.{past_own}
 use Rattle.pol_history.proofs.Refused.{refused_nothing}
 use Rattle.pol_slots.specs.declared.slot.Slot.{Slot}
 use Rattle.pol_table.specs.Rows.{Row, Rows, look, part_of, with_part}
-use Rattle.pol_core.specs.Seats.{SlotKeeps, IsTaken, IsSeated, SeatsMirror, IsCounted, AnswersModule, done_or_refused}
+use Rattle.pol_core.specs.Seats.{users_of, SlotKeeps, IsTaken, IsSeated, SeatsMirror, IsCounted, AnswersModule, done_or_refused}
 use Rattle.pol_core.proofs.Counting.{counted_part, counted_same}
 use Rattle.pol_core.proofs.Seating.{seat_changes, part_changes}
 
@@ -46,8 +45,8 @@ pub seated_slot : (history : History) (tag : List ℕ) (rows : Rows Slot) (slot 
     → SlotKeeps tag slot (past tag history)
 seated_slot history tag rows slot mirror is =
     let has = has_row tag rows slot is in
-    let taken : IsTaken tag has.row (past tag history) (holder_of history tag)
-    = subst (λ found. IsSeated tag found (past tag history) (holder_of history tag)) has.found (mirror tag) in
+    let taken : IsTaken tag has.row (past tag history) (users_of history tag)
+    = subst (λ found. IsSeated tag found (past tag history) (users_of history tag)) has.found (mirror tag) in
     subst (λ slot. SlotKeeps tag slot (past tag history)) has.part_is taken.slot_keeps
 
 -- a slot in the place of another, after an event of its module
@@ -58,12 +57,12 @@ pub slot_changes : (history : History) (event : PlainEvent) (tag : List ℕ) (ro
     SeatsMirror (with_part tag rows new) (entry_of history event ∷ history)
 slot_changes history event tag rows old new is mirror found keeps =
     let has = has_row tag rows old found in
-    let taken : IsTaken tag has.row (past tag history) (holder_of history tag)
-    = subst (λ found. IsSeated tag found (past tag history) (holder_of history tag)) has.found (mirror tag) in
+    let taken : IsTaken tag has.row (past tag history) (users_of history tag)
+    = subst (λ found. IsSeated tag found (past tag history) (users_of history tag)) has.found (mirror tag) in
     seat_changes history (entry_of history event) tag (Some (record has.row { part = new })) rows
     (with_part tag rows new) is
     (part_changes tag has.row rows new has.found)
-    (record { slot_keeps = keeps; held_by = taken.held_by }) mirror
+    (record { slot_keeps = keeps; held_by = taken.held_by; watched_by = taken.watched_by }) mirror
 
 -- a slot that an accepted event of its module leaves as it is
 pub seats_unmoved : (history : History) (entry : PlainEntry) (tag : List ℕ) (slot : Slot) (rows : Rows Slot) →
@@ -73,14 +72,15 @@ pub seats_unmoved : (history : History) (entry : PlainEntry) (tag : List ℕ) (s
     SeatsMirror rows history → SeatsMirror rows (entry ∷ history)
 seats_unmoved history entry tag slot rows is accepted found keeps mirror =
     let has = has_row tag rows slot found in
-    let taken : IsTaken tag has.row (past tag history) (holder_of history tag)
-    = subst (λ found. IsSeated tag found (past tag history) (holder_of history tag)) has.found (mirror tag) in
+    let taken : IsTaken tag has.row (past tag history) (users_of history tag)
+    = subst (λ found. IsSeated tag found (past tag history) (users_of history tag)) has.found (mirror tag) in
     seat_changes history entry tag (Some has.row) rows rows is (same has.row has.found)
     (record {
       slot_keeps = subst (λ past. SlotKeeps tag has.row.part past) (sym (past_own history entry tag is accepted))
           (subst (λ slot. SlotKeeps tag slot (entry ∷ past tag history)) (sym has.part_is)
           (keeps (seated_slot history tag rows slot mirror found)));
       held_by = taken.held_by;
+      watched_by = taken.watched_by;
     }) mirror
   where
     same : (row : Row Slot) → look tag rows ≡ Some row → (other : List ℕ) →

@@ -1,6 +1,6 @@
 -- What the tables say against a start is what looking back says.
 use Rattle.std.proofs.Common.{◌≡◌, ℕ, Bool, true, false, cond, List, [], ◌∷◌, map, Option, Some, None, refl, ap, sym, ◌∙◌}
-use Rattle.std.specs.Prelude.{filter, option_map, option_and_then}
+use Rattle.std.specs.Prelude.{filter, unwrap_or, option_map, option_and_then}
 use Rattle.std.specs.Option.{option_or}
 use Rattle.mtp_codes.specs.Faults.{first_of}
 use Rattle.mtp_codes.specs.Names.{same_name}
@@ -8,22 +8,22 @@ use Rattle.mtp_modes.specs.declared.view.ServiceView.{ServiceView}
 use Rattle.mtp_procs.specs.Covers.{cover_fault}
 use Rattle.chart_core.specs.Roles.{PlainChart, role_names}
 use Rattle.chart_core.specs.Trees.{PlainStep, Placed, steps}
-use Rattle.pol_events.specs.Bound.{bound_tag}
+use Rattle.pol_events.specs.Bound.{PlainAllocation, given, bound_tag}
 use Rattle.pol_events.specs.Refusals.{in_exchange, cover_rule}
 use Rattle.pol_events.specs.declared.answer.Rule.{Rule}
 use Rattle.pol_events.specs.declared.event.Bind.{Bind}
-use Rattle.pol_history.specs.Batches.{holder_of}
+use Rattle.pol_history.specs.Batches.{holder_of, watchers_of}
 use Rattle.pol_history.specs.Following.{sight_in}
 use Rattle.pol_history.specs.Looking.{History, past}
 use Rattle.pol_history.specs.Modules.{Docking, absent, docked, away, docking_by, ticket_of, description_by, view_by}
-use Rattle.pol_history.specs.Rules.{no_module, not_covered, not_reported, not_idle, unready, not_ready, services_of, module_rules, module_rule, modules_unfit, busy_module, busy_role, busy, one_module_twice, role_unbound, role_unknown}
+use Rattle.pol_history.specs.Rules.{steps_in, watched_step, no_module, not_covered, not_reported, not_idle, unready, not_ready, services_of, module_rules, module_rule, modules_unfit, busy_module, busy_role, busy, one_module_twice, role_unbound, role_unknown}
 use Rattle.pol_slots.specs.Sights.{slot_sight}
 use Rattle.pol_slots.specs.Slots.{slot_ticket, slot_description}
 use Rattle.pol_slots.specs.declared.slot.Slot.{Slot}
 use Rattle.pol_table.specs.Rows as tables
 use Rattle.pol_table.specs.Rows.{Row, Rows, look}
 use Rattle.pol_core.specs.Judging.{sight_unready, step_unready, slot_rule, part_rule, role_rule, table_unfit, tag_busy, table_busy, bind_rule}
-use Rattle.pol_core.specs.Seats.{SlotKeeps, IsSeated, SeatsMirror}
+use Rattle.pol_core.specs.Seats.{Users, users_of, SlotKeeps, IsSeated, SeatsMirror}
 use Rattle.pol_core.specs.Walks.{first_said}
 use Rattle.pol_core.proofs.Judging.{there_is}
 use Rattle.pol_core.proofs.Sights.{slot_sight_is}
@@ -110,14 +110,14 @@ slot_rule_same chart role tag slot past keeps = go (slot_ticket slot) refl
 
 -- so does a tag, whether it has a slot or not
 part_same : (chart : PlainChart) (role tag : List ℕ) (found : Option (Row Slot)) (past : History)
-    (holder : Option (List ℕ)) → IsSeated tag found past holder →
+    (users : Users) → IsSeated tag found past users →
     part_rule chart role tag (option_map (λ row. row.part) found) ≡ first_of (module_rules chart role tag past)
-part_same chart role tag None past holder seated =
+part_same chart role tag None past users seated =
     sym (ap (λ docking. option_or (no_module tag docking)
     (option_or (in_exchange tag (ticket_of (docking_by past)))
     (option_or (not_covered chart role (description_by past))
     (option_or (not_ready tag past (services_of chart role)) None)))) seated.is_absent)
-part_same chart role tag (Some row) past holder seated =
+part_same chart role tag (Some row) past users seated =
     slot_rule_same chart role tag row.part past seated.slot_keeps
 
 -- so does a role, whether it has a tag or not
@@ -126,7 +126,7 @@ role_same : (rows : Rows Slot) (history : History) (chart : PlainChart) (role : 
     role_rule rows chart role tag ≡ module_rule history chart role tag
 role_same rows history chart role mirror None = refl
 role_same rows history chart role mirror (Some tag) =
-    part_same chart role tag (look tag rows) (past tag history) (holder_of history tag) (mirror tag)
+    part_same chart role tag (look tag rows) (past tag history) (users_of history tag) (mirror tag)
 
 -- two rules that say the same of each say the same of a list
 first_same : {X : Type 0} (one other : X → Option Rule) → ((x : X) → one x ≡ other x) → (xs : List X) →
@@ -148,17 +148,30 @@ unfit_same rows history chart binds roles mirror =
 -- ---- who holds a module
 
 -- a row is held by the holder
-held_seated : (tag : List ℕ) (found : Option (Row Slot)) (past : History) (holder : Option (List ℕ)) →
-    IsSeated tag found past holder →
-    option_and_then (λ row. row.holder) found ≡ holder
-held_seated tag None past holder seated = sym seated.free
-held_seated tag (Some row) past holder seated = seated.held_by
+held_seated : (tag : List ℕ) (found : Option (Row Slot)) (past : History) (users : Users) →
+    IsSeated tag found past users →
+    option_and_then (λ row. row.holder) found ≡ users.holder
+held_seated tag None past users seated = sym seated.free
+held_seated tag (Some row) past users seated = seated.held_by
+
+-- and watched by the watchers
+watched_seated : (tag : List ℕ) (found : Option (Row Slot)) (past : History) (users : Users) →
+    IsSeated tag found past users →
+    unwrap_or (option_map (λ row. row.watchers) found) [] ≡ users.watchers
+watched_seated tag None past users seated = sym seated.unwatched
+watched_seated tag (Some row) past users seated = seated.watched_by
 
 -- the holder by the table is the holder
 pub holder_same : (rows : Rows Slot) (history : History) (tag : List ℕ) → SeatsMirror rows history →
     tables.holder_of tag rows ≡ holder_of history tag
 holder_same rows history tag mirror =
-    held_seated tag (look tag rows) (past tag history) (holder_of history tag) (mirror tag)
+    held_seated tag (look tag rows) (past tag history) (users_of history tag) (mirror tag)
+
+-- the watchers by the table are the watchers
+pub watchers_same : (rows : Rows Slot) (history : History) (tag : List ℕ) → SeatsMirror rows history →
+    tables.watchers_of tag rows ≡ watchers_of history tag
+watchers_same rows history tag mirror =
+    watched_seated tag (look tag rows) (past tag history) (users_of history tag) (mirror tag)
 
 -- a role is busy by the table exactly where it is
 busy_one : (rows : Rows Slot) (history : History) → SeatsMirror rows history → (tag : Option (List ℕ)) →
@@ -177,23 +190,28 @@ busy_same rows history binds roles mirror =
 -- ---- all together
 
 -- the rules of the binds and modules of a start, as they are defined
-abbrev pub defined_rule : History → PlainChart → List Bind → Option Rule
+abbrev pub defined_rule : History → PlainChart → PlainAllocation → Option Rule
 defined_rule history chart binds =
-    option_or (role_unbound binds (role_names chart))
+    option_or (role_unbound (given binds) (role_names chart))
     (option_or (role_unknown binds (role_names chart))
-    (option_or (one_module_twice binds [] (role_names chart))
-    (option_or (modules_unfit history chart binds (role_names chart)) (busy history binds (role_names chart)))))
+    (option_or (one_module_twice (given binds) [] (role_names chart))
+    (option_or (watched_step binds.watched (steps_in chart) (role_names chart))
+    (option_or (modules_unfit history chart (given binds) (role_names chart))
+    (busy history binds.held (role_names chart))))))
 
 -- what the tables say of them is what looking back says
-pub bind_rule_same : (rows : Rows Slot) (history : History) (chart : PlainChart) (binds : List Bind) →
+pub bind_rule_same : (rows : Rows Slot) (history : History) (chart : PlainChart) (binds : PlainAllocation) →
     SeatsMirror rows history →
     bind_rule rows chart binds ≡ defined_rule history chart binds
 bind_rule_same rows history chart binds mirror =
-    ap (λ found. option_or (role_unbound binds (role_names chart)) (option_or (role_unknown binds (role_names chart))
-    (option_or (one_module_twice binds [] (role_names chart))
-    (option_or found (table_busy rows binds (role_names chart))))))
-    (unfit_same rows history chart binds (role_names chart) mirror)
-    ∙ ap (λ found. option_or (role_unbound binds (role_names chart)) (option_or (role_unknown binds (role_names chart))
-    (option_or (one_module_twice binds [] (role_names chart))
-    (option_or (modules_unfit history chart binds (role_names chart)) found))))
-    (busy_same rows history binds (role_names chart) mirror)
+    ap before (ap (λ found. option_or found (table_busy rows binds.held (role_names chart)))
+    (unfit_same rows history chart (given binds) (role_names chart) mirror)
+    ∙ ap (option_or (modules_unfit history chart (given binds) (role_names chart)))
+    (busy_same rows history binds.held (role_names chart) mirror))
+  where
+    before : Option Rule → Option Rule
+    before rule =
+        option_or (role_unbound (given binds) (role_names chart))
+        (option_or (role_unknown binds (role_names chart))
+        (option_or (one_module_twice (given binds) [] (role_names chart))
+        (option_or (watched_step binds.watched (steps_in chart) (role_names chart)) rule)))

@@ -12,6 +12,7 @@ use Rattle.chart_core.specs.declared.next.Outcome.{Outcome}
 use Rattle.chart_cursor.specs.Logs.{has_broken, was_stopped}
 use Rattle.chart_cursor.specs.NextEntry.{next_by}
 use Rattle.chart_cursor.specs.Sights.{Sights}
+use Rattle.pol_events.specs.Bound.{PlainAllocation, given}
 use Rattle.pol_events.specs.Events.{PlainEvent}
 use Rattle.pol_events.specs.declared.answer.Answer.{Answer}
 use Rattle.pol_events.specs.declared.answer.Rule.{Rule}
@@ -30,7 +31,9 @@ use Rattle.pol_core.specs.Seats.{SeatsMirror, IsCounted}
 pub record RunKeeps (batch : List ℕ) (run : PlainRun) (past recipes : History) : Type 0 where
   pub batch_is : run.batch ≡ batch
   pub recipe : List ℕ
-  pub started : start_by past ≡ Some (record { recipe = recipe; binds = run.binds })
+  pub binds : PlainAllocation
+  pub binds_are : run.binds ≡ given binds
+  pub started : start_by past ≡ Some (record { recipe = recipe; binds = binds })
   pub charted : chart_named recipe recipes ≡ Some (plain_chart run.chart)
   pub follows : Follows run (log_by past)
   pub frozen_is : run.frozen ≡ is_frozen_by past

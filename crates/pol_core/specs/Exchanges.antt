@@ -1,9 +1,15 @@
 -- The exchange of a module for another.
-use Rattle.std.specs.Prelude.{ℕ, ◌≡◌, ◌+◌, ◌<◌, List, Option, Some, None}
+use Rattle.std.specs.Prelude.{ℕ, ◌≡◌, ◌+◌, ◌<◌, List, Option, Some, None, option_map, option_and_then}
+use Rattle.std.specs.Map.{lookup}
+use Rattle.std.specs.Str.{bytes_eq}
+use Rattle.mtp_procs.specs.Covers.{cover_fault, missing_by}
+use Rattle.chart_core.specs.Charts.{plain_chart}
+use Rattle.pol_events.specs.Bound.{bound_role}
+use Rattle.pol_runs.specs.Runs.{PlainRun}
 use Rattle.mtp_desc.specs.Plain.{PlainDescription}
 use Rattle.pol_events.specs.Refusals.{wrong_ticket}
 use Rattle.pol_events.specs.declared.answer.Rule.{Rule}
-use Rattle.pol_events.specs.declared.answer.Rule.TheVariants.{NotInExchange}
+use Rattle.pol_events.specs.declared.answer.Rule.TheVariants.{HeldBack, NotInExchange}
 use Rattle.pol_slots.specs.Slots.{slot_tag, slot_ticket, slot_description, slot_begins, IsUnreported, IsDocked, IsUnchanged}
 use Rattle.pol_slots.specs.declared.slot.Slot.{Slot}
 use Rattle.pol_table.specs.Rows.{Rows, part_of, with_part}
@@ -51,3 +57,15 @@ pub record StaysAway (tag : List ℕ) (slot : Slot) (old new : Rows Slot) : Type
   pub after : Slot
   pub same : IsUnchanged slot after
   pub table : new ≡ with_part tag old after
+
+-- what of its chart the run of a batch doesn't find in the description, for the role that the tag plays
+abbrev pub run_lacks : List ℕ → PlainDescription → List ℕ → PlainRun → Option Rule
+run_lacks tag description batch run =
+    option_map (HeldBack batch)
+    (option_and_then (λ role. option_map (missing_by role) (cover_fault (plain_chart run.chart) role description))
+    (bound_role run.binds tag))
+
+-- the same of the batch, if it has a run
+abbrev pub lacks : List (List ℕ × PlainRun) → List ℕ → PlainDescription → List ℕ → Option Rule
+lacks runs tag description batch =
+    option_and_then (run_lacks tag description batch) (lookup (bytes_eq batch) runs)

@@ -12,12 +12,12 @@ use Rattle.chart_core.specs.Roles.{PlainChart, role_names}
 use Rattle.chart_core.specs.Trees.{PlainStep}
 use Rattle.chart_cursor.specs.declared.sight.Sight.{Sight}
 use Rattle.chart_cursor.specs.declared.sight.Sight.TheVariants as sight
-use Rattle.pol_events.specs.Bound.{bound_tag}
+use Rattle.pol_events.specs.Bound.{PlainAllocation, bound_tag, given}
 use Rattle.pol_events.specs.Refusals.{cover_rule, in_exchange}
 use Rattle.pol_events.specs.declared.answer.Rule.{Rule}
 use Rattle.pol_events.specs.declared.answer.Rule.TheVariants.{NoModule, NotReported, NotIdle, BatchKnown, BatchesFull}
 use Rattle.pol_events.specs.declared.event.Bind.{Bind}
-use Rattle.pol_history.specs.Rules.{busy_module, one_module_twice, role_unbound, role_unknown}
+use Rattle.pol_history.specs.Rules.{busy_module, one_module_twice, role_unbound, role_unknown, steps_in, watched_step}
 use Rattle.pol_slots.specs.Sights.{slot_sight}
 use Rattle.pol_slots.specs.Slots.{slot_ticket, slot_description}
 use Rattle.pol_slots.specs.declared.slot.Slot.{Slot}
@@ -66,15 +66,17 @@ abbrev pub table_busy : Rows Slot → List Bind → List (List ℕ) → Option R
 table_busy rows binds roles = first_of (map (λ role. tag_busy rows (bound_tag binds role)) roles)
 
 -- all rules of the binds and the modules in their order
-abbrev pub bind_rule : Rows Slot → PlainChart → List Bind → Option Rule
+abbrev pub bind_rule : Rows Slot → PlainChart → PlainAllocation → Option Rule
 bind_rule rows chart binds =
-    option_or (role_unbound binds (role_names chart))
+    option_or (role_unbound (given binds) (role_names chart))
     (option_or (role_unknown binds (role_names chart))
-    (option_or (one_module_twice binds [] (role_names chart))
-    (option_or (table_unfit rows chart binds (role_names chart)) (table_busy rows binds (role_names chart)))))
+    (option_or (one_module_twice (given binds) [] (role_names chart))
+    (option_or (watched_step binds.watched (steps_in chart) (role_names chart))
+    (option_or (table_unfit rows chart (given binds) (role_names chart))
+    (table_busy rows binds.held (role_names chart))))))
 
 -- all that the tables say against a start of a recipe with this chart
-abbrev pub chart_rule : Rows Slot → List (List ℕ × PlainRun) → List ℕ → List Bind → PlainChart → Option Rule
+abbrev pub chart_rule : Rows Slot → List (List ℕ × PlainRun) → List ℕ → PlainAllocation → PlainChart → Option Rule
 chart_rule rows runs batch binds chart =
     option_or (when (is_some (lookup (bytes_eq batch) runs)) BatchKnown)
     (option_or (bind_rule rows chart binds) (when (nat_le MOST_BATCHES (length runs)) BatchesFull))

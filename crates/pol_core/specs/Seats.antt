@@ -9,7 +9,7 @@ use Rattle.pol_events.specs.declared.answer.Answer.{Answer}
 use Rattle.pol_events.specs.declared.answer.Answer.TheVariants.{Done, Did, Refused}
 use Rattle.pol_events.specs.declared.answer.Rule.{Rule}
 use Rattle.pol_history.specs.Answers.{answer_of}
-use Rattle.pol_history.specs.Batches.{holder_of}
+use Rattle.pol_history.specs.Batches.{holder_of, watchers_of}
 use Rattle.pol_history.specs.Looking.{History, past}
 use Rattle.pol_history.specs.Modules.{present_tags, absent, docking_by, ticket_of, description_by, begins_by, dockings_by, control_by, value_by}
 use Rattle.pol_history.specs.Runs.{entry_of}
@@ -30,24 +30,35 @@ pub record SlotKeeps (tag : List ℕ) (slot : Slot) (past : History) : Type 0 wh
   pub controls : (service : List ℕ) → last_control slot service ≡ control_by service past
   pub values : (name : List ℕ) → last_value slot name ≡ value_by name past
 
--- a tag without a row is absent and not held
-pub record IsEmpty (past : History) (holder : Option (List ℕ)) : Type 0 where
-  pub is_absent : docking_by past ≡ absent
-  pub free : holder ≡ None
+-- the batch that holds a module, if one does, and those that watch it
+pub record Users : Type 0 where
+  pub holder : Option (List ℕ)
+  pub watchers : List (List ℕ)
 
--- a row keeps the module's past, and who holds it
-pub record IsTaken (tag : List ℕ) (row : Row Slot) (past : History) (holder : Option (List ℕ)) : Type 0 where
+-- those of a tag
+abbrev pub users_of : History → List ℕ → Users
+users_of history tag = record { holder = holder_of history tag; watchers = watchers_of history tag }
+
+-- a tag without a row is absent, not held and not watched
+pub record IsEmpty (past : History) (users : Users) : Type 0 where
+  pub is_absent : docking_by past ≡ absent
+  pub free : users.holder ≡ None
+  pub unwatched : users.watchers ≡ []
+
+-- a row keeps the module's past, who holds it and who watches it
+pub record IsTaken (tag : List ℕ) (row : Row Slot) (past : History) (users : Users) : Type 0 where
   pub slot_keeps : SlotKeeps tag row.part past
-  pub held_by : row.holder ≡ holder
+  pub held_by : row.holder ≡ users.holder
+  pub watched_by : row.watchers ≡ users.watchers
 
 -- what a tag has in the table is what looking back gives
-abbrev pub IsSeated : List ℕ → Option (Row Slot) → History → Option (List ℕ) → Type 0
-IsSeated tag None past holder = IsEmpty past holder
-IsSeated tag (Some row) past holder = IsTaken tag row past holder
+abbrev pub IsSeated : List ℕ → Option (Row Slot) → History → Users → Type 0
+IsSeated tag None past users = IsEmpty past users
+IsSeated tag (Some row) past users = IsTaken tag row past users
 
 -- each tag has so
 abbrev pub SeatsMirror : Rows Slot → History → Type 0
-SeatsMirror rows history = (tag : List ℕ) → IsSeated tag (look tag rows) (past tag history) (holder_of history tag)
+SeatsMirror rows history = (tag : List ℕ) → IsSeated tag (look tag rows) (past tag history) (users_of history tag)
 
 -- done, unless a rule refuses it
 abbrev pub done_or_refused : Result ⊤ Rule → Answer

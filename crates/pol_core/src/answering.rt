@@ -17,7 +17,7 @@ use crate::starting::start;
 use chart_core::Chart;
 use indexmap::IndexMap;
 use mtp_codes::Name;
-use pol_events::{Answer, Event};
+use pol_events::{Allocation, Answer, Event};
 use pol_runs::Run;
 use pol_slots::Slot;
 use pol_table::Table;
@@ -74,8 +74,15 @@ pub fn answer_event(
             batch,
             recipe: name,
             bind,
+            watch,
             ..
-        } => start(alloc, modules, runs, recipes, *batch, *name, bind),
+        } => {
+            let binds = Allocation {
+                held: bind,
+                watched: watch,
+            };
+            start(alloc, modules, runs, recipes, *batch, *name, binds)
+        }
         Event::Advance { batch, .. } => Ok(advance(modules, runs, *batch)),
         Event::Freeze { batch, .. } => Ok(freeze(runs, *batch)),
         Event::Thaw { batch, .. } => Ok(thaw(runs, *batch)),

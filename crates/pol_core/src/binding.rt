@@ -5,7 +5,7 @@ ghost use Rattle.chart_core.specs.Charts.{plain_chart};
 ghost use Rattle.chart_core.specs.Roles.{role_names};
 ghost use Rattle.chart_core.specs.Trees.{arms, plain_node, trees, plain_step};
 ghost use Rattle.pol_bind.specs.Roles.{names_in};
-ghost use Rattle.pol_events.specs.Bound.{bound_tag};
+ghost use Rattle.pol_events.specs.Bound.{bound_tag, given, plain_allocation};
 ghost use Rattle.pol_events.specs.Refusals.{cover_rule};
 ghost use Rattle.pol_slots.specs.Slots.{slot_description};
 ghost use Rattle.pol_core.specs.Judging.{sight_unready, step_unready, slot_rule, role_rule, table_unfit, tag_busy, table_busy, bind_rule};
@@ -14,8 +14,8 @@ ghost use Rattle.pol_core.specs.Walks.{first_said, first_said_among, first_said_
 use chart_core::{Arm, Chart, Node, Role};
 use chart_cursor::Sight;
 use mtp_codes::{Name, State};
-use pol_bind::{covers, one_module_twice, role_unbound, role_unknown};
-use pol_events::{Bind, Rule, bound_tag};
+use pol_bind::{covers, one_module_twice, role_unbound, role_unknown, watched_step};
+use pol_events::{Allocation, Bind, Rule, bound_tag};
 use pol_slots::Slot;
 use pol_table::Table;
 
@@ -119,11 +119,17 @@ fn role_rule(modules: &Table<Slot>, chart: &Chart, role: Name, tag: Option<Name>
 }
 
 // The first thing that is wrong with a module, over the roles of the chart.
-fn first_unfit(modules: &Table<Slot>, chart: &Chart, binds: &[Bind], roles: &[Role]) -> Option<Rule>
-    ensures { result ≡ table_unfit modules.now (plain_chart chart.now) binds.now (names_in roles.now) }
+fn first_unfit(
+    modules: &Table<Slot>,
+    chart: &Chart,
+    binds: Allocation<'_>,
+    roles: &[Role],
+) -> Option<Rule>
+    ensures { result ≡ table_unfit modules.now (plain_chart chart.now) (given (plain_allocation binds.entry))
+        (names_in roles.now) }
 {
     for role in roles {
-        if let Some(rule) = role_rule(modules, chart, role.role, bound_tag(binds, role.role)) {
+        if let Some(rule) = role_rule(modules, chart, role.role, binds.tag_of(role.role)) {
             return Some(rule);
         }
     }
@@ -151,8 +157,8 @@ fn first_busy(modules: &Table<Slot>, binds: &[Bind], roles: &[Role]) -> Option<R
 }
 
 /// The first rule of a start that its binds and its modules break. It takes no memory.
-pub fn bind_rule(modules: &Table<Slot>, chart: &Chart, binds: &[Bind]) -> Option<Rule>
-    ensures { result ≡ bind_rule modules.now (plain_chart chart.now) binds.now }
+pub fn bind_rule(modules: &Table<Slot>, chart: &Chart, binds: Allocation<'_>) -> Option<Rule>
+    ensures { result ≡ bind_rule modules.now (plain_chart chart.now) (plain_allocation binds.entry) }
 {
     if let Some(rule) = role_unbound(binds, &chart.roles) {
         return Some(rule);
@@ -163,8 +169,11 @@ pub fn bind_rule(modules: &Table<Slot>, chart: &Chart, binds: &[Bind]) -> Option
     if let Some(rule) = one_module_twice(binds, &chart.roles) {
         return Some(rule);
     }
+    if let Some(rule) = watched_step(binds.watched, &chart.root, &chart.roles) {
+        return Some(rule);
+    }
     if let Some(rule) = first_unfit(modules, chart, binds, &chart.roles) {
         return Some(rule);
     }
-    first_busy(modules, binds, &chart.roles)
+    first_busy(modules, binds.held, &chart.roles)
 }

@@ -1,5 +1,5 @@
 //! Modules that are exchanged.
-ghost use Rattle.std.specs.Prelude.{◌≡◌, ℕ, List, Some, None, IsSome, IfOk, OnOk, OnErr, false, option_map, option_and_then};
+ghost use Rattle.std.specs.Prelude.{◌≡◌, ℕ, List, map, Some, None, IsSome, IfOk, OnOk, OnErr, false, option_map, option_and_then};
 ghost use Rattle.mtp_codes.specs.Faults.{first_of, done_unless};
 ghost use Rattle.mtp_desc.specs.PlainDescription.{plain_description};
 ghost use Rattle.mtp_procs.specs.Covers.{cover_fault, missing_by};
@@ -12,10 +12,10 @@ ghost use Rattle.pol_history.specs.Looking.{History};
 ghost use Rattle.pol_history.specs.Rules.{active_step, held_back};
 ghost use Rattle.pol_slots.specs.Slots.{slot_description, slot_ticket, IsDocked, IsUnchanged};
 ghost use Rattle.pol_slots.specs.declared.slot.Slot.{Slot as slot_type};
-ghost use Rattle.pol_table.specs.Rows.{part_of};
+ghost use Rattle.pol_table.specs.Rows.{holder_of, part_of, watchers_of};
 ghost use Rattle.pol_runs.specs.Logs.{Follows};
 ghost use Rattle.pol_core.specs.Batches.{RunsMirror};
-ghost use Rattle.pol_core.specs.Exchanges.{HaveBegunFew, IsDockedAt, SendsAway, DocksAgain, StaysAway, ticket_rule};
+ghost use Rattle.pol_core.specs.Exchanges.{HaveBegunFew, IsDockedAt, SendsAway, DocksAgain, StaysAway, lacks, ticket_rule};
 ghost use Rattle.pol_core.specs.Seats.{IsCounted, SeatsMirror, AnswersModule};
 
 use crate::modules::done_or_refused;
@@ -140,7 +140,55 @@ fn missing_of(run: &Run, tag: Name, desc: &Description) -> Option<Name>
     held_back_by(run.chart(), role, desc)
 }
 
+// The new module doesn't cover its role in the batch.
+fn uncovered_in(
+    runs: &IndexMap<Name, Run>,
+    batch: Name,
+    tag: Name,
+    desc: &Description,
+) -> Option<Rule>
+    ensures { result ≡ lacks runs.now.entries tag (plain_description desc.now) batch }
+{
+    let run = runs.get(&batch)?;
+    let missing = missing_of(run, tag, desc)?;
+    Some(Rule::HeldBack { batch, missing })
+}
+
 // The new module doesn't cover its role in the batch that holds the tag.
+fn held_back_by_holder(
+    modules: &Table<Slot>,
+    runs: &IndexMap<Name, Run>,
+    tag: Name,
+    desc: &Description,
+) -> Option<Rule>
+    ensures { result ≡ option_and_then (lacks runs.now.entries tag (plain_description desc.now))
+        (holder_of tag modules.now) }
+{
+    let batch = modules.holder(tag)?;
+    uncovered_in(runs, batch, tag, desc)
+}
+
+// The new module doesn't cover its role in a batch that watches the tag; the first such batch.
+fn held_back_by_watcher(
+    modules: &Table<Slot>,
+    runs: &IndexMap<Name, Run>,
+    tag: Name,
+    desc: &Description,
+) -> Option<Rule>
+    ensures { result ≡ first_of (map (lacks runs.now.entries tag (plain_description desc.now))
+        (watchers_of tag modules.now)) }
+{
+    for watch in modules.watches() {
+        if watch.tag == tag {
+            if let Some(rule) = uncovered_in(runs, watch.batch, tag, desc) {
+                return Some(rule);
+            }
+        }
+    }
+    None
+}
+
+// The new module doesn't cover its role in the batch that holds the tag, or else in one that watches it.
 fn held_back(
     modules: &Table<Slot>,
     runs: &IndexMap<Name, Run>,
@@ -150,10 +198,10 @@ fn held_back(
     ensures { (history : History) → SeatsMirror modules.now history → RunsMirror runs.now.entries history
         → result ≡ held_back history tag (plain_description desc.now) }
 {
-    let batch = modules.holder(tag)?;
-    let run = runs.get(&batch)?;
-    let missing = missing_of(run, tag, desc)?;
-    Some(Rule::HeldBack { batch, missing })
+    match held_back_by_holder(modules, runs, tag, desc) {
+        Some(rule) => Some(rule),
+        None => held_back_by_watcher(modules, runs, tag, desc),
+    }
 }
 
 /// Another module comes in place of the one that is away. AllocError where memory is wanting; then nothing that is seen

@@ -56,7 +56,7 @@ pub fn plug(
     }
 }
 
-/// A module leaves, where no batch holds it.
+/// A module leaves, where no batch holds or watches it.
 pub fn unplug(modules: &mut Table<Slot>, tag: Name) -> Answer
     ensures answered { (history : History) (at : ℕ) → SeatsMirror modules.old history → IsCounted modules.old history
         → is_full history ≡ false → AnswersModule history (unplug at tag) result modules.new }
@@ -69,6 +69,9 @@ pub fn unplug(modules: &mut Table<Slot>, tag: Name) -> Answer
     }
     if let Some(batch) = modules.holder(tag) {
         return Answer::Refused(Rule::Held { batch });
+    }
+    if let Some(batch) = modules.watcher(tag, 0) {
+        return Answer::Refused(Rule::Watched { batch });
     }
     if modules.leave(tag).is_err() {
         unreachable!();

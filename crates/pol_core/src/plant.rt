@@ -19,7 +19,7 @@ use crate::{batches, modules};
 use chart_core::{Chart, Next};
 use indexmap::IndexMap;
 use mtp_codes::{LONGEST_HISTORY, Name, Setting};
-use pol_events::{Answer, Bind, Entry, Event, Rule};
+use pol_events::{Allocation, Answer, Bind, Entry, Event, Rule};
 use pol_runs::Run;
 use pol_slots::Slot;
 use pol_table::Table;
@@ -117,8 +117,8 @@ impl Plant {
     /// Answers an event as `pol_history` defines it, and appends the event with its answer to the history. HistoryFull,
     /// where the history has 200,000 entries, is the one answer that isn't appended.
     ///
-    /// The chart of a recipe is valid, and the binds of a start are at most 64 and rise by role, as those of every line
-    /// do.
+    /// The chart of a recipe is valid, and the binds of a start and its watches are at most 64 each, rise by role, and
+    /// name no role twice, as those of every line do.
     /// Where `spare` is above 0, all kinds of events but Plug, Recipe, Start and ExchangeEnd take no memory, and lower
     /// `spare` by at most 1.
     ///
@@ -165,8 +165,15 @@ impl Plant {
     }
 
     /// The rule that a start would be refused by. Takes no memory.
-    pub fn would_start(&self, batch: Name, recipe: Name, binds: &[Bind]) -> Result<(), Rule>
-        ensures { (at : ℕ) → result ≡ refusal (answer_of (plant_history self.now) (start at batch recipe binds.now)) }
+    pub fn would_start(
+        &self,
+        batch: Name,
+        recipe: Name,
+        binds: &[Bind],
+        watches: &[Bind],
+    ) -> Result<(), Rule>
+        ensures { (at : ℕ) → result ≡ refusal (answer_of (plant_history self.now)
+            (start at batch recipe (record { held = binds.now; watched = watches.now }))) }
     {
         let rule = start_rule(
             &self.modules,
@@ -174,7 +181,10 @@ impl Plant {
             &self.recipes,
             batch,
             recipe,
-            binds,
+            Allocation {
+                held: binds,
+                watched: watches,
+            },
         );
         unless_refused(&self.history, rule)
     }

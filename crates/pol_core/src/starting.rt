@@ -1,28 +1,30 @@
 //! A batch that is started: its modules are held, and its run is kept.
-ghost use Rattle.std.specs.Prelude.{◌≡◌, ℕ, ◌+◌, length, List, None, Some, Ok, true, false, IfOk, OnOk, OnErr, ◌<◌, if◌then◌else◌};
+ghost use Rattle.std.specs.Prelude.{◌≡◌, ℕ, ◌+◌, length, List, None, Some, Ok, true, false, IfOk, IsSome, OnOk, OnErr, ◌<◌, if◌then◌else◌};
+ghost use Rattle.std.specs.List.{IsDistinct};
 ghost use Rattle.std.specs.Map.{lookup};
 ghost use Rattle.std.specs.Str.{bytes_eq};
 ghost use Rattle.mtp_codes.specs.Faults.{first_of};
 ghost use Rattle.mtp_codes.specs.Names.{is_among};
 ghost use Rattle.chart_core.specs.Charts.{plain_chart};
 ghost use Rattle.chart_core.specs.Valid.{IsValid};
-ghost use Rattle.pol_events.specs.Bound.{ArePaired, tags_of};
+ghost use Rattle.pol_events.specs.Bound.{ArePaired, given, plain_allocation, tags_of};
 ghost use Rattle.pol_events.specs.Events.{start};
-ghost use Rattle.pol_events.specs.Orderly.{roles_once};
+ghost use Rattle.pol_events.specs.Orderly.{is_allocation};
 ghost use Rattle.pol_history.specs.Answers.{is_full, rules};
 ghost use Rattle.pol_history.specs.Looking.{History};
 ghost use Rattle.indexmap.specs.IndexMap.{spare};
 ghost use Rattle.pol_table.specs.Answers.{holding};
+ghost use Rattle.pol_table.specs.Rows.{look};
 ghost use Rattle.pol_core.specs.Judging.{chart_rule};
 ghost use Rattle.pol_core.specs.Mirrors.{Mirrors, Answers};
 ghost use Rattle.pol_core.specs.Recipes.{AreValid};
-ghost use Rattle.pol_core.specs.Starting.{Begins, Holds, IsNew};
+ghost use Rattle.pol_core.specs.Starting.{Begins, Holds, IsNew, Watches};
 
 use crate::binding::bind_rule;
 use chart_core::Chart;
 use indexmap::IndexMap;
 use mtp_codes::{MOST_BATCHES, Name};
-use pol_events::{Answer, Bind, Rule};
+use pol_events::{Allocation, Answer, Bind, Rule};
 use pol_runs::Run;
 use pol_slots::Slot;
 use pol_table::Table;
@@ -51,19 +53,30 @@ fn copied(alloc: Global, binds: &[Bind]) -> Result<Vec<Bind>, AllocError>
     Ok(all)
 }
 
+// All binds once more, those of the modules that are held before the others.
+fn all_binds(alloc: Global, binds: Allocation<'_>) -> Result<Vec<Bind>, AllocError>
+    ensures { IfOk result (λ all. all.items ≡ given (plain_allocation binds.entry)) }
+{
+    let mut all = copied(alloc, binds.held)?;
+    for bind in binds.watched {
+        all.push(*bind)?;
+    }
+    Ok(all)
+}
+
 // A run that has just begun.
 fn prepare(
     alloc: Global,
     batch: Name,
     chart: &Arc<Chart>,
-    binds: &[Bind],
+    binds: Allocation<'_>,
 ) -> Result<Run, AllocError>
     requires valid { IsValid (plain_chart chart.now.value) }
-    requires paired { ArePaired binds.now }
-    ensures { IfOk result (IsNew batch (plain_chart chart.now.value) binds.now) }
+    requires paired { ArePaired (given (plain_allocation binds)) }
+    ensures { IfOk result (IsNew batch (plain_chart chart.now.value) (given (plain_allocation binds.entry))) }
 {
     let chart = chart.clone()?;
-    let binds = copied(alloc, binds)?;
+    let binds = all_binds(alloc, binds)?;
     Run::new(alloc, batch, chart, binds)
 }
 
@@ -78,6 +91,18 @@ fn enter(runs: &mut IndexMap<Name, Run>, batch: Name, run: Run)
     if runs.insert(batch, run).is_err() {
         unreachable!();
     }
+}
+
+// Lets the batch watch all of these tags, which are there and distinct. AllocError where memory is wanting; then none.
+fn watch(modules: &mut Table<Slot>, tags: &[Name], batch: Name) -> Result<(), AllocError>
+    requires there { (tag : List ℕ) → is_among tags.now tag ≡ true → IsSome (look tag modules.old) }
+    requires distinct { IsDistinct bytes_eq tags.now }
+    ensures watches { OnOk result (Watches tags.now batch modules.old modules.new) }
+    ensures count { length modules.new ≡ length modules.old }
+    ensures unchanged { OnErr result (modules.new ≡ modules.old) }
+    ensures holding { (held : List (List ℕ)) → holding held modules.new ≡ holding held modules.old }
+{
+    modules.watch_all(tags, batch)
 }
 
 // Lets the batch hold all of these tags, which are there and free.
@@ -99,22 +124,26 @@ fn begin(
     runs: &mut IndexMap<Name, Run>,
     batch: Name,
     chart: &Arc<Chart>,
-    binds: &[Bind],
+    binds: Allocation<'_>,
 ) -> Result<(), AllocError>
     requires valid { IsValid (plain_chart chart.now.value) }
-    requires paired { ArePaired binds.now }
-    requires free { holding (tags_of binds.now) modules.old ≡ Ok tt }
+    requires paired { ArePaired (given (plain_allocation binds)) }
+    requires there { (tag : List ℕ) → is_among (tags_of binds.watched.now) tag ≡ true → IsSome (look tag modules.old) }
+    requires distinct { IsDistinct bytes_eq (tags_of binds.watched.now) }
+    requires free { holding (tags_of binds.held.now) modules.old ≡ Ok tt }
     requires new { lookup (bytes_eq batch) runs.old.entries ≡ None }
-    ensures begun { OnOk result (Begins batch (plain_chart chart.now.value) binds.now
+    ensures begun { OnOk result (Begins batch (plain_chart chart.now.value) (plain_allocation binds.entry)
         modules.old modules.new runs.old.entries runs.new.entries) }
     ensures count { length modules.new ≡ length modules.old }
     ensures modules { OnErr result (modules.new ≡ modules.old) }
     ensures runs { OnErr result (runs.new.entries ≡ runs.old.entries) }
 {
-    let tags = tags_of(alloc, binds)?;
+    let held = tags_of(alloc, binds.held)?;
+    let watched = tags_of(alloc, binds.watched)?;
     let run = prepare(alloc, batch, chart, binds)?;
     runs.reserve(1)?;
-    hold(modules, &tags, batch);
+    watch(modules, &watched, batch)?;
+    hold(modules, &held, batch);
     enter(runs, batch, run);
     Ok(())
 }
@@ -125,9 +154,10 @@ fn chart_rule(
     runs: &IndexMap<Name, Run>,
     batch: Name,
     chart: &Chart,
-    binds: &[Bind],
+    binds: Allocation<'_>,
 ) -> Option<Rule>
-    ensures { result ≡ chart_rule modules.now runs.now.entries batch binds.now (plain_chart chart.now) }
+    ensures { result ≡ chart_rule modules.now runs.now.entries batch (plain_allocation binds.entry)
+        (plain_chart chart.now) }
 {
     if runs.contains_key(&batch) {
         return Some(Rule::BatchKnown);
@@ -148,10 +178,10 @@ pub fn start_rule(
     recipes: &IndexMap<Name, Arc<Chart>>,
     batch: Name,
     name: Name,
-    binds: &[Bind],
+    binds: Allocation<'_>,
 ) -> Option<Rule>
     ensures { (history : History) (at : ℕ) → Mirrors modules.now runs.now.entries recipes.now.entries history
-        → result ≡ first_of (rules history (start at batch name binds.now)) }
+        → result ≡ first_of (rules history (start at batch name (plain_allocation binds.entry))) }
 {
     match recipes.get(&name) {
         None => Some(Rule::NoRecipe),
@@ -167,13 +197,14 @@ pub fn start(
     recipes: &IndexMap<Name, Arc<Chart>>,
     batch: Name,
     name: Name,
-    binds: &[Bind],
+    binds: Allocation<'_>,
 ) -> Result<Answer, AllocError>
     requires valid { AreValid recipes.now.entries }
-    requires once { roles_once binds.now ≡ true }
+    requires orderly { is_allocation (plain_allocation binds) ≡ true }
     ensures answered { IfOk result (λ answer. (history : History) (at : ℕ)
         → Mirrors modules.old runs.old.entries recipes.now.entries history → is_full history ≡ false
-        → Answers history (start at batch name binds.now) answer modules.new runs.new.entries recipes.now.entries) }
+        → Answers history (start at batch name (plain_allocation binds.entry)) answer
+        modules.new runs.new.entries recipes.now.entries) }
     ensures modules { OnErr result (modules.new ≡ modules.old) }
     ensures runs { OnErr result (runs.new.entries ≡ runs.old.entries) }
 {

@@ -35,7 +35,8 @@ known = λ at. recipe at (codes "one") dosing
 
 -- a batch is started on a module
 abbrev pub started : List ℕ → List ℕ → Happening
-started batch tag = λ at. start at batch (codes "one") (record { role = codes "A"; tag = tag } ∷ [])
+started batch tag = λ at. start at batch (codes "one")
+    (record { held = record { role = codes "A"; tag = tag } ∷ []; watched = [] })
 
 -- a batch is advanced
 abbrev pub advanced : List ℕ → Happening

@@ -131,6 +131,7 @@ fn start(alloc: Global, teller: &mut Teller, batch: Name, tag: Name) -> Result<(
         batch,
         recipe: name("one"),
         bind: vec![in alloc; bind]?,
+        watch: Vec::new(alloc),
     })
 }
 

@@ -27,7 +27,7 @@ use Rattle.mtp_json.specs.Leaf.{count, name}
 use Rattle.mtp_json.proofs.Again.{len_again, whole_again}
 use Rattle.pol_events.specs.RuleTable.{rule_row}
 use Rattle.pol_events.specs.declared.answer.Rule.{Rule}
-use Rattle.pol_events.specs.declared.answer.Rule.TheVariants.{TagTaken, NoModule, PlantFull, Held, InExchange, NotInExchange, WrongTicket, NoService, NotAnEdge, NoVariable, WrongKind, RecipeKnown, NoRecipe, BatchKnown, NoBatch, BatchClosed, RoleUnbound, RoleUnknown, OneModuleTwice, WrongType, WrongVersion, NotCovered, NotReported, NotIdle, Busy, BatchesFull, NotAtRest, ActiveStep, HeldBack, ModeForbids, StateForbids, NotEnabled, OutOfRange, NotFrozen, AlreadyFrozen, SelfCompletes, RecipesFull, HistoryFull}
+use Rattle.pol_events.specs.declared.answer.Rule.TheVariants.{TagTaken, NoModule, PlantFull, Held, InExchange, NotInExchange, WrongTicket, NoService, NotAnEdge, NoVariable, WrongKind, RecipeKnown, NoRecipe, BatchKnown, NoBatch, BatchClosed, RoleUnbound, RoleUnknown, OneModuleTwice, WrongType, WrongVersion, NotCovered, NotReported, NotIdle, Busy, BatchesFull, NotAtRest, ActiveStep, HeldBack, ModeForbids, StateForbids, NotEnabled, OutOfRange, NotFrozen, AlreadyFrozen, SelfCompletes, RecipesFull, HistoryFull, Watched, WatchedStep}
 use Rattle.pol_record.specs.Objects.{fields_data, reading_data}
 use Rattle.pol_record.specs.Rows.{entry_row, forbid_name, obstacle_row}
 use Rattle.pol_record.specs.Texts.{entry_data, obstacle_fields, refusal_fields}
@@ -216,6 +216,12 @@ rule_again AlreadyFrozen held = (refl, refl)
 rule_again SelfCompletes held = (refl, refl)
 rule_again RecipesFull held = (refl, refl)
 rule_again HistoryFull held = (refl, refl)
+rule_again (Watched batch) held =
+    let first = and_parts (is_name batch) true held in
+    (refl, rw (name_again batch first.0) refl)
+rule_again (WatchedStep role) held =
+    let first = and_parts (is_name role) true held in
+    (refl, rw (name_again role first.0) refl)
 
 -- the name in the object of a log entry and its keys tell the entry
 pub entry_again : (each : LogEntry) → (are_in_range (entry_row each).fields && is_start_in_range each) ≡ true →

@@ -10,7 +10,7 @@ use Rattle.mtp_codes.specs.Codes.{named_by}
 use Rattle.mtp_json.specs.Leaf.{meaning_of}
 use Rattle.pol_events.specs.RuleTable.{rule_row}
 use Rattle.pol_events.specs.declared.answer.Rule.{Rule}
-use Rattle.pol_events.specs.declared.answer.Rule.TheVariants.{TagTaken, NoModule, PlantFull, Held, InExchange, NotInExchange, WrongTicket, NoService, NotAnEdge, NoVariable, WrongKind, RecipeKnown, NoRecipe, BatchKnown, NoBatch, BatchClosed, RoleUnbound, RoleUnknown, OneModuleTwice, WrongType, WrongVersion, NotCovered, NotReported, NotIdle, Busy, BatchesFull, NotAtRest, ActiveStep, HeldBack, ModeForbids, StateForbids, NotEnabled, OutOfRange, NotFrozen, AlreadyFrozen, SelfCompletes, RecipesFull, HistoryFull}
+use Rattle.pol_events.specs.declared.answer.Rule.TheVariants.{TagTaken, NoModule, PlantFull, Held, InExchange, NotInExchange, WrongTicket, NoService, NotAnEdge, NoVariable, WrongKind, RecipeKnown, NoRecipe, BatchKnown, NoBatch, BatchClosed, RoleUnbound, RoleUnknown, OneModuleTwice, WrongType, WrongVersion, NotCovered, NotReported, NotIdle, Busy, BatchesFull, NotAtRest, ActiveStep, HeldBack, ModeForbids, StateForbids, NotEnabled, OutOfRange, NotFrozen, AlreadyFrozen, SelfCompletes, RecipesFull, HistoryFull, Watched, WatchedStep}
 use Rattle.pol_record.specs.Rows.{entry_row, obstacle_row}
 use Rattle.pol_record.specs.Texts.{outcome_name}
 use Rattle.pol_entries.specs.Found.{Lookup}
@@ -56,6 +56,8 @@ every_rule told =
     ∷ SelfCompletes
     ∷ RecipesFull
     ∷ HistoryFull
+    ∷ Watched (told.name (codes "batch"))
+    ∷ WatchedStep (told.name (codes "role"))
     ∷ []
 
 -- the rule of this number

@@ -135,6 +135,12 @@ pub fn rule_numbered(number: u32, value: &Value) -> Option<Rule>
         36 => Rule::SelfCompletes,
         37 => Rule::RecipesFull,
         38 => Rule::HistoryFull,
+        39 => Rule::Watched {
+            batch: batch_in(value),
+        },
+        40 => Rule::WatchedStep {
+            role: role_in(value),
+        },
         _ => return None,
     })
 }

@@ -1,8 +1,8 @@
 -- What is written of an event is read back.
-use Rattle.std.proofs.Common.{◌≡◌, ◌&&◌, ℕ, suc, List, [], ◌∷◌, length, Option, Ok, Some, None, true, true≢false, refl, sym, ap}
+use Rattle.std.proofs.Common.{◌≡◌, ◌&&◌, ℕ, suc, List, [], ◌∷◌, length, Option, Ok, Some, None, true, false, true≢false, refl, sym, ap}
 use Rattle.std.proofs.lemmas.Bool.{and_parts}
 use Rattle.std.specs.List.{list_all}
-use Rattle.std.specs.Prelude.{codes, is_none, nat_le}
+use Rattle.std.specs.Prelude.{codes, is_none, nat_le, ⊤}
 use Rattle.std.specs.Str.{IsUtf8}
 use Rattle.serde_json.specs.Data.{Data, string}
 use Rattle.serde_json.specs.Events.{members_len}
@@ -43,12 +43,14 @@ use Rattle.pol_events.specs.declared.event.Event.TheVariants.{Plug, Unplug, Repo
 use Rattle.pol_events.specs.Binds.{are_texts, each_bind, binds_of}
 use Rattle.pol_events.specs.Events.{PlainEvent, plug, unplug, report, variable, recipe, start, advance, freeze, thaw, stop_batch, abandon, desk, exchange_begin, exchange_end, exchange_cancel, plain_event}
 use Rattle.pol_events.specs.Forms.{control_in, event_in, plug_in, tag_in, report_in, variable_in, desk_in, exchange_end_in, exchange_cancel_in, recipe_in, start_in, batch_in}
-use Rattle.pol_events.specs.Ranges.{is_stamped, is_in_range, is_bind_in_range, is_control_in_range}
+use Rattle.pol_events.specs.Bound.{PlainAllocation, shares_a_role}
+use Rattle.pol_events.specs.Ranges.{is_stamped, is_in_range, is_bind_in_range, is_allocation_in_range, is_control_in_range}
 use Rattle.pol_events.specs.Lines.{event_of, fault_within}
 use Rattle.pol_events.specs.Orderly.{is_orderly, is_valid, rise}
 use Rattle.pol_events.specs.Words.{mode_words, origin_words}
-use Rattle.pol_events.specs.Written.{whole, mode_word, origin_word, bind_members, written_binds, written_plug, written_tag, written_report, written_variable, written_desk, written_exchange_end, written_exchange_cancel, written_recipe, written_start, written_batch, written_event}
+use Rattle.pol_events.specs.Written.{whole, mode_word, origin_word, bind_members, written_binds, written_plug, written_tag, written_report, written_variable, written_desk, written_exchange_end, written_exchange_cancel, written_recipe, start_with, written_start, written_batch, written_event}
 use Rattle.pol_events.proofs.Rising.{by_role_rising}
+use Rattle.pol_events.proofs.Given.{allocation_parts}
 
 -- ---- words and codes
 
@@ -221,16 +223,34 @@ binds_again binds orderly held =
     let parts = and_parts (nat_le (length binds) MOST_BINDS) (rise binds) orderly in
     rw (texts_again binds, many_again binds, parts.0, each_again binds held, by_role_rising binds parts.1) refl
 
+-- a written start is read back, where it watches nothing and where it watches something
+watching_again : (at : ℕ) (batch named : List ℕ) (held watched : List Bind)
+    → (is_between 0 greatest_u64 at ≡ true) × (is_name batch ≡ true) × (is_name named ≡ true)
+    × (binds_of (written_binds held) ≡ Ok held)
+    → ((unit : ⊤) → binds_of (written_binds watched) ≡ Ok watched)
+    → shares_a_role (record { held = held; watched = watched }) ≡ false
+    → event_in (written_start at batch named (record { held = held; watched = watched }))
+    ≡ Ok (start at batch named (record { held = held; watched = watched }))
+unfolding event_in start_in start_with
+watching_again at batch named held [] (stamp, of_batch, of_recipe, again) seen apart =
+    rw (stamp, of_batch, of_recipe, again, apart) refl
+watching_again at batch named held (bind ∷ watched) (stamp, of_batch, of_recipe, again) seen apart =
+    rw (stamp, of_batch, of_recipe, again, seen tt, apart) refl
+
 -- a written start is read back
-start_again : (at : ℕ) (batch named : List ℕ) (binds : List Bind) → is_in_range (start at batch named binds) ≡ true
+start_again : (at : ℕ) (batch named : List ℕ) (binds : PlainAllocation)
+    → is_in_range (start at batch named binds) ≡ true
     → is_orderly (start at batch named binds) ≡ true
-    → event_in (written_start at batch named (written_binds binds)) ≡ Ok (start at batch named binds)
-unfolding event_in start_in written_start
+    → event_in (written_start at batch named binds) ≡ Ok (start at batch named binds)
 start_again at batch named binds held orderly =
-    let parts = and_parts (is_stamped at batch) (is_name named && list_all is_bind_in_range binds) held in
+    let parts = and_parts (is_stamped at batch) (is_name named && is_allocation_in_range binds) held in
     let stamped = and_parts (is_between 0 greatest_u64 at) (is_name batch) parts.0 in
-    let bound = and_parts (is_name named) (list_all is_bind_in_range binds) parts.1 in
-    rw (stamped.0, stamped.1, bound.0, binds_again binds orderly bound.1) refl
+    let bound = and_parts (is_name named) (is_allocation_in_range binds) parts.1 in
+    let ranged = and_parts (list_all is_bind_in_range binds.held) (list_all is_bind_in_range binds.watched) bound.1 in
+    let ordered = allocation_parts binds orderly in
+    watching_again at batch named binds.held binds.watched
+    (stamped.0, stamped.1, bound.0, binds_again binds.held ordered.0 ranged.0)
+    (λ _. binds_again binds.watched ordered.1 ranged.1) ordered.2
 
 -- a written event that names a batch alone is read back by its form
 batch_again : (word : List ℕ) (event : ℕ → List ℕ → PlainEvent) (at : ℕ) (batch : List ℕ) → is_stamped at batch ≡ true
@@ -261,7 +281,8 @@ event_again (Unplug at tag) held orderly = tag_again (codes "unplug") unplug at 
 event_again (Report at tag service control) held orderly = report_again at tag service control held
 event_again (Variable at tag name value) held orderly = variable_again at tag name value held
 event_again (Recipe at name chart) held orderly = recipe_again at name (plain_chart chart.value) chart.value.form held
-event_again (Start at batch name bind) held orderly = start_again at batch name bind.items held orderly
+event_again (Start at batch name bind watch) held orderly =
+    start_again at batch name (record { held = bind.items; watched = watch.items }) held orderly
 event_again (Advance at batch) held orderly = batch_again (codes "advance") advance at batch held
 event_again (Freeze at batch) held orderly = batch_again (codes "freeze") freeze at batch held
 event_again (Thaw at batch) held orderly = batch_again (codes "thaw") thaw at batch held

@@ -15,7 +15,7 @@ use Rattle.pol_events.specs.declared.event.Event.{Event}
 use Rattle.pol_events.specs.declared.event.Event.TheVariants.{Plug, Variable, Recipe, Start, ExchangeEnd}
 use Rattle.pol_events.specs.Events.{PlainEvent, plug, variable, recipe, start, exchange_end, plain_event}
 use Rattle.pol_events.specs.Orderly.{is_orderly}
-use Rattle.pol_events.specs.Written.{bind_members, written_binds, written_event, written_plug, written_tag, written_report, written_variable, written_desk, written_exchange_end, written_exchange_cancel, written_recipe, written_start, written_batch}
+use Rattle.pol_events.specs.Written.{bind_members, written_binds, written_event, written_plug, written_tag, written_report, written_variable, written_desk, written_exchange_end, written_exchange_cancel, written_recipe, watch_member, start_with, written_batch}
 use Rattle.pol_events.proofs.Again.{faultless}
 
 members_depth_is : (binds : List Bind) → members_depth (bind_members binds) ≤ 0
@@ -34,11 +34,21 @@ binds_whole : (binds : List Bind) → has_float (written_binds binds) ≡ false
 unfolding written_binds
 binds_whole binds = members_whole binds
 
+-- what is written of the modules that are watched nests no deeper than one level
+watch_depth : (binds : List Bind) → members_depth (watch_member binds) ≤ 1
+watch_depth [] = omega arith
+watch_depth (bind ∷ binds) = omega (arith, binds_depth (bind ∷ binds))
+
+-- and has no float
+watch_whole : (binds : List Bind) → members_have_float (watch_member binds) ≡ false
+watch_whole [] = refl
+watch_whole (bind ∷ binds) = rw (binds_whole (bind ∷ binds)) refl
+
 -- a written event nests no deeper than reading goes
 pub event_depth : (event : Event) → is_orderly (plain_event event) ≡ true
     → depth (written_event (plain_event event)) ≤ max_depth
 unfolding written_plug written_tag written_report written_variable written_desk written_exchange_end
-    written_exchange_cancel written_recipe written_start written_batch
+    written_exchange_cancel written_recipe start_with written_batch
 event_depth (Plug at tag desc) orderly = omega (arith, description_depth (plain_description desc.value))
 event_depth (Variable at tag name value) orderly = omega (arith, scalar_depth value)
 event_depth (Recipe at name chart) orderly =
@@ -49,17 +59,18 @@ event_depth (Recipe at name chart) orderly =
       root_depth chart_plan chart.value.form
           (valid_shallow chart_plan (faultless (recipe at name chart_plan) orderly)),
     )
-event_depth (Start at batch name bind) orderly = omega (arith, binds_depth bind.items)
+event_depth (Start at batch name bind watch) orderly =
+    omega (arith, binds_depth bind.items, watch_depth watch.items)
 event_depth (ExchangeEnd at tag ticket desc) orderly = omega (arith, description_depth (plain_description desc.value))
 event_depth _ orderly = omega arith
 
 -- a written event has no float, so its compact text is exact
 pub event_whole : (event : PlainEvent) → has_float (written_event event) ≡ false
 unfolding written_plug written_tag written_report written_variable written_desk written_exchange_end
-    written_exchange_cancel written_recipe written_start written_batch
+    written_exchange_cancel written_recipe start_with written_batch
 event_whole (plug at tag description) = rw (description_whole description) refl
 event_whole (variable at tag name value) = rw (scalar_whole value) refl
 event_whole (recipe at name chart) = rw (roles_whole chart.roles, tree_whole chart.root) refl
-event_whole (start at batch name binds) = rw (binds_whole binds) refl
+event_whole (start at batch name binds) = rw (binds_whole binds.held, watch_whole binds.watched) refl
 event_whole (exchange_end at tag ticket description) = rw (description_whole description) refl
 event_whole _ = refl

@@ -2,6 +2,7 @@ pub mod Options
 pub mod Lists
 pub mod Played
 pub mod Rising
+pub mod Given
 pub mod Members
 pub mod Orderly
 pub mod Entries

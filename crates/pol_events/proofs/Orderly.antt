@@ -1,10 +1,10 @@
 -- What a line says is orderly.
 use Rattle.std.proofs.Common.{◌≡◌, ◌&&◌, ℕ, Bool, List, true, false, Option, Some, None, Err, Ok, rules, refl}
-use Rattle.std.specs.Prelude.{codes, IfOk, IsTrue, Result}
+use Rattle.std.specs.Prelude.{[], codes, unwrap_or, IfOk, IsTrue, Result}
 use Rattle.serde_json.specs.Data.{Data}
 use Rattle.mtp_codes.specs.Numbers.{greatest_u64}
 use Rattle.mtp_json.specs.declared.fault.FaultKind.TheVariants.{Repeated}
-use Rattle.mtp_json.specs.Form.{required, nested, nothing_but, refused_if, repeats_by}
+use Rattle.mtp_json.specs.Form.{required, nested, nested_if_there, nothing_but, refused_if, repeats_by}
 use Rattle.mtp_json.specs.Leaf.{count, name}
 use Rattle.mtp_json.specs.ReadResult.{ReadResult, ◌>>=◌, under}
 use Rattle.chart_core.specs.Form.{is_tree_formed}
@@ -14,21 +14,45 @@ use Rattle.chart_core.specs.Valid.{chart_fault}
 use Rattle.chart_core.specs.declared.fault.ChartFault.{ChartFault}
 use Rattle.chart_json.specs.Form.{roles_of, are_roles_sized, same_role, tree_of, chart_from}
 use Rattle.chart_json.proofs.Formed.{tree_formed, roles_sized, chart_formed}
-use Rattle.chart_json.proofs.Told.{any_before, told_before, told_inside}
+use Rattle.chart_json.proofs.Told.{any_before, told_before, told_inside, told_inside_if_there}
 use Rattle.pol_events.specs.declared.fault.LineRefusal.{LineRefusal}
 use Rattle.pol_events.specs.declared.kind.EventKind.{EventKind}
 use Rattle.pol_events.specs.declared.kind.EventKind.TheVariants.{Plug, Unplug, Report, Variable, Recipe, Start, Advance, Freeze, Thaw, Stop, Abandon, Desk, ExchangeBegin, ExchangeEnd, ExchangeCancel}
 use Rattle.pol_events.specs.declared.event.Event.{Event}
-use Rattle.pol_events.specs.Binds.{binds_of}
+use Rattle.pol_events.specs.Binds.{allocation_from, binds_of, binds_or_none}
+use Rattle.pol_events.specs.Bound.{PlainAllocation, shares_a_role}
+use Rattle.pol_events.specs.declared.event.Bind.{Bind}
 use Rattle.pol_events.specs.Events.{PlainEvent, plain_event, recipe}
 use Rattle.pol_events.specs.Forms.{plug_in, tag_in, report_in, variable_in, desk_in, exchange_end_in, exchange_cancel_in, recipe_in, start_in, batch_in, event_by, event_in}
 use Rattle.pol_events.specs.Lines.{Tells, read_of, fault_within, unless_faulty, of_line, event_of}
-use Rattle.pol_events.specs.Orderly.{is_orderly, is_valid}
+use Rattle.pol_events.specs.Orderly.{is_allocation, is_orderly, is_valid}
 use Rattle.pol_events.proofs.Members.{AreOrderly, binds_orderly}
 
 -- the event is orderly, unless its chart has a fault
 abbrev pub IsOrderly : PlainEvent → Type 0
 IsOrderly event = fault_within event ≡ None → is_orderly event ≡ true
+
+-- the binds at a key are orderly, and so are none
+pub none_orderly : (key : List ℕ) (value : Data) → IfOk (binds_or_none key value) AreOrderly
+none_orderly key value =
+    told_before (λ found. AreOrderly (unwrap_or found [])) AreOrderly (nested_if_there key binds_of value) _
+    (told_inside_if_there (λ found. AreOrderly (unwrap_or found [])) key binds_of refl binds_orderly value)
+    (λ found orderly. orderly)
+
+-- the binds stand as in a line
+abbrev pub IsAllocation : PlainAllocation → Type 0
+IsAllocation binds = is_allocation binds ≡ true
+
+-- two lists of which no role stands in both
+pub allocation_orderly : (held watched : List Bind) → AreOrderly held → AreOrderly watched
+    → IfOk (allocation_from (record { held = held; watched = watched })) IsAllocation
+allocation_orderly held watched first second = go (shares_a_role (record { held = held; watched = watched })) refl
+  where
+    go : (broken : Bool) → shares_a_role (record { held = held; watched = watched }) ≡ broken →
+        IfOk (under (codes "watch") (refused_if broken Repeated)
+        >>= λ _. Ok (record { held = held; watched = watched })) IsAllocation
+    go true is = tt
+    go false is = rw (first, second, is) refl
 
 start_orderly : (value : Data) → IfOk (start_in value) IsOrderly
 unfolding start_in
@@ -37,8 +61,12 @@ start_orderly value =
     any_before IsOrderly (required (codes "batch") name value) _ (λ batch.
     any_before IsOrderly (required (codes "recipe") name value) _ (λ named.
     told_before AreOrderly IsOrderly (nested (codes "bind") binds_of value) _
-    (told_inside AreOrderly (codes "bind") binds_of binds_orderly value) (λ binds orderly.
-    any_before IsOrderly (nothing_but (codes "ev at batch recipe bind") value) _ (λ _ _. orderly)))))
+    (told_inside AreOrderly (codes "bind") binds_of binds_orderly value) (λ held first.
+    told_before AreOrderly IsOrderly (binds_or_none (codes "watch") value) _ (none_orderly (codes "watch") value)
+    (λ watched second.
+    any_before IsOrderly (nothing_but (codes "ev at batch recipe bind watch") value) _ (λ _.
+    told_before IsAllocation IsOrderly (allocation_from (record { held = held; watched = watched })) _
+    (allocation_orderly held watched first second) (λ binds orderly _. orderly)))))))
 
 -- a chart that is formed and has no fault is orderly
 sound_chart : (chart : PlainChart) → is_chart_form chart ≡ true → chart_fault chart ≡ None

@@ -1,14 +1,16 @@
 -- The object that says which module plays which role.
-use Rattle.std.specs.Prelude.{ℕ, ◌&&◌, nat_le, List, [], ◌∷◌, Bool, true, Option, Some, None, is_some, Ok, Err, if◌then◌else◌}
+use Rattle.std.specs.Prelude.{ℕ, ◌&&◌, nat_le, List, [], ◌∷◌, Bool, true, Option, Some, None, is_some, unwrap_or, codes, Ok, Err, if◌then◌else◌}
 use Rattle.std.specs.Cmp.Lexicographic.{slice_cmp}
 use Rattle.std.specs.Ordering.{match_ordering, nat_cmp}
 use Rattle.serde_json.specs.Data.{Data, string, Members, no_members, member}
 use Rattle.serde_json.specs.Events.{members_len}
 use Rattle.serde_json.specs.Find.{as_object, as_str}
 use Rattle.mtp_codes.specs.declared.limits.TheConstants.{MOST_BINDS}
+use Rattle.mtp_json.specs.Form.{nested_if_there, refused_if}
 use Rattle.mtp_json.specs.Leaf.{name}
-use Rattle.mtp_json.specs.ReadResult.{Finding, ReadResult, ◌>>=◌, here}
-use Rattle.mtp_json.specs.declared.fault.FaultKind.TheVariants.{WrongKind, OutOfRange}
+use Rattle.mtp_json.specs.ReadResult.{Finding, ReadResult, ◌>>=◌, here, under}
+use Rattle.mtp_json.specs.declared.fault.FaultKind.TheVariants.{WrongKind, OutOfRange, Repeated}
+use Rattle.pol_events.specs.Bound.{PlainAllocation, shares_a_role}
 use Rattle.pol_events.specs.declared.event.Bind.{Bind}
 
 -- every value is a text
@@ -58,3 +60,15 @@ binds_of value =
     here (few_texts (as_object value)) >>= λ members.
     each_bind members >>= λ binds.
     Ok (by_role binds)
+
+-- the binds at a key, and none where the key is absent
+abbrev pub binds_or_none : List ℕ → Data → ReadResult (List Bind)
+binds_or_none key value =
+    nested_if_there key binds_of value >>= λ found.
+    Ok (unwrap_or found [])
+
+-- what a start holds and watches, unless a role stands in both
+abbrev pub allocation_from : PlainAllocation → ReadResult PlainAllocation
+allocation_from binds =
+    under (codes "watch") (refused_if (shares_a_role binds) Repeated) >>= λ _.
+    Ok binds

@@ -1,14 +1,32 @@
 -- Which module plays which role, by the binds of a start.
-use Rattle.std.specs.Prelude.{ℕ, ◌≡◌, Bool, false, List, map, find, Option, Some, None, option_map}
-use Rattle.std.specs.List.{Contains}
+use Rattle.std.specs.Prelude.{ℕ, ◌≡◌, Bool, false, List, ◌++◌, map, find, Option, Some, None, option_map, is_some}
+use Rattle.std.specs.List.{Contains, list_any}
 use Rattle.std.specs.Str.{bytes_eq}
 use Rattle.mtp_codes.specs.Names.{same_name}
 use Rattle.chart_core.specs.Trees.{PlainStep}
 use Rattle.pol_events.specs.declared.event.Bind.{Bind}
+use Rattle.pol_events.specs.declared.bound.Allocation.{Allocation}
 
 -- the tag that is bound to the role
 abbrev pub bound_tag : List Bind → List ℕ → Option (List ℕ)
 bound_tag binds role = option_map (λ bind. bind.tag) (find (λ bind. bytes_eq bind.role role) binds)
+
+-- which module plays which role of a batch: the batch holds the ones, and only watches the others
+pub record PlainAllocation : Type 0 where
+  pub held : List Bind
+  pub watched : List Bind
+
+-- what contracts see of it
+abbrev pub plain_allocation : Allocation → PlainAllocation
+plain_allocation allocation = record { held = allocation.held.now; watched = allocation.watched.now }
+
+-- all of its binds
+abbrev pub given : PlainAllocation → List Bind
+given binds = binds.held ++ binds.watched
+
+-- a role has a module that is held and one that is watched
+abbrev pub shares_a_role : PlainAllocation → Bool
+shares_a_role binds = list_any (λ bind. is_some (bound_tag binds.watched bind.role)) binds.held
 
 -- the role that the tag is bound to
 abbrev pub bound_role : List Bind → List ℕ → Option (List ℕ)

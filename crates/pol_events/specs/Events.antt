@@ -8,7 +8,7 @@ use Rattle.mtp_desc.specs.PlainDescription.{plain_description}
 use Rattle.chart_core.specs.Roles.{PlainChart}
 use Rattle.chart_core.specs.Charts.{plain_chart}
 use Rattle.pol_events.specs.declared.answer.Answer.{Answer}
-use Rattle.pol_events.specs.declared.event.Bind.{Bind}
+use Rattle.pol_events.specs.Bound.{PlainAllocation}
 use Rattle.pol_events.specs.declared.event.Event.{Event}
 use Rattle.pol_events.specs.declared.event.Event.TheVariants.{Plug, Unplug, Report, Variable, Recipe, Start, Advance, Freeze, Thaw, StopBatch, Abandon, Desk, ExchangeBegin, ExchangeEnd, ExchangeCancel}
 use Rattle.pol_events.specs.declared.event.Entry.{Entry}
@@ -20,7 +20,7 @@ pub data PlainEvent : Type 0 where
   report : (at : ℕ) (tag service : List ℕ) (control : ServiceControl) → PlainEvent
   variable : (at : ℕ) (tag name : List ℕ) (value : Value) → PlainEvent
   recipe : (at : ℕ) (recipe : List ℕ) (chart : PlainChart) → PlainEvent
-  start : (at : ℕ) (batch recipe : List ℕ) (binds : List Bind) → PlainEvent
+  start : (at : ℕ) (batch recipe : List ℕ) (binds : PlainAllocation) → PlainEvent
   advance : (at : ℕ) (batch : List ℕ) → PlainEvent
   freeze : (at : ℕ) (batch : List ℕ) → PlainEvent
   thaw : (at : ℕ) (batch : List ℕ) → PlainEvent
@@ -43,7 +43,8 @@ plain_event (Unplug at tag) = unplug at tag
 plain_event (Report at tag service control) = report at tag service control
 plain_event (Variable at tag name value) = variable at tag name value
 plain_event (Recipe at name chart) = recipe at name (plain_chart chart.value)
-plain_event (Start at batch name bind) = start at batch name bind.items
+plain_event (Start at batch name bind watch) =
+    start at batch name (record { held = bind.items; watched = watch.items })
 plain_event (Advance at batch) = advance at batch
 plain_event (Freeze at batch) = freeze at batch
 plain_event (Thaw at batch) = thaw at batch

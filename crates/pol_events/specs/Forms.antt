@@ -11,7 +11,7 @@ use Rattle.mtp_desc.specs.Form.{description_of}
 use Rattle.chart_json.specs.Form.{chart_from, roles_of, tree_of}
 use Rattle.pol_events.specs.declared.kind.EventKind.{EventKind}
 use Rattle.pol_events.specs.declared.kind.EventKind.TheVariants.{Plug, Unplug, Report, Variable, Recipe, Start, Advance, Freeze, Thaw, Stop, Abandon, Desk, ExchangeBegin, ExchangeEnd, ExchangeCancel}
-use Rattle.pol_events.specs.Binds.{binds_of}
+use Rattle.pol_events.specs.Binds.{allocation_from, binds_of, binds_or_none}
 use Rattle.pol_events.specs.Events.{PlainEvent, plug, unplug, report, variable, recipe, start, advance, freeze, thaw, stop_batch, abandon, desk, exchange_begin, exchange_end, exchange_cancel}
 use Rattle.pol_events.specs.Words.{kind_words, mode_words, origin_words}
 
@@ -108,14 +108,16 @@ recipe_in value =
 
 -- ---- batches
 
--- a batch is started
+-- a batch is started: that no role is held and watched is asked when all else was read
 unfoldable pub start_in : Data → ReadResult PlainEvent
 start_in value =
     required (codes "at") (count 0 greatest_u64) value >>= λ at.
     required (codes "batch") name value >>= λ batch.
     required (codes "recipe") name value >>= λ named.
-    nested (codes "bind") binds_of value >>= λ binds.
-    nothing_but (codes "ev at batch recipe bind") value >>= λ _.
+    nested (codes "bind") binds_of value >>= λ held.
+    binds_or_none (codes "watch") value >>= λ watched.
+    nothing_but (codes "ev at batch recipe bind watch") value >>= λ _.
+    allocation_from (record { held = held; watched = watched }) >>= λ binds.
     Ok (start at batch named binds)
 
 -- an event that names a batch and nothing more

@@ -8,6 +8,7 @@ use Rattle.mtp_codes.specs.declared.limits.TheConstants.{MOST_BINDS}
 use Rattle.chart_core.specs.Roles.{PlainChart, is_chart_form}
 use Rattle.chart_core.specs.Valid.{chart_fault}
 use Rattle.pol_events.specs.declared.event.Bind.{Bind}
+use Rattle.pol_events.specs.Bound.{PlainAllocation, shares_a_role}
 use Rattle.pol_events.specs.Events.{PlainEvent, recipe, start}
 
 -- the first role stands before the second in byte order
@@ -25,12 +26,21 @@ abbrev pub roles_once : List Bind → Bool
 roles_once [] = true
 roles_once (bind ∷ binds) = list_all (λ other. not (bytes_eq bind.role other.role)) binds && roles_once binds
 
+-- at most 64 binds, and their roles rise in byte order
+abbrev pub are_listed : List Bind → Bool
+are_listed binds = nat_le (length binds) MOST_BINDS && rise binds
+
+-- both lists are so, and no role stands in both
+abbrev pub is_allocation : PlainAllocation → Bool
+is_allocation binds = are_listed binds.held && (are_listed binds.watched && not (shares_a_role binds))
+
 -- the chart has no fault
 abbrev pub is_valid : PlainChart → Bool
 is_valid chart = is_none (chart_fault chart)
 
--- a recipe's chart is formed and valid; a start has at most 64 binds, and their roles rise in byte order
+-- a recipe's chart is formed and valid; a start holds at most 64 modules and watches as many, each in byte order of
+-- the roles, and no role stands twice
 abbrev pub is_orderly : PlainEvent → Bool
 is_orderly (recipe at name chart) = is_chart_form chart && is_valid chart
-is_orderly (start at batch name binds) = nat_le (length binds) MOST_BINDS && rise binds
+is_orderly (start at batch name binds) = is_allocation binds
 is_orderly _ = true

@@ -7,6 +7,7 @@ use Rattle.mtp_assembly.specs.declared.control.ServiceControl.{ServiceControl}
 use Rattle.mtp_json.specs.Written.{is_scalar}
 use Rattle.chart_json.specs.Sound.{is_sound}
 use Rattle.pol_events.specs.declared.event.Bind.{Bind}
+use Rattle.pol_events.specs.Bound.{PlainAllocation}
 use Rattle.pol_events.specs.Events.{PlainEvent, plug, unplug, report, variable, recipe, start, advance, freeze, thaw, stop_batch, abandon, desk, exchange_begin, exchange_end, exchange_cancel}
 
 -- the stamp has 64 bits, and the name is a name
@@ -21,6 +22,10 @@ is_control_in_range control = is_between 0 greatest_u32 control.mask && is_betwe
 abbrev pub is_bind_in_range : Bind → Bool
 is_bind_in_range bind = is_name bind.role && is_name bind.tag
 
+-- all of them are
+abbrev pub is_allocation_in_range : PlainAllocation → Bool
+is_allocation_in_range binds = list_all is_bind_in_range binds.held && list_all is_bind_in_range binds.watched
+
 -- an event has a stamp and a name, and what else its kind has
 abbrev pub is_in_range : PlainEvent → Bool
 is_in_range (plug at tag description) = is_stamped at tag
@@ -28,7 +33,7 @@ is_in_range (unplug at tag) = is_stamped at tag
 is_in_range (report at tag service control) = is_stamped at tag && (is_name service && is_control_in_range control)
 is_in_range (variable at tag name value) = is_stamped at tag && (is_name name && is_scalar value)
 is_in_range (recipe at name chart) = is_stamped at name && is_sound chart
-is_in_range (start at batch name binds) = is_stamped at batch && (is_name name && list_all is_bind_in_range binds)
+is_in_range (start at batch name binds) = is_stamped at batch && (is_name name && is_allocation_in_range binds)
 is_in_range (advance at batch) = is_stamped at batch
 is_in_range (freeze at batch) = is_stamped at batch
 is_in_range (thaw at batch) = is_stamped at batch

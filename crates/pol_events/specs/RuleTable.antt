@@ -3,7 +3,7 @@ use Rattle.std.specs.Prelude.{ℕ, List, [], ◌∷◌, codes}
 use Rattle.mtp_codes.specs.Codes.{state_number}
 use Rattle.pol_events.specs.Fields.{PlainField, fields_of, number_field, text_field}
 use Rattle.pol_events.specs.declared.answer.Rule.{Rule}
-use Rattle.pol_events.specs.declared.answer.Rule.TheVariants.{TagTaken, NoModule, PlantFull, Held, InExchange, NotInExchange, WrongTicket, NoService, NotAnEdge, NoVariable, WrongKind, RecipeKnown, NoRecipe, BatchKnown, NoBatch, BatchClosed, RoleUnbound, RoleUnknown, OneModuleTwice, WrongType, WrongVersion, NotCovered, NotReported, NotIdle, Busy, BatchesFull, NotAtRest, ActiveStep, HeldBack, ModeForbids, StateForbids, NotEnabled, OutOfRange, NotFrozen, AlreadyFrozen, SelfCompletes, RecipesFull, HistoryFull}
+use Rattle.pol_events.specs.declared.answer.Rule.TheVariants.{TagTaken, NoModule, PlantFull, Held, InExchange, NotInExchange, WrongTicket, NoService, NotAnEdge, NoVariable, WrongKind, RecipeKnown, NoRecipe, BatchKnown, NoBatch, BatchClosed, RoleUnbound, RoleUnknown, OneModuleTwice, WrongType, WrongVersion, NotCovered, NotReported, NotIdle, Busy, BatchesFull, NotAtRest, ActiveStep, HeldBack, ModeForbids, StateForbids, NotEnabled, OutOfRange, NotFrozen, AlreadyFrozen, SelfCompletes, RecipesFull, HistoryFull, Watched, WatchedStep}
 use Rattle.pol_events.specs.declared.rule_table.RuleRow.{RuleRow}
 
 -- a rule's number, its name and its fields
@@ -71,6 +71,8 @@ rule_row AlreadyFrozen = row 35 (codes "AlreadyFrozen") []
 rule_row SelfCompletes = row 36 (codes "SelfCompletes") []
 rule_row RecipesFull = row 37 (codes "RecipesFull") []
 rule_row HistoryFull = row 38 (codes "HistoryFull") []
+rule_row (Watched batch) = row 39 (codes "Watched") (text_field (codes "batch") batch ∷ [])
+rule_row (WatchedStep role) = row 40 (codes "WatchedStep") (text_field (codes "role") role ∷ [])
 
 -- what contracts see of a row
 abbrev pub plain_row : RuleRow → PlainRow

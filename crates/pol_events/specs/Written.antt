@@ -12,6 +12,7 @@ use Rattle.mtp_json.specs.Written.{scalar_data}
 use Rattle.mtp_desc.specs.Written.{written_description}
 use Rattle.chart_json.specs.Written.{written_roles, written_tree}
 use Rattle.pol_events.specs.declared.event.Bind.{Bind}
+use Rattle.pol_events.specs.Bound.{PlainAllocation}
 use Rattle.pol_events.specs.Events.{PlainEvent, plug, unplug, report, variable, recipe, start, advance, freeze, thaw, stop_batch, abandon, desk, exchange_begin, exchange_end, exchange_cancel}
 
 -- a whole number
@@ -116,14 +117,23 @@ bind_members (bind ∷ binds) = member bind.role (string bind.tag) (bind_members
 unfoldable pub written_binds : List Bind → Data
 written_binds binds = object (bind_members binds)
 
--- a batch is started
-unfoldable pub written_start : ℕ → List ℕ → List ℕ → Data → Data
-written_start at batch named binds = object
+-- what a start watches, where it watches anything
+abbrev pub watch_member : List Bind → Members
+watch_member [] = no_members
+watch_member (bind ∷ binds) = member (codes "watch") (written_binds (bind ∷ binds)) no_members
+
+-- a batch is started, with these members behind the others
+unfoldable pub start_with : ℕ → List ℕ → List ℕ → Data → Members → Data
+start_with at batch named binds watch = object
     (member (codes "at") (whole at)
     (member (codes "batch") (string batch)
     (member (codes "bind") binds
     (member (codes "ev") (string (codes "start"))
-    (member (codes "recipe") (string named) no_members)))))
+    (member (codes "recipe") (string named) watch)))))
+
+-- a batch is started
+abbrev pub written_start : ℕ → List ℕ → List ℕ → PlainAllocation → Data
+written_start at batch named binds = start_with at batch named (written_binds binds.held) (watch_member binds.watched)
 
 -- an event, by its word, that names a batch and nothing more
 unfoldable pub written_batch : List ℕ → ℕ → List ℕ → Data
@@ -141,7 +151,7 @@ written_event (unplug at tag) = written_tag (codes "unplug") at tag
 written_event (report at tag service control) = written_report at tag service control
 written_event (variable at tag name value) = written_variable at tag name (scalar_data value)
 written_event (recipe at name chart) = written_recipe at name (written_roles chart.roles) (written_tree chart.root)
-written_event (start at batch name binds) = written_start at batch name (written_binds binds)
+written_event (start at batch name binds) = written_start at batch name binds
 written_event (advance at batch) = written_batch (codes "advance") at batch
 written_event (freeze at batch) = written_batch (codes "freeze") at batch
 written_event (thaw at batch) = written_batch (codes "thaw") at batch

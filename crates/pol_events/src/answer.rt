@@ -88,6 +88,12 @@ pub enum Rule {
     SelfCompletes,
     RecipesFull,
     HistoryFull,
+    Watched {
+        batch: Name,
+    },
+    WatchedStep {
+        role: Name,
+    },
 }
 
 impl From<ValueFault> for Rule {

@@ -6,11 +6,12 @@ ghost use Rattle.pol_events.specs.Events.{plain_event};
 ghost use Rattle.pol_events.specs.Forms.{batch_in, start_in};
 ghost use Rattle.pol_events.specs.Kinds.{batch_event};
 
-use crate::binds::BindsJson;
+use crate::binds::{BindsJson, binds_or_none};
+use crate::bound::shares_a_role;
 use crate::event::Event;
 use crate::kind::BatchKind;
 use mtp_codes::Name;
-use mtp_json::{JsonRefusal, form_at, name_at, nothing_but, u64_at};
+use mtp_json::{FaultKind, JsonRefusal, form_at, name_at, nothing_but, refused_under, u64_at};
 use serde_json::Value;
 use std::alloc::Global;
 
@@ -23,12 +24,20 @@ pub fn read_start(alloc: Global, value: &Value) -> Result<Event, JsonRefusal>
     let batch = name_at(alloc, value, "batch")?;
     let recipe = name_at(alloc, value, "recipe")?;
     let bind = form_at::<BindsJson>(alloc, value, "bind")?;
-    nothing_but(alloc, value, "ev at batch recipe bind")?;
+    let watch = binds_or_none(alloc, value, "watch")?;
+    nothing_but(alloc, value, "ev at batch recipe bind watch")?;
+    refused_under(
+        alloc,
+        "watch",
+        shares_a_role(&bind, &watch),
+        FaultKind::Repeated,
+    )?;
     Ok(Event::Start {
         at,
         batch,
         recipe,
         bind,
+        watch,
     })
 }
 

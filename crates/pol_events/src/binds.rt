@@ -1,16 +1,17 @@
 //! Which module plays which role, in JSON: an object from role to tag.
-ghost use Rattle.std.specs.Prelude.{◌≡◌, List, is_some, IfOk, true};
+ghost use Rattle.std.specs.Prelude.{◌≡◌, List, is_some, IfOk, IsTrue, true};
+ghost use Rattle.mtp_codes.specs.Names.{is_name};
 ghost use Rattle.std.specs.BTreeMap.{values as map_values};
 ghost use Rattle.std.specs.List.{list_all};
 ghost use Rattle.serde_json.specs.Find.{as_object, as_str};
 ghost use Rattle.serde_json.specs.View.{members_view, view};
 ghost use Rattle.mtp_json.specs.ReadsAs.{ReadsAs, seen};
-ghost use Rattle.pol_events.specs.Binds.{are_texts, bind_of, binds_of, each_bind, few_texts};
+ghost use Rattle.pol_events.specs.Binds.{are_texts, bind_of, binds_of, binds_or_none, each_bind, few_texts};
 ghost use Rattle.pol_events.specs.Orderly.{rise};
 
 use crate::event::Bind;
 use mtp_codes::{MOST_BINDS, Name};
-use mtp_json::{FaultKind, FromJson, JsonRefusal, here, name_of};
+use mtp_json::{FaultKind, FromJson, JsonRefusal, form_if_there, here, name_of};
 use serde_json::{Map, Value};
 use std::alloc::Global;
 
@@ -88,5 +89,16 @@ impl FromJson for BindsJson {
 
     fn read(alloc: Global, value: &Value) -> Result<Vec<Bind>, JsonRefusal> {
         read_binds(alloc, value)
+    }
+}
+
+/// The binds at a key, and none where the key is absent.
+pub fn binds_or_none(alloc: Global, object: &Value, key: &str) -> Result<Vec<Bind>, JsonRefusal>
+    requires { IsTrue (is_name key.now) }
+    ensures { ReadsAs (λ binds. binds.items) result (binds_or_none key.now (view object.now)) }
+{
+    match form_if_there::<BindsJson>(alloc, object, key)? {
+        Some(binds) => Ok(binds),
+        None => Ok(Vec::new(alloc)),
     }
 }

@@ -49,12 +49,14 @@ pub enum Event {
         recipe: Name,
         chart: Arc<Chart>,
     },
-    /// A batch of a recipe is started on the modules that it binds, in byte order of the roles.
+    /// A batch of a recipe is started: it holds the modules that it binds, and only reads the variables of those that
+    /// it watches. Both stand in byte order of the roles.
     Start {
         at: u64,
         batch: Name,
         recipe: Name,
         bind: Vec<Bind>,
+        watch: Vec<Bind>,
     },
     /// A batch is to do its next entry.
     Advance {

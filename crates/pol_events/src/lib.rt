@@ -4,8 +4,8 @@
 //! The form of each of the fifteen kinds of line is in `specs/Forms.antt`. `read_event` gives the event that a line
 //! says, or the first fault in reading order, and last the fault of a recipe's chart; each text of the value that
 //! `event_value` writes is a line that says the same event. What a line says is orderly (`specs/Orderly.antt`): charts
-//! are valid, and roles are bound once each, in byte order. This crate knows nothing of the plant's state: which answer
-//! an event gets is said in `pol_history`.
+//! are valid, and no role of a start stands twice, held or watched. This crate knows nothing of the plant's state:
+//! which answer an event gets is said in `pol_history`.
 #![tactic(auto)]
 
 mod answer;
@@ -31,14 +31,14 @@ mod written_modules;
 mod written_recipes;
 
 pub use answer::{Answer, Rule};
-pub use binds::BindsJson;
-pub use bound::{bound_role, bound_tag};
+pub use binds::{BindsJson, binds_or_none};
+pub use bound::{Allocation, bound_role, bound_tag, shares_a_role};
 pub use chart_core::{Next, Outcome};
 pub use event::{Bind, Entry, Event};
 pub use fault::{LineFault, LineRefusal};
 pub use fields::{Field, FieldValue, Fields, MOST_FIELDS};
 pub use kind::EventKind;
-pub use laws::{lines_are_orderly, rising_roles_are_bound_once};
+pub use laws::{lines_are_orderly, roles_are_given_once};
 pub use reading::read_event;
 pub use rule_table::RuleRow;
 pub use subject::Subject;

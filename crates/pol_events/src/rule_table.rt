@@ -9,7 +9,7 @@ use crate::fields::Fields;
 /// What is told of a refusal by a rule.
 #[derive(Drop)]
 pub struct RuleRow<'a> {
-    /// The rule's number, from 1 to 38.
+    /// The rule's number, from 1 to 40.
     pub number: u32,
     /// The rule's name.
     pub name: &'static str,
@@ -111,6 +111,8 @@ impl Rule {
             Rule::SelfCompletes => row(36, "SelfCompletes", none),
             Rule::RecipesFull => row(37, "RecipesFull", none),
             Rule::HistoryFull => row(38, "HistoryFull", none),
+            Rule::Watched { batch } => row(39, "Watched", none.name("batch", batch)),
+            Rule::WatchedStep { role } => row(40, "WatchedStep", none.name("role", role)),
         }
     }
 }

@@ -12,6 +12,7 @@ ghost use Rattle.pol_events.specs.Lines.{event_of};
 ghost use Rattle.pol_events.specs.Orderly.{is_orderly};
 ghost use Rattle.pol_events.specs.Written.{written_event};
 
+use crate::bound::Allocation;
 use crate::event::Event;
 use crate::written_batches::{write_of_batch, write_start};
 use crate::written_modules::{
@@ -48,7 +49,17 @@ fn write_event(alloc: Global, event: &Event) -> Result<Value, AllocError>
             batch,
             recipe,
             bind,
-        } => write_start(alloc, *at, *batch, *recipe, bind),
+            watch,
+        } => write_start(
+            alloc,
+            *at,
+            *batch,
+            *recipe,
+            Allocation {
+                held: bind,
+                watched: watch,
+            },
+        ),
         Event::Advance { at, batch } => write_of_batch(alloc, "advance", *at, *batch),
         Event::Freeze { at, batch } => write_of_batch(alloc, "freeze", *at, *batch),
         Event::Thaw { at, batch } => write_of_batch(alloc, "thaw", *at, *batch),
@@ -75,7 +86,7 @@ fn write_event(alloc: Global, event: &Event) -> Result<Value, AllocError>
 
 /// The line of an event as a JSON value, with every key of its form. Each text of this value is read as the same event,
 /// and so is the text that `to_vec` gives of it. The event has to be one that a line can say: a recipe's chart is
-/// valid, and a start binds at most 64 roles, each once and in byte order.
+/// valid, and a start holds at most 64 modules and watches at most 64, in byte order of the roles, each role once.
 pub fn event_value(alloc: Global, event: &Event) -> Result<Value, AllocError>
     requires { IsTrue (is_orderly (plain_event event.now)) }
     ensures value { IfOk result (λ value. view value ≡ written_event (plain_event event.now)) }

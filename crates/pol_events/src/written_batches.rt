@@ -1,19 +1,21 @@
 //! Writing the lines of events that name a batch.
-ghost use Rattle.std.specs.Prelude.{◌≡◌, ◌&&◌, IfOk, IsTrue, true};
+ghost use Rattle.std.specs.Prelude.{◌≡◌, ◌&&◌, codes, IfOk, IsTrue, true};
+ghost use Rattle.serde_json.specs.Data.{member, no_members};
 ghost use Rattle.serde_json.specs.View.{view};
 ghost use Rattle.mtp_codes.specs.Names.{is_name};
 ghost use Rattle.pol_events.specs.Events.{start};
 ghost use Rattle.pol_events.specs.Ranges.{is_in_range, is_stamped};
 ghost use Rattle.pol_events.specs.Orderly.{rise};
-ghost use Rattle.pol_events.specs.Written.{written_batch, written_binds, written_start};
+ghost use Rattle.pol_events.specs.Bound.{plain_allocation};
+ghost use Rattle.pol_events.specs.Written.{start_with, written_batch, written_start};
 
-use crate::event::Bind;
+use crate::bound::Allocation;
 use crate::written_binds::write_binds;
 use mtp_codes::Name;
 use serde_json::{Value, json};
 use std::alloc::{AllocError, Global};
 
-#[tactic(auto, unfolding(crate::specs::Written::written_start))]
+#[tactic(auto, unfolding(crate::specs::Written::start_with))]
 fn start_object(
     alloc: Global,
     at: u64,
@@ -21,7 +23,7 @@ fn start_object(
     recipe: Name,
     bind: Value,
 ) -> Result<Value, AllocError>
-    ensures value { IfOk result (λ value. view value ≡ written_start at batch recipe (view bind)) }
+    ensures value { IfOk result (λ value. view value ≡ start_with at batch recipe (view bind) no_members) }
     ensures held { is_stamped at batch && is_name recipe ≡ true }
 {
     let batch = batch.as_str();
@@ -29,20 +31,43 @@ fn start_object(
     json!(in alloc; {"at": at, "batch": batch, "bind": bind, "ev": "start", "recipe": recipe})
 }
 
-/// A start with every key of its form.
+#[tactic(auto, unfolding(crate::specs::Written::start_with))]
+fn watching_object(
+    alloc: Global,
+    at: u64,
+    batch: Name,
+    recipe: Name,
+    bind: Value,
+    watch: Value,
+) -> Result<Value, AllocError>
+    ensures value { IfOk result (λ value. view value
+        ≡ start_with at batch recipe (view bind) (member (codes "watch") (view watch) no_members)) }
+    ensures held { is_stamped at batch && is_name recipe ≡ true }
+{
+    let batch = batch.as_str();
+    let recipe = recipe.as_str();
+    json!(in alloc; {"at": at, "batch": batch, "bind": bind, "ev": "start", "recipe": recipe, "watch": watch})
+}
+
+/// A start with every key of its form; `watch` stands there only where something is watched.
 pub fn write_start(
     alloc: Global,
     at: u64,
     batch: Name,
     recipe: Name,
-    bind: &[Bind],
+    binds: Allocation<'_>,
 ) -> Result<Value, AllocError>
-    requires { IsTrue (rise bind.now) }
-    ensures value { IfOk result (λ value. view value ≡ written_start at batch recipe (written_binds bind.now)) }
-    ensures held { IfOk result (λ _. is_in_range (start at batch recipe bind.now) ≡ true) }
+    requires held { IsTrue (rise binds.held.now) }
+    requires watched { IsTrue (rise binds.watched.now) }
+    ensures value { IfOk result (λ value. view value ≡ written_start at batch recipe (plain_allocation binds.entry)) }
+    ensures held { IfOk result (λ _. is_in_range (start at batch recipe (plain_allocation binds.entry)) ≡ true) }
 {
-    let binds = write_binds(alloc, bind)?;
-    start_object(alloc, at, batch, recipe, binds)
+    let bind = write_binds(alloc, binds.held)?;
+    if binds.watched.is_empty() {
+        return start_object(alloc, at, batch, recipe, bind);
+    }
+    let watch = write_binds(alloc, binds.watched)?;
+    watching_object(alloc, at, batch, recipe, bind, watch)
 }
 
 /// An event, by its word, that names a batch and nothing more.

@@ -12,6 +12,11 @@ pub const SITE: &str =
     r#"{"batches":[{"batch":"b1","bind":{"A":"M1","B":"M2"},"recipe":"mix"},{"batch":"b2","bind":{"A":"M3"},"recipe":"one"}],"desk":[],"exchanges":[{"after":0,"desc":{"services":[{"name":"dose","procedures":[{"default":true,"number":1,"params":[{"kind":"DIntServParam","max":5000,"min":0,"name":"amount"}],"self_completing":true}]}],"type":"Doser","variables":[{"kind":"AnaView","name":"level"}],"version":"1.1.0"},"sim":{"drift":[{"by":500,"from":0,"name":"level","to":3000}],"run":2,"ticks":1},"tag":"M3"}],"modules":[{"desc":{"services":[{"name":"dose","procedures":[{"default":true,"number":1,"params":[{"kind":"DIntServParam","max":5000,"min":0,"name":"amount"}],"self_completing":true}]}],"type":"Doser","variables":[{"kind":"AnaView","name":"level"}],"version":"1.0.0"},"sim":{"drift":[{"by":500,"from":0,"name":"level","to":3000}],"run":2,"ticks":1},"tag":"M1"},{"desc":{"services":[{"name":"stir"},{"name":"heat","procedures":[{"default":true,"number":1,"self_completing":true}]}],"type":"Mixer","variables":[{"kind":"DIntView","name":"temp"}],"version":"2.0.0"},"sim":{"drift":[{"by":10,"from":20,"name":"temp","to":90}],"run":2,"ticks":1},"tag":"M2"},{"desc":{"services":[{"name":"dose","procedures":[{"default":true,"number":1,"params":[{"kind":"DIntServParam","max":5000,"min":0,"name":"amount"}],"self_completing":true}]}],"type":"Doser","variables":[{"kind":"AnaView","name":"level"}],"version":"1.0.0"},"sim":{"drift":[{"by":500,"from":0,"name":"level","to":3000}],"run":2,"ticks":1},"tag":"M3"}],"recipes":[{"chart":{"seq":[{"loop":{"procedure":1,"role":"A","service":"dose","settings":[{"name":"amount","value":1500}],"step":"fill"},"until":{"op":"ge","role":"A","test":"level","value":1500}},{"par":[{"finish":{"op":"ge","role":"B","test":"temp","value":60},"procedure":1,"role":"B","service":"stir","step":"stir"},{"procedure":1,"role":"B","service":"heat","step":"heat"}]}]},"recipe":"mix","roles":[{"role":"A","type":"Doser","version":"^1"},{"role":"B","type":"Mixer","version":"^2"}]},{"chart":{"procedure":1,"role":"A","service":"dose","settings":[{"name":"amount","value":1500}],"step":"s1"},"recipe":"one","roles":[{"role":"A","type":"Doser","version":"^1"}]}]}
 "#;
 
+/// A site of a tank and two pumps: a batch fills the tank, and two others wait for its level.
+const TANK_SITE: &str =
+    r#"{"batches":[{"batch":"p","bind":{"A":"P"},"recipe":"peek","watch":{"B":"T"}},{"batch":"q","bind":{"A":"Q"},"recipe":"peek","watch":{"B":"T"}},{"batch":"f","bind":{"A":"T"},"recipe":"one"}],"desk":[],"exchanges":[],"modules":[{"desc":{"services":[{"name":"dose","procedures":[{"default":true,"number":1,"params":[{"kind":"DIntServParam","max":5000,"min":0,"name":"amount"}],"self_completing":true}]}],"type":"Doser","variables":[{"kind":"AnaView","name":"level"}],"version":"1.0.0"},"sim":{"drift":[{"by":500,"from":0,"name":"level","to":3000}],"run":4,"ticks":1},"tag":"T"},{"desc":{"services":[{"name":"dose","procedures":[{"default":true,"number":1,"params":[{"kind":"DIntServParam","max":5000,"min":0,"name":"amount"}],"self_completing":true}]}],"type":"Doser","variables":[{"kind":"AnaView","name":"level"}],"version":"1.0.0"},"sim":{"drift":[],"run":4,"ticks":1},"tag":"P"},{"desc":{"services":[{"name":"dose","procedures":[{"default":true,"number":1,"params":[{"kind":"DIntServParam","max":5000,"min":0,"name":"amount"}],"self_completing":true}]}],"type":"Doser","variables":[{"kind":"AnaView","name":"level"}],"version":"1.0.0"},"sim":{"drift":[],"run":4,"ticks":1},"tag":"Q"}],"recipes":[{"chart":{"sel":[{"then":{"procedure":1,"role":"A","service":"dose","step":"s1"},"when":{"op":"ge","role":"B","test":"level","value":500}}]},"recipe":"peek","roles":[{"role":"A","type":"Doser","version":"^1"},{"role":"B","type":"Doser","version":"^1"}]},{"chart":{"procedure":1,"role":"A","service":"dose","settings":[{"name":"amount","value":1500}],"step":"s1"},"recipe":"one","roles":[{"role":"A","type":"Doser","version":"^1"}]}]}
+"#;
+
 /// What a plant printed: the events of its entries as a journal, what a replay of this journal is to give, and the lines.
 #[derive(Drop)]
 pub struct Printed {
@@ -123,6 +128,16 @@ fn a_simulated_plant_completes_its_batches_and_exchanges_a_module(
             1
         );
     }
+    Ok(())
+}
+
+#[test]
+fn two_batches_read_a_tank_that_a_third_fills(rt: HostRuntime) -> Result<(), Fail> {
+    let printed = run_site(&rt, rt.alloc(), "pol --job plant", TANK_SITE)?;
+    let output = printed.output.as_str();
+    assert_eq!(rt; lines_with(output, "{\"batch\":"), 3);
+    assert_eq!(rt; lines_with(output, "\"outcome\":\"Completed\""), 3);
+    assert_eq!(rt; lines_with(output, "\"watch\":{\"B\":\"T\"}"), 4);
     Ok(())
 }
 

@@ -34,6 +34,17 @@ const RECIPE: &str =
 
 const START: &str = r#"{"ev":"start","at":4,"batch":"b","recipe":"one","bind":{"A":"M"}}"#;
 
+/// A recipe that reads a module and steps on another.
+const PEEK: &str =
+    r#"{"ev":"recipe","at":3,"recipe":"peek","roles":[{"role":"A","type":"Doser","version":"^1"},{"role":"B","type":"Doser","version":"^1"}],"chart":{"sel":[{"when":{"test":"level","role":"B","op":"ge","value":500},"then":{"step":"s1","role":"A","service":"dose","procedure":1}}]}}"#;
+
+/// A second doser.
+const PLUG_N: &str =
+    r#"{"ev":"plug","at":1,"tag":"N","desc":{"type":"Doser","version":"1.0.0","services":[{"name":"dose","procedures":[{"number":1,"default":true,"self_completing":true}]}]}}"#;
+
+const IDLE_N: &str =
+    r#"{"ev":"report","at":2,"tag":"N","service":"dose","StateCur":16,"CommandEn":4,"Mode":"Automatic","Src":"External","ProcedureCur":0}"#;
+
 const ADVANCE: &str = r#"{"ev":"advance","at":5,"batch":"b"}"#;
 
 const BEGIN: &str = r#"{"ev":"exchange_begin","at":6,"tag":"M"}"#;
@@ -536,5 +547,38 @@ fn self_completes(rt: HostRuntime) -> Result<(), Fail> {
         &before,
         DESK_COMPLETE,
         r#"{"refused":36,"rule":"SelfCompletes"}"#,
+    )
+}
+
+#[test]
+fn watched(rt: HostRuntime) -> Result<(), Fail> {
+    let before = [
+        (PLUG, DONE),
+        (PLUG_N, DONE),
+        (IDLE_N, DONE),
+        (PEEK, DONE),
+        (
+            r#"{"ev":"start","at":4,"batch":"b","recipe":"peek","bind":{"A":"N"},"watch":{"B":"M"}}"#,
+            DONE,
+        ),
+    ];
+    refused(
+        &rt,
+        rt.alloc(),
+        &before,
+        UNPLUG,
+        r#"{"batch":"b","refused":39,"rule":"Watched"}"#,
+    )
+}
+
+#[test]
+fn watched_step(rt: HostRuntime) -> Result<(), Fail> {
+    let before = [(RECIPE, DONE)];
+    refused(
+        &rt,
+        rt.alloc(),
+        &before,
+        r#"{"ev":"start","at":4,"batch":"b","recipe":"one","bind":{},"watch":{"A":"M"}}"#,
+        r#"{"refused":40,"role":"A","rule":"WatchedStep"}"#,
     )
 }

@@ -2,7 +2,7 @@
 use super::runs::{Journal, replay_each};
 use std::test::Fail;
 
-const STARTS: [Journal; 7] = [
+const STARTS: [Journal; 6] = [
     Journal {
         title: "two steps of one name are a bad chart",
         input: r#"{"at":1,"chart":{"seq":[{"procedure":1,"role":"A","service":"dose","step":"s1"},{"procedure":1,"role":"B","service":"dose","step":"s1"}]},"ev":"recipe","recipe":"two","roles":[{"role":"A","type":"Doser","version":"^1"},{"role":"B","type":"Doser","version":"^1"}]}
@@ -143,18 +143,6 @@ const STARTS: [Journal; 7] = [
 {"done":true}
 {"done":true}
 {"batch":"r1","bind":{"A":"N"},"log":[],"outcome":"Running","recipe":"one"}
-{"end":true}
-"#,
-    },
-    Journal {
-        title: "what is left without a watched module",
-        input: r#"{"at":1,"desc":{"services":[{"name":"dose","procedures":[{"default":true,"number":1,"params":[{"kind":"DIntServParam","max":5000,"min":0,"name":"amount"}],"self_completing":true}]}],"type":"Doser","variables":[{"kind":"AnaView","name":"level"}],"version":"1.0.0"},"ev":"plug","tag":"M"}
-{"CommandEn":4,"Mode":"Automatic","ProcedureCur":0,"Src":"External","StateCur":16,"at":3,"ev":"report","service":"dose","tag":"M"}
-{"at":4,"chart":{"sel":[{"then":{"procedure":1,"role":"A","service":"dose","step":"s1"},"when":{"op":"ge","role":"B","test":"level","value":500}}]},"ev":"recipe","recipe":"peek","roles":[{"role":"A","type":"Doser","version":"^1"},{"role":"B","type":"Doser","version":"^1"}]}
-"#,
-        output: r#"{"done":true}
-{"done":true}
-{"done":true}
 {"end":true}
 "#,
     },

@@ -1,6 +1,8 @@
 -- A filter of what another filter keeps.
-use Rattle.std.proofs.Common.{◌≡◌, ◌≤◌, Bool, true, false, cond, List, [], ◌∷◌, length, refl, arith}
-use Rattle.std.specs.Prelude.{filter}
+use Rattle.std.proofs.Common.{◌≡◌, ◌≤◌, Bool, true, false, cond, List, [], ◌∷◌, ◌++◌, length, reverse, refl, sym, ap, ◌∙◌, append-nil, arith}
+use Rattle.std.specs.Prelude.{◌&&◌, filter}
+use Rattle.std.proofs.lemmas.List.{reverse-append}
+use Rattle.std.proofs.lemmas.List.Elements.{filter-append}
 use Rattle.std.specs.List.{AllByRecursion}
 
 kept_step : {X : Type 0} (takes : X → Bool) (x : X) (xs : List X) (kept taken : Bool) → takes x ≡ taken
@@ -50,3 +52,30 @@ filter_filter first second [] = refl
 filter_filter first second (x ∷ xs) =
     filters_step first second x (filter second xs) (filter first xs) (first x) (second x) refl refl
     (filter_filter first second xs)
+
+-- two tests one after the other are one test
+pub filter_both : {X : Type 0} (first second : X → Bool) (xs : List X)
+    → filter (λ x. first x && second x) xs ≡ filter first (filter second xs)
+filter_both first second [] = refl
+filter_both {X} first second (x ∷ xs) = go (first x) (second x) refl (filter_both first second xs)
+  where
+    go : (one two : Bool) → first x ≡ one → filter (λ x. first x && second x) xs ≡ filter first (filter second xs) →
+        cond (one && two) (x ∷ filter (λ x. first x && second x) xs) (filter (λ x. first x && second x) xs)
+        ≡ filter first (cond two (x ∷ filter second xs) (filter second xs))
+    go true true is rest = rw (is, rest) refl
+    go true false is rest = rest
+    go false true is rest = rw (is, rest) refl
+    go false false is rest = rest
+
+-- what is kept of a list that is turned round
+pub filter_reverse : {X : Type 0} (keeps : X → Bool) (xs : List X)
+    → reverse (filter keeps xs) ≡ filter keeps (reverse xs)
+filter_reverse keeps [] = refl
+filter_reverse {X} keeps (x ∷ xs) =
+    sym (ap (filter keeps) (reverse-append (x ∷ []) xs) ∙ filter-append keeps (reverse xs) (x ∷ [])
+    ∙ go (keeps x) (filter_reverse keeps xs))
+  where
+    go : (kept : Bool) → reverse (filter keeps xs) ≡ filter keeps (reverse xs) →
+        filter keeps (reverse xs) ++ cond kept (x ∷ []) [] ≡ reverse (cond kept (x ∷ filter keeps xs) (filter keeps xs))
+    go true same = ap (λ ys. ys ++ x ∷ []) (sym same) ∙ sym (reverse-append (x ∷ []) (filter keeps xs))
+    go false same = append-nil (filter keeps (reverse xs)) ∙ sym same

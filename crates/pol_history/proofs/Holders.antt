@@ -6,9 +6,8 @@ use Rattle.std.specs.Str.{bytes_eq}
 use Rattle.mtp_codes.specs.Names.{is_among}
 use Rattle.chart_core.specs.declared.next.Outcome.{Outcome}
 use Rattle.pol_events.specs.Events.{PlainEvent, PlainEntry, start}
-use Rattle.pol_events.specs.Bound.{tags_of}
+use Rattle.pol_events.specs.Bound.{PlainAllocation, tags_of}
 use Rattle.pol_events.specs.declared.answer.Answer.TheVariants.{Done}
-use Rattle.pol_events.specs.declared.event.Bind.{Bind}
 use Rattle.pol_history.specs.Looking.{History, of_module, of_batch, of_recipe, subject, is_accepted, past_of_batch, last_of}
 use Rattle.pol_history.specs.Batches.{starting, taking, takes, closing, outcome_by, outcome_of, if_open, holder_of}
 use Rattle.pol_history.proofs.Accepted.{paired}
@@ -45,7 +44,8 @@ holders_stay history entry tag is same =
     ap (λ found. if_open (entry ∷ history) (option_or found (last_of (takes tag) history))) (takes_none tag entry is)
     ∙ open_same history entry same (last_of (takes tag) history)
 
-module_no_start : (event : PlainEvent) (tag : List ℕ) → subject event ≡ of_module tag → starting event ≡ None
+-- an event of a module starts no batch
+pub module_no_start : (event : PlainEvent) (tag : List ℕ) → subject event ≡ of_module tag → starting event ≡ None
 module_no_start (start at batch name binds) tag is = cc
 module_no_start _ tag is = refl
 
@@ -57,7 +57,8 @@ holders_same history entry tag is other =
     holders_stay history entry other (module_no_start entry.event tag is)
     (λ batch. batch_past_same history entry tag batch is)
 
-recipe_no_start : (event : PlainEvent) (name : List ℕ) → subject event ≡ of_recipe name → starting event ≡ None
+-- nor does a recipe
+pub recipe_no_start : (event : PlainEvent) (name : List ℕ) → subject event ≡ of_recipe name → starting event ≡ None
 recipe_no_start (start at batch name binds) other is = cc
 recipe_no_start _ other is = refl
 
@@ -76,12 +77,13 @@ abbrev pub holder_if : Option Outcome → List ℕ → Option (List ℕ) → Opt
 holder_if None batch holder = holder
 holder_if (Some outcome) batch holder = if option_eq bytes_eq holder (Some batch) then None else holder
 
-or_nothing : {A : Type 0} (found : Option A) → option_or found None ≡ found
+-- or else nothing
+pub or_nothing : {A : Type 0} (found : Option A) → option_or found None ≡ found
 or_nothing None = refl
 or_nothing (Some x) = refl
 
 -- a name that isn't another's is not that other's
-apart_back : (one other : List ℕ) → bytes_eq one other ≡ false → bytes_eq other one ≡ false
+pub apart_back : (one other : List ℕ) → bytes_eq one other ≡ false → bytes_eq other one ≡ false
 apart_back one other apart = back (bytes_eq other one) refl
   where
     back : (same : Bool) → bytes_eq other one ≡ same → bytes_eq other one ≡ false
@@ -146,16 +148,16 @@ holders_after history entry batch is no_start accepted open' tag =
 -- ---- a start
 
 -- the entry of an accepted start
-abbrev pub started : ℕ → List ℕ → List ℕ → List Bind → PlainEntry
+abbrev pub started : ℕ → List ℕ → List ℕ → PlainAllocation → PlainEntry
 started at batch name binds = paired (start at batch name binds) Done
 
 -- the new batch holds the modules that it binds
-pub holders_started : (history : History) (at : ℕ) (batch name : List ℕ) (binds : List Bind) →
+pub holders_started : (history : History) (at : ℕ) (batch name : List ℕ) (binds : PlainAllocation) →
     past_of_batch batch history ≡ [] →
     (tag : List ℕ) →
     holder_of (started at batch name binds ∷ history) tag ≡ (if is_among
-    (tags_of binds) tag then Some batch else holder_of history tag)
-holders_started history at batch name binds new tag = go (is_among (tags_of binds) tag)
+    (tags_of binds.held) tag then Some batch else holder_of history tag)
+holders_started history at batch name binds new tag = go (is_among (tags_of binds.held) tag)
   where
     entry : PlainEntry
     entry = started at batch name binds

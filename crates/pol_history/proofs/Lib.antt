@@ -9,3 +9,4 @@ pub mod Open
 pub mod Binds
 pub mod Pasts
 pub mod Holders
+pub mod Watchers

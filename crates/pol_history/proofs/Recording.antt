@@ -1,6 +1,6 @@
 -- Where the history has room, every answer is recorded: no rule of an event's kind says that the history is full.
 use Rattle.std.proofs.Common.{◌≡◌, ℕ, Bool, true, false, not, List, [], ◌∷◌, map, Option, Some, None, is_none, refl, ap, ◌∙◌}
-use Rattle.std.specs.Prelude.{◌||◌, find, option_map, option_and_then, if◌then◌else◌}
+use Rattle.std.specs.Prelude.{◌||◌, ◌&&◌, is_some, find, option_map, option_and_then, if◌then◌else◌}
 use Rattle.std.specs.Option.{option_or}
 use Rattle.mtp_codes.specs.Faults.{when, first_of}
 use Rattle.mtp_codes.specs.Names.{is_among}
@@ -28,16 +28,17 @@ use Rattle.chart_core.specs.declared.next.Next.TheVariants as next
 use Rattle.chart_cursor.specs.Logs.{active, has_broken, was_stopped}
 use Rattle.pol_events.specs.Events.{PlainEvent, plug, unplug, report, variable, recipe, start, advance, freeze, thaw, stop_batch, abandon, desk, exchange_begin, exchange_end, exchange_cancel}
 use Rattle.pol_events.specs.Refusals.{no_service, not_an_edge, may_follow, no_variable, value_misfit, value_rule, forbid_rule, forbidden, in_exchange, wrong_ticket, cover_rule, service_not_at_rest}
-use Rattle.pol_events.specs.Bound.{bound_tag, bound_role, step_on}
+use Rattle.pol_events.specs.Bound.{PlainAllocation, bound_tag, bound_role, given, step_on}
+use Rattle.pol_events.specs.BindRules.{first_name}
 use Rattle.pol_events.specs.declared.answer.Answer.{Answer}
 use Rattle.pol_events.specs.declared.answer.Answer.TheVariants.{Done, Did, Refused}
 use Rattle.pol_events.specs.declared.answer.Rule.{Rule}
-use Rattle.pol_events.specs.declared.answer.Rule.TheVariants.{PlantFull, InExchange, WrongTicket, NoService, NotAnEdge, NoVariable, RecipeKnown, BatchKnown, NoBatch, BatchClosed, RoleUnbound, RoleUnknown, OneModuleTwice, NotIdle, BatchesFull, NotAtRest, ActiveStep, HeldBack, NotFrozen, AlreadyFrozen, RecipesFull}
+use Rattle.pol_events.specs.declared.answer.Rule.TheVariants.{PlantFull, InExchange, WrongTicket, NoService, NotAnEdge, NoVariable, RecipeKnown, BatchKnown, NoBatch, BatchClosed, RoleUnbound, RoleUnknown, OneModuleTwice, NotIdle, BatchesFull, NotAtRest, ActiveStep, HeldBack, NotFrozen, AlreadyFrozen, RecipesFull, Watched, WatchedStep}
 use Rattle.pol_events.specs.declared.event.Bind.{Bind}
 use Rattle.pol_history.specs.Looking.{History, past, past_of_batch, recipes}
 use Rattle.pol_history.specs.Modules.{Docking, absent, docked, away, docking_by, ticket_of, description_by, control_by, view_by}
-use Rattle.pol_history.specs.Batches.{start_by, chart_named, chart_by, log_by, holder_of}
-use Rattle.pol_history.specs.Rules.{tag_taken, no_module, not_in_exchange, not_reported, not_idle, module_not_at_rest, not_covered, services_of, unready, not_ready, module_rule, is_bound_before, twice, one_module_twice, busy_module, busy_role, active_step, held_back}
+use Rattle.pol_history.specs.Batches.{start_by, chart_named, chart_by, log_by, holder_of, watchers_of}
+use Rattle.pol_history.specs.Rules.{tag_taken, no_module, not_in_exchange, not_reported, not_idle, module_not_at_rest, not_covered, services_of, unready, not_ready, module_rule, is_bound_before, twice, one_module_twice, busy_module, busy_role, active_step, uncovered_in, held_back, watched, unknown_role, has_step, steps_in}
 use Rattle.pol_history.specs.Answers.{start_rules, rules, advanced, otherwise, first_rule, is_full, answer_of}
 use Rattle.pol_history.specs.Runs.{is_recorded}
 use Rattle.pol_history.proofs.Accepted.{with_room}
@@ -189,25 +190,32 @@ busy_records history (Some tag) = held (holder_of history tag)
     held None = tt
     held (Some batch) = refl
 
-start_records : (history : History) (batch : List ℕ) (binds : List Bind) (chart : Option PlainChart)
+-- the rules of a start
+start_records : (history : History) (batch : List ℕ) (binds : PlainAllocation) (chart : Option PlainChart)
     → AllRecord (start_rules history batch binds chart)
 start_records history batch binds None = (refl, tt)
 start_records history batch binds (Some chart) = (
   when_records _ BatchKnown refl,
   (
-    mapped_records RoleUnbound (λ role. refl) (find (λ role. is_none (bound_tag binds role)) (role_names chart)),
+    mapped_records RoleUnbound (λ role. refl)
+        (find (λ role. is_none (bound_tag (given binds) role)) (role_names chart)),
     (
-      mapped_records (λ bind. RoleUnknown bind.role) (λ bind. refl)
-          (find (λ bind. not (is_among (role_names chart) bind.role)) binds),
+      mapped_records RoleUnknown (λ role. refl)
+          (first_name (unknown_role binds.held (role_names chart)) (unknown_role binds.watched (role_names chart))),
       (
-        twice_records binds [] (role_names chart),
+        twice_records (given binds) [] (role_names chart),
         (
-          each_records (λ role. module_rule history chart role (bound_tag binds role))
-              (λ role. unfit_records history chart role (bound_tag binds role)) (role_names chart),
+          mapped_records WatchedStep (λ role. refl)
+              (find (λ role. is_some (bound_tag binds.watched role) && has_step (steps_in chart) role)
+              (role_names chart)),
           (
-            each_records (λ role. busy_role history (bound_tag binds role))
-                (λ role. busy_records history (bound_tag binds role)) (role_names chart),
-            (when_records _ BatchesFull refl, tt),
+            each_records (λ role. module_rule history chart role (bound_tag (given binds) role))
+                (λ role. unfit_records history chart role (bound_tag (given binds) role)) (role_names chart),
+            (
+              each_records (λ role. busy_role history (bound_tag binds.held role))
+                  (λ role. busy_records history (bound_tag binds.held role)) (role_names chart),
+              (when_records _ BatchesFull refl, tt),
+            ),
           ),
         ),
       ),
@@ -215,31 +223,50 @@ start_records history batch binds (Some chart) = (
   ),
 )
 
--- ---- rules of a holder
+-- ---- rules of holders and watchers
 
 active_records : (history : History) (tag : List ℕ) → Records (active_step history tag)
 active_records history tag =
     then_records _ (λ batch. then_records _ (λ started. then_records _
     (λ chart. mapped_records (λ (step : PlainStep). ActiveStep batch step.name) (λ step. refl)
-    (step_on started.binds tag (active chart (log_by (past_of_batch batch history)))))
+    (step_on (given started.binds) tag (active chart (log_by (past_of_batch batch history)))))
     (chart_by (recipes history) (Some started))) (start_by (past_of_batch batch history))) (holder_of history tag)
 
-back_records : (history : History) (tag : List ℕ) (description : PlainDescription) →
-    Records (held_back history tag description)
-back_records history tag description =
-    then_records _ (λ batch. then_records _ (λ started. then_records _
+-- a new module that a batch can't do with
+uncovered_records : (history : History) (tag : List ℕ) (description : PlainDescription) (batch : List ℕ) →
+    Records (uncovered_in history tag description batch)
+uncovered_records history tag description batch =
+    then_records _ (λ started. then_records _
     (λ chart. then_records _
     (λ role. mapped_records (λ fault. HeldBack batch (missing_by role fault)) (λ fault. refl)
     (cover_fault chart role description))
-    (bound_role started.binds tag))
-    (chart_by (recipes history) (Some started))) (start_by (past_of_batch batch history))) (holder_of history tag)
+    (bound_role (given started.binds) tag))
+    (chart_by (recipes history) (Some started))) (start_by (past_of_batch batch history))
+
+-- one that the holder or a watcher can't do with
+back_records : (history : History) (tag : List ℕ) (description : PlainDescription) →
+    Records (held_back history tag description)
+back_records history tag description =
+    or_records (option_and_then (uncovered_in history tag description) (holder_of history tag)) _
+    (then_records _ (uncovered_records history tag description) (holder_of history tag))
+    (each_records (uncovered_in history tag description) (uncovered_records history tag description)
+    (watchers_of history tag))
+
+-- a module that is watched
+watched_records : (history : History) (tag : List ℕ) → Records (watched history tag)
+watched_records history tag = each_records (λ batch. Some (Watched batch)) (λ batch. refl) (watchers_of history tag)
 
 -- ---- all kinds of event
 
 rules_record : (history : History) (event : PlainEvent) → AllRecord (rules history event)
 rules_record history (plug at tag description) = (taken_records _, (when_records _ PlantFull refl, tt))
-rules_record history (unplug at tag) =
-    (module_records tag _, (exchange_records tag _, (then_records _ (λ batch. refl) (holder_of history tag), tt)))
+rules_record history (unplug at tag) = (
+  module_records tag _,
+  (
+    exchange_records tag _,
+    (then_records _ (λ batch. refl) (holder_of history tag), (watched_records history tag, tt)),
+  ),
+)
 rules_record history (report at tag service control) = (
   module_records tag _,
   (

@@ -4,10 +4,11 @@ use Rattle.std.specs.Prelude.{filter, filter_map}
 use Rattle.std.specs.List.{cons_option}
 use Rattle.std.specs.Option.{option_or}
 use Rattle.std.proofs.lemmas.Bool.{and_right}
+use Rattle.std.proofs.Math.Path.{fun_ext}
 use Rattle.pol_events.specs.Events.{PlainEvent, PlainEntry, plug, unplug}
 use Rattle.pol_history.specs.Looking.{History, subject, is_module, is_batch, is_recipe, is_accepted, past, past_of_batch, recipes, last_of}
 use Rattle.pol_history.specs.Modules.{present_after, present_tags}
-use Rattle.pol_history.specs.Batches.{starting, started_batch, taking, takes, outcome_by, if_open, is_start}
+use Rattle.pol_history.specs.Batches.{starting, started_batch, taking, takes, watching, watches, outcome_by, if_open, is_open, is_start}
 use Rattle.pol_history.specs.Refused.{RefusedChangesNothing}
 
 present_refused : (event : PlainEvent) (tags : List (List ℕ)) → present_after event false tags ≡ tags
@@ -36,6 +37,12 @@ refused_nothing entry history refused =
           (last_of (takes tag) history)))
           refused
           ∙ open_refused entry history batch_pasts (last_of (takes tag) history);
+      watchers = λ tag.
+          ap (λ kept. reverse (filter (is_open (entry ∷ history))
+          (cons_option (cond kept (watching tag entry.event) None) (filter_map (watches tag) history))))
+          refused
+          ∙ ap (λ test. reverse (filter test (filter_map (watches tag) history)))
+          (fun_ext (λ batch. ap (λ past. is_none (outcome_by past)) (batch_pasts batch)));
       present =
           ap (λ kept. present_after entry.event kept (present_tags history)) refused
           ∙ present_refused entry.event (present_tags history);

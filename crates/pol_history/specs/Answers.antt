@@ -14,23 +14,24 @@ use Rattle.pol_events.specs.declared.answer.Rule.TheVariants.{Held, HistoryFull}
 use Rattle.pol_events.specs.declared.answer.Answer.{Answer}
 use Rattle.pol_events.specs.declared.answer.Answer.TheVariants.{Done, Ticket, Did, Waiting, Closed, Refused}
 use Rattle.pol_events.specs.Refusals.{no_service, forbidden, in_exchange, wrong_ticket, report_rules, variable_rules}
-use Rattle.pol_events.specs.declared.event.Bind.{Bind}
+use Rattle.pol_events.specs.Bound.{PlainAllocation, given}
 use Rattle.pol_history.specs.Looking.{History, past, past_of_batch, recipes}
 use Rattle.pol_history.specs.Modules.{docking_by, ticket_of, description_by, control_by, view_by, next_ticket}
 use Rattle.pol_history.specs.Batches.{start_by, chart_named, log_by, holder_of}
 use Rattle.pol_history.specs.Following.{next_of}
-use Rattle.pol_history.specs.Rules.{tag_taken, no_module, not_in_exchange, plant_full, module_not_at_rest, not_reported, recipe_known, recipes_full, no_recipe, batch_known, no_batch, batch_closed, already_frozen, not_frozen, batches_full, role_unbound, role_unknown, one_module_twice, modules_unfit, busy, active_step, held_back}
+use Rattle.pol_history.specs.Rules.{tag_taken, no_module, not_in_exchange, plant_full, module_not_at_rest, not_reported, recipe_known, recipes_full, no_recipe, batch_known, no_batch, batch_closed, already_frozen, not_frozen, batches_full, role_unbound, role_unknown, one_module_twice, watched_step, steps_in, modules_unfit, busy, watched, active_step, held_back}
 
 -- the rules of a start, by the chart of its recipe
-abbrev pub start_rules : History → List ℕ → List Bind → Option PlainChart → List (Option Rule)
+abbrev pub start_rules : History → List ℕ → PlainAllocation → Option PlainChart → List (Option Rule)
 start_rules history batch binds None = no_recipe None ∷ []
 start_rules history batch binds (Some chart) =
     batch_known (start_by (past_of_batch batch history))
-    ∷ role_unbound binds (role_names chart)
+    ∷ role_unbound (given binds) (role_names chart)
     ∷ role_unknown binds (role_names chart)
-    ∷ one_module_twice binds [] (role_names chart)
-    ∷ modules_unfit history chart binds (role_names chart)
-    ∷ busy history binds (role_names chart)
+    ∷ one_module_twice (given binds) [] (role_names chart)
+    ∷ watched_step binds.watched (steps_in chart) (role_names chart)
+    ∷ modules_unfit history chart (given binds) (role_names chart)
+    ∷ busy history binds.held (role_names chart)
     ∷ batches_full history
     ∷ []
 
@@ -42,6 +43,7 @@ rules history (unplug at tag) =
     no_module tag (docking_by (past tag history))
     ∷ in_exchange tag (ticket_of (docking_by (past tag history)))
     ∷ option_and_then (λ batch. Some (Held batch)) (holder_of history tag)
+    ∷ watched history tag
     ∷ []
 rules history (report at tag service control) =
     no_module tag (docking_by (past tag history))

@@ -1,5 +1,5 @@
 -- Looking back at a batch: each value is found in the batch's past, its chart among the recipes.
-use Rattle.std.specs.Prelude.{ℕ, Bool, true, false, ◌&&◌, List, [], filter_map, Option, Some, None, is_some, is_none, unwrap_or, reverse, option_and_then, if◌then◌else◌}
+use Rattle.std.specs.Prelude.{ℕ, Bool, true, false, ◌&&◌, List, [], filter, filter_map, Option, Some, None, is_some, is_none, unwrap_or, reverse, option_and_then, if◌then◌else◌}
 use Rattle.std.specs.Str.{bytes_eq}
 use Rattle.mtp_codes.specs.Names.{is_among}
 use Rattle.chart_core.specs.Roles.{PlainChart}
@@ -9,13 +9,13 @@ use Rattle.pol_events.specs.Events.{PlainEvent, recipe, start, freeze, thaw, sto
 use Rattle.pol_events.specs.declared.event.Bind.{Bind}
 use Rattle.pol_events.specs.declared.answer.Answer.{Answer}
 use Rattle.pol_events.specs.declared.answer.Answer.TheVariants.{Did, Closed}
-use Rattle.pol_events.specs.Bound.{tags_of}
+use Rattle.pol_events.specs.Bound.{PlainAllocation, given, tags_of}
 use Rattle.pol_history.specs.Looking.{History, past_of_batch, recipes, last_of, is_accepted}
 
--- what a batch was started with: its recipe, and which module plays each role
+-- what a batch was started with: its recipe, and which module plays each role, held or watched
 pub record Started : Type 0 where
   pub recipe : List ℕ
-  pub binds : List Bind
+  pub binds : PlainAllocation
 
 -- the start that an event is
 abbrev pub starting : PlainEvent → Option Started
@@ -47,9 +47,9 @@ chart_by recipes started = option_and_then (λ started. chart_named started.reci
 abbrev pub chart_of : History → List ℕ → Option PlainChart
 chart_of history batch = chart_by (recipes history) (start_of history batch)
 
--- the binds of a start; none of another event
+-- the binds of a start, held and watched; none of another event
 abbrev pub binds_in : PlainEvent → List Bind
-binds_in (start at batch name binds) = binds
+binds_in (start at batch name binds) = given binds
 binds_in _ = []
 
 -- the outcome with which an answer closes a batch
@@ -93,9 +93,9 @@ log_by past = reverse (filter_map (λ entry. taken entry.answer) past)
 abbrev pub log_of : History → List ℕ → List LogEntry
 log_of history batch = log_by (past_of_batch batch history)
 
--- the accepted start of a batch on these modules
+-- the batch of a start that binds the tag
 abbrev pub taking : List ℕ → PlainEvent → Option (List ℕ)
-taking tag (start at batch name binds) = if is_among (tags_of binds) tag then Some batch else None
+taking tag (start at batch name binds) = if is_among (tags_of binds.held) tag then Some batch else None
 taking tag _ = None
 
 -- the batch whose accepted start an entry is, where it binds the tag
@@ -110,6 +110,23 @@ if_open history (Some batch) = if is_none (outcome_of history batch) then Some b
 -- the batch that holds the module: that of the last accepted start that binds it, where that batch isn't closed
 abbrev pub holder_of : History → List ℕ → Option (List ℕ)
 holder_of history tag = if_open history (last_of (takes tag) history)
+
+-- the batch of a start that watches the tag
+abbrev pub watching : List ℕ → PlainEvent → Option (List ℕ)
+watching tag (start at batch name binds) = if is_among (tags_of binds.watched) tag then Some batch else None
+watching tag _ = None
+
+-- the batch whose accepted start an entry is, where it watches the tag
+abbrev pub watches : List ℕ → PlainEntry → Option (List ℕ)
+watches tag entry = if is_accepted entry.answer then watching tag entry.event else None
+
+-- the batch isn't closed
+abbrev pub is_open : History → List ℕ → Bool
+is_open history batch = is_none (outcome_of history batch)
+
+-- the batches that watch the module: they aren't closed, and their accepted starts watch it; in the order of the starts
+abbrev pub watchers_of : History → List ℕ → List (List ℕ)
+watchers_of history tag = reverse (filter (is_open history) (filter_map (watches tag) history))
 
 -- the entry is an accepted start
 abbrev pub is_start : PlainEntry → Bool

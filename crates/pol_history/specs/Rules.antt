@@ -9,18 +9,18 @@ use Rattle.mtp_machine.specs.States.{is_idle}
 use Rattle.mtp_modes.specs.declared.view.ServiceView.{ServiceView}
 use Rattle.mtp_desc.specs.Plain.{PlainDescription}
 use Rattle.chart_core.specs.Roles.{PlainChart}
-use Rattle.chart_core.specs.Trees.{steps}
+use Rattle.chart_core.specs.Trees.{PlainStep, steps}
 use Rattle.mtp_procs.specs.Covers.{cover_fault, missing_by}
 use Rattle.chart_cursor.specs.Logs.{active}
-pub use Rattle.pol_events.specs.BindRules.{role_unbound, role_unknown, is_bound_before, twice, one_module_twice}
+pub use Rattle.pol_events.specs.BindRules.{role_unbound, unknown_role, role_unknown, is_bound_before, twice, one_module_twice, has_step, watched_step}
 use Rattle.pol_events.specs.Refusals.{cover_rule, in_exchange, not_at_rest}
 use Rattle.pol_events.specs.declared.answer.Rule.{Rule}
-use Rattle.pol_events.specs.declared.answer.Rule.TheVariants.{TagTaken, NoModule, PlantFull, NotInExchange, RecipeKnown, NoRecipe, BatchKnown, NoBatch, BatchClosed, NotReported, NotIdle, Busy, BatchesFull, ActiveStep, HeldBack, NotFrozen, AlreadyFrozen, RecipesFull}
+use Rattle.pol_events.specs.declared.answer.Rule.TheVariants.{TagTaken, NoModule, PlantFull, NotInExchange, RecipeKnown, NoRecipe, BatchKnown, NoBatch, BatchClosed, NotReported, NotIdle, Busy, BatchesFull, ActiveStep, HeldBack, NotFrozen, AlreadyFrozen, RecipesFull, Watched}
 use Rattle.pol_events.specs.declared.event.Bind.{Bind}
-use Rattle.pol_events.specs.Bound.{bound_tag, bound_role, step_on}
+use Rattle.pol_events.specs.Bound.{bound_tag, bound_role, given, step_on}
 use Rattle.pol_history.specs.Looking.{History, past, past_of_batch, recipes}
 use Rattle.pol_history.specs.Modules.{Docking, absent, docked, away, docking_by, description_by, control_by, view_by, present_tags, ticket_of}
-use Rattle.pol_history.specs.Batches.{Started, start_by, chart_named, chart_by, outcome_by, is_frozen_by, log_by, holder_of, is_start}
+use Rattle.pol_history.specs.Batches.{Started, start_by, chart_named, chart_by, outcome_by, is_frozen_by, log_by, holder_of, watchers_of, is_start}
 
 -- ---- whether a tag is docked
 
@@ -113,11 +113,13 @@ not_covered chart role description =
     (λ description. option_map (cover_rule role) (cover_fault chart role description))
     description
 
+-- the steps of the chart, in chart order
+abbrev pub steps_in : PlainChart → List PlainStep
+steps_in chart = map (λ placed. placed.step) (steps chart.root 0)
+
 -- the services of the steps of a role, in chart order
 abbrev pub services_of : PlainChart → List ℕ → List (List ℕ)
-services_of chart role =
-    map (λ step. step.service) (filter (λ step. same_name step.role role)
-    (map (λ placed. placed.step) (steps chart.root 0)))
+services_of chart role = map (λ step. step.service) (filter (λ step. same_name step.role role) (steps_in chart))
 
 -- the service wasn't reported, or isn't idle
 abbrev pub unready : List ℕ → History → List ℕ → Option Rule
@@ -159,7 +161,11 @@ busy_role history tag = option_and_then (λ tag. busy_module tag (holder_of hist
 abbrev pub busy : History → List Bind → List (List ℕ) → Option Rule
 busy history binds roles = first_of (map (λ role. busy_role history (bound_tag binds role)) roles)
 
--- ---- the batch that holds a module
+-- ---- the batches that hold and watch a module
+
+-- the module is watched; the first watcher
+abbrev pub watched : History → List ℕ → Option Rule
+watched history tag = first_of (map (λ batch. Some (Watched batch)) (watchers_of history tag))
 
 -- the first active step of a batch, by its past, on the module
 abbrev pub active_step_on : History → List ℕ → List ℕ → History → Option Rule
@@ -167,7 +173,8 @@ active_step_on recipes tag batch past =
     option_and_then
     (λ started.
     option_and_then
-    (λ chart. option_map (λ step. ActiveStep batch step.name) (step_on started.binds tag (active chart (log_by past))))
+    (λ chart. option_map (λ step. ActiveStep batch step.name)
+    (step_on (given started.binds) tag (active chart (log_by past))))
     (chart_by recipes (Some started)))
     (start_by past)
 
@@ -186,12 +193,17 @@ uncovered_by recipes tag description batch past =
     (λ chart.
     option_and_then
     (λ role. option_map (λ fault. HeldBack batch (missing_by role fault)) (cover_fault chart role description))
-    (bound_role started.binds tag))
+    (bound_role (given started.binds) tag))
     (chart_by recipes (Some started)))
     (start_by past)
 
--- the new module doesn't cover its role in the batch that holds the tag
+-- the same of a batch of the history
+abbrev pub uncovered_in : History → List ℕ → PlainDescription → List ℕ → Option Rule
+uncovered_in history tag description batch =
+    uncovered_by (recipes history) tag description batch (past_of_batch batch history)
+
+-- the new module doesn't cover its role in the batch that holds the tag, or else in one that watches it, the first
 abbrev pub held_back : History → List ℕ → PlainDescription → Option Rule
 held_back history tag description =
-    option_and_then (λ batch. uncovered_by (recipes history) tag description batch (past_of_batch batch history))
-    (holder_of history tag)
+    option_or (option_and_then (uncovered_in history tag description) (holder_of history tag))
+    (first_of (map (uncovered_in history tag description) (watchers_of history tag)))

@@ -20,7 +20,7 @@ use Rattle.pol_events.specs.declared.event.Bind.{Bind}
 use Rattle.pol_record.specs.Objects.{data_tokens, reading_data, members_in}
 use Rattle.pol_history.specs.Batches.{Started}
 use Rattle.pol_record.specs.Verdicts.{place_tokens, wrong_object}
-use Rattle.pol_record.specs.Texts.{batch_data, batch_object, course_tokens, end_text, entry_data, line_text, start_tokens, under_key}
+use Rattle.pol_record.specs.Texts.{batch_data, batch_object, course_tokens, end_text, entry_data, line_text, start_tokens, under_key, watch_tokens}
 
 -- a whole number, with or without a sign
 pub whole_reading : (value : ℤ) → data_tokens (number (of_integer value)) ≡ token.number (signed_decimal value) ∷ []
@@ -65,16 +65,39 @@ pub end_line_text : end_text ≡ codes "{\"end\":true}\n"
 unfolding serde_json_on_literals under_key
 end_line_text = refl
 
--- a bracket, the start, the course and a bracket behind other tokens are the tokens of a batch
+-- six parts, each behind those before it
+six_parts : (a b s c w e : List Token) → ((((a ++ b) ++ s) ++ c) ++ w) ++ e ≡ a ++ (b ++ (s ++ (c ++ (w ++ e))))
+six_parts a b s c w e =
+    append_assoc (((a ++ b) ++ s) ++ c) w e
+    ∙ append_assoc ((a ++ b) ++ s) c (w ++ e)
+    ∙ append_assoc (a ++ b) s (c ++ (w ++ e))
+    ∙ append_assoc a b (s ++ (c ++ (w ++ e)))
+
+-- the tokens of a batch, by its parts
+parts_of_batch : (batch recipe : List ℕ) (held watched : List Bind) (log : List LogEntry)
+    (outcome : Option Outcome) →
+    token.begin_object ∷ (start_tokens batch held ++ (course_tokens log outcome recipe ++ (watch_tokens watched
+    ++ token.end_object ∷ [])))
+    ≡ data_tokens (batch_data batch
+    (record { recipe = recipe; binds = record { held = held; watched = watched } }) log outcome)
+unfolding batch_object
+parts_of_batch batch recipe held [] log outcome = simp append_assoc refl
+parts_of_batch batch recipe held (bind ∷ watched) log outcome = simp append_assoc refl
+
+-- a bracket, the start, the course, what is watched and a bracket behind other tokens are the tokens of a batch
 pub batch_tokens : (old : List Token) (batch : List ℕ) (started : Started) (log : List LogEntry)
     (outcome : Option Outcome) →
-    (((old ++ token.begin_object ∷ []) ++ start_tokens batch started.binds)
+    ((((old ++ token.begin_object ∷ []) ++ start_tokens batch started.binds.held)
     ++ course_tokens log outcome started.recipe)
+    ++ watch_tokens started.binds.watched)
     ++ token.end_object
     ∷ []
     ≡ old ++ data_tokens (batch_data batch started log outcome)
-unfolding batch_object
-batch_tokens old batch started log outcome = simp append_assoc refl
+batch_tokens old batch started log outcome =
+    six_parts old (token.begin_object ∷ []) (start_tokens batch started.binds.held)
+    (course_tokens log outcome started.recipe) (watch_tokens started.binds.watched) (token.end_object ∷ [])
+    ∙ ap (λ tokens. old ++ tokens)
+    (parts_of_batch batch started.recipe started.binds.held started.binds.watched log outcome)
 
 -- a bracket, the place, the right answer, the reason and a bracket behind other tokens are the tokens of a wrong answer
 pub wrong_tokens : (old : List Token) (place : ℕ) (says : Data) →

@@ -6,6 +6,7 @@ use Rattle.std.specs.Option.{option_map, option_map_or, option_or}
 use Rattle.std.specs.Str.{bytes_eq}
 use Rattle.chart_core.specs.declared.entry.LogEntry.{LogEntry}
 use Rattle.chart_core.specs.declared.next.Outcome.{Outcome}
+use Rattle.pol_events.specs.Bound.{plain_allocation}
 use Rattle.pol_events.specs.Events.{PlainEntry}
 use Rattle.pol_events.specs.Subjects.{Subject, of_module, of_batch, of_recipe, subject}
 use Rattle.pol_history.specs.Batches.{Started, starting, start_by, started_batch, taken, log_by, closing, outcome_by, batches}
@@ -41,7 +42,7 @@ record_text batch known = started_text batch known.start known.log known.outcome
 
 -- what contracts see of a start
 abbrev pub plain_start : Start → Started
-plain_start start = record { recipe = start.recipe; binds = start.binds.now }
+plain_start start = record { recipe = start.recipe; binds = plain_allocation start.binds }
 
 -- what contracts see of a record
 abbrev pub plain_record : BatchRecord → PlainRecord

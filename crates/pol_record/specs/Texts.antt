@@ -9,7 +9,7 @@ use Rattle.chart_core.specs.declared.next.Outcome.TheVariants.{Completed, Broken
 use Rattle.chart_core.specs.declared.why.Why.{Why}
 use Rattle.json.specs.Token as token
 use Rattle.json.specs.Token.{Token}
-use Rattle.serde_json.specs.Data.{Data, boolean, string, array, object, member, no_members}
+use Rattle.serde_json.specs.Data.{Data, boolean, string, array, object, Members, member, no_members}
 use Rattle.serde_json.specs.View.{items_of}
 use Rattle.serde_json.specs.Written.{compact_text}
 use Rattle.mtp_json.specs.PathText.{path_text}
@@ -19,7 +19,7 @@ use Rattle.pol_events.specs.Events.{PlainEntry}
 use Rattle.pol_events.specs.Fields.{PlainField, number_field, text_field}
 use Rattle.pol_events.specs.Lines.{event_of}
 use Rattle.pol_events.specs.RuleTable.{rule_row}
-use Rattle.pol_events.specs.Written.{written_binds, written_event}
+use Rattle.pol_events.specs.Written.{watch_member, written_binds, written_event}
 use Rattle.pol_events.specs.declared.answer.Answer.{Answer}
 use Rattle.pol_events.specs.declared.answer.Answer.TheVariants.{Done, Ticket, Did, Waiting, Closed, Refused}
 use Rattle.pol_events.specs.declared.answer.Rule.{Rule}
@@ -109,14 +109,14 @@ abbrev pub outcome_text : Option Outcome → List ℕ
 outcome_text None = codes "Running"
 outcome_text (Some outcome) = outcome_name outcome
 
--- a batch: its name, its binds, its log, its outcome and its recipe
-unfoldable pub batch_object : List ℕ → Data → Data → List ℕ → List ℕ → Data
-batch_object batch binds log outcome recipe = object
+-- a batch: its name, its binds, its log, its outcome and its recipe, and these members behind them
+unfoldable pub batch_object : List ℕ → Data → Data → List ℕ → List ℕ → Members → Data
+batch_object batch binds log outcome recipe watch = object
     (member (codes "batch") (string batch)
     (member (codes "bind") binds
     (member (codes "log") log
     (member (codes "outcome") (string outcome)
-    (member (codes "recipe") (string recipe) no_members)))))
+    (member (codes "recipe") (string recipe) watch)))))
 
 -- a log as JSON
 abbrev pub log_data : List LogEntry → Data
@@ -125,9 +125,10 @@ log_data log = array (items_of (map entry_data log))
 -- a batch with its start, its log and its outcome
 abbrev pub batch_data : List ℕ → Started → List LogEntry → Option Outcome → Data
 batch_data batch started log outcome =
-    batch_object batch (written_binds started.binds) (log_data log) (outcome_text outcome) started.recipe
+    batch_object batch (written_binds started.binds.held) (log_data log) (outcome_text outcome) started.recipe
+    (watch_member started.binds.watched)
 
--- the tokens of what a batch was started on
+-- the tokens of what a batch was started on and holds
 abbrev pub start_tokens : List ℕ → List Bind → List Token
 start_tokens batch binds =
     token.key (codes "batch") ∷ token.string batch ∷ token.key (codes "bind") ∷ data_tokens (written_binds binds)
@@ -142,6 +143,11 @@ course_tokens log outcome recipe =
     ∷ token.key (codes "recipe")
     ∷ token.string recipe
     ∷ []
+
+-- the tokens of what a batch watches, where it watches anything
+abbrev pub watch_tokens : List Bind → List Token
+watch_tokens [] = []
+watch_tokens (bind ∷ binds) = token.key (codes "watch") ∷ data_tokens (written_binds (bind ∷ binds))
 
 -- the line of a batch, if it was started
 abbrev pub started_text : List ℕ → Option Started → List LogEntry → Option Outcome → List ℕ

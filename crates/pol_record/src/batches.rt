@@ -6,7 +6,7 @@ ghost use Rattle.pol_events.specs.Written.{written_binds};
 ghost use Rattle.pol_history.specs.Batches.{log_of};
 ghost use Rattle.pol_record.specs.Gathered.{known_of, plain_record, plain_start, record_text};
 ghost use Rattle.pol_record.specs.Objects.{data_tokens};
-ghost use Rattle.pol_record.specs.Texts.{batch_data, batch_text, course_tokens, log_data, outcome_text, start_tokens};
+ghost use Rattle.pol_record.specs.Texts.{batch_data, batch_text, course_tokens, log_data, outcome_text, start_tokens, watch_tokens};
 
 use crate::answers::{outcome_name, write_entry};
 use crate::gathering::BatchRecords;
@@ -60,7 +60,7 @@ fn write_log(writer: &mut Writer, log: &[LogEntry]) -> Result<(), AllocError>
     writer.end_array()
 }
 
-// Writes what a batch was started on.
+// Writes what a batch was started on and holds.
 fn write_start(writer: &mut Writer, batch: Name, binds: &[Bind]) -> Result<(), AllocError>
     ensures tokens { OnOk result (writer.new.tokens ≡ writer.old.tokens ++ start_tokens batch binds.now) }
     ensures before { writer.new.before ≡ writer.old.before }
@@ -86,6 +86,18 @@ fn write_course(
     write_text(writer, "recipe", recipe.as_str())
 }
 
+// Writes what a batch watches, if it watches anything.
+fn write_watch(writer: &mut Writer, watches: &[Bind]) -> Result<(), AllocError>
+    ensures tokens { OnOk result (writer.new.tokens ≡ writer.old.tokens ++ watch_tokens watches.now) }
+    ensures before { writer.new.before ≡ writer.old.before }
+{
+    if watches.is_empty() {
+        return Ok(());
+    }
+    writer.key("watch")?;
+    write_binds(writer, watches)
+}
+
 fn write_batch(
     writer: &mut Writer,
     batch: Name,
@@ -98,8 +110,9 @@ fn write_batch(
     ensures before { writer.new.before ≡ writer.old.before }
 {
     writer.begin_object()?;
-    write_start(writer, batch, start.binds)?;
+    write_start(writer, batch, start.binds.held)?;
     write_course(writer, log, outcome, start.recipe)?;
+    write_watch(writer, start.binds.watched)?;
     writer.end_object()
 }
 
@@ -136,8 +149,8 @@ pub fn batch_log(alloc: Global, history: &[Entry], batch: Name) -> Result<Vec<Lo
     Ok(record_of(alloc, history, batch)?.log)
 }
 
-/// The line of a batch: its name, what plays each role, its log, its outcome (Running while it is open) and its recipe.
-/// No bytes for a batch that wasn't started.
+/// The line of a batch: its name, the modules that it holds, its log, its outcome (Running while it is open), its
+/// recipe, and the modules that it watches, where it watches any. No bytes for a batch that wasn't started.
 pub fn batch_line(alloc: Global, history: &[Entry], batch: Name) -> Result<Vec<u8>, AllocError>
     ensures { IfOk result (λ line. line.items ≡ batch_text (plain_history history.now) batch) }
 {

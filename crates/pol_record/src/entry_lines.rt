@@ -38,8 +38,9 @@ fn event_text(alloc: Global, event: &Event) -> Result<Vec<u8>, AllocError>
 }
 
 /// The buffer with the line of an entry behind what it holds: the answer and the event. The event has to be one that a
-/// line can say: a recipe's chart is valid, and a start binds at most 64 roles, each once and in byte order; what is
-/// written of it is read as the same event. The buffer is lost where there is no memory.
+/// line can say: a recipe's chart is valid, and a start holds at most 64 modules and watches at most 64, in byte order
+/// of the roles, each role once; what is written of it is read as the same event. The buffer is lost where there is no
+/// memory.
 #[tactic(auto, using(crate::proofs::Pieces::entry_pieces))]
 pub fn put_entry_line(alloc: Global, buffer: Vec<u8>, entry: &Entry) -> Result<Vec<u8>, AllocError>
     requires { IsTrue (is_orderly (plain_event entry.now.event)) }

@@ -8,7 +8,7 @@ ghost use Rattle.pol_record.specs.Gathered.{accepted_batch, newly_started, plain
 
 use chart_core::LogEntry;
 use mtp_codes::Name;
-use pol_events::{Answer, Bind, Entry, Event, Outcome, Subject};
+use pol_events::{Allocation, Answer, Entry, Event, Outcome, Subject};
 use std::alloc::{AllocError, Global};
 
 /// What a batch was started with.
@@ -16,8 +16,8 @@ use std::alloc::{AllocError, Global};
 pub struct Start<'a> {
     /// The recipe.
     pub recipe: Name,
-    /// What plays each role.
-    pub binds: &'a [Bind],
+    /// What plays each role, held or watched.
+    pub binds: Allocation<'a>,
 }
 
 /// What is known of a batch.
@@ -55,9 +55,17 @@ fn starting(event: &Event) -> Option<Start<'_>>
     ensures { option_map plain_start result ≡ starting (plain_event event.now) }
 {
     match event {
-        Event::Start { recipe, bind, .. } => Some(Start {
+        Event::Start {
+            recipe,
+            bind,
+            watch,
+            ..
+        } => Some(Start {
             recipe: *recipe,
-            binds: bind,
+            binds: Allocation {
+                held: bind,
+                watched: watch,
+            },
         }),
         _ => None,
     }

@@ -1,19 +1,20 @@
 -- What the history without the concerned entries has in common with the whole history.
-use Rattle.std.proofs.Common.{◌≡◌, ℕ, ◌≤◌, Bool, true, false, cond, List, length, refl, ap, sym, ◌∙◌, ◌⊎◌, inl, inr, Option, Some, None, is_none}
-use Rattle.std.specs.Prelude.{filter}
+use Rattle.std.proofs.Common.{◌≡◌, ℕ, ◌≤◌, Bool, true, false, cond, not, List, length, reverse, refl, ap, sym, ◌∙◌, ◌⊎◌, inl, inr, Option, Some, None, is_none}
+use Rattle.std.specs.Prelude.{filter, filter_map}
 use Rattle.std.specs.List.{AllByRecursion}
-use Rattle.std.proofs.lemmas.Bool.{and_parts}
+use Rattle.std.proofs.lemmas.Bool.{and_parts, not-true}
 use Rattle.mtp_codes.specs.Names.{is_among}
 use Rattle.chart_core.specs.declared.next.Outcome.{Outcome}
 use Rattle.pol_events.specs.Events.{PlainEvent, start, PlainEntry}
-use Rattle.pol_events.specs.Bound.{tags_of}
+use Rattle.pol_events.specs.Bound.{given, tags_of}
 use Rattle.pol_history.specs.Looking.{History, of_batch, subject, last_of, is_accepted, is_batch, is_accepted_of_batch, past, past_of_batch, recipes}
 use Rattle.pol_history.specs.Modules.{present_tags}
-use Rattle.pol_history.specs.Batches.{Started, starting, start_of, binds_in, outcome_by, outcome_of, taking, takes, if_open, holder_of, is_start}
-use Rattle.pol_history.proofs.Filters.{filter_filter, length_filter}
+use Rattle.pol_history.specs.Batches.{Started, starting, start_of, started_batch, binds_in, outcome_by, outcome_of, taking, takes, watching, watches, if_open, is_open, holder_of, watchers_of, is_start}
+use Rattle.pol_history.proofs.Filters.{filter_filter, filter_reverse, length_filter}
+use Rattle.pol_removal.proofs.Kept.{filter_agrees, filter_map_kept}
 use Rattle.pol_removal.specs.Removal.{is_some_among, is_of, stays}
-use Rattle.pol_removal.proofs.Each.{all_kept, last_of_all}
-use Rattle.pol_removal.proofs.Sparing.{Covered, stays_parts, past_stays, other_batch, other_batch_apart, past_of_batch_stays, recipes_stay}
+use Rattle.pol_removal.proofs.Each.{all_kept, all_map, last_of_all}
+use Rattle.pol_removal.proofs.Sparing.{Covered, newly_started, start_stays, stays_parts, past_stays, other_batch, other_batch_apart, past_of_batch_stays, recipes_stay}
 use Rattle.pol_removal.proofs.Present.{fewer_present}
 use Rattle.pol_removal.proofs.Owned.{Owned, takes_parts}
 
@@ -31,8 +32,10 @@ pub record Alike (tags bound : List (List ℕ)) (whole less : History) : Type 0 
   pub same_recipes : recipes less ≡ recipes whole
   pub apart : (batch : List ℕ) (started : Started) → is_among bound batch ≡ false
       → start_of whole batch ≡ Some started →
-      is_some_among tags (tags_of started.binds) ≡ false
+      is_some_among tags (tags_of (given started.binds)) ≡ false
   pub holders : (tag : List ℕ) → HolderAlike bound whole less tag
+  pub watchers : (tag : List ℕ) → watchers_of less tag
+      ≡ filter (λ batch. not (is_among bound batch)) (watchers_of whole tag)
   pub fewer_tags : length (present_tags less) ≤ length (present_tags whole)
   pub fewer_starts : length (filter is_start less) ≤ length (filter is_start whole)
   pub fewer : length less ≤ length whole
@@ -41,7 +44,7 @@ pub record Alike (tags bound : List (List ℕ)) (whole less : History) : Type 0 
 
 taking_batch : (tag batch : List ℕ) (event : PlainEvent) → taking tag event ≡ Some batch
     → subject event ≡ of_batch batch
-taking_batch tag batch (start at other name binds) is = go (is_among (tags_of binds) tag) is
+taking_batch tag batch (start at other name binds) is = go (is_among (tags_of binds.held) tag) is
   where
     go : (inside : Bool) → cond inside (Some other) None ≡ Some batch → of_batch other ≡ of_batch batch
     go true is = cc
@@ -93,9 +96,60 @@ holders_alike tags bound history covered owned tag = go (last_of (takes tag) (fi
         (λ none. holds batch tag took (ap (λ past. outcome_by past)
         (sym (past_of_batch_stays tags bound history covered batch outside)) ∙ none)))
 
+-- ---- watchers
+
+-- an event that watches a module starts that batch
+watching_starts : (tag : List ℕ) (event : PlainEvent) (batch : List ℕ) → watching tag event ≡ Some batch
+    → started_batch event ≡ Some batch
+watching_starts tag (start at other name binds) batch is = go (is_among (tags_of binds.watched) tag) is
+  where
+    go : (inside : Bool) → cond inside (Some other) None ≡ Some batch → Some other ≡ Some batch
+    go true is = is
+    go false is = cc
+watching_starts tag _ batch is = cc
+
+-- and so does its entry
+watches_start : (tag : List ℕ) (entry : PlainEntry) (batch : List ℕ) → watches tag entry ≡ Some batch
+    → newly_started entry ≡ Some batch
+watches_start tag entry batch is = go (is_accepted entry.answer) is
+  where
+    go : (accepted : Bool) → cond accepted (watching tag entry.event) None ≡ Some batch →
+        cond accepted (started_batch entry.event) None ≡ Some batch
+    go true is = watching_starts tag entry.event batch is
+    go false is = cc
+
+-- the watchers of a module are those that aren't taken out
+watchers_alike : (tags bound : List (List ℕ)) (history : History) → AllByRecursion (Covered tags bound) history →
+    (tag : List ℕ) → watchers_of (filter (stays tags bound) history) tag
+    ≡ filter (λ batch. not (is_among bound batch)) (watchers_of history tag)
+watchers_alike tags bound history covered tag =
+    ap (λ found. reverse (filter (is_open less) found))
+    (filter_map_kept (watches tag) (stays tags bound) keeps history
+    (all_map (Covered tags bound)
+    (λ entry. (batch : List ℕ) → watches tag entry ≡ Some batch → stays tags bound entry ≡ keeps batch)
+    (λ entry covers batch is. start_stays tags bound entry covers batch (watches_start tag entry batch is))
+    history covered))
+    ∙ ap reverse
+    (filter_agrees (is_open less) (is_open history) keeps
+    (λ batch free. ap (λ past. is_none (outcome_by past))
+    (past_of_batch_stays tags bound history covered batch (not-true (is_among bound batch) free))) found
+    ∙ filter_filter (is_open history) keeps found)
+    ∙ filter_reverse keeps (filter (is_open history) found)
+  where
+    less : History
+    less = filter (stays tags bound) history
+
+    keeps : List ℕ → Bool
+    keeps batch = not (is_among bound batch)
+
+    found : List (List ℕ)
+    found = filter_map (watches tag) history
+
 -- ---- starts
 
-start_binds : (event : PlainEvent) (started : Started) → starting event ≡ Some started → binds_in event ≡ started.binds
+-- the binds of an event that starts a batch are those of its start
+start_binds : (event : PlainEvent) (started : Started) → starting event ≡ Some started
+    → binds_in event ≡ given started.binds
 start_binds (start at batch name binds) started is = cc
 start_binds _ started is = cc
 
@@ -103,7 +157,7 @@ start_binds _ started is = cc
 starts_apart : (tags bound : List (List ℕ)) (history : History) → AllByRecursion (Covered tags bound) history
     → (batch : List ℕ) (started : Started) →
     is_among bound batch ≡ false → start_of history batch ≡ Some started
-    → is_some_among tags (tags_of started.binds) ≡ false
+    → is_some_among tags (tags_of (given started.binds)) ≡ false
 starts_apart tags bound history covered batch started outside is =
     let (entry, (covers, of_it), said) =
     last_of_all (λ entry. Covered tags bound entry × (is_accepted_of_batch batch entry ≡ true))
@@ -126,6 +180,7 @@ alike_without tags bound history covered owned = record {
   same_recipes = recipes_stay tags bound history;
   apart = starts_apart tags bound history covered;
   holders = holders_alike tags bound history covered owned;
+  watchers = watchers_alike tags bound history covered;
   fewer_tags = fewer_present tags bound history;
   fewer_starts = rw (filter_filter is_start (stays tags bound) history)
       (length_filter (stays tags bound) (filter is_start history));

@@ -15,26 +15,27 @@ use Rattle.chart_cursor.specs.Logs.{active}
 use Rattle.chart_cursor.specs.NextEntry.{next_by}
 use Rattle.pol_events.specs.Events.{PlainEvent, plug, unplug, report, variable, recipe, start, advance, freeze, thaw, stop_batch, abandon, desk, exchange_begin, exchange_end, exchange_cancel}
 use Rattle.pol_events.specs.declared.event.Bind.{Bind}
-use Rattle.pol_events.specs.declared.answer.Rule.TheVariants.{PlantFull, Held, BatchesFull, HistoryFull}
+use Rattle.pol_events.specs.declared.answer.Rule.TheVariants.{PlantFull, Held, Watched, BatchesFull, HistoryFull}
+use Rattle.pol_events.specs.declared.answer.Rule.{Rule}
 use Rattle.pol_events.specs.declared.answer.Answer.TheVariants.{Ticket}
-use Rattle.pol_events.specs.Bound.{bound_tag, bound_role, tags_of, step_on}
+use Rattle.pol_events.specs.Bound.{PlainAllocation, bound_tag, bound_role, given, tags_of, step_on}
 use Rattle.pol_history.specs.Looking.{History, subject, past, past_of_batch, recipes}
 use Rattle.pol_history.specs.Modules.{next_ticket, present_tags}
-use Rattle.pol_history.specs.Batches.{Started, start_by, start_of, chart_named, chart_by, is_frozen_by, log_by, holder_of, is_start}
+use Rattle.pol_history.specs.Batches.{Started, start_by, start_of, chart_named, chart_by, is_frozen_by, log_by, holder_of, watchers_of, is_start}
 use Rattle.pol_history.specs.Following.{service_sight, variable_sight, sights_by, next_of_started, next_of}
-use Rattle.pol_history.specs.Rules.{plant_full, batches_full, module_rules, module_rule, modules_unfit, busy_role, busy, active_step_on, active_step, uncovered_by, held_back}
+use Rattle.pol_history.specs.Rules.{plant_full, batches_full, module_rules, module_rule, modules_unfit, busy_role, busy, active_step_on, active_step, uncovered_by, uncovered_in, held_back, watched}
 use Rattle.pol_history.specs.Answers.{start_rules, rules, advanced, stopped, otherwise, is_full, answer_of}
 use Rattle.pol_removal.specs.Removal.{is_refused_for_another, is_some_among, binds_one, is_of}
 use Rattle.pol_removal.proofs.Alike.{Alike}
 use Rattle.pol_removal.proofs.Roles.{played_outside}
-use Rattle.pol_removal.proofs.Falling.{Falls, AllFall, IsForAnother, first_falls, all_same, when_falls, fewer_reach, first_of_falls, map_another, then_another, holder_falls}
+use Rattle.pol_removal.proofs.Falling.{Falls, AllFall, IsForAnother, first_falls, all_same, when_falls, fewer_reach, first_of_falls, or_falls, map_another, then_another, holder_falls, watchers_fall}
 
 -- the rules of an active step and of an uncovered role are for another's sake
 active_another : (recipes : History) (tag batch : List ℕ) (past : History)
     → IsForAnother (active_step_on recipes tag batch past)
 active_another recipes tag batch past =
     then_another _ (λ started. then_another _ (λ chart. map_another _ (λ step. refl)
-    (step_on started.binds tag (active chart (log_by past))))
+    (step_on (given started.binds) tag (active chart (log_by past))))
     (chart_by recipes (Some started))) (start_by past)
 
 back_another : (recipes : History) (tag : List ℕ) (description : PlainDescription) (batch : List ℕ) (past : History)
@@ -42,7 +43,7 @@ back_another : (recipes : History) (tag : List ℕ) (description : PlainDescript
 back_another recipes tag description batch past =
     then_another _ (λ started. then_another _ (λ chart. then_another _
     (λ role. map_another _ (λ fault. refl) (cover_fault chart role description))
-    (bound_role started.binds tag)) (chart_by recipes (Some started))) (start_by past)
+    (bound_role (given started.binds) tag)) (chart_by recipes (Some started))) (start_by past)
 
 module _ (tags bound : List (List ℕ)) (whole less : History) (alike : Alike tags bound whole less) where
   -- ---- rules for another's sake
@@ -51,6 +52,19 @@ module _ (tags bound : List (List ℕ)) (whole less : History) (alike : Alike ta
       → Falls (option_and_then (λ batch. Some (Held batch)) (holder_of whole tag))
       (option_and_then (λ batch. Some (Held batch)) (holder_of less tag))
   held_falls tag = holder_falls bound whole less tag _ _ (λ batch. inl refl) (λ batch out. refl) (alike.holders tag)
+
+  -- a rule of the watchers, where it agrees on those that aren't taken out
+  watching_falls : (tag : List ℕ) (whole_rule less_rule : List ℕ → Option Rule) →
+      ((batch : List ℕ) → IsForAnother (whole_rule batch)) →
+      ((batch : List ℕ) → is_among bound batch ≡ false → less_rule batch ≡ whole_rule batch) →
+      Falls (first_of (map whole_rule (watchers_of whole tag))) (first_of (map less_rule (watchers_of less tag)))
+  watching_falls tag whole_rule less_rule another agree =
+      rw (alike.watchers tag) (watchers_fall bound whole_rule less_rule another agree (watchers_of whole tag))
+
+  -- a module that is watched
+  watched_falls : (tag : List ℕ) → Falls (watched whole tag) (watched less tag)
+  watched_falls tag = watching_falls tag (λ batch. Some (Watched batch)) (λ batch. Some (Watched batch))
+      (λ batch. inl refl) (λ batch out. refl)
 
   active_falls : (tag : List ℕ) → Falls (active_step whole tag) (active_step less tag)
   active_falls tag =
@@ -61,9 +75,16 @@ module _ (tags bound : List (List ℕ)) (whole less : History) (alike : Alike ta
   back_falls : (tag : List ℕ) (description : PlainDescription)
       → Falls (held_back whole tag description) (held_back less tag description)
   back_falls tag description =
-      holder_falls bound whole less tag _ _ (λ batch. back_another (recipes whole) tag description batch
-      (past_of_batch batch whole))
-      (λ batch out. rw (alike.batch_pasts batch out, alike.same_recipes)) (alike.holders tag)
+      or_falls _ _ _ _
+      (holder_falls bound whole less tag (uncovered_in whole tag description) (uncovered_in less tag description)
+      (λ batch. back_another (recipes whole) tag description batch (past_of_batch batch whole))
+      same (alike.holders tag))
+      (watching_falls tag (uncovered_in whole tag description) (uncovered_in less tag description)
+      (λ batch. back_another (recipes whole) tag description batch (past_of_batch batch whole)) same)
+    where
+      same : (batch : List ℕ) → is_among bound batch ≡ false →
+          uncovered_in less tag description batch ≡ uncovered_in whole tag description batch
+      same batch out = rw (alike.batch_pasts batch out, alike.same_recipes)
 
   plant_falls : Falls (plant_full whole) (plant_full less)
   plant_falls = when_falls PlantFull refl (nat_le MOST_MODULES (length (present_tags whole)))
@@ -100,8 +121,9 @@ module _ (tags bound : List (List ℕ)) (whole less : History) (alike : Alike ta
   busy_falls : (binds : List Bind) (roles : List (List ℕ)) → Falls (busy whole binds roles) (busy less binds roles)
   busy_falls binds roles = first_of_falls _ _ (λ role. busy_role_falls (bound_tag binds role)) roles
 
-  start_falls : (batch : List ℕ) (binds : List Bind) → is_among bound batch ≡ false
-      → is_some_among tags (tags_of binds) ≡ false → (chart : Option PlainChart) →
+  -- the rules of a start
+  start_falls : (batch : List ℕ) (binds : PlainAllocation) → is_among bound batch ≡ false
+      → is_some_among tags (tags_of (given binds)) ≡ false → (chart : Option PlainChart) →
       AllFall (start_rules whole batch binds chart) (start_rules less batch binds chart)
   start_falls batch binds out apart None = (inr refl, tt)
   start_falls batch binds out apart (Some chart) =
@@ -114,8 +136,11 @@ module _ (tags bound : List (List ℕ)) (whole less : History) (alike : Alike ta
             (
               inr refl,
               (
-                inr (modules_same chart binds apart (role_names chart)),
-                (busy_falls binds (role_names chart), (batches_fall, tt)),
+                inr refl,
+                (
+                  inr (modules_same chart (given binds) apart (role_names chart)),
+                  (busy_falls binds.held (role_names chart), (batches_fall, tt)),
+                ),
               ),
             ),
           ),
@@ -163,14 +188,15 @@ module _ (tags bound : List (List ℕ)) (whole less : History) (alike : Alike ta
           ap (λ seen. option_map
           (λ chart. next_by chart (is_frozen_by (past_of_batch batch whole))
           (log_by (past_of_batch batch whole)) seen) (chart_by (recipes whole) (Some started)))
-          (sights_same started.binds (alike.apart batch started out is))
+          (sights_same (given started.binds) (alike.apart batch started out is))
 
   -- ---- all kinds
 
   rules_fall : (event : PlainEvent) → is_of tags bound (subject event) ≡ false → binds_one tags event ≡ false
       → AllFall (rules whole event) (rules less event)
   rules_fall (plug at tag description) out apart = rw (alike.pasts tag out) (inr refl, (plant_falls, tt))
-  rules_fall (unplug at tag) out apart = rw (alike.pasts tag out) (inr refl, (inr refl, (held_falls tag, tt)))
+  rules_fall (unplug at tag) out apart = rw (alike.pasts tag out)
+      (inr refl, (inr refl, (held_falls tag, (watched_falls tag, tt))))
   rules_fall (report at tag service control) out apart = rw (alike.pasts tag out)
       (all_same (rules whole (report at tag service control)))
   rules_fall (variable at tag name value) out apart = rw (alike.pasts tag out)

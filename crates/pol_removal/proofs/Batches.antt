@@ -11,10 +11,10 @@ use Rattle.pol_history.specs.Runs.{recorded, recorded_all, run_of, history_after
 use Rattle.pol_record.specs.Texts.{started_text, batch_text, batch_lines, batches_text}
 use Rattle.pol_removal.specs.Removal.{is_of, bound_batches, stays, entries_without}
 use Rattle.pol_removal.proofs.Each.{all_map}
-use Rattle.pol_removal.proofs.Kept.{filter_reverse, filter_map_kept, flat_map_kept}
-use Rattle.pol_removal.proofs.Sparing.{Covered, unnamed_stays, other_batch_apart, past_of_batch_stays}
+use Rattle.pol_history.proofs.Filters.{filter_reverse}
+use Rattle.pol_removal.proofs.Kept.{filter_map_kept, flat_map_kept}
+use Rattle.pol_removal.proofs.Sparing.{Covered, newly_started, start_stays, past_of_batch_stays}
 use Rattle.pol_removal.proofs.Bound.{bound_covers, covered_recorded}
-use Rattle.pol_removal.proofs.Owned.{takes_parts}
 use Rattle.pol_removal.proofs.Induction.{dropped, grown, events_removed}
 
 -- ---- the history
@@ -58,32 +58,6 @@ covered_after tags events =
     covered_all tags (bound_batches tags (run_of events)) (run_of events) [] (bound_covers tags (run_of events)) tt
 
 -- ---- the batches
-
--- the batch that an entry starts
-abbrev newly_started : PlainEntry → Option (List ℕ)
-newly_started entry = if is_accepted entry.answer then started_batch entry.event else None
-
-start_subject : (event : PlainEvent) (batch : List ℕ) → started_batch event ≡ Some batch
-    → subject event ≡ of_batch batch
-start_subject (start at other name binds) batch is = cc
-start_subject _ batch is = cc
-
--- an accepted start stays just if its batch isn't bound
-start_stays : (tags bound : List (List ℕ)) (entry : PlainEntry) → Covered tags bound entry → (batch : List ℕ)
-    → newly_started entry ≡ Some batch →
-    stays tags bound entry ≡ not (is_among bound batch)
-start_stays tags bound entry covers batch started = go (is_among bound batch) refl
-  where
-    parts : (is_accepted entry.answer ≡ true) × (started_batch entry.event ≡ Some batch)
-    parts = takes_parts (is_accepted entry.answer) (started_batch entry.event) batch started
-
-    named : is_of tags bound (subject entry.event) ≡ is_among bound batch
-    named = ap (is_of tags bound) (start_subject entry.event batch parts.1)
-
-    go : (inside : Bool) → is_among bound batch ≡ inside → stays tags bound entry ≡ not inside
-    go true is = rw (named, is)
-    go false is = unnamed_stays tags bound entry (named ∙ is)
-        (other_batch_apart tags bound entry covers (named ∙ is) parts.0) parts.0
 
 batches_stay : (tags bound : List (List ℕ)) (history : History) → AllByRecursion (Covered tags bound) history →
     batches (filter (stays tags bound) history) ≡ filter (λ batch. not (is_among bound batch)) (batches history)

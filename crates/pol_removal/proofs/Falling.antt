@@ -1,6 +1,6 @@
 -- A rule for another's sake may fall where modules are taken out: what a smaller list of such rules answers.
-use Rattle.std.proofs.Common.{◌≡◌, ℕ, ◌≤◌, Bool, true, false, List, [], ◌∷◌, refl, sym, arith, Option, Some, None, option_map, option_and_then, ◌⊎◌, inl, inr, map}
-use Rattle.std.specs.Prelude.{nat_le}
+use Rattle.std.proofs.Common.{◌≡◌, ℕ, ◌≤◌, Bool, true, false, cond, not, List, [], ◌∷◌, refl, sym, arith, Option, Some, None, option_map, option_and_then, ◌⊎◌, inl, inr, map}
+use Rattle.std.specs.Prelude.{nat_le, filter}
 use Rattle.std.specs.Option.{option_or}
 use Rattle.std.proofs.lemmas.Bool.{leb-true, le-leb, both_ways}
 use Rattle.mtp_codes.specs.Faults.{when, first_of}
@@ -55,7 +55,8 @@ when_falls rule another false true falls = let clash : false ≡ true = falls re
 pub fewer_reach : (limit less whole : ℕ) → less ≤ whole → nat_le limit less ≡ true → nat_le limit whole ≡ true
 fewer_reach limit less whole fewer reached = le-leb limit whole (let bound = leb-true limit less reached in omega arith)
 
-or_falls : (whole less wholes lesses : Option Rule) → Falls whole less → Falls wholes lesses
+-- of two rules, one or else the other
+pub or_falls : (whole less wholes lesses : Option Rule) → Falls whole less → Falls wholes lesses
     → Falls (option_or whole wholes) (option_or less lesses)
 or_falls (Some rule) less wholes lesses (inl another) later = inl another
 or_falls (Some rule) less wholes lesses (inr equal) later = inr (rw equal)
@@ -103,3 +104,33 @@ holder_falls bound whole less tag whole_rule less_rule another agree (inl none) 
     go (Some batch) = none_falls (whole_rule batch) (another batch)
 holder_falls bound whole less tag whole_rule less_rule another agree (inr (batch, outside, after, before)) =
     rw (after, before) (inr (agree batch outside))
+
+-- ---- a rule of the watchers
+
+-- a rule for another's sake before others that may fall
+or_another : (rule whole less : Option Rule) → IsForAnother rule → Falls whole less → Falls (option_or rule whole) less
+or_another (Some rule) whole less (inl another) falls = inl another
+or_another (Some rule) whole less (inr none) falls = cc
+or_another None whole less another falls = falls
+
+-- a rule of each watcher in turn, where some watchers are taken out
+pub watchers_fall : (bound : List (List ℕ)) (whole_rule less_rule : List ℕ → Option Rule) →
+    ((batch : List ℕ) → IsForAnother (whole_rule batch)) →
+    ((batch : List ℕ) → is_among bound batch ≡ false → less_rule batch ≡ whole_rule batch) →
+    (watchers : List (List ℕ)) → Falls (first_of (map whole_rule watchers))
+    (first_of (map less_rule (filter (λ batch. not (is_among bound batch)) watchers)))
+watchers_fall bound whole_rule less_rule another agree [] = inr refl
+watchers_fall bound whole_rule less_rule another agree (batch ∷ watchers) =
+    go (is_among bound batch) refl (watchers_fall bound whole_rule less_rule another agree watchers)
+  where
+    kept : List (List ℕ)
+    kept = filter (λ batch. not (is_among bound batch)) watchers
+
+    go : (out : Bool) → is_among bound batch ≡ out →
+        Falls (first_of (map whole_rule watchers)) (first_of (map less_rule kept)) →
+        Falls (option_or (whole_rule batch) (first_of (map whole_rule watchers)))
+        (first_of (map less_rule (cond (not out) (batch ∷ kept) kept)))
+    go true is rest = or_another (whole_rule batch) _ _ (another batch) rest
+    go false is rest =
+        or_falls (whole_rule batch) (less_rule batch) (first_of (map whole_rule watchers))
+        (first_of (map less_rule kept)) (inr (agree batch is)) rest

@@ -5,17 +5,17 @@ use Rattle.std.specs.List.{AllByRecursion, cons_option, flat_map}
 use Rattle.std.proofs.lemmas.List.{reverse-append}
 use Rattle.std.proofs.lemmas.List.Elements.{filter-append}
 
-pub filter_reverse : {X : Type 0} (keeps : X → Bool) (xs : List X)
-    → reverse (filter keeps xs) ≡ filter keeps (reverse xs)
-filter_reverse keeps [] = refl
-filter_reverse {X} keeps (x ∷ xs) =
-    sym (ap (filter keeps) (reverse-append (x ∷ []) xs) ∙ filter-append keeps (reverse xs) (x ∷ [])
-    ∙ go (keeps x) (filter_reverse keeps xs))
+-- two tests that agree on what is kept
+pub filter_agrees : {X : Type 0} (one other keeps : X → Bool) → ((x : X) → keeps x ≡ true → one x ≡ other x)
+    → (xs : List X) → filter one (filter keeps xs) ≡ filter other (filter keeps xs)
+filter_agrees one other keeps agree [] = refl
+filter_agrees {X} one other keeps agree (x ∷ xs) = go (keeps x) refl (filter_agrees one other keeps agree xs)
   where
-    go : (kept : Bool) → reverse (filter keeps xs) ≡ filter keeps (reverse xs) →
-        filter keeps (reverse xs) ++ cond kept (x ∷ []) [] ≡ reverse (cond kept (x ∷ filter keeps xs) (filter keeps xs))
-    go true same = ap (λ ys. ys ++ x ∷ []) (sym same) ∙ sym (reverse-append (x ∷ []) (filter keeps xs))
-    go false same = append-nil (filter keeps (reverse xs)) ∙ sym same
+    go : (kept : Bool) → keeps x ≡ kept → filter one (filter keeps xs) ≡ filter other (filter keeps xs) →
+        filter one (cond kept (x ∷ filter keeps xs) (filter keeps xs))
+        ≡ filter other (cond kept (x ∷ filter keeps xs) (filter keeps xs))
+    go true is rest = rw (agree x is, rest) refl
+    go false is rest = rest
 
 -- what is given by the elements that are kept, where each is kept just if what it gives passes a test
 pub filter_map_kept : {X Y : Type 0} (gives : X → Option Y) (keeps : X → Bool) (passes : Y → Bool) (xs : List X) →

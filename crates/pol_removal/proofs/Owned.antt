@@ -1,23 +1,20 @@
 -- An open batch holds the modules that its start binds; a run keeps this.
-use Rattle.std.proofs.Common.{◌≡◌, ℕ, Bool, true, false, cond, List, ◌∷◌, length, refl, ap, sym, ◌∙◌, Option, Some, None}
-use Rattle.std.specs.Prelude.{nat_le}
+use Rattle.std.proofs.Common.{◌≡◌, ℕ, Bool, true, false, cond, List, ◌∷◌, refl, ap, sym, ◌∙◌, Option, Some, None}
 use Rattle.std.specs.List.{AllByRecursion}
 use Rattle.std.specs.Option.{option_or}
-use Rattle.std.proofs.lemmas.Bool.{and_parts}
 use Rattle.mtp_codes.specs.Names.{is_among}
-use Rattle.mtp_codes.specs.declared.limits.TheConstants.{MOST_BINDS}
 use Rattle.chart_core.specs.Roles.{PlainChart, role_names}
 use Rattle.pol_events.specs.Events.{PlainEvent, start, PlainEntry}
 use Rattle.pol_events.specs.declared.event.Bind.{Bind}
-use Rattle.pol_events.specs.Orderly.{is_orderly, rise, roles_once}
-use Rattle.pol_events.proofs.Rising.{rising_distinct}
-use Rattle.pol_events.specs.Bound.{tags_of, bound_tag}
+use Rattle.pol_events.specs.Orderly.{is_orderly, roles_once}
+use Rattle.pol_events.proofs.Given.{held_once}
+use Rattle.pol_events.specs.Bound.{PlainAllocation, tags_of, bound_tag}
 use Rattle.pol_events.proofs.Lists.{among_member, member_image, none_first}
-use Rattle.pol_history.proofs.Binds.{binds_known, tags_by_role}
+use Rattle.pol_history.proofs.Binds.{binds_known, tags_by_role, unknown_parts}
 use Rattle.pol_history.proofs.Open.{open_before, open_some}
 use Rattle.pol_history.specs.Looking.{History, last_of, is_accepted, recipes}
 use Rattle.pol_history.specs.Batches.{outcome_of, chart_named, taking, takes, if_open, holder_of}
-use Rattle.pol_history.specs.Rules.{busy_module, busy_role, busy, role_unknown}
+use Rattle.pol_history.specs.Rules.{busy_module, busy_role, busy, unknown_role}
 use Rattle.pol_history.specs.Answers.{start_rules, answer_of}
 use Rattle.pol_history.specs.Runs.{entry_of, is_recorded, recorded}
 use Rattle.pol_history.proofs.Accepted.{NoneHolds, accepted_none}
@@ -42,7 +39,7 @@ not_held tag (Some batch) none = cc
 
 bound_free : (history : History) (binds : List Bind) (roles : List (List ℕ)) (tag : List ℕ) → roles_once binds ≡ true
     → is_among (tags_of binds) tag ≡ true →
-    role_unknown binds roles ≡ None → busy history binds roles ≡ None → holder_of history tag ≡ None
+    unknown_role binds roles ≡ None → busy history binds roles ≡ None → holder_of history tag ≡ None
 bound_free history binds roles tag once inside known free =
     let (bind, within, tag_is) = member_image (λ bind. bind.tag) binds tag (among_member (tags_of binds) tag inside) in
     let is = tags_by_role binds bind once within ∙ ap Some tag_is in
@@ -50,13 +47,15 @@ bound_free history binds roles tag once inside known free =
     (binds_known binds roles bind known within) in
     not_held tag (holder_of history tag) (ap (busy_role history) (sym is) ∙ none)
 
-started_free : (history : History) (batch : List ℕ) (binds : List Bind) (chart : Option PlainChart) (tag : List ℕ)
-    → roles_once binds ≡ true →
-    is_among (tags_of binds) tag ≡ true → NoneHolds (start_rules history batch binds chart)
+-- a module that a start binds is free before it
+started_free : (history : History) (batch : List ℕ) (binds : PlainAllocation) (chart : Option PlainChart) (tag : List ℕ)
+    → roles_once binds.held ≡ true →
+    is_among (tags_of binds.held) tag ≡ true → NoneHolds (start_rules history batch binds chart)
     → holder_of history tag ≡ None
 started_free history batch binds None tag once inside none = let clash = none.0 in cc
 started_free history batch binds (Some chart) tag once inside none =
-    bound_free history binds (role_names chart) tag once inside none.1.1.0 none.1.1.1.1.1.0
+    bound_free history binds.held (role_names chart) tag once inside
+    (unknown_parts binds (role_names chart) none.1.1.0).0 none.1.1.1.1.1.1.0
 
 bound_by : (inside : Bool) (named batch : List ℕ) → cond inside (Some named) None ≡ Some batch → inside ≡ true
 bound_by true named batch is = refl
@@ -67,8 +66,8 @@ pub taken_free : (history : History) (event : PlainEvent) (tag batch : List ℕ)
     taking tag event ≡ Some batch → holder_of history tag ≡ None
 taken_free history (start at named recipe binds) tag batch orderly accepted taken =
     started_free history named binds (chart_named recipe (recipes history)) tag
-    (rising_distinct binds (and_parts (nat_le (length binds) MOST_BINDS) (rise binds) orderly).1)
-    (bound_by (is_among (tags_of binds) tag) named batch taken)
+    (held_once binds orderly)
+    (bound_by (is_among (tags_of binds.held) tag) named batch taken)
     (accepted_none history (start at named recipe binds) accepted)
 taken_free history _ tag batch orderly accepted taken = cc
 

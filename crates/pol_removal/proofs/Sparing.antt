@@ -1,5 +1,5 @@
 -- Which entries stay where modules are taken out.
-use Rattle.std.proofs.Common.{◌≡◌, ℕ, true, false, ◌&&◌, List, [], refl}
+use Rattle.std.proofs.Common.{◌≡◌, ℕ, Bool, true, false, not, ◌&&◌, List, [], refl, ap, ◌∙◌, Option, Some, None, if◌then◌else◌}
 use Rattle.std.specs.Prelude.{filter}
 use Rattle.std.specs.List.{AllByRecursion}
 use Rattle.std.proofs.lemmas.Bool.{and_parts, and_from, or_from, or_parts, not_from_false, not-true, false_from_ne_true, both_ways}
@@ -8,11 +8,12 @@ use Rattle.pol_events.specs.Events.{PlainEvent, start, PlainEntry}
 use Rattle.pol_events.specs.declared.answer.Answer.{Answer}
 use Rattle.pol_events.specs.declared.answer.Answer.TheVariants.{Refused}
 use Rattle.pol_history.specs.Looking.{History, Subject, of_module, of_batch, of_recipe, subject, is_accepted, is_module, is_batch, is_recipe, is_accepted_of, is_accepted_of_batch, is_accepted_recipe, past, past_of_batch, recipes}
-use Rattle.pol_history.specs.Batches.{binds_in}
+use Rattle.pol_history.specs.Batches.{binds_in, started_batch}
 use Rattle.pol_history.proofs.Names.{same_true}
 use Rattle.pol_history.proofs.Filters.{filter_kept, all_of}
 use Rattle.pol_removal.specs.Removal.{is_refused_for_another, binds_one, is_of, is_named, is_concerned, stays}
 use Rattle.pol_removal.proofs.Each.{all_map}
+use Rattle.pol_removal.proofs.Owned.{takes_parts}
 
 -- where the entry is an accepted start that binds one of the modules, it is of one of the batches
 abbrev pub Covered : List (List ℕ) → List (List ℕ) → PlainEntry → Type 0
@@ -102,6 +103,35 @@ past_of_batch_stays tags bound history covered batch outside =
     filter_kept (is_accepted_of_batch batch) (stays tags bound) history
     (all_map (Covered tags bound) (λ entry. is_accepted_of_batch batch entry ≡ true → stays tags bound entry ≡ true)
     (of_batch_stays tags bound batch outside) history covered)
+
+-- ---- starts
+
+-- the batch that an entry starts
+abbrev pub newly_started : PlainEntry → Option (List ℕ)
+newly_started entry = if is_accepted entry.answer then started_batch entry.event else None
+
+-- an event that starts a batch is of it
+start_subject : (event : PlainEvent) (batch : List ℕ) → started_batch event ≡ Some batch
+    → subject event ≡ of_batch batch
+start_subject (start at other name binds) batch is = cc
+start_subject _ batch is = cc
+
+-- an accepted start stays just if its batch isn't bound
+pub start_stays : (tags bound : List (List ℕ)) (entry : PlainEntry) → Covered tags bound entry → (batch : List ℕ)
+    → newly_started entry ≡ Some batch →
+    stays tags bound entry ≡ not (is_among bound batch)
+start_stays tags bound entry covers batch started = go (is_among bound batch) refl
+  where
+    parts : (is_accepted entry.answer ≡ true) × (started_batch entry.event ≡ Some batch)
+    parts = takes_parts (is_accepted entry.answer) (started_batch entry.event) batch started
+
+    named : is_of tags bound (subject entry.event) ≡ is_among bound batch
+    named = ap (is_of tags bound) (start_subject entry.event batch parts.1)
+
+    go : (inside : Bool) → is_among bound batch ≡ inside → stays tags bound entry ≡ not inside
+    go true is = rw (named, is)
+    go false is = unnamed_stays tags bound entry (named ∙ is)
+        (other_batch_apart tags bound entry covers (named ∙ is) parts.0) parts.0
 
 -- ---- recipes
 

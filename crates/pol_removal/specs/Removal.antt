@@ -4,7 +4,7 @@ use Rattle.std.specs.List.{flat_map, list_any}
 use Rattle.mtp_codes.specs.Names.{is_among}
 use Rattle.pol_events.specs.Events.{PlainEvent, PlainEntry}
 use Rattle.pol_events.specs.declared.answer.Rule.{Rule}
-use Rattle.pol_events.specs.declared.answer.Rule.TheVariants.{PlantFull, Held, Busy, BatchesFull, ActiveStep, HeldBack, HistoryFull}
+use Rattle.pol_events.specs.declared.answer.Rule.TheVariants.{PlantFull, Held, Watched, Busy, BatchesFull, ActiveStep, HeldBack, HistoryFull}
 use Rattle.pol_events.specs.declared.answer.Answer.{Answer}
 use Rattle.pol_events.specs.declared.answer.Answer.TheVariants.{Refused}
 use Rattle.pol_events.specs.Bound.{tags_of}
@@ -18,6 +18,7 @@ use Rattle.pol_record.specs.Lines.{AnsweredLine, skipped, bad, answered, events_
 abbrev pub is_for_another : Rule → Bool
 is_for_another PlantFull = true
 is_for_another (Held batch) = true
+is_for_another (Watched batch) = true
 is_for_another (Busy tag batch) = true
 is_for_another BatchesFull = true
 is_for_another (ActiveStep batch step) = true
@@ -34,11 +35,11 @@ is_refused_for_another _ = false
 abbrev pub is_some_among : List (List ℕ) → List (List ℕ) → Bool
 is_some_among names others = list_any (is_among names) others
 
--- the event is a start that binds one of these modules
+-- the event is a start that binds or watches one of these modules
 abbrev pub binds_one : List (List ℕ) → PlainEvent → Bool
 binds_one tags event = is_some_among tags (tags_of (binds_in event))
 
--- the batch of an accepted start that binds one of these modules
+-- the batch of an accepted start that binds or watches one of these modules
 abbrev pub bound_batch : List (List ℕ) → PlainEntry → Option (List ℕ)
 bound_batch tags entry = if binds_one tags entry.event && is_accepted entry.answer then started_batch
     entry.event else None

@@ -1,4 +1,4 @@
-//! Taking modules out of a journal: the lines of some modules, of the batches that are bound to them, and the lines
+//! Taking modules out of a journal: the lines of some modules, of the batches that hold or watch them, and the lines
 //! that were refused for another's sake. What it means stands in `specs/Removal.antt`, and that it takes out just their
 //! output lines is the contract of functions with an empty body.
 //!

@@ -22,6 +22,7 @@ use Rattle.chart_cursor.specs.Logs.{chart_entries, has_broken, was_stopped}
 use Rattle.pol_events.specs.Events.{PlainEvent, start, advance, freeze, thaw, stop_batch, abandon}
 use Rattle.pol_events.specs.declared.answer.Answer.{Answer}
 use Rattle.pol_events.specs.declared.answer.Answer.TheVariants.{Done, Did, Waiting, Closed}
+use Rattle.pol_events.specs.Bound.{given}
 use Rattle.pol_history.specs.Looking.{History, past, past_of_batch, recipes, is_accepted}
 use Rattle.pol_history.specs.Batches.{Started, starting, start_by, start_of, chart_named, chart_by, chart_of, closing, outcome_by, outcome_of, is_frozen, taken, log_by, log_of}
 use Rattle.pol_history.specs.Following.{sights_by, next_of}
@@ -125,7 +126,7 @@ advance_follows history batch started chart event (Some (next.Waiting obstacle))
     open' is follows =
     quiet_follows chart (past_of_batch batch history) event (Waiting obstacle) refl refl follows
 advance_follows history batch started chart event (Some (next.Did entry)) start_is chart_is sound open' is follows =
-    let seen = sights_by started.binds (λ tag. past tag history) in
+    let seen = sights_by (given started.binds) (λ tag. past tag history) in
     did_follows chart (past_of_batch batch history) event entry seen sound open'
     (did_from chart (is_frozen history batch) (log_of history batch) seen entry
     (next_at history batch started chart (next.Did entry) start_is chart_is is)) follows
@@ -135,7 +136,7 @@ advance_follows history batch started chart event (Some (next.Closed outcome)) s
   where
     complete : Some outcome ≡ Some Completed → IsComplete chart (chart_entries (log_of history batch))
     complete closes =
-        let seen = sights_by started.binds (λ tag. past tag history) in
+        let seen = sights_by (given started.binds) (λ tag. past tag history) in
         let one : outcome ≡ Completed = cc in
         let whole = completed_from chart (is_frozen history batch) (log_of history batch) seen
         (next_at history batch started chart (next.Closed outcome) start_is chart_is is ∙ ap next.Closed one) in

@@ -1,5 +1,6 @@
 -- The modules of open batches: what every event keeps of their descriptions.
-use Rattle.std.proofs.Common.{◌≡◌, ℕ, true, List, ◌∷◌, Some, None, refl, ap, sym, ◌∙◌, subst}
+use Rattle.std.proofs.Common.{◌≡◌, ℕ, true, List, ◌∷◌, Some, None, refl, ap, sym, ◌∙◌, subst, inl, inr, map}
+use Rattle.mtp_codes.specs.Faults.{first_of}
 use Rattle.std.specs.Prelude.{option_map, option_and_then}
 use Rattle.std.specs.List.{Contains}
 use Rattle.mtp_desc.specs.Plain.{PlainDescription}
@@ -7,21 +8,21 @@ use Rattle.chart_core.specs.Roles.{PlainChart, role_names}
 use Rattle.mtp_procs.specs.Covers.{cover_fault, missing_by}
 use Rattle.pol_events.specs.Events.{PlainEvent, plug, unplug, report, variable, start, desk, exchange_begin, exchange_end, exchange_cancel}
 use Rattle.pol_events.specs.Refusals.{cover_rule, in_exchange}
-use Rattle.pol_events.specs.declared.answer.Rule.TheVariants.{Held, HeldBack}
+use Rattle.pol_events.specs.declared.answer.Rule.TheVariants.{Held, HeldBack, Watched}
 use Rattle.pol_events.specs.declared.event.Bind.{Bind}
-use Rattle.pol_events.specs.Bound.{bound_tag}
+use Rattle.pol_events.specs.Bound.{PlainAllocation, bound_tag, given}
 use Rattle.pol_history.proofs.Open.{open_before}
 use Rattle.pol_history.specs.Looking.{History, past, past_of_batch, recipes}
 use Rattle.pol_history.specs.Modules.{Docking, absent, docked, away, docking_by, docking_of, description_by, description_of, ticket_of}
-use Rattle.pol_history.specs.Batches.{Started, starting, start_by, chart_named, outcome_by, holder_of}
-use Rattle.pol_history.specs.Rules.{tag_taken, no_module, not_covered, module_rule, uncovered_by, held_back}
+use Rattle.pol_history.specs.Batches.{Started, starting, start_by, chart_named, outcome_by, holder_of, watchers_of}
+use Rattle.pol_history.specs.Rules.{tag_taken, no_module, not_covered, module_rule, uncovered_by, uncovered_in, held_back, watched}
 use Rattle.pol_history.specs.Runs.{IsLegal, IsOrderly}
 use Rattle.pol_events.proofs.Options.{some_same, neither, no_image}
 use Rattle.pol_events.proofs.Lists.{none_first}
 use Rattle.pol_safety.proofs.Sides.{Sides, sides, accepted, Comes, IsKeptBy, always, at_own}
 use Rattle.pol_history.proofs.Binds.{IsFitting}
 use Rattle.pol_safety.proofs.Starts.{MayStart, may_start, start_fits, StartCase, its_own, earlier, start_case, IsRunning, was_running, running_fits}
-use Rattle.pol_safety.proofs.Holding.{holds}
+use Rattle.pol_safety.proofs.Holding.{IsUsed, uses}
 
 -- ---- whether a module is there
 
@@ -102,18 +103,18 @@ abbrev pub AllCover : Sides → Type 0
 AllCover side =
     (batch : List ℕ) (started : Started) (chart : PlainChart) → start_by (side.batches batch) ≡ Some started →
     chart_named started.recipe side.recipes ≡ Some chart → outcome_by (side.batches batch) ≡ None →
-    (bind : Bind) → Contains started.binds bind → Covers chart bind.role (side.modules bind.tag)
+    (bind : Bind) → Contains (given started.binds) bind → Covers chart bind.role (side.modules bind.tag)
 
 -- a module that no rule of a start is against covers its role
-start_covers : (history : History) (batch : List ℕ) (binds : List Bind) (chart : PlainChart) (bind : Bind)
+start_covers : (history : History) (batch : List ℕ) (binds : PlainAllocation) (chart : PlainChart) (bind : Bind)
     → Described (sides history) →
-    MayStart history batch binds chart → IsFitting chart binds → Contains binds bind
+    MayStart history batch binds chart → IsFitting chart (given binds) → Contains (given binds) bind
     → Covers chart bind.role (past bind.tag history)
 start_covers history batch binds chart bind described may fits inside =
     let fit : module_rule history chart bind.role (Some bind.tag) ≡ None
     = ap (module_rule history chart bind.role) (sym (fits.paired.by_role bind inside))
-    ∙ none_first (λ role. module_rule history chart role (bound_tag binds role)) (role_names chart) bind.role may.fit
-    (fits.known bind inside) in
+    ∙ none_first (λ role. module_rule history chart role (bound_tag (given binds) role)) (role_names chart) bind.role
+    may.fit (fits.known bind inside) in
     let there = neither (no_module bind.tag (docking_of history bind.tag)) _ fit in
     let home = neither (in_exchange bind.tag (ticket_of (docking_of history bind.tag))) _ there.1 in
     let covered = neither (not_covered chart bind.role (description_of history bind.tag)) _ home.1 in
@@ -126,20 +127,44 @@ start_covers history batch binds chart bind described may fits inside =
           (ap (not_covered chart bind.role) (sym found.described) ∙ covered.0);
     }
 
--- a batch that holds a module isn't against a description that covers its role
+-- a batch that uses a module isn't against its new description
+uncovered_none : (history : History) (tag : List ℕ) (description : PlainDescription) (batch : List ℕ) →
+    IsUsed history tag batch → held_back history tag description ≡ None →
+    uncovered_in history tag description batch ≡ None
+uncovered_none history tag description batch used free = go used
+  where
+    parts : (option_and_then (uncovered_in history tag description) (holder_of history tag) ≡ None)
+        × (first_of (map (uncovered_in history tag description) (watchers_of history tag)) ≡ None)
+    parts = neither (option_and_then (uncovered_in history tag description) (holder_of history tag))
+        (first_of (map (uncovered_in history tag description) (watchers_of history tag))) free
+
+    go : IsUsed history tag batch → uncovered_in history tag description batch ≡ None
+    go (inl holder) = ap (option_and_then (uncovered_in history tag description)) (sym holder) ∙ parts.0
+    go (inr watches) = none_first (uncovered_in history tag description) (watchers_of history tag) batch parts.1 watches
+
+-- so the description covers its role
 end_covers : (history : History) (batch : List ℕ) (started : Started) (chart : PlainChart) (bind : Bind)
     (description : PlainDescription) →
-    IsRunning history batch started chart → IsFitting chart started.binds → Contains started.binds bind
-    → holder_of history bind.tag ≡ Some batch →
+    IsRunning history batch started chart → IsFitting chart (given started.binds)
+    → Contains (given started.binds) bind
+    → IsUsed history bind.tag batch →
     held_back history bind.tag description ≡ None → cover_fault chart bind.role description ≡ None
-end_covers history batch started chart bind description running fits inside holder free =
+end_covers history batch started chart bind description running fits inside used free =
     let by_batch : uncovered_by (recipes history) bind.tag description batch (past_of_batch batch history) ≡ None
-    = ap (option_and_then (λ batch. uncovered_by (recipes history) bind.tag description batch
-    (past_of_batch batch history))) (sym holder) ∙ free in
+    = uncovered_none history bind.tag description batch used free in
     let by_fault : option_map (λ fault. HeldBack batch (missing_by bind.role fault))
     (cover_fault chart bind.role description) ≡ None
     = rw (running.start_is, running.chart_is, fits.paired.by_tag bind inside) at by_batch in
     no_image (λ fault. HeldBack batch (missing_by bind.role fault)) (cover_fault chart bind.role description) by_fault
+
+-- a module that a batch uses stays plugged
+stays_plugged : {A : Type 0} (history : History) (tag batch : List ℕ) → IsUsed history tag batch →
+    option_and_then (λ batch. Some (Held batch)) (holder_of history tag) ≡ None → watched history tag ≡ None → A
+stays_plugged history tag batch (inl holder) unheld unwatched =
+    let clash : Some (Held batch) ≡ None = ap (option_and_then (λ batch. Some (Held batch))) (sym holder) ∙ unheld in cc
+stays_plugged history tag batch (inr watches) unheld unwatched =
+    let clash : Some (Watched batch) ≡ None =
+    none_first (λ batch. Some (Watched batch)) (watchers_of history tag) batch unwatched watches in cc
 
 -- a module with the same description that is still there
 still_covers : (chart : PlainChart) (role : List ℕ) (past more : History) → description_by more ≡ description_by past
@@ -152,27 +177,27 @@ still_covers chart role past more same there was =
 record Before (history : History) (batch : List ℕ) (started : Started) (chart : PlainChart) (bind : Bind) : Type 0 where
   running : IsRunning history batch started chart
   covers : Covers chart bind.role (past bind.tag history)
-  holder : holder_of history bind.tag ≡ Some batch
-  fits : IsFitting chart started.binds
+  used : IsUsed history bind.tag batch
+  fits : IsFitting chart (given started.binds)
 
 before : (history : History) (event : PlainEvent) (batch : List ℕ) (started : Started) (chart : PlainChart)
     (bind : Bind)
     → Comes history event →
     AllCover (sides history) → starting event ≡ None → IsRunning (accepted history event ∷ history) batch started chart
-    → Contains started.binds bind →
+    → Contains (given started.binds) bind →
     Before history batch started chart bind
 before history event batch started chart bind comes cover is now inside =
     let was = was_running history event batch started chart is comes now in
     record {
       running = was;
       covers = cover batch started chart was.start_is was.chart_is was.unclosed bind inside;
-      holder = holds history batch started comes.legal comes.orderly was.start_is was.unclosed bind inside;
+      used = uses history batch started comes.legal comes.orderly was.start_is was.unclosed bind inside;
       fits = running_fits history batch started chart comes.legal comes.orderly was;
     }
 
 module_covers : (history : History) (event : PlainEvent) (batch : List ℕ) (started : Started) (chart : PlainChart)
     (bind : Bind) → Comes history event →
-    Contains started.binds bind → Before history batch started chart bind
+    Contains (given started.binds) bind → Before history batch started chart bind
     → Covers chart bind.role (past bind.tag (accepted history event ∷ history))
 module_covers history (plug at other description) batch started chart bind comes inside was =
     at_own (Covers chart bind.role) (past bind.tag history) (accepted history (plug at other description)) true other
@@ -182,9 +207,9 @@ module_covers history (plug at other description) batch started chart bind comes
 module_covers history (unplug at other) batch started chart bind comes inside was =
     at_own (Covers chart bind.role) (past bind.tag history) (accepted history (unplug at other)) true other
     bind.tag was.covers
-    (λ same. let clash : option_and_then (λ batch. Some (Held batch)) (Some batch) ≡ None
-    = ap (option_and_then (λ batch. Some (Held batch))) (sym was.holder ∙ ap (holder_of history) (sym same))
-    ∙ comes.free.1.1.0 in cc)
+    (λ same. stays_plugged history bind.tag batch was.used
+    (ap (λ tag. option_and_then (λ batch. Some (Held batch)) (holder_of history tag)) (sym same) ∙ comes.free.1.1.0)
+    (ap (watched history) (sym same) ∙ comes.free.1.1.1.0))
 module_covers history (report at other service control) batch started chart bind comes inside was =
     at_own (Covers chart bind.role) (past bind.tag history) (accepted history (report at other service control)) true
     other bind.tag was.covers
@@ -209,7 +234,7 @@ module_covers history (exchange_end at other ticket description) batch started c
       description = description;
       described = refl;
       covered =
-          end_covers history batch started chart bind description was.running was.fits inside was.holder
+          end_covers history batch started chart bind description was.running was.fits inside was.used
           (ap (λ tag. held_back history tag description) (sym same) ∙ comes.free.1.1.1.0);
     })
 module_covers history (exchange_cancel at other ticket) batch started chart bind comes inside was =
@@ -241,7 +266,7 @@ cover_more history (start at other name binds) comes cover batch started chart s
         subst (λ chart. Covers chart bind.role (past bind.tag history)) one
         (start_covers history other binds may.0 bind (described history comes.legal comes.orderly) may.2
         (start_fits history other binds may.0 comes.is_formed may.2)
-        (subst (λ started. Contains started.binds bind) (sym same) inside))
+        (subst (λ started. Contains (given started.binds) bind) (sym same) inside))
 cover_more history event comes cover batch started chart start_is chart_is unclosed bind inside =
     cover_by history event refl comes cover batch started chart start_is chart_is unclosed bind inside
 

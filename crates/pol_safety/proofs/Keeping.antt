@@ -10,7 +10,9 @@ use Rattle.pol_events.specs.declared.event.Bind.{Bind}
 use Rattle.pol_history.specs.Looking.{past, recipes}
 use Rattle.pol_history.specs.Following.{service_sight, sight_in}
 use Rattle.pol_history.specs.Modules.{view_of}
-use Rattle.pol_history.specs.Batches.{chart_named, chart_by, log_of, holder_of}
+use Rattle.pol_history.specs.Batches.{chart_named, chart_by, log_of, holder_of, watchers_of}
+use Rattle.pol_history.proofs.Watchers.{open_watches}
+use Rattle.pol_events.specs.Bound.{given}
 use Rattle.pol_safety.specs.Kept.{IsReported, IsCovered, BatchesAreKept}
 use Rattle.pol_safety.specs.Known.{OpenBatchesSee}
 use Rattle.pol_events.proofs.Lists.{member_kept, member_image}
@@ -22,15 +24,18 @@ use Rattle.pol_safety.proofs.Starts.{running_fits}
 -- what every event keeps of an open batch
 pub batches_kept : BatchesAreKept
 batches_kept history batch started chart legal orderly is_open =
-    record { held = held; covered = covered; reported = reported }
+    record { held = held; watched = watched; covered = covered; reported = reported }
   where
     chart_is : chart_named started.recipe (recipes history) ≡ Some chart
     chart_is = ap (chart_by (recipes history)) (sym is_open.start) ∙ is_open.chart_is
 
-    held : (bind : Bind) → Contains started.binds bind → holder_of history bind.tag ≡ Some batch
+    held : (bind : Bind) → Contains started.binds.held bind → holder_of history bind.tag ≡ Some batch
     held = holds history batch started legal orderly is_open.start is_open.unclosed
 
-    covered : (bind : Bind) → Contains started.binds bind → IsCovered history chart bind.role bind.tag
+    watched : (bind : Bind) → Contains started.binds.watched bind → Contains (watchers_of history bind.tag) batch
+    watched bind inside = open_watches history batch started bind is_open.start is_open.unclosed inside
+
+    covered : (bind : Bind) → Contains (given started.binds) bind → IsCovered history chart bind.role bind.tag
     covered bind inside =
         let covers = all_cover history legal orderly batch started chart is_open.start chart_is is_open.unclosed bind
         inside in

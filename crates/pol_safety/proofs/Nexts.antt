@@ -23,6 +23,7 @@ use Rattle.chart_cursor.specs.declared.sight.Sight.{Sight}
 use Rattle.chart_cursor.specs.declared.sight.Sight.TheVariants as sight
 use Rattle.chart_cursor.specs.Logs.{chart_entries, active, has_broken, was_stopped}
 use Rattle.chart_cursor.specs.NextEntry.{stop_step, stop_next, is_broken_state, broken_step, first_broken, run_next, broke_or, next_by}
+use Rattle.pol_events.specs.Bound.{given}
 use Rattle.pol_history.specs.Looking.{History, past, past_of_batch, recipes}
 use Rattle.pol_history.specs.Batches.{Started, start_of, chart_named, is_frozen, log_of}
 use Rattle.pol_history.specs.Following.{sights_by, next_of_started, next_of}
@@ -166,7 +167,7 @@ pub record HasNext (history : History) (batch : List ℕ) (next : Next) : Type 0
   pub chart : PlainChart
   pub chart_is : chart_named started.recipe (recipes history) ≡ Some chart
   pub next_is : next_by chart (is_frozen history batch) (log_of history batch)
-      (sights_by started.binds (λ tag. past tag history)) ≡ next
+      (sights_by (given started.binds) (λ tag. past tag history)) ≡ next
 
 pub has_next : (history : History) (batch : List ℕ) (next : Next) → next_of history batch ≡ Some next
     → HasNext history batch next
@@ -175,7 +176,7 @@ has_next history batch next is = go (start_of history batch) refl is
     named : (started : Started) → start_of history batch ≡ Some started → (found : Option PlainChart)
         → chart_named started.recipe (recipes history) ≡ found →
         option_map (λ chart. next_by chart (is_frozen history batch) (log_of history batch)
-        (sights_by started.binds (λ tag. past tag history))) found ≡ Some next →
+        (sights_by (given started.binds) (λ tag. past tag history))) found ≡ Some next →
         HasNext history batch next
     named started start_is None chart_is is = cc
     named started start_is (Some chart) chart_is is =
@@ -192,7 +193,7 @@ pub next_at : (history : History) (batch : List ℕ) (started : Started) (chart 
     → start_of history batch ≡ Some started →
     chart_named started.recipe (recipes history) ≡ Some chart → next_of history batch ≡ Some next →
     next_by chart (is_frozen history batch) (log_of history batch)
-    (sights_by started.binds (λ tag. past tag history)) ≡ next
+    (sights_by (given started.binds) (λ tag. past tag history)) ≡ next
 next_at history batch started chart next start_is chart_is is =
     let begun : option_and_then (next_of_started (recipes history) (past_of_batch batch history)
     (λ tag. past tag history)) (Some started) ≡ Some next
@@ -200,8 +201,8 @@ next_at history batch started chart next start_is chart_is is =
     (sym start_is) ∙ is in
     let found : option_map
     (λ chart. next_by chart (is_frozen history batch) (log_of history batch)
-    (sights_by started.binds (λ tag. past tag history))) (Some chart) ≡ Some next
+    (sights_by (given started.binds) (λ tag. past tag history))) (Some chart) ≡ Some next
     = ap (option_map (λ chart.
     next_by chart (is_frozen history batch) (log_of history batch)
-    (sights_by started.binds (λ tag. past tag history)))) (sym chart_is) ∙ begun in
+    (sights_by (given started.binds) (λ tag. past tag history)))) (sym chart_is) ∙ begun in
     cc

@@ -16,7 +16,7 @@ use Rattle.chart_cursor.specs.Logs.{active, has_broken, was_stopped}
 use Rattle.pol_events.specs.Events.{PlainEvent, plug, unplug, report, variable, start, advance, freeze, thaw, stop_batch, abandon, desk, exchange_begin, exchange_end, exchange_cancel, PlainEntry}
 use Rattle.pol_events.specs.declared.answer.Answer.TheVariants.{Done, Did}
 use Rattle.pol_events.specs.declared.answer.Rule.TheVariants.{Held, ActiveStep}
-use Rattle.pol_events.specs.Bound.{bound_tag, is_tag, step_on}
+use Rattle.pol_events.specs.Bound.{bound_tag, given, is_tag, step_on}
 use Rattle.pol_history.proofs.Open.{open_before}
 use Rattle.pol_history.specs.Looking.{History, past, past_of_batch, recipes, is_accepted, is_accepted_of_batch}
 use Rattle.pol_history.specs.Modules.{absent, docked, docking_by, docking_of}
@@ -30,14 +30,13 @@ use Rattle.pol_history.proofs.Names.{same_refl}
 use Rattle.pol_events.proofs.Options.{no_image}
 use Rattle.pol_events.proofs.Lists.{none_found, kept_member, image_member}
 use Rattle.pol_safety.proofs.Sides.{Sides, sides, accepted, Comes, IsKeptBy, always, at_own}
-use Rattle.pol_events.proofs.Played.{bound_member}
 use Rattle.pol_history.proofs.Binds.{IsFitting}
 use Rattle.pol_safety.proofs.Seen.{IsLive, IsSeen}
 use Rattle.pol_safety.proofs.Nexts.{did_from, next_at}
 use Rattle.pol_safety.proofs.Starts.{may_start, sound, unstarted, StartCase, its_own, earlier, start_case, IsRunning, was_running, running_fits}
 use Rattle.pol_history.proofs.Pasts.{log_grows}
 use Rattle.pol_safety.proofs.Courses.{log_stays}
-use Rattle.pol_safety.proofs.Holding.{holds}
+use Rattle.pol_safety.proofs.Holding.{holds_step}
 use Rattle.pol_safety.proofs.Covering.{is_absent}
 use Rattle.pol_safety.proofs.Activity.{ActiveBy, was_active, made_active, active_by, next_seen}
 
@@ -47,7 +46,7 @@ AllSeen side =
     (batch : List ℕ) (started : Started) (chart : PlainChart) → start_by (side.batches batch) ≡ Some started →
     chart_named started.recipe side.recipes ≡ Some chart → outcome_by (side.batches batch) ≡ None →
     (placed : Placed) → Contains (steps chart.root 0) placed → is_active (log_by (side.batches batch)) placed ≡ true →
-    IsSeen side.modules started.binds placed.step.role placed.step.service
+    IsSeen side.modules (given started.binds) placed.step.role placed.step.service
 
 -- ---- one more event of a module
 
@@ -57,7 +56,7 @@ record Before (history : History) (batch : List ℕ) (started : Started) (chart 
   running : IsRunning history batch started chart
   inside : Contains (steps chart.root 0) placed
   is_active : is_active (log_of history batch) placed ≡ true
-  bound : bound_tag started.binds placed.step.role ≡ Some tag
+  bound : bound_tag (given started.binds) placed.step.role ≡ Some tag
   holder : holder_of history tag ≡ Some batch
   live : IsLive placed.step.service (past tag history)
 
@@ -70,15 +69,15 @@ begins_not history batch started chart placed tag was free =
     = ap (option_and_then (λ batch. active_step_on (recipes history) tag batch (past_of_batch batch history)))
     (sym was.holder) ∙ free in
     let by_step : option_map (λ step. ActiveStep batch step.name)
-    (step_on started.binds tag (active chart (log_of history batch))) ≡ None
+    (step_on (given started.binds) tag (active chart (log_of history batch))) ≡ None
     = rw (was.running.start_is, was.running.chart_is) at by_batch in
     let none = no_image (λ step. ActiveStep batch step.name)
-    (step_on started.binds tag (active chart (log_of history batch))) by_step in
+    (step_on (given started.binds) tag (active chart (log_of history batch))) by_step in
     let member : Contains (active chart (log_of history batch)) placed.step
     = image_member (λ placed. placed.step) (filter (is_active (log_of history batch)) (steps chart.root 0)) placed
     (kept_member (is_active (log_of history batch)) (steps chart.root 0) placed was.inside was.is_active) in
-    absurd (both_ways (is_tag tag (bound_tag started.binds placed.step.role))
-    (none_found (λ step. is_tag tag (bound_tag started.binds step.role))
+    absurd (both_ways (is_tag tag (bound_tag (given started.binds) placed.step.role))
+    (none_found (λ step. is_tag tag (bound_tag (given started.binds) step.role))
     (active chart (log_of history batch)) placed.step none member)
     (ap (is_tag tag) was.bound ∙ same_refl tag))
 
@@ -156,10 +155,10 @@ seen_after : (history : History) (event : PlainEvent) (batch : List ℕ) (starte
     (placed : Placed) → Comes history event →
     AllSeen (sides history) → IsRunning history batch started chart → Contains (steps chart.root 0) placed
     → is_active (log_of history batch) placed ≡ true →
-    IsSeen (λ tag. past tag (accepted history event ∷ history)) started.binds placed.step.role placed.step.service
+    IsSeen (λ tag. past tag (accepted history event ∷ history)) (given started.binds) placed.step.role
+    placed.step.service
 seen_after history event batch started chart placed comes all_seen running inside is =
     let was = all_seen batch started chart running.start_is running.chart_is running.unclosed placed inside is in
-    let (bind, within, same) = bound_member started.binds placed.step.role was.tag was.bound in
     record {
       tag = was.tag;
       bound = was.bound;
@@ -171,8 +170,8 @@ seen_after history event batch started chart placed comes all_seen running insid
             is_active = is;
             bound = was.bound;
             holder =
-                ap (holder_of history) (sym same)
-                ∙ holds history batch started comes.legal comes.orderly running.start_is running.unclosed bind within;
+                holds_step history batch started chart placed was.tag comes.legal comes.orderly running inside
+                was.bound;
             live = was.live;
           });
     }
@@ -195,11 +194,11 @@ active_before history entry batch placed silent = go (is_accepted_of_batch batch
 -- what an advance makes active was seen
 advance_active : (history : History) (batch : List ℕ) (started : Started) (chart : PlainChart) (event : PlainEvent)
     (placed : Placed) (found : Option Next) →
-    IsRunning history batch started chart → IsFitting chart started.binds → IsValid chart
+    IsRunning history batch started chart → IsFitting chart (given started.binds) → IsValid chart
     → Contains (steps chart.root 0) placed → next_of history batch ≡ found →
     is_active (log_by (paired event (advanced found) ∷ past_of_batch batch history)) placed ≡ true →
     (is_active (log_of history batch) placed ≡ true) ⊎ IsSeen
-    (λ tag. past tag history) started.binds placed.step.role placed.step.service
+    (λ tag. past tag history) (given started.binds) placed.step.role placed.step.service
 advance_active history batch started chart event placed None running fits valid inside after is = inl is
 advance_active history batch started chart event placed (Some (next.Waiting obstacle)) running fits valid inside
     after is = inl is
@@ -211,12 +210,12 @@ advance_active history batch started chart event placed (Some (next.Did entry)) 
   where
     go : ActiveBy (log_of history batch) entry placed →
         (is_active (log_of history batch) placed ≡ true) ⊎ IsSeen
-        (λ tag. past tag history) started.binds placed.step.role placed.step.service
+        (λ tag. past tag history) (given started.binds) placed.step.role placed.step.service
     go (was_active is) = inl is
     go (made_active phase says runs) =
-        inr (next_seen history started.binds chart (log_of history batch) entry placed phase fits valid inside
+        inr (next_seen history (given started.binds) chart (log_of history batch) entry placed phase fits valid inside
         (did_from chart (is_frozen history batch) (log_of history batch)
-        (sights_by started.binds (λ tag. past tag history)) entry
+        (sights_by (given started.binds) (λ tag. past tag history)) entry
         (next_at history batch started chart (next.Did entry) running.start_is running.chart_is after)) says runs)
 
 -- a stop makes nothing active
@@ -249,7 +248,7 @@ seen_more history (start at other name binds) comes all_seen batch started chart
     (active_before history (accepted history (start at other name binds)) batch placed refl is)
   where
     go : StartCase history batch started other name binds → is_active (log_of history batch) placed ≡ true
-        → IsSeen (λ tag. past tag history) started.binds placed.step.role placed.step.service
+        → IsSeen (λ tag. past tag history) (given started.binds) placed.step.role placed.step.service
     go (earlier apart before) is =
         all_seen batch started chart before chart_is (open_before history
         (accepted history (start at other name binds)) batch unclosed) placed inside is
@@ -261,7 +260,7 @@ seen_more history (start at other name binds) comes all_seen batch started chart
         ∙ ap (λ batch. is_active (log_of history batch) placed) same ∙ is in cc
 seen_more history (advance at other) comes all_seen batch started chart start_is chart_is unclosed placed inside is =
     at_own (λ own. is_active (log_by own) placed ≡ true → IsSeen
-    (λ tag. past tag history) started.binds placed.step.role placed.step.service)
+    (λ tag. past tag history) (given started.binds) placed.step.role placed.step.service)
     (past_of_batch batch history) (accepted history (advance at other))
     (is_accepted (otherwise history (advance at other))) other batch before
     (λ same is. go (advance_active history batch started chart (advance at other) placed (next_of history other) was
@@ -274,12 +273,12 @@ seen_more history (advance at other) comes all_seen batch started chart start_is
         (now _ batch started chart start_is chart_is unclosed)
 
     before : is_active (log_of history batch) placed ≡ true → IsSeen
-        (λ tag. past tag history) started.binds placed.step.role placed.step.service
+        (λ tag. past tag history) (given started.binds) placed.step.role placed.step.service
     before is = seen_after history (advance at other) batch started chart placed comes all_seen was inside is
 
     go : (is_active (log_of history batch) placed ≡ true) ⊎ IsSeen
-        (λ tag. past tag history) started.binds placed.step.role placed.step.service →
-        IsSeen (λ tag. past tag history) started.binds placed.step.role placed.step.service
+        (λ tag. past tag history) (given started.binds) placed.step.role placed.step.service →
+        IsSeen (λ tag. past tag history) (given started.binds) placed.step.role placed.step.service
     go (inl is) = before is
     go (inr seen) = seen
 seen_more history (stop_batch at other) comes all_seen batch started chart start_is chart_is unclosed placed inside is =

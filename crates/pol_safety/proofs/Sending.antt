@@ -21,6 +21,7 @@ use Rattle.pol_events.specs.Refusals.{forbid_rule, forbidden}
 use Rattle.pol_events.specs.declared.answer.Answer.{Answer}
 use Rattle.pol_events.specs.declared.answer.Answer.TheVariants.{Done, Did, Refused}
 use Rattle.pol_events.specs.declared.event.Bind.{Bind}
+use Rattle.pol_events.specs.Bound.{given}
 use Rattle.pol_history.specs.Looking.{History, past, is_accepted}
 use Rattle.pol_history.specs.Modules.{view_of}
 use Rattle.pol_history.specs.Batches.{is_frozen, log_of}
@@ -66,8 +67,8 @@ advance_sends history batch sent (Some (next.Waiting obstacle)) is sends = cc
 advance_sends history batch sent (Some (next.Closed outcome)) is sends = cc
 advance_sends history batch sent (Some (next.Did entry)) is sends =
     let has = has_next history batch (next.Did entry) is in
-    let seen = sights_by has.started.binds (λ tag. past tag history) in
-    seen_permitted history has.started.binds sent
+    let seen = sights_by (given has.started.binds) (λ tag. past tag history) in
+    seen_permitted history (given has.started.binds) sent
     (next_sends has.chart (log_of history batch) seen entry sent
     (did_from has.chart (is_frozen history batch) (log_of history batch) seen entry has.next_is) sends)
 

@@ -1,6 +1,7 @@
 -- What facts over a history are about, and what every event keeps.
 use Rattle.std.proofs.Common.{◌≡◌, ℕ, true, false, cond, List, [], ◌∷◌, Option, None, refl, ap, sym, ◌∙◌, subst}
-use Rattle.std.specs.Prelude.{Bool, ◌&&◌, if◌then◌else◌}
+use Rattle.std.specs.Prelude.{Bool, ◌&&◌, filter_map, if◌then◌else◌}
+use Rattle.std.specs.List.{cons_option}
 use Rattle.std.specs.Option.{option_or}
 use Rattle.std.specs.Str.{bytes_eq}
 use Rattle.std.proofs.lemmas.Bool.{and_parts, cond_both}
@@ -8,19 +9,20 @@ use Rattle.pol_events.specs.Events.{PlainEvent, PlainEntry}
 use Rattle.pol_events.specs.Orderly.{is_orderly}
 use Rattle.pol_history.specs.Looking.{History, is_accepted, past, past_of_batch, last_of}
 use Rattle.pol_history.specs.Looking as looking
-use Rattle.pol_history.specs.Batches.{taking, takes}
+use Rattle.pol_history.specs.Batches.{taking, takes, watching, watches}
 use Rattle.pol_history.specs.Answers.{rules, otherwise, answer_of}
 use Rattle.pol_history.specs.Runs.{entry_of, IsLegal, IsOrderly}
 use Rattle.pol_history.proofs.Names.{same_true}
 use Rattle.pol_history.proofs.Refused.{refused_nothing}
 use Rattle.pol_history.proofs.Accepted.{NoneHolds, accepted_none, accepted_otherwise, paired}
 
--- the past of each module and of each batch, the recipes, and which batch took a module last
+-- the past of each module and of each batch, the recipes, which batch took a module last, and which ever watched it
 pub record Sides : Type 0 where
   pub modules : List ℕ → History
   pub batches : List ℕ → History
   pub recipes : History
   pub taker : List ℕ → Option (List ℕ)
+  pub onlookers : List ℕ → List (List ℕ)
 
 abbrev pub sides : History → Sides
 sides history =
@@ -29,6 +31,7 @@ sides history =
       batches = λ batch. past_of_batch batch history;
       recipes = looking.recipes history;
       taker = λ tag. last_of (takes tag) history;
+      onlookers = λ tag. filter_map (watches tag) history;
     }
 
 -- a refused event changes none of them
@@ -39,11 +42,15 @@ refused_same entry history refused =
     let taker : (tag : List ℕ) → last_of (takes tag) (entry ∷ history) ≡ last_of (takes tag) history
     = λ tag. ap (λ kept. option_or (if kept then taking tag entry.event else None)
     (last_of (takes tag) history)) refused in
+    let onlookers : (tag : List ℕ) → filter_map (watches tag) (entry ∷ history) ≡ filter_map (watches tag) history
+    = λ tag. ap (λ kept. cons_option (if kept then watching tag entry.event else None)
+    (filter_map (watches tag) history)) refused in
     λ i. record {
       modules = λ tag. same.modules tag i;
       batches = λ batch. same.batch_pasts batch i;
       recipes = same.recipes i;
       taker = λ tag. taker tag i;
+      onlookers = λ tag. onlookers tag i;
     }
 
 -- an event with the answer that it gets where no rule refuses it

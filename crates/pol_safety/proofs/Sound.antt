@@ -4,7 +4,7 @@ use Rattle.pol_history.proofs.Paths.{reports_follow_paths}
 use Rattle.pol_safety.specs.Sound.{HistoriesAreSound, EntriesAreRight}
 use Rattle.pol_safety.proofs.Advances.{started_charted, advances_follow}
 use Rattle.pol_safety.proofs.Courses.{logs_follow}
-use Rattle.pol_safety.proofs.Holding.{holders_open}
+use Rattle.pol_safety.proofs.Holding.{holders_open, watchers_open}
 use Rattle.pol_safety.proofs.Keeping.{batches_kept, batches_see}
 use Rattle.pol_safety.proofs.Present.{tags_counted, tags_described}
 use Rattle.pol_safety.proofs.Sending.{sent_was_permitted}
@@ -21,6 +21,7 @@ histories_sound history legal orderly = record {
   batches = λ batch started chart is_open. batches_kept history batch started chart legal orderly is_open;
   sights = λ batch started chart is_open. batches_see history batch started chart legal orderly is_open;
   holders = λ tag batch holder. holders_open history tag batch legal orderly holder;
+  watchers = λ tag batch watcher. watchers_open history tag batch legal orderly watcher;
   tags = tags_counted history legal;
   descriptions = λ tag there. tags_described history tag legal orderly there;
 }

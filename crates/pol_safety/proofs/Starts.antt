@@ -1,43 +1,48 @@
 -- Starts and recipes: what every event keeps of them.
-use Rattle.std.proofs.Common.{◌≡◌, ℕ, Bool, true, false, cond, List, [], ◌∷◌, Option, Some, None, refl, ap, sym, ◌∙◌, subst}
-use Rattle.std.specs.Prelude.{◌&&◌, IsTrue, is_some, is_none, nat_le, length, if◌then◌else◌}
+use Rattle.std.proofs.Common.{◌≡◌, ℕ, Bool, true, false, cond, List, [], ◌∷◌, Option, Some, None, refl, ap, sym, ◌∙◌, subst, inl, inr}
+use Rattle.std.specs.Prelude.{◌&&◌, IsTrue, is_some, is_none, if◌then◌else◌}
+use Rattle.std.specs.List.{Contains}
 use Rattle.std.specs.Option.{option_or}
 use Rattle.std.specs.Str.{bytes_eq}
-use Rattle.std.proofs.lemmas.Bool.{and_parts}
-use Rattle.mtp_codes.specs.declared.limits.TheConstants.{MOST_BINDS}
+use Rattle.std.proofs.lemmas.Bool.{and_parts, or_left, or_right}
+use Rattle.mtp_codes.specs.Names.{same_name}
 use Rattle.chart_core.specs.Roles.{PlainChart, role_names, is_chart_form}
+use Rattle.chart_core.specs.Trees.{PlainStep, Placed, steps}
 use Rattle.chart_core.specs.Valid.{IsValid, chart_fault}
+use Rattle.chart_core.proofs.Lawful.{member_cases, roles_of_steps}
 use Rattle.chart_core.specs.declared.fault.ChartFault.{ChartFault}
 use Rattle.pol_events.specs.Events.{PlainEvent, recipe, start, advance, freeze, thaw, stop_batch, abandon, PlainEntry}
-use Rattle.pol_events.specs.Orderly.{is_valid, rise}
+use Rattle.pol_events.specs.Orderly.{is_allocation, is_valid}
+use Rattle.pol_events.specs.Bound.{PlainAllocation, bound_tag, given}
 use Rattle.pol_events.specs.declared.answer.Rule.TheVariants.{RecipeKnown, BatchKnown, BatchClosed}
-use Rattle.pol_events.specs.declared.event.Bind.{Bind}
-use Rattle.pol_events.proofs.Rising.{rising_distinct}
+use Rattle.pol_events.proofs.Given.{given_once}
+use Rattle.pol_events.proofs.Lists.{no_member, among_member, image_member}
 use Rattle.pol_history.proofs.Open.{open_before}
 use Rattle.pol_history.specs.Looking.{History, past_of_batch, recipes, is_accepted, is_accepted_of_batch}
 use Rattle.pol_history.specs.Batches.{Started, starting, start_by, chart_named, outcome_of, start_of}
-use Rattle.pol_history.specs.Rules.{no_batch, batch_closed, role_unbound, role_unknown, one_module_twice, modules_unfit, busy}
+use Rattle.pol_history.specs.Rules.{no_batch, batch_closed, role_unbound, role_unknown, one_module_twice, has_step, watched_step, steps_in, modules_unfit, busy}
 use Rattle.pol_history.specs.Answers.{start_rules, otherwise}
 use Rattle.pol_history.specs.Runs.{IsLegal, IsOrderly}
 use Rattle.pol_history.proofs.Accepted.{NoneHolds}
-use Rattle.pol_history.proofs.Names.{same_true}
+use Rattle.pol_history.proofs.Names.{same_true, same_refl}
 use Rattle.pol_events.proofs.Options.{not_some, no_both, some_same}
 use Rattle.pol_safety.proofs.Sides.{Sides, sides, accepted, Comes, IsKeptBy, always, at_own}
-use Rattle.pol_history.proofs.Binds.{IsFitting, fitting, when_none}
+use Rattle.pol_history.proofs.Binds.{IsFitting, fitting, given_known, step_unwatched, when_none}
 
 -- ---- what no rule of a start says
 
 -- a start that no rule is against
-pub record MayStart (history : History) (batch : List ℕ) (binds : List Bind) (chart : PlainChart) : Type 0 where
+pub record MayStart (history : History) (batch : List ℕ) (binds : PlainAllocation) (chart : PlainChart) : Type 0 where
   pub fresh : start_of history batch ≡ None
-  pub bound : role_unbound binds (role_names chart) ≡ None
+  pub bound : role_unbound (given binds) (role_names chart) ≡ None
   pub known : role_unknown binds (role_names chart) ≡ None
-  pub apart : one_module_twice binds [] (role_names chart) ≡ None
-  pub fit : modules_unfit history chart binds (role_names chart) ≡ None
-  pub free : busy history binds (role_names chart) ≡ None
+  pub apart : one_module_twice (given binds) [] (role_names chart) ≡ None
+  pub unwatched : watched_step binds.watched (steps_in chart) (role_names chart) ≡ None
+  pub fit : modules_unfit history chart (given binds) (role_names chart) ≡ None
+  pub free : busy history binds.held (role_names chart) ≡ None
 
 -- its recipe is there
-pub may_start : (history : History) (batch : List ℕ) (binds : List Bind) (found : Option PlainChart)
+pub may_start : (history : History) (batch : List ℕ) (binds : PlainAllocation) (found : Option PlainChart)
     → NoneHolds (start_rules history batch binds found) →
     (chart : PlainChart) × (found ≡ Some chart) × MayStart history batch binds chart
 may_start history batch binds None free = let none = free.0 in cc
@@ -49,18 +54,44 @@ may_start history batch binds (Some chart) free = (
     bound = free.1.0;
     known = free.1.1.0;
     apart = free.1.1.1.0;
-    fit = free.1.1.1.1.0;
-    free = free.1.1.1.1.1.0;
+    unwatched = free.1.1.1.1.0;
+    fit = free.1.1.1.1.1.0;
+    free = free.1.1.1.1.1.1.0;
   },
 )
 
 -- and its binds fit the chart
-pub start_fits : (history : History) (batch : List ℕ) (binds : List Bind) (chart : PlainChart)
-    → (nat_le (length binds) MOST_BINDS && rise binds) ≡ true →
-    MayStart history batch binds chart → IsFitting chart binds
+pub start_fits : (history : History) (batch : List ℕ) (binds : PlainAllocation) (chart : PlainChart)
+    → is_allocation binds ≡ true →
+    MayStart history batch binds chart → IsFitting chart (given binds)
 start_fits history batch binds chart formed may =
-    fitting chart binds (rising_distinct binds (and_parts (nat_le (length binds) MOST_BINDS) (rise binds) formed).1)
-    may.bound may.known may.apart
+    fitting chart (given binds) (given_once binds formed) may.bound
+    (given_known binds (role_names chart) may.known) may.apart
+
+-- the role of each step has a module that is held: it isn't watched
+abbrev pub StepsAreHeld : PlainChart → PlainAllocation → Type 0
+StepsAreHeld chart binds = (placed : Placed) → Contains (steps chart.root 0) placed →
+    bound_tag binds.watched placed.step.role ≡ None
+
+-- a step that is there has its role
+step_there : (each : List PlainStep) (step : PlainStep) → Contains each step → has_step each step.role ≡ true
+step_there [] step inside = no_member step inside
+step_there (first ∷ others) step inside =
+    elim (member_cases first step others inside) [
+      | inl same ↦ or_left (same_name first.role step.role) (has_step others step.role)
+          (ap (λ (one : PlainStep). same_name one.role step.role) same ∙ same_refl step.role)
+      | inr later ↦ or_right (same_name first.role step.role) (has_step others step.role)
+          (step_there others step later)
+    ]
+
+-- the steps of a start that no rule is against are held
+start_holds : (history : History) (batch : List ℕ) (binds : PlainAllocation) (chart : PlainChart) → IsValid chart →
+    MayStart history batch binds chart → StepsAreHeld chart binds
+start_holds history batch binds chart valid may placed inside =
+    step_unwatched binds.watched (steps_in chart) (role_names chart) placed.step.role may.unwatched
+    (among_member (role_names chart) placed.step.role (roles_of_steps chart placed valid inside))
+    (step_there (steps_in chart) placed.step
+    (image_member (λ placed. placed.step) (steps chart.root 0) placed inside))
 
 -- an event that no rule is against is of an open batch
 pub is_open_batch : (history : History) (batch : List ℕ) → batch_closed (past_of_batch batch history) ≡ None
@@ -191,14 +222,14 @@ start_stays history event batch started comes found = start_same history (accept
 
 -- a start that is accepted is that of its batch
 pub data StartCase (history : History) (batch : List ℕ) (started : Started) (other name : List ℕ)
-    (binds : List Bind) : Type 0 where
+    (binds : PlainAllocation) : Type 0 where
   its_own : other ≡ batch → record { recipe = name; binds = binds } ≡ started
       → StartCase history batch started other name binds
   earlier : bytes_eq other batch ≡ false → start_of history batch ≡ Some started
       → StartCase history batch started other name binds
 
 pub start_case : (history : History) (batch : List ℕ) (started : Started) (at : ℕ) (other name : List ℕ)
-    (binds : List Bind) →
+    (binds : PlainAllocation) →
     start_of (accepted history (start at other name binds) ∷ history) batch ≡ Some started
     → StartCase history batch started other name binds
 start_case history batch started at other name binds found = go (bytes_eq other batch) refl found
@@ -210,11 +241,12 @@ start_case history batch started at other name binds found = go (bytes_eq other 
     go true is found = its_own (same_true other batch is) cc
     go false is found = earlier is found
 
--- a started batch has the chart of a recipe, and its binds fit it
+-- a started batch has the chart of a recipe, its binds fit it, and its steps are held
 pub record IsCharted (recipes : History) (started : Started) : Type 0 where
   pub chart : PlainChart
   pub chart_is : chart_named started.recipe recipes ≡ Some chart
-  pub fits : IsFitting chart started.binds
+  pub fits : IsFitting chart (given started.binds)
+  pub steps_held : StepsAreHeld chart started.binds
 
 -- each started batch does
 abbrev pub Charted : Sides → Type 0
@@ -230,6 +262,7 @@ charted_stays history event started comes charted =
       chart_is = chart_stays history event started.recipe charted.chart comes
           charted.chart_is;
       fits = charted.fits;
+      steps_held = charted.steps_held;
     }
 
 charted_by : (history : History) (event : PlainEvent) → starting event ≡ None → Comes history event
@@ -247,7 +280,13 @@ charted_more history (start at other name binds) comes charted batch started fou
     go (its_own is same) =
         let may = may_start history other binds (chart_named name (recipes history)) comes.free in
         subst (IsCharted (recipes history)) same
-        (record { chart = may.0; chart_is = may.1; fits = start_fits history other binds may.0 comes.is_formed may.2 })
+        (record {
+          chart = may.0;
+          chart_is = may.1;
+          fits = start_fits history other binds may.0 comes.is_formed may.2;
+          steps_held = start_holds history other binds may.0
+              (sound history comes.legal comes.orderly name may.0 may.1).valid may.2;
+        })
 charted_more history event comes charted batch started found =
     charted_by history event refl comes charted batch started found
 
@@ -288,9 +327,19 @@ was_running history event batch started chart is comes now =
 -- and its binds fit its chart
 pub running_fits : (history : History) (batch : List ℕ) (started : Started) (chart : PlainChart) → IsLegal history
     → IsOrderly history →
-    IsRunning history batch started chart → IsFitting chart started.binds
+    IsRunning history batch started chart → IsFitting chart (given started.binds)
 running_fits history batch started chart legal orderly running =
     let found = charted history legal orderly batch started running.start_is in
-    subst (λ chart. IsFitting chart started.binds)
+    subst (λ chart. IsFitting chart (given started.binds))
     (some_same (chart_named started.recipe
     (recipes history)) found.chart chart found.chart_is running.chart_is) found.fits
+
+-- and its steps are held
+pub running_holds : (history : History) (batch : List ℕ) (started : Started) (chart : PlainChart) → IsLegal history
+    → IsOrderly history →
+    IsRunning history batch started chart → StepsAreHeld chart started.binds
+running_holds history batch started chart legal orderly running =
+    let found = charted history legal orderly batch started running.start_is in
+    subst (λ chart. StepsAreHeld chart started.binds)
+    (some_same (chart_named started.recipe
+    (recipes history)) found.chart chart found.chart_is running.chart_is) found.steps_held

@@ -8,6 +8,7 @@ use Rattle.chart_cursor.specs.NextEntry.{first_broken, run_next}
 use Rattle.chart_cursor.specs.Sights.{Sights}
 use Rattle.chart_cursor.specs.declared.next.CursorNext.{CursorNext}
 use Rattle.pol_events.specs.Events.{PlainEntry, advance}
+use Rattle.pol_events.specs.Bound.{given}
 use Rattle.pol_events.specs.declared.answer.Answer.{Answer}
 use Rattle.pol_history.specs.Looking.{History, past, is_accepted}
 use Rattle.pol_history.specs.Batches.{Started, log_of, is_frozen}
@@ -18,7 +19,7 @@ use Rattle.pol_safety.specs.Kept.{IsOpen}
 
 -- what the batch sees of the modules that play its roles
 abbrev pub seen_by : History → Started → Sights
-seen_by history started = sights_by started.binds (λ tag. past tag history)
+seen_by history started = sights_by (given started.binds) (λ tag. past tag history)
 
 -- the run of the batch's chart goes on: the batch isn't frozen, it didn't break, nobody had it stopped, and the service
 -- of no active step is stopped or aborted

@@ -8,7 +8,7 @@
 
 ghost use Rattle.pol_safety.specs.Advances.{AdvancesFollowCharts};
 ghost use Rattle.pol_safety.specs.Charts.{LogsFollowCharts};
-ghost use Rattle.pol_safety.specs.Kept.{BatchesAreKept, HoldersAreOpen};
+ghost use Rattle.pol_safety.specs.Kept.{BatchesAreKept, HoldersAreOpen, WatchersAreOpen};
 ghost use Rattle.pol_safety.specs.Known.{OpenBatchesSee, StartedHaveCharts, TagsAreCounted, TagsAreDescribed};
 ghost use Rattle.pol_safety.specs.Permitted.{CommandsArePermitted};
 ghost use Rattle.pol_safety.specs.Sound.{HistoriesAreSound, EntriesAreRight};
@@ -45,8 +45,8 @@ pub fn what_is_there_is_known()
     ensures sights { OpenBatchesSee }
 {}
 
-/// Each module that an open batch binds is held by it, is there and covers its role; and the service of each active
-/// step was reported since its module was docked.
+/// Each module that an open batch binds is held by it, each one that it watches is watched by it, each of both is there
+/// and covers its role; and the service of each active step was reported since its module was docked.
 #[tactic(auto, using(crate::proofs::Keeping::batches_kept))]
 pub fn batches_are_kept()
     ensures { BatchesAreKept }
@@ -56,6 +56,12 @@ pub fn batches_are_kept()
 #[tactic(auto, using(crate::proofs::Holding::holders_open))]
 pub fn holders_are_open()
     ensures { HoldersAreOpen }
+{}
+
+/// Each batch that watches a module was started to watch it and isn't closed.
+#[tactic(auto, using(crate::proofs::Holding::watchers_open))]
+pub fn watchers_are_open()
+    ensures { WatchersAreOpen }
 {}
 
 /// All that this crate says of a history and of an entry, with what `pol_history` says, in two records.

@@ -25,10 +25,11 @@ use Rattle.chart_core.specs.declared.fault.ChartFault.{ChartFault}
 use Rattle.chart_json.specs.Form.{are_roles_sized, chart_from, roles_of, same_role, tree_of}
 use Rattle.chart_json.proofs.Formed.{chart_formed, roles_sized, tree_formed}
 use Rattle.chart_json.proofs.Told.{IsListOf, any_before, kept, told_at, told_before, told_count, told_inside, told_items, told_list, told_need}
-use Rattle.pol_events.specs.Binds.{binds_of}
+use Rattle.pol_events.specs.Binds.{allocation_from, binds_of, binds_or_none}
 use Rattle.pol_events.specs.Events.{recipe, start}
 use Rattle.pol_events.specs.Orderly.{is_orderly, is_valid}
 use Rattle.pol_events.proofs.Members.{AreOrderly, binds_orderly}
+use Rattle.pol_events.proofs.Orderly.{IsAllocation, allocation_orderly, none_orderly}
 use Rattle.pol_site.specs.Form.{drift_of, plan_of, module_of, recipe_of, batch_of, exchange_of, desk_of, site_in}
 use Rattle.pol_site.specs.declared.limits.TheConstants.{MOST_DRIFTS, MOST_EXCHANGES, MOST_ORDERS, MOST_TICKS}
 use Rattle.pol_site.specs.Rules.{each_ruled, has_module, is_drift_sound, known_tag, ruled_site, same_batch, same_drift, same_tag, sound_drift, sound_drifts, unlike_drifts, valid_chart}
@@ -140,8 +141,12 @@ told_batch value =
     any_before _ (required (codes "batch") name value) _ (λ batch.
     any_before _ (required (codes "recipe") name value) _ (λ named.
     told_before AreOrderly _ (nested (codes "bind") binds_of value) _
-    (told_inside AreOrderly (codes "bind") binds_of binds_orderly value) (λ binds orderly.
-    any_before _ (nothing_but (codes "batch recipe bind") value) _ (λ _. orderly)))))
+    (told_inside AreOrderly (codes "bind") binds_of binds_orderly value) (λ held first.
+    told_before AreOrderly _ (binds_or_none (codes "watch") value) _ (none_orderly (codes "watch") value)
+    (λ watched second.
+    any_before _ (nothing_but (codes "batch recipe bind watch") value) _ (λ _.
+    told_before IsAllocation _ (allocation_from (record { held = held; watched = watched })) _
+    (allocation_orderly held watched first second) (λ binds orderly. orderly)))))))
 
 -- a chart of sized roles and a formed root is formed, where no role is named twice
 made_formed : (named : List ℕ) (roles : List PlainRole) (root : Tree) → are_roles_sized roles ≡ true

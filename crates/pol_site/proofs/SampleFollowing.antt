@@ -129,9 +129,10 @@ advances : Follows (started ∷ idle ∷ plugged ∷ known ∷ []) sent
 advances = record { before = started; last = refl; accepted = refl; stepped = refl }
 
 -- not with other binds; not twice; not while its module isn't ready
-not_as_listed : IsAllowed site (idle ∷ plugged ∷ known ∷ []) (start 11 batch charge []) answer.Done → ⊥
+not_as_listed : IsAllowed site (idle ∷ plugged ∷ known ∷ [])
+    (start 11 batch charge (record { held = []; watched = [] })) answer.Done → ⊥
 not_as_listed allowed =
-    let is : 1 ≡ 0 = ap (λ batch. length batch.binds) (same_Some _ _ allowed.listed) in
+    let is : 1 ≡ 0 = ap (λ batch. length batch.binds.held) (same_Some _ _ allowed.listed) in
     omega (arith, is)
 
 not_started_twice : Follows (started ∷ idle ∷ plugged ∷ known ∷ []) started → ⊥

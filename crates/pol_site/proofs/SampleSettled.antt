@@ -97,7 +97,8 @@ is_closed : is_settled_batch (of sent.event (answer.Closed outcome.Completed) �
 is_closed = refl
 
 -- not where its start is answered otherwise, nor where it can do something
-is_to_start : is_settled_batch (idle ∷ opened) (record { batch = batch; recipe = charge; binds = [] }) ≡ false
+is_to_start : is_settled_batch (idle ∷ opened)
+    (record { batch = batch; recipe = charge; binds = record { held = []; watched = [] } }) ≡ false
 is_to_start = refl
 
 is_to_advance : is_settled_batch (started ∷ idle ∷ opened) listed ≡ false

@@ -17,7 +17,7 @@ use Rattle.chart_core.specs.declared.entry.LogEntry.TheVariants as entry
 use Rattle.pol_events.specs.Events.{PlainEvent, PlainEntry, plug, report, variable, recipe, start, advance, desk, exchange_begin, exchange_end}
 use Rattle.pol_events.specs.declared.answer.Answer.{Answer}
 use Rattle.pol_events.specs.declared.answer.Answer.TheVariants as answer
-use Rattle.pol_events.specs.declared.event.Bind.{Bind}
+use Rattle.pol_events.specs.Bound.{PlainAllocation}
 use Rattle.pol_site.specs.Sites.{PlainSite}
 
 -- the tag of the doser, its service and its variable; the batch and its recipe
@@ -87,8 +87,9 @@ chart =
           });
     }
 
-abbrev pub binds : List Bind
-binds = record { role = codes "A"; tag = tag } ∷ []
+-- what the batch holds
+abbrev pub binds : PlainAllocation
+binds = record { held = record { role = codes "A"; tag = tag } ∷ []; watched = [] }
 
 -- the site: the exchange begins once there are three entries, the desk's command comes once there are two
 abbrev pub site : PlainSite

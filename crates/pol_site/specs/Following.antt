@@ -12,7 +12,7 @@ use Rattle.mtp_desc.specs.Plain.{PlainDescription}
 use Rattle.mtp_sim.specs.declared.plan.Drift.{Drift}
 use Rattle.mtp_sim.specs.Ticks.{control_in, next_value}
 use Rattle.pol_events.specs.Events.{PlainEvent, plug, unplug, report, variable, recipe, start, advance, freeze, thaw, stop_batch, abandon, desk, exchange_begin, exchange_end, exchange_cancel, PlainEntry}
-use Rattle.pol_events.specs.declared.event.Bind.{Bind}
+use Rattle.pol_events.specs.Bound.{PlainAllocation}
 use Rattle.pol_events.specs.declared.answer.Answer.{Answer}
 use Rattle.pol_events.specs.declared.answer.Answer.TheVariants.{Ticket, Did, Closed, Refused}
 use Rattle.pol_events.specs.declared.answer.Rule.{Rule}
@@ -137,8 +137,8 @@ is_stepped (Closed outcome) = true
 is_stepped _ = false
 
 -- the first event of a batch of the site: its start, which isn't put off
-pub record IsStart (site : PlainSite) (older : History) (batch recipe : List ℕ) (binds : List Bind) (answer : Answer) :
-    Type 0 where
+pub record IsStart (site : PlainSite) (older : History) (batch recipe : List ℕ) (binds : PlainAllocation)
+    (answer : Answer) : Type 0 where
   pub listed : listed_batch site batch ≡ Some (record { batch = batch; recipe = recipe; binds = binds })
   pub first : last_entry_of batch older ≡ None
   pub not_put_off : is_put_off answer ≡ false

@@ -11,7 +11,7 @@ use Rattle.mtp_desc.specs.Form.{description_of}
 use Rattle.mtp_sim.specs.declared.plan.Drift.{Drift}
 use Rattle.mtp_sim.specs.Sims.{PlainPlan}
 use Rattle.chart_json.specs.Form.{chart_from, roles_of, tree_of}
-use Rattle.pol_events.specs.Binds.{binds_of}
+use Rattle.pol_events.specs.Binds.{allocation_from, binds_of, binds_or_none}
 use Rattle.pol_site.specs.declared.limits.TheConstants.{MOST_DRIFTS, MOST_EXCHANGES, MOST_ORDERS, MOST_TICKS}
 use Rattle.pol_site.specs.Rules.{ruled_site}
 use Rattle.pol_site.specs.Sites.{PlainSite, PlainSiteModule, PlainSiteRecipe, PlainSiteBatch, PlainSiteExchange, PlainSiteDesk}
@@ -58,14 +58,16 @@ recipe_of value =
     chart_from roles root >>= λ chart.
     Ok (record { recipe = named; chart = chart })
 
--- a batch
+-- a batch: that no role is held and watched is asked when all else of it was read
 unfoldable pub batch_of : Data → ReadResult PlainSiteBatch
 batch_of value =
     object_here value >>= λ _.
     required (codes "batch") name value >>= λ batch.
     required (codes "recipe") name value >>= λ named.
-    nested (codes "bind") binds_of value >>= λ binds.
-    nothing_but (codes "batch recipe bind") value >>= λ _.
+    nested (codes "bind") binds_of value >>= λ held.
+    binds_or_none (codes "watch") value >>= λ watched.
+    nothing_but (codes "batch recipe bind watch") value >>= λ _.
+    allocation_from (record { held = held; watched = watched }) >>= λ binds.
     Ok (record { batch = batch; recipe = named; binds = binds })
 
 -- an exchange

@@ -4,7 +4,7 @@ use Rattle.mtp_codes.specs.declared.command.Command.{Command}
 use Rattle.mtp_desc.specs.Plain.{PlainDescription}
 use Rattle.mtp_sim.specs.Sims.{PlainPlan}
 use Rattle.chart_core.specs.Roles.{PlainChart}
-use Rattle.pol_events.specs.declared.event.Bind.{Bind}
+use Rattle.pol_events.specs.Bound.{PlainAllocation}
 
 -- a module of the site: its tag, its description, and how it is simulated
 pub record PlainSiteModule : Type 0 where
@@ -17,11 +17,11 @@ pub record PlainSiteRecipe : Type 0 where
   pub recipe : List ℕ
   pub chart : PlainChart
 
--- a batch of the site: its name, its recipe, and which module plays which role
+-- a batch of the site: its name, its recipe, and which module that it holds or watches plays which role
 pub record PlainSiteBatch : Type 0 where
   pub batch : List ℕ
   pub recipe : List ℕ
-  pub binds : List Bind
+  pub binds : PlainAllocation
 
 -- an exchange of the site: whose module is exchanged, after how many entries at least, for one of what description, and
 -- how that is simulated

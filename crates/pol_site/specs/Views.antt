@@ -21,7 +21,12 @@ plain_recipe each = record { recipe = each.recipe; chart = plain_chart each.char
 
 -- a batch as plain data
 abbrev pub plain_batch : SiteBatch → PlainSiteBatch
-plain_batch batch = record { batch = batch.batch; recipe = batch.recipe; binds = batch.bind.items }
+plain_batch batch =
+    record {
+      batch = batch.batch;
+      recipe = batch.recipe;
+      binds = record { held = batch.bind.items; watched = batch.watch.items };
+    }
 
 -- an exchange as plain data
 abbrev pub plain_exchange : SiteExchange → PlainSiteExchange

@@ -13,9 +13,10 @@ use chart_json::{make_chart, node_at, roles_at};
 use mtp_codes::LONGEST_HISTORY;
 use mtp_desc::DescriptionJson;
 use mtp_json::{
-    Alike, FromJson, JsonRefusal, command_at, form_at, name_at, nothing_but, object_here, u32_at,
+    Alike, FaultKind, FromJson, JsonRefusal, command_at, form_at, name_at, nothing_but,
+    object_here, refused_under, u32_at,
 };
-use pol_events::BindsJson;
+use pol_events::{BindsJson, binds_or_none, shares_a_role};
 use serde_json::Value;
 use std::alloc::Global;
 use std::sync::Arc;
@@ -103,11 +104,19 @@ fn read_batch(alloc: Global, value: &Value) -> Result<SiteBatch, JsonRefusal>
     let batch = name_at(alloc, value, "batch")?;
     let recipe = name_at(alloc, value, "recipe")?;
     let bind = form_at::<BindsJson>(alloc, value, "bind")?;
-    nothing_but(alloc, value, "batch recipe bind")?;
+    let watch = binds_or_none(alloc, value, "watch")?;
+    nothing_but(alloc, value, "batch recipe bind watch")?;
+    refused_under(
+        alloc,
+        "watch",
+        shares_a_role(&bind, &watch),
+        FaultKind::Repeated,
+    )?;
     Ok(SiteBatch {
         batch,
         recipe,
         bind,
+        watch,
     })
 }
 

@@ -34,8 +34,11 @@ pub struct SiteBatch {
     pub batch: Name,
     /// The recipe that it follows.
     pub recipe: Name,
-    /// Which module plays which role: at most 64, in byte order of the roles.
+    /// The modules that it holds, each with its role: at most 64, in byte order of the roles.
     pub bind: Vec<Bind>,
+    /// The modules that it watches, each with its role: at most 64, in byte order of the roles, for none of which it
+    /// holds a module.
+    pub watch: Vec<Bind>,
 }
 
 /// An exchange of a site: the module under a tag is exchanged for another.

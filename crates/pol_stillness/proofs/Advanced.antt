@@ -58,7 +58,7 @@ use Rattle.pol_history.proofs.Binds.{IsFitting}
 use Rattle.chart_cursor.specs.Logs.{chart_entries}
 use Rattle.chart_cursor.proofs.Pushed.{run_grows}
 use Rattle.chart_core.proofs.Latest.{last_pushed}
-use Rattle.pol_events.specs.Bound.{bound_tag}
+use Rattle.pol_events.specs.Bound.{bound_tag, given}
 
 -- ---- a log that grows
 
@@ -147,11 +147,11 @@ pub record Facts (older : History) (batch : List ℕ) (begun : Started) (chart :
   chart_is : chart_named begun.recipe (recipes older) ≡ Some chart
   unclosed : outcome_of older batch ≡ None
   plain : IsPlain older
-  runs : next_after chart (chart_entries (log_of older batch)) (sights_by begun.binds (λ tag. past tag older)) ≡ Entry
-      entry
+  runs : next_after chart (chart_entries (log_of older batch)) (sights_by (given begun.binds) (λ tag. past tag older))
+      ≡ Entry entry
   valid : IsValid chart
   partial : IsPartial chart (chart_entries (log_of older batch))
-  fits : IsFitting chart begun.binds
+  fits : IsFitting chart (given begun.binds)
   of_run : is_some (chart_entry entry) ≡ true
 
 -- what is known of a batch that did an entry
@@ -171,7 +171,7 @@ facts older batch entry legal orderly plain unclosed has =
       fits = running_fits older batch has.started has.chart legal orderly
           (record { start_is = has.start_is; chart_is = has.chart_is; unclosed = unclosed });
       of_run = next_of_run has.chart (chart_entries (log_of older batch))
-          (sights_by has.started.binds (λ tag. past tag older)) entry runs;
+          (sights_by (given has.started.binds) (λ tag. past tag older)) entry runs;
     }
 
 -- the past of a batch that did an entry
@@ -251,7 +251,7 @@ new_owed older at batch begun chart entry sent known legal sends =
       unclosed = ap outcome_by (own_past older at batch batch entry (same_refl batch)) ∙ known.unclosed;
       inside = kept_member (is_active (chart_entries (log_of now batch))) (steps chart.root 0) of.0 of.1
           (ap is_running stands ∙ it.running);
-      bound = tag.1 ∙ ap Some (sym (tag_of_bound older begun.binds of.0.step.role tag.0 tag.1) ∙ sym to.0);
+      bound = tag.1 ∙ ap Some (sym (tag_of_bound older (given begun.binds) of.0.step.role tag.0 tag.1) ∙ sym to.0);
       service_is = sym to.1;
       view = was.view;
       seen = was.seen;
@@ -265,7 +265,7 @@ new_owed older at batch begun chart entry sent known legal sends =
     log = chart_entries (log_of older batch)
 
     sights : Sights
-    sights = sights_by begun.binds (λ tag. past tag older)
+    sights = sights_by (given begun.binds) (λ tag. past tag older)
 
     of : (placed : Placed) × Contains (steps chart.root 0) placed × IsOfStep sights placed.step entry
     of = steps_of_chart chart log sights entry known.runs (sends_step entry sent known.of_run sends)
@@ -273,7 +273,7 @@ new_owed older at batch begun chart entry sent known legal sends =
     to : (sent.tag ≡ tag_of sights of.0.step.role) × (sent.service ≡ of.0.step.service)
     to = sent_of_step sights of.0.step entry sent of.2 sends
 
-    tag : (tag : List ℕ) × (bound_tag begun.binds of.0.step.role ≡ Some tag)
+    tag : (tag : List ℕ) × (bound_tag (given begun.binds) of.0.step.role ≡ Some tag)
     tag = known.fits.bound of.0.step.role (among_member (role_names chart) of.0.step.role
         (roles_of_steps chart of.0 known.valid of.1))
 
@@ -330,13 +330,13 @@ silent older tag service owed entry known other = by entry known other
     log = chart_entries (log_of older owed.batch)
 
     sights : Sights
-    sights = sights_by owed.started.binds (λ tag. past tag older)
+    sights = sights_by (given owed.started.binds) (λ tag. past tag older)
 
     within : Contains (steps owed.chart.root 0) owed.placed
     within = (member_kept (is_active log) (steps owed.chart.root 0) owed.placed owed.inside).0
 
     of_tag : tag_of sights owed.placed.step.role ≡ tag
-    of_tag = tag_of_bound older owed.started.binds owed.placed.step.role tag owed.bound
+    of_tag = tag_of_bound older (given owed.started.binds) owed.placed.step.role tag owed.bound
 
     -- an entry of a step with the name is of this step, and due
     one : (entry : LogEntry) (known : Facts older owed.batch owed.started owed.chart entry) → is_step_entry entry ≡ true
@@ -392,9 +392,10 @@ silent older tag service owed entry known other = by entry known other
         = names_tell_steps owed.chart ended.placed owed.placed known.valid ended.inside within
         (sym ended.name_is ∙ same_true step owed.placed.step.name here) in
         let sees = ap (λ (p : Placed). sights.view p.step.role p.step.service) (sym its) ∙ ended.seen_as in
-        let found = seen_of older owed.started.binds owed.placed.step.role owed.placed.step.service ended.view sees in
-        let tag_is : found.0.tag ≡ tag = some_same (bound_tag owed.started.binds owed.placed.step.role) found.0.tag tag
-        found.0.bound owed.bound in
+        let found = seen_of older (given owed.started.binds) owed.placed.step.role owed.placed.step.service ended.view
+        sees in
+        let tag_is : found.0.tag ≡ tag = some_same (bound_tag (given owed.started.binds) owed.placed.step.role)
+        found.0.tag tag found.0.bound owed.bound in
         let at : view_of older tag service ≡ Some ended.view
         = ap (λ t. view_of older t service) (sym tag_is) ∙ ap (view_of older found.0.tag) (sym owed.service_is) ∙
         found.0.live.seen ∙ ap Some found.1 in

@@ -1,15 +1,15 @@
 -- A module is away exactly under the ticket of the exchange that is open.
 use Rattle.std.proofs.Common.{◌≡◌, ◌⊎◌, inl, inr, ℕ, Bool, true, false, cond, List, [], ◌∷◌, Option, Some, None, refl, ap, sym, ◌∙◌, subst, arith}
-use Rattle.std.specs.Prelude.{◌&&◌, ◌==◌, option_map, option_and_then, unwrap_or, if◌then◌else◌}
+use Rattle.std.specs.Prelude.{◌&&◌, ◌==◌, map, option_map, option_and_then, unwrap_or, if◌then◌else◌}
 use Rattle.std.specs.Option.{option_or}
 use Rattle.std.specs.Str.{bytes_eq}
 use Rattle.std.proofs.lemmas.Bool.Decides.{nat_tests}
 use Rattle.std.proofs.lemmas.Option.{same_Some}
-use Rattle.mtp_codes.specs.Faults.{when}
+use Rattle.mtp_codes.specs.Faults.{first_of, when}
 use Rattle.mtp_desc.specs.Plain.{PlainDescription}
 use Rattle.mtp_procs.specs.Covers.{cover_fault, missing_by}
-use Rattle.pol_events.specs.Bound.{bound_role}
-use Rattle.pol_history.specs.Batches.{chart_by, holder_of, start_by}
+use Rattle.pol_events.specs.Bound.{bound_role, given}
+use Rattle.pol_history.specs.Batches.{chart_by, holder_of, start_by, watchers_of}
 use Rattle.mtp_codes.specs.declared.cover.CoverFault.{CoverFault}
 use Rattle.pol_events.specs.Events.{PlainEvent, PlainEntry, plug, unplug, report, variable, desk, exchange_begin, exchange_end, exchange_cancel}
 use Rattle.pol_events.specs.declared.answer.Answer.{Answer}
@@ -19,7 +19,7 @@ use Rattle.pol_events.specs.declared.answer.Rule.TheVariants.{HistoryFull, HeldB
 use Rattle.pol_history.specs.Answers.{answer_of, first_rule, is_full}
 use Rattle.pol_history.specs.Looking.{History, is_accepted, last_of, past, past_of_batch, recipes}
 use Rattle.pol_history.specs.Modules.{Docking, absent, docked, away, docking_after, docking_by, next_ticket, ticket_of}
-use Rattle.pol_history.specs.Rules.{held_back, uncovered_by}
+use Rattle.pol_history.specs.Rules.{held_back, uncovered_in}
 use Rattle.pol_history.specs.Runs.{is_recorded}
 use Rattle.pol_history.proofs.Accepted.{accepted_otherwise, paired}
 use Rattle.pol_history.proofs.Names.{same_true}
@@ -76,33 +76,55 @@ went_on goes_on (Some item) answer is = record { with = item; there = refl; goes
 -- what holds an end back is told so
 held_rule : (history : History) (tag : List ℕ) (ticket : ℕ) (description : PlainDescription) (rule : Rule) →
     held_back history tag description ≡ Some rule → ended_with tag ticket (Refused rule) ≡ was_held tag ticket
-held_rule history tag ticket description rule is = by (holder_of history tag) is
+held_rule history tag ticket description rule is =
+    by (option_and_then (uncovered_in history tag description) (holder_of history tag)) refl is
   where
+    Told : Type 0
+    Told = ended_with tag ticket (Refused rule) ≡ was_held tag ticket
+
     told : (batch role : List ℕ) (fault : Option CoverFault) →
-        option_map (λ fault. HeldBack batch (missing_by role fault)) fault ≡ Some rule →
-        ended_with tag ticket (Refused rule) ≡ was_held tag ticket
+        option_map (λ fault. HeldBack batch (missing_by role fault)) fault ≡ Some rule → Told
     told batch role None e = cc
     told batch role (Some fault) e =
         ap (λ r. ended_with tag ticket (Refused r)) (sym (same_Some (HeldBack batch (missing_by role fault)) rule e))
 
-    by : (holder : Option (List ℕ)) →
-        option_and_then (λ batch. uncovered_by (recipes history) tag description batch
-        (past_of_batch batch history)) holder
-        ≡ Some rule → ended_with tag ticket (Refused rule) ≡ was_held tag ticket
-    by None e = cc
-    by (Some batch) e =
+    in_batch : (batch : List ℕ) → uncovered_in history tag description batch ≡ Some rule → Told
+    in_batch batch e =
         let one = went_on (λ started. option_and_then
         (λ chart. option_and_then
         (λ role. option_map (λ fault. HeldBack batch (missing_by role fault)) (cover_fault chart role description))
-        (bound_role started.binds tag)) (chart_by (recipes history) (Some started)))
+        (bound_role (given started.binds) tag)) (chart_by (recipes history) (Some started)))
         (start_by (past_of_batch batch history)) rule e in
         let two = went_on (λ chart. option_and_then
         (λ role. option_map (λ fault. HeldBack batch (missing_by role fault)) (cover_fault chart role description))
-        (bound_role one.with.binds tag)) (chart_by (recipes history) (Some one.with)) rule one.goes in
+        (bound_role (given one.with.binds) tag)) (chart_by (recipes history) (Some one.with)) rule one.goes in
         let three = went_on
         (λ role. option_map (λ fault. HeldBack batch (missing_by role fault)) (cover_fault two.with role description))
-        (bound_role one.with.binds tag) rule two.goes in
+        (bound_role (given one.with.binds) tag) rule two.goes in
         told batch three.with (cover_fault two.with three.with description) three.goes
+
+    in_holder : (holder : Option (List ℕ)) →
+        option_and_then (uncovered_in history tag description) holder ≡ Some rule → Told
+    in_holder None e = cc
+    in_holder (Some batch) e = in_batch batch e
+
+    in_watchers : (watchers : List (List ℕ)) →
+        first_of (map (uncovered_in history tag description) watchers) ≡ Some rule → Told
+    in_watchers [] e = cc
+    in_watchers (batch ∷ others) e =
+        first (uncovered_in history tag description batch) refl (λ e. in_watchers others e) e
+      where
+        first : (found : Option Rule) → uncovered_in history tag description batch ≡ found →
+            (first_of (map (uncovered_in history tag description) others) ≡ Some rule → Told) →
+            option_or found (first_of (map (uncovered_in history tag description) others)) ≡ Some rule → Told
+        first None said later e = later e
+        first (Some other) said later e = in_batch batch (said ∙ e)
+
+    by : (held : Option Rule) → option_and_then (uncovered_in history tag description) (holder_of history tag) ≡ held →
+        option_or held (first_of (map (uncovered_in history tag description) (watchers_of history tag))) ≡ Some rule →
+        Told
+    by None said e = in_watchers (watchers_of history tag) e
+    by (Some other) said e = in_holder (holder_of history tag) (said ∙ e)
 
 -- a number is itself
 self_same : (n : ℕ) → (n == n) ≡ true

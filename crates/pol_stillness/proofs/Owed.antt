@@ -10,10 +10,10 @@ use Rattle.mtp_codes.specs.declared.state.State.{State}
 use Rattle.mtp_codes.specs.declared.state.State.TheVariants as state
 use Rattle.mtp_machine.specs.Machine.{command_target}
 use Rattle.mtp_modes.specs.declared.view.ServiceView.{ServiceView}
-use Rattle.chart_core.specs.Active.{Phase, idle, started, finished, was_reset, phase_after, active_steps}
+use Rattle.chart_core.specs.Active.{Phase, idle, started, finished, was_reset, phase_after, active_steps, is_active}
 use Rattle.chart_core.specs.Entries.{chart_entry}
 use Rattle.chart_core.specs.Roles.{PlainChart, role_names}
-use Rattle.chart_core.specs.Trees.{PlainStep, Placed}
+use Rattle.chart_core.specs.Trees.{PlainStep, Placed, steps}
 use Rattle.chart_core.specs.declared.entry.LogEntry.{LogEntry}
 use Rattle.chart_core.specs.declared.entry.LogEntry.TheVariants.{Start, Finish, Reset, End, Stop, Asked}
 use Rattle.chart_core.proofs.Lawful.{roles_of_steps}
@@ -32,14 +32,14 @@ use Rattle.pol_history.specs.Modules.{view_of}
 use Rattle.pol_safety.proofs.Seen.{seen_of, tag_of_bound}
 use Rattle.pol_safety.proofs.Starts.{sound, IsRunning, running_fits}
 use Rattle.pol_safety.proofs.Courses.{all_follow}
-use Rattle.pol_safety.proofs.Holding.{holds}
+use Rattle.pol_safety.proofs.Holding.{holds_step}
 use Rattle.pol_stillness.specs.Apart.{is_due, waits_in, OwedIsNotSent}
 use Rattle.pol_stillness.proofs.Alone.{steps_alone}
-use Rattle.pol_events.proofs.Lists.{among_member}
+use Rattle.pol_events.proofs.Lists.{among_member, member_kept}
 use Rattle.pol_events.proofs.Options.{some_same}
 use Rattle.pol_history.proofs.Binds.{IsFitting}
 use Rattle.chart_cursor.specs.Logs.{chart_entries}
-use Rattle.pol_events.specs.Bound.{bound_role, bound_tag}
+use Rattle.pol_events.specs.Bound.{bound_role, bound_tag, given}
 use Rattle.pol_events.proofs.Played.{bind_for}
 
 -- ---- an entry that sends a command
@@ -132,14 +132,6 @@ one_role chart binds one other tag fits first second =
     let y : bound_role binds tag ≡ Some b.role = ap (bound_role binds) (sym tag_b) ∙ fits.paired.by_tag b within in
     sym role_a ∙ some_same (bound_role binds tag) a.role b.role x y ∙ role_b
 
--- a batch that is open and binds the tag holds it
-holds_tag : (history : History) (batch : List ℕ) (begun : Started) (role tag : List ℕ) → IsLegal history
-    → IsOrderly history → start_of history batch ≡ Some begun
-    → outcome_of history batch ≡ None → bound_tag begun.binds role ≡ Some tag → holder_of history tag ≡ Some batch
-holds_tag history batch begun role tag legal orderly start_is unclosed bound =
-    let (bind, inside, tag_is, role_is) = bind_for begun.binds role tag bound in
-    ap (holder_of history) (sym tag_is) ∙ holds history batch begun legal orderly start_is unclosed bind inside
-
 -- ---- the law
 
 -- what is sent was permitted by what is seen now
@@ -166,16 +158,16 @@ same_batch : (history : History) (tag service batch : List ℕ) (begun : Started
     IsLegal history → IsOrderly history → start_of history batch ≡ Some begun
     → chart_named begun.recipe (recipes history) ≡ Some chart → outcome_of history batch ≡ None →
     Contains (active_steps chart (chart_entries (log_of history batch))) placed
-    → bound_tag begun.binds placed.step.role ≡ Some tag → placed.step.service ≡ service →
+    → bound_tag (given begun.binds) placed.step.role ≡ Some tag → placed.step.service ≡ service →
     view_of history tag service ≡ Some view → waits_in
     (phase_after (chart_entries (log_of history batch)) placed.step.name) ≡ Some view.control.state →
-    next_after chart (chart_entries (log_of history batch)) (sights_by begun.binds (λ tag. past tag history)) ≡ Entry
-    entry →
+    next_after chart (chart_entries (log_of history batch)) (sights_by (given begun.binds) (λ tag. past tag history))
+    ≡ Entry entry →
     sent_by entry ≡ Some sent → sent.tag ≡ tag → sent.service ≡ service → ⊥
 same_batch history tag service batch begun chart entry sent placed view legal orderly start_is chart_is unclosed inside
     bound service_owed seen waits next sends tag_is service_is =
     let log = chart_entries (log_of history batch) in
-    let sights = sights_by begun.binds (λ tag. past tag history) in
+    let sights = sights_by (given begun.binds) (λ tag. past tag history) in
     let running : IsRunning history batch begun chart =
     record { start_is = start_is; chart_is = chart_is; unclosed = unclosed } in
     let fits = running_fits history batch begun chart legal orderly running in
@@ -186,26 +178,28 @@ same_batch history tag service batch begun chart entry sent placed view legal or
     let to = sent_of_step sights one.step entry sent one.own sends in
     let own = fits.bound one.step.role (among_member (role_names chart) one.step.role
     (roles_of_steps chart (record { number = one.number; step = one.step }) valid one.within)) in
-    let its : own.0 ≡ tag = sym (tag_of_bound history begun.binds one.step.role own.0 own.1) ∙ sym to.0 ∙ tag_is in
+    let its : own.0 ≡ tag =
+    sym (tag_of_bound history (given begun.binds) one.step.role own.0 own.1) ∙ sym to.0 ∙ tag_is in
     let role : placed.step.role ≡ one.step.role =
-    one_role chart begun.binds placed.step.role one.step.role tag fits bound (own.1 ∙ ap Some its) in
+    one_role chart (given begun.binds) placed.step.role one.step.role tag fits bound (own.1 ∙ ap Some its) in
     let due = one.alone placed inside role (service_owed ∙ sym service_is ∙ to.1) in
     let none = no_command (phase_after log placed.step.name) entry sent view.control.state waits due.1 sends in
     let at : view_of history sent.tag sent.service ≡ Some view
     = ap (λ t. view_of history t sent.service) tag_is ∙ ap (view_of history tag) service_is ∙ seen in
-    leads history begun.binds sent view (commands_permitted chart log sights entry sent next sends) at none
+    leads history (given begun.binds) sent view (commands_permitted chart log sights entry sent next sends) at none
 
--- a batch that sends a command binds its module
+-- a batch that sends a command has a step on its module
 sends_bound : (history : History) (batch : List ℕ) (begun : Started) (chart : PlainChart) (entry : LogEntry)
     (sent : Sent) →
     IsLegal history → IsOrderly history → start_of history batch ≡ Some begun
     → chart_named begun.recipe (recipes history) ≡ Some chart → outcome_of history batch ≡ None →
-    next_after chart (chart_entries (log_of history batch)) (sights_by begun.binds (λ tag. past tag history)) ≡ Entry
-    entry → sent_by entry ≡ Some sent →
-    (role : List ℕ) × (bound_tag begun.binds role ≡ Some sent.tag)
+    next_after chart (chart_entries (log_of history batch)) (sights_by (given begun.binds) (λ tag. past tag history))
+    ≡ Entry entry → sent_by entry ≡ Some sent →
+    (placed : Placed) × Contains (steps chart.root 0) placed
+    × (bound_tag (given begun.binds) placed.step.role ≡ Some sent.tag)
 sends_bound history batch begun chart entry sent legal orderly start_is chart_is unclosed next sends =
     let log = chart_entries (log_of history batch) in
-    let sights = sights_by begun.binds (λ tag. past tag history) in
+    let sights = sights_by (given begun.binds) (λ tag. past tag history) in
     let running : IsRunning history batch begun chart =
     record { start_is = start_is; chart_is = chart_is; unclosed = unclosed } in
     let fits = running_fits history batch begun chart legal orderly running in
@@ -214,8 +208,12 @@ sends_bound history batch begun chart entry sent legal orderly start_is chart_is
     let (placed, inside, own) = steps_of_chart chart log sights entry next stepped in
     let to = sent_of_step sights placed.step entry sent own sends in
     let tag = fits.bound placed.step.role (among_member (role_names chart) placed.step.role
-    (roles_of_steps chart placed valid inside)) in
-    (placed.step.role, tag.1 ∙ ap Some (sym (tag_of_bound history begun.binds placed.step.role tag.0 tag.1) ∙ sym to.0))
+    (roles_of_steps chart placed valid inside)) in (
+      placed,
+      inside,
+      tag.1
+          ∙ ap Some (sym (tag_of_bound history (given begun.binds) placed.step.role tag.0 tag.1) ∙ sym to.0),
+    )
 
 -- while a service is owed a report
 pub owed_not_sent : OwedIsNotSent
@@ -223,10 +221,13 @@ owed_not_sent history tag service batch begun chart entry sent legal orderly owe
     tag_is service_is =
     let bound = sends_bound history batch begun chart entry sent legal orderly start_is chart_is unclosed next sends in
     let one : holder_of history tag ≡ Some batch
-    = holds_tag history batch begun bound.0 tag legal orderly start_is unclosed (bound.1 ∙ ap Some tag_is) in
+    = holds_step history batch begun chart bound.0 tag legal orderly
+    (record { start_is = start_is; chart_is = chart_is; unclosed = unclosed }) bound.1 (bound.2 ∙ ap Some tag_is) in
     let other : holder_of history tag ≡ Some owed.batch
-    = holds_tag history owed.batch owed.started owed.placed.step.role tag legal orderly owed.start_is owed.unclosed
-    owed.bound in
+    = holds_step history owed.batch owed.started owed.chart owed.placed tag legal orderly
+    (record { start_is = owed.start_is; chart_is = owed.chart_is; unclosed = owed.unclosed })
+    (member_kept (is_active (chart_entries (log_of history owed.batch))) (steps owed.chart.root 0) owed.placed
+    owed.inside).0 owed.bound in
     let same : batch ≡ owed.batch = some_same (holder_of history tag) batch owed.batch one other in
     let begun_is : begun ≡ owed.started
     = some_same (start_of history owed.batch) begun owed.started (ap (start_of history) (sym same) ∙ start_is)
@@ -235,13 +236,13 @@ owed_not_sent history tag service batch begun chart entry sent legal orderly owe
     = some_same (chart_named owed.started.recipe (recipes history)) chart owed.chart
     (ap (λ (s : Started). chart_named s.recipe (recipes history)) (sym begun_is) ∙ chart_is) owed.chart_is in
     let its : next_after owed.chart (chart_entries (log_of history owed.batch))
-    (sights_by owed.started.binds (λ tag. past tag history)) ≡ Entry entry
+    (sights_by (given owed.started.binds) (λ tag. past tag history)) ≡ Entry entry
     = ap (λ c. next_after c (chart_entries (log_of history owed.batch))
-    (sights_by owed.started.binds (λ tag. past tag history))) (sym plan)
+    (sights_by (given owed.started.binds) (λ tag. past tag history))) (sym plan)
     ∙ ap (λ b. next_after chart (chart_entries (log_of history b))
-    (sights_by owed.started.binds (λ tag. past tag history))) (sym same)
+    (sights_by (given owed.started.binds) (λ tag. past tag history))) (sym same)
     ∙ ap (λ (s : Started). next_after chart (chart_entries (log_of history batch))
-    (sights_by s.binds (λ tag. past tag history))) (sym begun_is) ∙ next in
+    (sights_by (given s.binds) (λ tag. past tag history))) (sym begun_is) ∙ next in
     same_batch history tag service owed.batch owed.started owed.chart entry sent owed.placed owed.view legal orderly
     owed.start_is owed.chart_is owed.unclosed
     owed.inside owed.bound owed.service_is owed.seen owed.waits its sends tag_is service_is

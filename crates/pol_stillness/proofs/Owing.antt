@@ -11,6 +11,7 @@ use Rattle.chart_cursor.specs.Commands.{Sent, sent_by}
 use Rattle.chart_cursor.specs.Next.{IsNext, ready_after}
 use Rattle.chart_cursor.specs.Sights.{Sights}
 use Rattle.chart_cursor.proofs.Firsts.{next_follows}
+use Rattle.pol_events.specs.Bound.{given}
 use Rattle.pol_events.specs.Events.{PlainEvent, start, advance, freeze, thaw, stop_batch, abandon, desk}
 use Rattle.pol_events.specs.declared.answer.Answer.{Answer}
 use Rattle.pol_events.specs.declared.answer.Answer.TheVariants.{Did, Closed}
@@ -90,7 +91,7 @@ closes_not older tag service owed outcome legal orderly plain has chart_is =
     log = chart_entries (log_of older owed.batch)
 
     sights : Sights
-    sights = sights_by has.started.binds (λ tag. past tag older)
+    sights = sights_by (given has.started.binds) (λ tag. past tag older)
 
     good : IsGoodChart has.chart
     good = sound older legal orderly has.started.recipe has.chart has.chart_is

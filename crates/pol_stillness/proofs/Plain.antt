@@ -30,6 +30,7 @@ use Rattle.chart_cursor.specs.declared.next.CursorNext.TheVariants.{Entry, Wait,
 use Rattle.chart_cursor.specs.declared.sight.Sight.{Sight}
 use Rattle.chart_cursor.specs.declared.sight.Sight.TheVariants as sight
 use Rattle.chart_cursor.proofs.Commanding.{next_of_run}
+use Rattle.pol_events.specs.Bound.{given}
 use Rattle.pol_events.specs.Events.{PlainEvent, plug, unplug, report, advance, stop_batch, abandon, desk, exchange_begin, exchange_end, exchange_cancel, PlainEntry}
 use Rattle.pol_events.specs.Refusals.{may_follow, not_an_edge}
 use Rattle.pol_events.specs.declared.answer.Answer.{Answer}
@@ -383,45 +384,47 @@ run_closed (Entry other) outcome is = cc
 pub did_runs : (history : History) (batch : List ℕ) (entry : LogEntry) → IsPlain history
     → (has : HasNext history batch (next.Did entry))
     → next_after has.chart (chart_entries (log_of history batch))
-    (sights_by has.started.binds (λ tag. past tag history)) ≡ Entry entry
+    (sights_by (given has.started.binds) (λ tag. past tag history)) ≡ Entry entry
 did_runs history batch entry plain has =
     go (run_only has.chart (is_frozen history batch) (log_of history batch)
-    (sights_by has.started.binds (λ tag. past tag history)) (next.Did entry)
-    (calm batch history plain) (whole_steps history has.started.binds plain (active has.chart (log_of history batch)))
+    (sights_by (given has.started.binds) (λ tag. past tag history)) (next.Did entry)
+    (calm batch history plain)
+    (whole_steps history (given has.started.binds) plain (active has.chart (log_of history batch)))
     has.next_is)
   where
     Runs : Type 0
     Runs = next_after has.chart (chart_entries (log_of history batch))
-        (sights_by has.started.binds (λ tag. past tag history)) ≡ Entry entry
+        (sights_by (given has.started.binds) (λ tag. past tag history)) ≡ Entry entry
 
     go : (next.Did entry ≡ next.Waiting why.Frozen) ⊎
         (run_next (next_after has.chart (chart_entries (log_of history batch))
-        (sights_by has.started.binds (λ tag. past tag history))) ≡ next.Did entry) → Runs
+        (sights_by (given has.started.binds) (λ tag. past tag history))) ≡ next.Did entry) → Runs
     go (inl frozen) = cc
     go (inr runs) = run_did (next_after has.chart (chart_entries (log_of history batch))
-        (sights_by has.started.binds (λ tag. past tag history))) entry runs
+        (sights_by (given has.started.binds) (λ tag. past tag history))) entry runs
 
 -- and it closes where its run is whole
 pub closed_whole : (history : History) (batch : List ℕ) (outcome : Outcome) → IsPlain history
     → (has : HasNext history batch (next.Closed outcome))
     → (next_after has.chart (chart_entries (log_of history batch))
-    (sights_by has.started.binds (λ tag. past tag history)) ≡ Whole) × (is_completed_outcome outcome ≡ true)
+    (sights_by (given has.started.binds) (λ tag. past tag history)) ≡ Whole) × (is_completed_outcome outcome ≡ true)
 closed_whole history batch outcome plain has =
     go (run_only has.chart (is_frozen history batch) (log_of history batch)
-    (sights_by has.started.binds (λ tag. past tag history)) (next.Closed outcome)
-    (calm batch history plain) (whole_steps history has.started.binds plain (active has.chart (log_of history batch)))
+    (sights_by (given has.started.binds) (λ tag. past tag history)) (next.Closed outcome)
+    (calm batch history plain)
+    (whole_steps history (given has.started.binds) plain (active has.chart (log_of history batch)))
     has.next_is)
   where
     Closes : Type 0
     Closes = (next_after has.chart (chart_entries (log_of history batch))
-        (sights_by has.started.binds (λ tag. past tag history)) ≡ Whole) × (is_completed_outcome outcome ≡ true)
+        (sights_by (given has.started.binds) (λ tag. past tag history)) ≡ Whole) × (is_completed_outcome outcome ≡ true)
 
     go : (next.Closed outcome ≡ next.Waiting why.Frozen) ⊎
         (run_next (next_after has.chart (chart_entries (log_of history batch))
-        (sights_by has.started.binds (λ tag. past tag history))) ≡ next.Closed outcome) → Closes
+        (sights_by (given has.started.binds) (λ tag. past tag history))) ≡ next.Closed outcome) → Closes
     go (inl frozen) = cc
     go (inr runs) = run_closed (next_after has.chart (chart_entries (log_of history batch))
-        (sights_by has.started.binds (λ tag. past tag history))) outcome runs
+        (sights_by (given has.started.binds) (λ tag. past tag history))) outcome runs
 
 -- an advance is answered plainly
 advance_plain : (history : History) (batch : List ℕ) → IsPlain history → (found : Option Next)
@@ -430,8 +433,8 @@ advance_plain history batch plain None is = refl
 advance_plain history batch plain (Some (next.Waiting obstacle)) is = refl
 advance_plain history batch plain (Some (next.Did entry)) is =
     let has = has_next history batch (next.Did entry) is in
-    next_of_run has.chart (chart_entries (log_of history batch)) (sights_by has.started.binds (λ tag. past tag history))
-    entry (did_runs history batch entry plain has)
+    next_of_run has.chart (chart_entries (log_of history batch))
+    (sights_by (given has.started.binds) (λ tag. past tag history)) entry (did_runs history batch entry plain has)
 advance_plain history batch plain (Some (next.Closed outcome)) is =
     (closed_whole history batch outcome plain (has_next history batch (next.Closed outcome) is)).1
 

@@ -33,7 +33,7 @@ use Rattle.pol_events.proofs.Options.{neither, no_image, not_some, some_same}
 use Rattle.pol_events.proofs.Lists.{among_member, none_found}
 use Rattle.pol_history.proofs.Binds.{IsFitting}
 use Rattle.chart_cursor.specs.Logs.{chart_entries}
-use Rattle.pol_events.specs.Bound.{bound_tag}
+use Rattle.pol_events.specs.Bound.{bound_tag, given}
 use Rattle.pol_events.proofs.Played.{bind_for}
 
 -- a step is formed
@@ -116,7 +116,7 @@ starts_exist history batch begun chart step tag service procedure description le
     ∙ ap Some (sym of.2.3)
   where
     sights : Sights
-    sights = sights_by begun.binds (λ tag. past tag history)
+    sights = sights_by (given begun.binds) (λ tag. past tag history)
 
     good : IsGoodChart chart
     good = sound history legal orderly begun.recipe chart chart_is
@@ -129,19 +129,19 @@ starts_exist history batch begun chart step tag service procedure description le
     formed = each_member Formed (steps chart.root 0) of.0 (formed_steps chart.root 0 (form_tree chart good.is_formed))
         of.1
 
-    fits : IsFitting chart begun.binds
+    fits : IsFitting chart (given begun.binds)
     fits = running_fits history batch begun chart legal orderly
         (record { start_is = start_is; chart_is = chart_is; unclosed = unclosed })
 
-    own : (t : List ℕ) × (bound_tag begun.binds of.0.step.role ≡ Some t)
+    own : (t : List ℕ) × (bound_tag (given begun.binds) of.0.step.role ≡ Some t)
     own = fits.bound of.0.step.role (among_member (role_names chart) of.0.step.role
         (roles_of_steps chart of.0 good.valid of.1))
 
-    bind : (bind : Bind) × Contains begun.binds bind × (bind.tag ≡ own.0) × (bind.role ≡ of.0.step.role)
-    bind = bind_for begun.binds of.0.step.role own.0 own.1
+    bind : (bind : Bind) × Contains (given begun.binds) bind × (bind.tag ≡ own.0) × (bind.role ≡ of.0.step.role)
+    bind = bind_for (given begun.binds) of.0.step.role own.0 own.1
 
     tag_is : bind.0.tag ≡ tag
-    tag_is = bind.2 ∙ sym (tag_of_bound history begun.binds of.0.step.role own.0 own.1) ∙ sym of.2.1
+    tag_is = bind.2 ∙ sym (tag_of_bound history (given begun.binds) of.0.step.role own.0 own.1) ∙ sym of.2.1
 
     covers : Covers chart bind.0.role (past bind.0.tag history)
     covers = all_cover history legal orderly batch begun chart start_is chart_is unclosed bind.0 bind.1

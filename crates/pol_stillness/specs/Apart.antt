@@ -24,7 +24,7 @@ use Rattle.chart_cursor.specs.Commands.{Sent, sent_by, IsOfStep, is_step_entry}
 use Rattle.chart_cursor.specs.Next.{next_after}
 use Rattle.chart_cursor.specs.declared.next.CursorNext.TheVariants.{Entry}
 use Rattle.chart_cursor.specs.Logs.{chart_entries}
-use Rattle.pol_events.specs.Bound.{bound_tag}
+use Rattle.pol_events.specs.Bound.{bound_tag, given}
 
 -- the node is a step of this role and service
 abbrev pub is_step_of : List ℕ → List ℕ → Tree → Bool
@@ -129,7 +129,7 @@ pub record IsOwed (history : History) (tag service : List ℕ) : Type 0 where
   pub chart_is : chart_named started.recipe (recipes history) ≡ Some chart
   pub unclosed : outcome_of history batch ≡ None
   pub inside : Contains (active_steps chart (chart_entries (log_of history batch))) placed
-  pub bound : bound_tag started.binds placed.step.role ≡ Some tag
+  pub bound : bound_tag (given started.binds) placed.step.role ≡ Some tag
   pub service_is : placed.step.service ≡ service
   pub view : ServiceView
   pub seen : view_of history tag service ≡ Some view
@@ -142,7 +142,7 @@ OwedIsNotSent =
     (sent : Sent) →
     IsLegal history → IsOrderly history → IsOwed history tag service → start_of history batch ≡ Some started →
     chart_named started.recipe (recipes history) ≡ Some chart → outcome_of history batch ≡ None →
-    next_after chart (chart_entries (log_of history batch)) (sights_by started.binds (λ tag. past tag history))
+    next_after chart (chart_entries (log_of history batch)) (sights_by (given started.binds) (λ tag. past tag history))
     ≡ Entry entry →
     sent_by entry ≡ Some sent → sent.tag ≡ tag → sent.service ≡ service → ⊥
 

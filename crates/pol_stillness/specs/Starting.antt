@@ -6,6 +6,7 @@ use Rattle.chart_core.specs.Roles.{PlainChart}
 use Rattle.chart_core.specs.declared.entry.LogEntry.TheVariants.{Start}
 use Rattle.chart_cursor.specs.Next.{next_after}
 use Rattle.chart_cursor.specs.declared.next.CursorNext.TheVariants.{Entry}
+use Rattle.pol_events.specs.Bound.{given}
 use Rattle.pol_history.specs.Looking.{History, past, recipes}
 use Rattle.pol_history.specs.Modules.{description_by}
 use Rattle.pol_history.specs.Batches.{Started, start_of, chart_named, outcome_of, log_of}
@@ -20,7 +21,7 @@ StartsExist =
     (procedure : ℕ) (description : PlainDescription) →
     IsLegal history → IsOrderly history → start_of history batch ≡ Some begun →
     chart_named begun.recipe (recipes history) ≡ Some chart → outcome_of history batch ≡ None →
-    next_after chart (chart_entries (log_of history batch)) (sights_by begun.binds (λ tag. past tag history))
+    next_after chart (chart_entries (log_of history batch)) (sights_by (given begun.binds) (λ tag. past tag history))
     ≡ Entry (Start step tag service procedure) →
     description_by (past tag history) ≡ Some description →
     asked_procedure service procedure description ≡ Some procedure

@@ -7,7 +7,7 @@ use Rattle.std.specs.Map.{lookup, keys_of}
 use Rattle.std.specs.Option.{option_and_then}
 use Rattle.std.specs.Str.{bytes_eq}
 use Rattle.mtp_codes.specs.declared.limits.TheConstants.{MOST_MODULES}
-use Rattle.pol_table.specs.Rows.{look}
+use Rattle.pol_table.specs.HeldRows.{look}
 use Rattle.pol_table.specs.Places.{part_at, row_at, rows_of, IsSound}
 use Rattle.pol_table.specs.declared.seat.Seat.{Seat}
 use Rattle.pol_table.proofs.Tags.{one_tag, same_itself}

@@ -4,7 +4,7 @@ use Rattle.std.specs.Map.{keys_of}
 use Rattle.std.specs.Option.{option_map}
 use Rattle.std.specs.Str.{bytes_eq}
 use Rattle.std.proofs.lemmas.Map.Made.{lookup-map_values}
-use Rattle.pol_table.specs.Rows.{Row, look, freed_from}
+use Rattle.pol_table.specs.HeldRows.{HeldRow, look, freed_from}
 use Rattle.pol_table.specs.Places.{part_at, rows_of, seat_freed_from, IsSound}
 use Rattle.pol_table.specs.declared.seat.Seat.{Seat}
 use Rattle.pol_table.proofs.Mapped.{sound_changed, look_changed}
@@ -35,9 +35,9 @@ module _ {T : Type 0} (seats : List (List ℕ × Seat)) (parts : List (Option T)
       (rw (length_changed (seat_freed_from batch) seats) sound.few)
 
   alike : (seat : Seat) (found : Option T)
-      → option_map (λ part. let row : Row T =
+      → option_map (λ part. let row : HeldRow T =
       record { part = part; holder = (seat_freed_from batch seat).holder } in row) found
-      ≡ option_map (freed_from batch) (option_map (λ part. let row : Row T =
+      ≡ option_map (freed_from batch) (option_map (λ part. let row : HeldRow T =
       record { part = part; holder = seat.holder } in row) found)
   alike seat None = refl
   alike seat (Some part) = refl

@@ -7,8 +7,8 @@ use Rattle.std.specs.Option.{option_map, option_and_then}
 use Rattle.std.specs.Str.{bytes_eq}
 use Rattle.mtp_codes.specs.Faults.{first_of}
 use Rattle.mtp_codes.specs.Names.{is_among}
-use Rattle.pol_table.specs.Answers.{missing_at, busy_at}
-use Rattle.pol_table.specs.Rows.{Row, look, held_by}
+use Rattle.pol_table.specs.HeldAnswers.{missing_at, busy_at}
+use Rattle.pol_table.specs.HeldRows.{HeldRow, look, held_by}
 use Rattle.pol_table.specs.Reasons.{missing_reason, busy_reason}
 use Rattle.pol_table.specs.Places.{part_at, row_at, rows_of, seat_missing_at, seat_busy_at, seat_held_by, IsSound}
 use Rattle.pol_table.specs.declared.seat.Seat.{Seat}
@@ -16,7 +16,7 @@ use Rattle.pol_table.proofs.Mapped.{sound_changed, look_changed}
 use Rattle.pol_table.proofs.Views.{look_rows_of, length_rows_of, holder_rows_of, some_of}
 
 -- answers that agree at each item agree on the first
-first_alike : {A B : Type 0} (one other : A → Option B) → ((item : A) → one item ≡ other item) → (items : List A)
+pub first_alike : {A B : Type 0} (one other : A → Option B) → ((item : A) → one item ≡ other item) → (items : List A)
     → first_of (map one items) ≡ first_of (map other items)
 first_alike one other same [] = refl
 first_alike one other same (item ∷ items) = rw (same item, first_alike one other same items) refl
@@ -74,13 +74,13 @@ module _ {T : Type 0} (tags : List (List ℕ)) (batch : List ℕ) (old new : Lis
       holds.unique (rw holds.len holds.sound.few)
 
   alike : (among : Bool) (seat : Seat) (found : Option T)
-      → option_map (λ part. let row : Row T = record {
+      → option_map (λ part. let row : HeldRow T = record {
         part = part;
         holder =
             (if among then seat_held_by batch seat else seat).holder;
       } in row) found
       ≡ option_map (λ row. if among then held_by batch row else row)
-      (option_map (λ part. let row : Row T = record { part = part; holder = seat.holder } in row) found)
+      (option_map (λ part. let row : HeldRow T = record { part = part; holder = seat.holder } in row) found)
   alike true seat None = refl
   alike true seat (Some part) = refl
   alike false seat None = refl

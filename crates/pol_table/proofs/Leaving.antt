@@ -4,7 +4,7 @@ use Rattle.std.specs.Prelude.{if◌then◌else◌, Result, unwrap_or}
 use Rattle.std.specs.Result.{result_ok, result_err}
 use Rattle.std.specs.Map.{lookup}
 use Rattle.std.specs.Str.{bytes_eq}
-use Rattle.pol_table.specs.Answers.{leaving}
+use Rattle.pol_table.specs.HeldAnswers.{leaving}
 use Rattle.pol_table.specs.Places.{part_at, rows_of, seat_leaving, seat_parting, IsSound}
 use Rattle.pol_table.specs.Reasons.{parting}
 use Rattle.pol_table.specs.declared.faults.LeaveFault.{LeaveFault}

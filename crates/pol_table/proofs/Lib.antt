@@ -6,4 +6,6 @@ pub mod Leaving
 pub mod Mapped
 pub mod HeldSeats
 pub mod Freeing
+pub mod Changed
 pub mod Parts
+pub mod Seen

@@ -6,7 +6,7 @@ use Rattle.std.specs.Map.{lookup, keys_of}
 use Rattle.std.specs.Option.{option_map, option_and_then}
 use Rattle.std.specs.Str.{bytes_eq}
 use Rattle.mtp_codes.specs.declared.limits.TheConstants.{MOST_MODULES}
-use Rattle.pol_table.specs.Rows.{Row, look}
+use Rattle.pol_table.specs.HeldRows.{HeldRow, look}
 use Rattle.pol_table.specs.Places.{row_at, rows_of, IsSound}
 use Rattle.pol_table.specs.declared.seat.Seat.{Seat}
 use Rattle.pol_table.proofs.Views.{look_rows_of}
@@ -39,7 +39,7 @@ module _ {T : Type 0} (parts : List (Option T)) (old new : List (List ℕ × Sea
   }
 
   -- the rows change as the seats do
-  pub look_changed : IsSound old parts → IsSound new parts → (give : List ℕ → Row T → Row T)
+  pub look_changed : IsSound old parts → IsSound new parts → (give : List ℕ → HeldRow T → HeldRow T)
       → ((tag : List ℕ) (seat : Seat) → row_at parts (change tag seat) ≡ option_map (give tag) (row_at parts seat))
       → (tag : List ℕ) → look tag (rows_of new parts) ≡ option_map (give tag) (look tag (rows_of old parts))
   look_changed sound after give alike tag =

@@ -1,44 +1,18 @@
 -- A part that is changed in its place.
 use Rattle.std.proofs.Common.{◌≡◌, ◌≢◌, ℕ, zero, suc, ◌<◌, Bool, true, false, List, [], ◌∷◌, length, Option, Some, None, refl, sym, ap, subst, ◌∙◌, arith, true≢false}
-use Rattle.std.specs.Prelude.{if◌then◌else◌, IsSome, slice_set}
+use Rattle.std.specs.Prelude.{IsSome, slice_set}
 use Rattle.std.specs.List.{AllByRecursion}
 use Rattle.std.specs.Map.{lookup}
-use Rattle.std.specs.Option.{option_map}
 use Rattle.std.specs.Str.{bytes_eq}
 use Rattle.std.proofs.lemmas.List.{get_or-set_same, get_or-set_other}
 use Rattle.std.proofs.lemmas.Option.{same_Some}
-use Rattle.pol_table.specs.Rows.{Rows, look, with_part}
+use Rattle.pol_table.specs.HeldRows.{with_part}
 use Rattle.pol_table.specs.Places.{part_at, rows_of, IsSound}
 use Rattle.pol_table.specs.declared.seat.Seat.{Seat}
 use Rattle.pol_table.proofs.Tags.{one_tag, same_itself, each_entry}
 use Rattle.pol_table.proofs.Views.{some_of}
 
-module _ {T : Type 0} (tag : List ℕ) (part : T) where
-  -- there are as many rows as before
-  pub length_with_part : (rows : Rows T) → length (with_part tag rows part) ≡ length rows
-  length_with_part [] = refl
-  length_with_part (row ∷ rows) = ap suc (length_with_part rows)
-
-  -- the tag has the part, and every other tag the row that it had
-  pub look_with_part : (rows : Rows T) (other : List ℕ)
-      → look other (with_part tag rows part) ≡ option_map (λ row. if bytes_eq tag other then record row
-      { part = part } else row) (look other rows)
-  look_with_part [] other = refl
-  look_with_part (row ∷ rows) other = go (bytes_eq other row.0) refl (bytes_eq tag row.0) refl
-      (look_with_part rows other)
-    where
-      go : (found : Bool) → bytes_eq other row.0 ≡ found → (same : Bool) → bytes_eq tag row.0 ≡ same
-          → look other (with_part tag rows part)
-          ≡ option_map (λ row. if bytes_eq tag other then record row { part = part } else row)
-          (look other rows)
-          → look other (with_part tag (row ∷ rows) part)
-          ≡ option_map (λ row. if bytes_eq tag other then record row { part = part } else row)
-          (look other (row ∷ rows))
-      go true found true same rest = let one = one_tag other row.0 found in rw (same, found, one, same) refl
-      go true found false same rest = let one = one_tag other row.0 found in rw (same, found, one, same) refl
-      go false found true same rest = rw (same, found) rest
-      go false found false same rest = rw (same, found) rest
-
+-- a place where a part is lies within the list
 within : {T : Type 0} (parts : List (Option T)) (place : ℕ) → IsSome (part_at parts place) → place < length parts
 within [] place is = absurd (true≢false (sym is))
 within (first ∷ parts) zero is = omega arith

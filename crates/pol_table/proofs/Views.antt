@@ -5,8 +5,8 @@ use Rattle.std.specs.List.{AllByRecursion}
 use Rattle.std.specs.Map.{lookup}
 use Rattle.std.specs.Option.{option_map, option_and_then}
 use Rattle.std.specs.Str.{bytes_eq}
-use Rattle.pol_table.specs.Rows.{Row, look, part_of, holder_of}
-use Rattle.pol_table.specs.Answers.{dock_fault}
+use Rattle.pol_table.specs.HeldRows.{HeldRow, look, part_of, holder_of}
+use Rattle.pol_table.specs.HeldAnswers.{dock_fault}
 use Rattle.pol_table.specs.Reasons.{dock_reason}
 use Rattle.pol_table.specs.Places.{part_at, row_at, rows_of, seat_holder, IsSound}
 use Rattle.pol_table.specs.declared.seat.Seat.{Seat}
@@ -25,18 +25,18 @@ first_or_rest false f first rest value at = refl
 module _ {T : Type 0} where
   same_part : (found : Option T) (holder : Option (List ℕ))
       → option_map (λ row. row.part)
-      (option_map (λ part. let row : Row T = record { part = part; holder = holder } in row) found) ≡ found
+      (option_map (λ part. let row : HeldRow T = record { part = part; holder = holder } in row) found) ≡ found
   same_part None holder = refl
   same_part (Some part) holder = refl
 
   same_holder : (found : Option T) (holder : Option (List ℕ)) → IsSome found
       → option_and_then (λ row. row.holder)
-      (option_map (λ part. let row : Row T = record { part = part; holder = holder } in row) found) ≡ holder
+      (option_map (λ part. let row : HeldRow T = record { part = part; holder = holder } in row) found) ≡ holder
   same_holder None holder is = absurd (true≢false (sym is))
   same_holder (Some part) holder is = refl
 
   some_row : (found : Option T) (holder : Option (List ℕ)) → IsSome found
-      → is_some (option_map (λ part. let row : Row T = record { part = part; holder = holder } in row) found)
+      → is_some (option_map (λ part. let row : HeldRow T = record { part = part; holder = holder } in row) found)
       ≡ true
   some_row None holder is = is
   some_row (Some part) holder is = refl

@@ -1,13 +1,19 @@
 -- What a table answers, read of the rows before the call.
-use Rattle.std.specs.Prelude.{ℕ, List, length, Option, None, Some, Result, Err, is_some, map}
+use Rattle.std.specs.Prelude.{ℕ, List, [], ◌∷◌, length, Option, None, Some, Result, Ok, Err, is_some, map}
 use Rattle.std.specs.Option.{option_or}
 use Rattle.mtp_codes.specs.Faults.{done_unless, first_of}
 use Rattle.pol_table.specs.Rows.{Row, Rows, look, holder_of}
-use Rattle.pol_table.specs.Reasons.{dock_reason, parting, missing_reason, busy_reason}
+use Rattle.pol_table.specs.Reasons.{dock_reason, missing_reason, busy_reason}
 use Rattle.pol_table.specs.declared.faults.DockFault.{DockFault}
 use Rattle.pol_table.specs.declared.faults.LeaveFault.{LeaveFault}
-use Rattle.pol_table.specs.declared.faults.LeaveFault.TheVariants.{NoModule as NotThere}
+use Rattle.pol_table.specs.declared.faults.LeaveFault.TheVariants.{NoModule as NotThere, Held, Watched}
 use Rattle.pol_table.specs.declared.faults.HoldFault.{HoldFault}
+
+-- what is found may leave where no batch holds it and none watches it
+abbrev pub parting_unless : {A : Type 0} → A → Option (List ℕ) → List (List ℕ) → Result A LeaveFault
+parting_unless found (Some batch) watchers = Err (Held batch)
+parting_unless found None (batch ∷ watchers) = Err (Watched batch)
+parting_unless found None [] = Ok found
 
 module _ {T : Type 0} where
   -- why nothing may dock under a tag: the tag is docked, or it is new and 64 are
@@ -18,7 +24,7 @@ module _ {T : Type 0} where
   -- the part that leaves this row, or why none does
   abbrev pub parting_from : Option (Row T) → Result T LeaveFault
   parting_from None = Err NotThere
-  parting_from (Some row) = parting row.part row.holder
+  parting_from (Some row) = parting_unless row.part row.holder row.watchers
 
   -- the part that leaves from a tag, or why none does
   abbrev pub leaving : List ℕ → Rows T → Result T LeaveFault

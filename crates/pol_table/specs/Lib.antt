@@ -1,4 +1,7 @@
+pub mod HeldRows
 pub mod Rows
 pub mod Reasons
+pub mod HeldAnswers
 pub mod Answers
 pub mod Places
+pub mod Watches

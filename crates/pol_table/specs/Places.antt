@@ -5,7 +5,7 @@ use Rattle.std.specs.Map.{lookup, keys_of}
 use Rattle.std.specs.Option.{option_map, option_and_then}
 use Rattle.std.specs.Str.{bytes_eq}
 use Rattle.mtp_codes.specs.declared.limits.TheConstants.{MOST_MODULES}
-use Rattle.pol_table.specs.Rows.{Row, Rows}
+use Rattle.pol_table.specs.HeldRows.{HeldRow, HeldRows}
 use Rattle.pol_table.specs.Reasons.{parting, missing_reason, busy_reason, let_go}
 use Rattle.pol_table.specs.declared.faults.HoldFault.{HoldFault}
 use Rattle.pol_table.specs.declared.faults.LeaveFault.{LeaveFault}
@@ -18,11 +18,11 @@ module _ {T : Type 0} where
   part_at parts place = slice_index_or parts place None
 
   -- the row of a seat
-  abbrev pub row_at : List (Option T) → Seat → Option (Row T)
+  abbrev pub row_at : List (Option T) → Seat → Option (HeldRow T)
   row_at parts seat = option_map (λ part. record { part = part; holder = seat.holder }) (part_at parts seat.place)
 
   -- the rows of these seats
-  abbrev pub rows_of : List (List ℕ × Seat) → List (Option T) → Rows T
+  abbrev pub rows_of : List (List ℕ × Seat) → List (Option T) → HeldRows T
   rows_of seats parts = filter_map (λ entry. option_map (λ row. (entry.0, row)) (row_at parts entry.1)) seats
 
   -- each tag has one seat with a place of its own, each place has a part, and there are at most 64 tags

@@ -19,6 +19,8 @@ pub enum LeaveFault {
     NoModule,
     /// This batch holds the tag.
     Held(Name),
+    /// No batch holds the tag, and this is the first one that watches it.
+    Watched(Name),
 }
 
 /// Why tags may not be held together.

@@ -1,14 +1,19 @@
-//! The table of a plant's docked modules: each part under its tag, and the batch that holds it.
+//! The table of a plant's docked modules: each part under its tag, and the batch that holds it, and those
+//! that watch it.
 //!
 //! It knows nothing of what a part is, of recipes or of events. `specs/Rows.antt` says what contracts see of a
 //! table, `specs/Answers.antt` what its calls answer; holding takes all tags or none, and a release frees exactly
-//! the tags of one batch.
+//! the tags of one batch and ends its watches.
 #![tactic(auto)]
 
 mod faults;
 mod holding;
+mod holdings;
 mod seat;
 mod table;
+mod watch;
+mod watching;
 
 pub use faults::{DockFault, HoldFault, LeaveFault};
 pub use table::Table;
+pub use watch::Watch;

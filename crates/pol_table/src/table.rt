@@ -1,39 +1,39 @@
 //! The table of docked parts.
-ghost use Rattle.std.specs.Prelude.{◌≡◌, ℕ, ◌+◌, List, [], length, OnOk, OnErr, IfErr, if◌then◌else◌, unwrap_or, option_copied};
+ghost use Rattle.std.specs.Prelude.{◌≡◌, ℕ, ◌+◌, List, [], length, OnOk, OnErr, IfErr, IsSome, true, slice_get, if◌then◌else◌, unwrap_or, option_copied};
 ghost use Rattle.std.specs.Borrow.{LendsIf, sem};
 ghost use Rattle.std.specs.Option.{option_copied_mut, option_map};
 ghost use Rattle.std.specs.Str.{bytes_eq};
 ghost use Rattle.mtp_codes.specs.Names.{is_among};
-ghost use Rattle.pol_table.specs.Rows.{look, part_of, holder_of, with_part, held_by, freed_from};
+ghost use Rattle.pol_table.specs.Rows.{look, part_of, holder_of, watchers_of, with_part, held_by, watched_among, freed_from};
 ghost use Rattle.pol_table.specs.Answers.{dock_fault, leaving, holding};
+ghost use Rattle.pol_table.specs.Watches.{watchers_in};
 
 use super::faults::{DockFault, HoldFault, LeaveFault};
-use super::holding::{first_busy, first_missing, free_each, free_seat, hold_each, holder_of_seat};
-use super::seat::Seat;
-use indexmap::IndexMap;
-use mtp_codes::{MOST_MODULES, Name};
-use slab::Slab;
-use std::alloc::Global;
+use super::holdings::Holdings;
+use super::watch::Watch;
+use super::watching::{add_each, end_each, watcher_at};
+use mtp_codes::Name;
+use std::alloc::{AllocError, Global};
 use std::marker::Model;
 
-/// The docked parts of a plant, each under its tag, and the batch that holds it.
+/// The docked parts of a plant, each under its tag, with the batch that holds it and the batches that watch it.
 #[derive(Drop)]
 pub struct Table<T> {
-    parts: Slab<T>,
-    seats: IndexMap<Name, Seat>,
+    holdings: Holdings<T>,
+    watches: Vec<Watch>,
 }
 
 impl<T> Model for Table<T> {
     ghost use Rattle.pol_table.specs.Rows.{Rows, rows_code};
-    ghost use Rattle.pol_table.specs.Places.{rows_of, IsSound};
+    ghost use Rattle.pol_table.specs.Watches.{seen_rows, AreThere};
 
     ghost Value = { Rows T };
 
     ghost coded = { rows_code T.code };
 
-    ghost view = { λ table. rows_of table.seats.entries table.parts.slots };
+    ghost view = { λ table. seen_rows table.watches.items table.holdings };
 
-    ghost invariant = { λ table. IsSound table.seats.entries table.parts.slots };
+    ghost invariant = { λ table. AreThere table.watches.items table.holdings };
 }
 
 impl<T: Drop> Table<T> {
@@ -44,8 +44,8 @@ impl<T: Drop> Table<T> {
         ensures { result ≡ [] }
     {
         Table {
-            parts: Slab::new(alloc),
-            seats: IndexMap::new(alloc),
+            holdings: Holdings::new(alloc),
+            watches: Vec::new(alloc),
         }
     }
 
@@ -53,15 +53,14 @@ impl<T: Drop> Table<T> {
     pub fn len(&self) -> u32
         ensures { result ≡ length self.now }
     {
-        self.seats.len() as u32
+        self.holdings.len()
     }
 
     /// The part that is docked under the tag; None exactly where the tag is not docked.
     pub fn get(&self, tag: Name) -> Option<&T>
         ensures { option_copied result ≡ part_of tag self.now }
     {
-        let seat = self.seats.get(&tag)?;
-        self.parts.get(seat.place)
+        self.holdings.get(tag)
     }
 
     /// The part that is docked under the tag, to be changed in its place; None exactly where the tag is not docked.
@@ -70,55 +69,52 @@ impl<T: Drop> Table<T> {
             (LendsIf (the_row T.row) T.row self.entry result (with_part tag self.old) self.old) }
         ensures value { option_copied_mut result ≡ part_of tag self.old }
     {
-        let place = self.seats.get(&tag)?.place;
-        self.parts.get_mut(place)
+        self.holdings.get_mut(tag)
     }
 
     /// The batch that holds the tag; None exactly where the tag is not docked or not held.
     pub fn holder(&self, tag: Name) -> Option<Name>
         ensures { result ≡ holder_of tag self.now }
     {
-        holder_of_seat(&self.seats, tag)
+        self.holdings.holder(tag)
     }
 
-    /// Docks a part under a tag that no batch holds yet.
+    /// The batch that watches the tag at this place, from 0, in the order in which they began; None from their number
+    /// on.
+    pub fn watcher(&self, tag: Name, place: u32) -> Option<Name>
+        ensures { result ≡ slice_get (watchers_of tag self.now) place }
+    {
+        watcher_at(&self.watches, tag, place)
+    }
+
+    /// Who watches what, in the order in which they began: the watches of a tag are those of its watchers.
+    pub fn watches(&self) -> &[Watch]
+        ensures { (tag : List ℕ) → watchers_in tag result.now ≡ watchers_of tag self.now }
+    {
+        &self.watches
+    }
+
+    /// Docks a part under a tag that no batch holds or watches yet.
     ///
     /// `TagTaken` where the tag is docked, `PlantFull` where it is new and 64 are docked, `Memory` for want of
     /// memory; each hands the part back.
     pub fn dock(&mut self, tag: Name, part: T) -> Result<(), (T, DockFault)>
         ensures ok { OnOk result (dock_fault tag self.old ≡ None) }
         ensures docked { OnOk result ((other : List ℕ) → look other self.new
-            ≡ (if bytes_eq tag other then Some (record { part = part; holder = None }) else look other self.old)) }
+            ≡ (if bytes_eq tag other then Some (record { part = part; holder = None; watchers = [] })
+            else look other self.old)) }
         ensures count { OnOk result (length self.new ≡ length self.old + 1) }
         ensures err { IfErr result (λ refused. refused.1 ≡ unwrap_or (dock_fault tag self.old) DockFault.Memory) }
         ensures handed_back { IfErr result (λ refused. refused.0 ≡ part) }
         ensures unchanged { OnErr result (self.new ≡ self.old) }
     {
-        if self.seats.contains_key(&tag) {
-            return Err((part, DockFault::TagTaken));
-        }
-        if self.seats.len() >= MOST_MODULES {
-            return Err((part, DockFault::PlantFull));
-        }
-        if self.seats.reserve(1).is_err() {
-            return Err((part, DockFault::Memory));
-        }
-        match self.parts.insert(part) {
-            Ok(place) => {
-                let seat = Seat {
-                    place,
-                    holder: None,
-                };
-                self.seats.insert(tag, seat).unwrap();
-                Ok(())
-            }
-            Err(failed) => Err((failed.value, DockFault::Memory)),
-        }
+        self.holdings.dock(tag, part)
     }
 
     /// Takes the part out that is docked under the tag.
     ///
-    /// `NoModule` exactly where the tag is not docked, `Held` exactly where a batch holds it.
+    /// `NoModule` exactly where the tag is not docked, `Held` exactly where a batch holds it, `Watched` exactly where
+    /// no batch holds it and some batch watches it, the first of them.
     pub fn leave(&mut self, tag: Name) -> Result<T, LeaveFault>
         ensures answer { result ≡ leaving tag self.old }
         ensures left { OnOk result ((other : List ℕ) → look other self.new
@@ -126,12 +122,13 @@ impl<T: Drop> Table<T> {
         ensures count { OnOk result (length self.new + 1 ≡ length self.old) }
         ensures unchanged { OnErr result (self.new ≡ self.old) }
     {
-        let seat = free_seat(&self.seats, tag)?;
-        let _seat = self.seats.swap_remove(&tag);
-        match self.parts.try_remove(seat.place) {
-            Some(part) => Ok(part),
-            None => unreachable!(),
+        if let Some(batch) = self.holdings.holder(tag) {
+            return Err(LeaveFault::Held(batch));
         }
+        if let Some(batch) = watcher_at(&self.watches, tag, 0) {
+            return Err(LeaveFault::Watched(batch));
+        }
+        self.holdings.leave(tag)
     }
 
     /// Lets the batch hold all of these tags, or none of them.
@@ -145,21 +142,27 @@ impl<T: Drop> Table<T> {
         ensures count { length self.new ≡ length self.old }
         ensures unchanged { OnErr result (self.new ≡ self.old) }
     {
-        if let Some(fault) = first_missing(&self.seats, tags) {
-            return Err(fault);
-        }
-        if let Some(fault) = first_busy(&self.seats, tags) {
-            return Err(fault);
-        }
-        hold_each(&mut self.seats, tags, batch);
-        Ok(())
+        self.holdings.hold_all(tags, batch)
     }
 
-    /// Frees exactly the tags that the batch holds.
+    /// Lets the batch watch all of these tags, which are docked, behind all others; a tag that is named twice is
+    /// watched twice. For want of memory it watches none.
+    pub fn watch_all(&mut self, tags: &[Name], batch: Name) -> Result<(), AllocError>
+        requires { (tag : List ℕ) → is_among tags.now tag ≡ true → IsSome (look tag self.old) }
+        ensures watched { OnOk result ((tag : List ℕ) → look tag self.new
+            ≡ option_map (watched_among tags.now batch tag) (look tag self.old)) }
+        ensures count { length self.new ≡ length self.old }
+        ensures unchanged { OnErr result (self.new ≡ self.old) }
+    {
+        add_each(&mut self.watches, tags, batch)
+    }
+
+    /// Frees exactly the tags that the batch holds, and ends exactly its watches.
     pub fn release(&mut self, batch: Name)
         ensures freed { (tag : List ℕ) → look tag self.new ≡ option_map (freed_from batch) (look tag self.old) }
         ensures count { length self.new ≡ length self.old }
     {
-        free_each(&mut self.seats, batch);
+        self.holdings.release(batch);
+        end_each(&mut self.watches, batch);
     }
 }

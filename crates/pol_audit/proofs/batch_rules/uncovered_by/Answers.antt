@@ -14,7 +14,7 @@ returns-in-Some-held_back_by c =
     ∙ sym (uncovered_is (recipes (plain_history c.args.history.now))
     (past_of_batch c.args.batch (plain_history c.args.history.now)) c.args.tag
     (plain_description c.args.description.now) c.args.batch
-    (started c.in-Some.start) (plain_chart c.in-Some-chart_named.chart.now) c.in-Some-bound_role.role
+    (started c.in-Some.start) (plain_chart c.in-Some-chart_named.chart.now) c.in-Some-role_of.role
     (sym c.start_of.ensures ∙ ap (option_map started) c.in-Some.is)
     (sym c.chart_named.ensures ∙ ap (option_map (λ chart. plain_chart chart.now)) c.in-Some-chart_named.is)
-    (sym c.bound_role.ensures ∙ c.in-Some-bound_role.is))
+    (sym c.role_of.ensures ∙ c.in-Some-role_of.is))

@@ -2,6 +2,7 @@ use Rattle.std.proofs.Common.{◌≡◌, drop}
 use Rattle.std.specs.Prelude.{filter}
 use Rattle.chart_core.specs.Order.{plans_seen}
 use Rattle.chart_cursor.specs.NextEntry.{first_broken}
+use Rattle.pol_events.specs.Bound.{given, plain_allocation}
 use Rattle.pol_events.specs.Events.{plain_history}
 use Rattle.pol_history.specs.Looking.{past}
 use Rattle.pol_history.specs.Following.{sights_by}
@@ -10,7 +11,8 @@ use Rattle.pol_audit.proofs.following.first_broken.Given as goal
 
 abbrev pub invariant-loop-step : goal.invariant-loop-step
 invariant-loop-step l =
-    first_broken (sights_by l.seen.binds.now (λ tag. past tag (plain_history l.seen.history.now)))
+    first_broken (sights_by (given (plain_allocation l.seen.binds))
+    (λ tag. past tag (plain_history l.seen.history.now)))
     (filter (is_active_step l.log) (plans_seen (drop l.step-index l.steps)))
-    ≡ first_broken (sights_by l.seen.binds.now (λ tag. past tag (plain_history l.seen.history.now)))
-    (filter (is_active_step l.log) (plans_seen l.steps))
+    ≡ first_broken (sights_by (given (plain_allocation l.seen.binds))
+    (λ tag. past tag (plain_history l.seen.history.now))) (filter (is_active_step l.log) (plans_seen l.steps))

@@ -2,6 +2,7 @@ use Rattle.std.proofs.Common.{◌∙◌, ap}
 use Rattle.std.proofs.lemmas.Result.{IfOk-weaker}
 use Rattle.chart_core.specs.Charts.{plain_chart}
 use Rattle.chart_cursor.specs.NextEntry.{next_by}
+use Rattle.pol_events.specs.Bound.{given, plain_allocation}
 use Rattle.pol_events.specs.Events.{plain_history}
 use Rattle.pol_history.specs.Looking.{past, past_of_batch}
 use Rattle.pol_history.specs.Batches.{is_frozen_by}
@@ -10,7 +11,8 @@ use Rattle.pol_audit.proofs.following.next_of_start.Goals as goal
 
 pub returns : goal.returns
 returns c =
-    let seen = sights_by c.args.start.binds.now (λ tag. past tag (plain_history c.args.history.now)) in
+    let seen = sights_by (given (plain_allocation c.args.start.binds))
+    (λ tag. past tag (plain_history c.args.history.now)) in
     IfOk-weaker c.next_by.result _ _
     (λ next is.
     is

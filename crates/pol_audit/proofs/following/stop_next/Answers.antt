@@ -2,6 +2,7 @@ use Rattle.std.proofs.Common.{◌∙◌, ap, sym, suc, drop}
 use Rattle.std.specs.Prelude.{filter}
 use Rattle.chart_core.specs.Order.{plans_seen}
 use Rattle.chart_cursor.specs.NextEntry.{stop_next}
+use Rattle.pol_events.specs.Bound.{given, plain_allocation}
 use Rattle.pol_events.specs.Events.{plain_history}
 use Rattle.pol_history.specs.Looking.{past}
 use Rattle.pol_history.specs.Following.{sights_by}
@@ -11,7 +12,8 @@ use Rattle.pol_audit.proofs.following.stop_next.Goals as goal
 
 pub returns-then-is_active_step : goal.returns-then-is_active_step
 returns-then-is_active_step c =
-    let seen = sights_by c.args.seen.now.binds.now (λ tag. past tag (plain_history c.args.seen.now.history.now)) in
+    let seen = sights_by (given (plain_allocation c.args.seen.now.binds))
+    (λ tag. past tag (plain_history c.args.seen.now.history.now)) in
     let test = is_active_step c.args.log.now in
     c.stop_seen.ensures c.args.broken (filter test (plans_seen (drop (suc c.loop-step.step-index) c.args.steps.now)))
     ∙ ap (stop_next seen c.args.broken)

@@ -1,14 +1,11 @@
 -- Each kind of event, by what its function ensures.
-use Rattle.std.proofs.Common.{◌≡◌, ◌∙◌, sym, ap, subst, refl, length, true}
-use Rattle.std.specs.Prelude.{nat_le}
+use Rattle.std.proofs.Common.{◌≡◌, ◌∙◌, sym, ap, subst, refl, true}
 use Rattle.std.proofs.lemmas.Bool.{and_parts}
-use Rattle.mtp_codes.specs.declared.limits.TheConstants.{MOST_BINDS}
 use Rattle.mtp_desc.specs.PlainDescription.{plain_description}
 use Rattle.chart_core.specs.Charts.{plain_chart}
 use Rattle.chart_core.specs.Roles.{is_chart_form}
 use Rattle.pol_events.specs.Events.{plain_event, plug, unplug, report, variable, recipe, start, advance, freeze, thaw, stop_batch, abandon, desk, exchange_begin, exchange_end, exchange_cancel}
-use Rattle.pol_events.specs.Orderly.{is_orderly, is_valid, rise, roles_once}
-use Rattle.pol_events.proofs.Rising.{rising_distinct}
+use Rattle.pol_events.specs.Orderly.{is_allocation, is_orderly, is_valid}
 use Rattle.pol_core.specs.Mirrors.{Answers}
 use Rattle.pol_core.proofs.Learned.{recipe_answered}
 use Rattle.pol_core.proofs.Telling.{if_ok, on_err}
@@ -63,22 +60,25 @@ recipe-requires c =
 
 pub returns-in-Start-clause-answered : goal.returns-in-Start-clause-answered
 returns-in-Start-clause-answered c =
-    let event = start c.in-Start.at c.in-Start.batch c.in-Start.name c.deref.result.now in
+    let event = start c.in-Start.at c.in-Start.batch c.in-Start.name
+    (record { held = c.deref.result.now; watched = c.deref-in-Start.result.now }) in
     let same : event ≡ plain_event c.args.event.now =
-    ap (λ binds. start c.in-Start.at c.in-Start.batch c.in-Start.name binds) c.deref.ensures.value
+    ap (λ held. start c.in-Start.at c.in-Start.batch c.in-Start.name
+    (record { held = held; watched = c.deref-in-Start.result.now })) c.deref.ensures.value
+    ∙ ap (λ watched. start c.in-Start.at c.in-Start.batch c.in-Start.name
+    (record { held = c.in-Start.bind.items; watched = watched })) c.deref-in-Start.ensures.value
     ∙ ap plain_event (sym c.in-Start.is) in
     if_ok c.start.result _ _ (λ answer taken history mirrors room.
     subst (λ event. Answers history event answer c.start.new.modules c.start.new.runs.entries
     c.args.recipes.now.entries) same
     (taken history c.in-Start.at mirrors room)) c.start.ensures.answered
 
-pub start-requires-clause-once : goal.start-requires-clause-once
-start-requires-clause-once c =
-    let orderly : is_orderly (start c.in-Start.at c.in-Start.batch c.in-Start.name c.in-Start.bind.items)
-    ≡ true = ap (λ event. is_orderly (plain_event event)) (sym c.in-Start.is) ∙ c.requires.orderly in
-    ap roles_once c.deref.ensures.value
-    ∙ rising_distinct c.in-Start.bind.items (and_parts (nat_le (length c.in-Start.bind.items) MOST_BINDS)
-    (rise c.in-Start.bind.items) orderly).1
+pub start-requires-clause-orderly : goal.start-requires-clause-orderly
+start-requires-clause-orderly c =
+    ap (λ held. is_allocation (record { held = held; watched = c.deref-in-Start.result.now })) c.deref.ensures.value
+    ∙ ap (λ watched. is_allocation (record { held = c.in-Start.bind.items; watched = watched }))
+    c.deref-in-Start.ensures.value
+    ∙ ap (λ event. is_orderly (plain_event event)) (sym c.in-Start.is) ∙ c.requires.orderly
 
 pub returns-in-Advance-clause-answered : goal.returns-in-Advance-clause-answered
 returns-in-Advance-clause-answered c =

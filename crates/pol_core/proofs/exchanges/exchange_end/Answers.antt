@@ -1,12 +1,20 @@
 -- Another module is docked, or a rule is against it.
-use Rattle.std.proofs.Common.{◌∙◌, sym, ap, subst}
+use Rattle.std.proofs.Common.{◌∙◌, sym, ap, subst, refl}
+use Rattle.std.specs.Option.{option_copied}
 use Rattle.mtp_desc.specs.PlainDescription.{plain_description}
 use Rattle.pol_history.specs.Rules.{held_back}
 use Rattle.pol_core.specs.Exchanges.{DocksAgain}
 use Rattle.pol_core.proofs.Again.{stays_mirrored, stays_counted}
 use Rattle.pol_core.proofs.Ending.{end_refused, end_held_back, end_answered}
+use Rattle.pol_core.proofs.Plugging.{missing_answered}
 use Rattle.pol_core.proofs.Telling.{on_err_of}
 use Rattle.pol_core.proofs.exchanges.exchange_end.Goals as goal
+
+pub returns-in_default-clause-answered : goal.returns-in_default-clause-answered
+returns-in_default-clause-answered c =
+    λ history at seats counted batches room.
+    missing_answered history _ c.args.tag _ c.args.modules.now refl room seats counted
+    (sym c.get.ensures ∙ ap option_copied c.in_default.is)
 
 pub returns-in-Some-ticket_rule-clause-answered : goal.returns-in-Some-ticket_rule-clause-answered
 returns-in-Some-ticket_rule-clause-answered c =

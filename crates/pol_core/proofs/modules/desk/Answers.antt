@@ -1,9 +1,18 @@
 -- The command goes to the service, or a rule is against it.
-use Rattle.std.proofs.Common.{◌∙◌, sym, ap}
+use Rattle.std.proofs.Common.{◌∙◌, sym, ap, refl}
+use Rattle.std.specs.Option.{option_copied}
 use Rattle.pol_events.specs.declared.answer.Answer.TheVariants.{Did, Refused}
 use Rattle.pol_core.specs.Seats.{asked_answer}
 use Rattle.pol_core.proofs.Asking.{desk_answered}
+use Rattle.pol_core.proofs.Plugging.{missing_answered}
 use Rattle.pol_core.proofs.modules.desk.Goals as goal
+
+pub returns-in_default : goal.returns-in_default
+returns-in_default c = record {
+  answered = λ history at seats counted room.
+      missing_answered history _ c.args.tag _ c.args.modules.now refl room seats counted
+      (sym c.get.ensures ∙ ap option_copied c.in_default.is);
+}
 
 pub returns-in-Ok : goal.returns-in-Ok
 returns-in-Ok c = record {

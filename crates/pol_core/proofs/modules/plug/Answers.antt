@@ -1,12 +1,12 @@
 -- A module is plugged, or a rule is against it.
-use Rattle.std.proofs.Common.{◌∙◌, sym, ap, is_some, refl, length, ◌<◌, arith}
-use Rattle.std.proofs.lemmas.Bool.{lt-leb}
+use Rattle.std.proofs.Common.{◌∙◌, sym, ap, is_some, refl, length, ◌<◌, ◌≤◌, arith}
+use Rattle.std.proofs.lemmas.Bool.{lt-leb, le-leb}
 use Rattle.mtp_codes.specs.declared.limits.TheConstants.{MOST_MODULES}
 use Rattle.mtp_desc.specs.PlainDescription.{plain_description}
 use Rattle.pol_events.specs.declared.answer.Answer.TheVariants.{Done}
 use Rattle.pol_history.specs.Looking.{past}
 use Rattle.pol_table.specs.Rows.{look}
-use Rattle.pol_core.proofs.Plugging.{plug_keeps, refused_answered, tag_taken_is, plug_answered}
+use Rattle.pol_core.proofs.Plugging.{plug_keeps, refused_answered, tag_taken_is, full_answered, plug_answered}
 use Rattle.pol_events.proofs.Options.{not_some}
 use Rattle.pol_core.proofs.Telling.{part_some, copied_some}
 use Rattle.pol_core.proofs.modules.plug.Goals as goal
@@ -20,6 +20,18 @@ returns-then-is_some-clause-answered c =
     (sym (part_some (look c.args.tag c.args.modules.now)) ∙ ap is_some (sym c.get.ensures)
     ∙ copied_some c.get.result ∙ sym c.is_some.ensures ∙ c.if-is_some.true) seats room)
     refl seats counted
+
+pub returns-then-len-ge-MOST_MODULES-clause-answered : goal.returns-then-len-ge-MOST_MODULES-clause-answered
+returns-then-len-ge-MOST_MODULES-clause-answered c =
+    λ history at seats counted room.
+    full_answered history at c.args.tag (plain_description c.args.description.now.value) c.args.modules.now
+    (not_some (look c.args.tag c.args.modules.now)
+    (sym (part_some (look c.args.tag c.args.modules.now)) ∙ ap is_some (sym c.get.ensures)
+    ∙ copied_some c.get.result ∙ sym c.is_some.ensures ∙ c.if-is_some.false))
+    (let full = c.if-len-ge-MOST_MODULES.true in let len = c.len.ensures in
+    let many : MOST_MODULES ≤ length c.args.modules.now = omega arith in
+    le-leb MOST_MODULES (length c.args.modules.now) many)
+    seats counted room
 
 pub returns-in-Ok-clause-answered : goal.returns-in-Ok-clause-answered
 returns-in-Ok-clause-answered c =

@@ -6,8 +6,16 @@ use Rattle.pol_table.specs.Rows.{part_of}
 use Rattle.pol_core.specs.Seats.{done_or_refused}
 use Rattle.pol_core.proofs.Judging.{report_judged}
 use Rattle.pol_core.proofs.Keeping.{unchanged_keeps, report_keeps}
+use Rattle.pol_core.proofs.Plugging.{missing_answered}
 use Rattle.pol_core.proofs.Telling.{seated_slot, slot_answered, on_ok, on_err}
 use Rattle.pol_core.proofs.modules.report.Goals as goal
+
+pub returns-in-None : goal.returns-in-None
+returns-in-None c = record {
+  answered = λ history at seats counted room.
+      missing_answered history _ c.args.tag _ c.args.modules.now refl room seats counted
+      (sym c.get_mut.ensures.value ∙ ap option_copied_mut c.in-None.is);
+}
 
 pub returns-in-Some : goal.returns-in-Some
 returns-in-Some c = record {

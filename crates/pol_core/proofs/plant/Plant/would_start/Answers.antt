@@ -16,7 +16,9 @@ returns c =
     ∙ sym (length_history entries) in
     c.unless_refused.ensures
     ∙ ap (λ n. refused_first n c.start_rule-rule.result) counted
-    ∙ refused_by (plain_history entries) (start at c.args.batch c.args.recipe c.args.binds.now) c.start_rule-rule.result
+    ∙ refused_by (plain_history entries) (start at c.args.batch c.args.recipe
+    (record { held = c.args.binds.now; watched = c.args.watches.now })) c.start_rule-rule.result
     (c.start_rule-rule.ensures (plain_history entries) at c.self.invariant.1) refl
     ∙ ap (λ (plant : PlainPlant). refusal (answer_of (plant_history plant)
-    (start at c.args.batch c.args.recipe c.args.binds.now))) c.self.view_is
+    (start at c.args.batch c.args.recipe
+    (record { held = c.args.binds.now; watched = c.args.watches.now })))) c.self.view_is

@@ -1,16 +1,8 @@
--- A tag has the part at its seat's place.
+-- A tag has the part that it has in the holdings.
 use Rattle.std.proofs.Common.{sym, ◌∙◌}
-use Rattle.pol_table.proofs.Views.{no_row, part_of_seat}
+use Rattle.pol_table.proofs.Seen.{part_seen}
 use Rattle.pol_table.proofs.table.Table.get.Goals as goal
-
-pub returns-in_err-seat : goal.returns-in_err-seat
-returns-in_err-seat g c = rw (
-  ← c.self.view_is,
-  no_row _ _ c.self.invariant _
-      (sym c.in_err-seat.ensures.value),
-  c.from_residual.ensures,
-)
 
 pub returns : goal.returns
 returns g c = rw (← c.self.view_is)
-    (c.get-2.ensures ∙ sym (part_of_seat _ _ c.self.invariant _ _ (sym c.in_ok-seat.ensures.value)))
+    (c.get.ensures ∙ sym (part_seen c.self.inside.watches.items c.self.inside.holdings c.args.tag))

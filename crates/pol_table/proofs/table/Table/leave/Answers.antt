@@ -1,41 +1,42 @@
--- The part of the tag's seat leaves, where the seat is free.
-use Rattle.std.proofs.Common.{sym, ap, ◌∙◌, true≢false, is_some}
-use Rattle.std.proofs.lemmas.Result.{err_from_is_err_and}
-use Rattle.pol_table.proofs.Docking.{Leaves, look_left, length_left}
-use Rattle.pol_table.proofs.Leaving.{leaving_refused, leaving_free, found_free, one_less}
+-- The part leaves where no batch holds it and none watches it.
+use Rattle.std.proofs.Common.{◌∙◌, sym, ap}
+use Rattle.std.specs.Prelude.{slice_get}
+use Rattle.std.proofs.lemmas.Result.{on_ok_weaker}
+use Rattle.pol_table.specs.Watches.{watchers_in}
+use Rattle.pol_table.proofs.Seen.{first_none_empty, leaving_free, leaving_held, leaving_watched, left_seen, there_after_leave}
 use Rattle.pol_table.proofs.table.Table.leave.Goals as goal
 
-pub returns-in_err-seat-clause-answer : goal.returns-in_err-seat-clause-answer
-returns-in_err-seat-clause-answer g c =
-    let fault = err_from_is_err_and c.from_residual.result c.from_residual.ensures.1 in
-    rw (fault.1, fault.2, ← c.self.view_is) (sym (leaving_refused _ _ c.self.invariant _ _ (sym c.in_err-seat.ensures)))
+pub returns-in-Some-clause-answer : goal.returns-in-Some-clause-answer
+returns-in-Some-clause-answer g c = rw (← c.self.view_is)
+    (sym (leaving_held c.self.inside.watches.items c.self.inside.holdings c.args.tag c.in-Some.batch
+    (sym c.holder.ensures ∙ c.in-Some.is)))
 
-pub unreachable-requires : goal.unreachable-requires
-unreachable-requires g c =
-    true≢false (sym (c.self.invariant.occupied _ _ (found_free _ _ (sym c.in_ok-seat.ensures)).0)
-    ∙ ap is_some (sym c.try_remove.ensures.value ∙ c.in-None.is))
+pub returns-in-Some-watcher_at-clause-answer : goal.returns-in-Some-watcher_at-clause-answer
+returns-in-Some-watcher_at-clause-answer g c = rw (← c.self.view_is)
+    (sym (leaving_watched c.self.inside.watches.items c.self.inside.holdings c.args.tag c.in-Some-watcher_at.batch
+    c.self.invariant (sym c.holder.ensures ∙ c.in_default.is)
+    (ap (λ watches. slice_get (watchers_in c.args.tag watches) 0) (sym c.deref.ensures.value)
+    ∙ sym c.watcher_at.ensures ∙ c.in-Some-watcher_at.is)))
+
+pub invariant_of-self : goal.invariant_of-self
+invariant_of-self g c =
+    there_after_leave c.leave.result c.self.inside.watches.items c.args.tag c.self.inside.holdings c.leave.new.self
+    c.self.invariant
+    (first_none_empty (watchers_in c.args.tag c.self.inside.watches.items)
+    (ap (λ watches. slice_get (watchers_in c.args.tag watches) 0) (sym c.deref.ensures.value)
+    ∙ sym c.watcher_at.ensures ∙ c.in_default-watcher_at.is)) c.leave.ensures.left c.leave.ensures.unchanged
 
 pub returns-clause-answer : goal.returns-clause-answer
-returns-clause-answer g c =
-    rw (← c.self.view_is)
-    (sym (leaving_free _ _ c.self.invariant _ _ _ (sym c.in_ok-seat.ensures)
-    (sym c.try_remove.ensures.value ∙ c.in-Some.is)))
-
-leaves : (g : _) (c : goal.In-Some g)
-    → Leaves c.args.tag c.in_ok-seat.seat c.self.inside.seats.entries c.swap_remove-seat.new.self.entries
-    c.self.inside.parts.slots c.try_remove.new.self.slots
-leaves g c =
-    let found = found_free _ _ (sym c.in_ok-seat.ensures) in record {
-      sound = c.self.invariant;
-      seated = found.0;
-      taken = c.swap_remove-seat.ensures.updates.0;
-      others = c.try_remove.ensures.updates.others;
-      unique = c.swap_remove-seat.ensures.unique;
-      count = one_less _ _ _ _ (c.swap_remove-seat.ensures.value ∙ found.0) c.swap_remove-seat.ensures.len;
-    }
+returns-clause-answer g c = rw (← c.self.view_is)
+    (c.leave.ensures.answer
+    ∙ sym (leaving_free c.self.inside.watches.items c.self.inside.holdings c.args.tag
+    (sym c.holder.ensures ∙ c.in_default.is)
+    (first_none_empty (watchers_in c.args.tag c.self.inside.watches.items)
+    (ap (λ watches. slice_get (watchers_in c.args.tag watches) 0) (sym c.deref.ensures.value)
+    ∙ sym c.watcher_at.ensures ∙ c.in_default-watcher_at.is))))
 
 pub returns-clause-left : goal.returns-clause-left
-returns-clause-left g c other = rw (← c.self.view_is) (look_left _ _ _ _ _ _ (leaves g c) other)
-
-pub returns-clause-count : goal.returns-clause-count
-returns-clause-count g c = rw (← c.self.view_is) (length_left _ _ _ _ _ _ (leaves g c))
+returns-clause-left g c = rw (← c.self.view_is)
+    (on_ok_weaker c.leave.result
+    (λ left other. left_seen c.self.inside.watches.items c.args.tag c.self.inside.holdings c.leave.new.self left other)
+    c.leave.ensures.left)

@@ -1,7 +1,8 @@
--- There are as many rows as seats.
+-- There are as many rows as in the holdings.
 use Rattle.std.proofs.Common.{sym, ◌∙◌}
-use Rattle.pol_table.proofs.Views.{length_rows_of}
+use Rattle.pol_table.proofs.Seen.{length_seen}
 use Rattle.pol_table.proofs.table.Table.len.Goals as goal
 
 pub returns : goal.returns
-returns g c = rw (← c.self.view_is) (c.len.ensures.len ∙ sym (length_rows_of _ _ c.self.invariant))
+returns g c = rw (← c.self.view_is)
+    (c.len.ensures ∙ sym (length_seen c.self.inside.watches.items c.self.inside.holdings))
