@@ -1,0 +1,33 @@
+-- The same value seen by two views that agree.
+use Rattle.std.proofs.Common.{ℕ, List, map, Result, Ok, Err, Option, Some, None, ◌∙◌, ap, Vec, Global}
+use Rattle.std.specs.Option.{option_map}
+use Rattle.std.proofs.lemmas.List.{map-id}
+use Rattle.mtp_codes.specs.declared.command.Command.{Command}
+use Rattle.mtp_codes.specs.declared.name.Name.{Name}
+use Rattle.mtp_json.specs.declared.fault.JsonRefusal.{JsonRefusal}
+use Rattle.mtp_json.specs.ReadsAs.{ReadsAs}
+use Rattle.mtp_json.specs.ReadResult.{ReadResult}
+
+-- names are plain data as they are
+pub names_seen : (result : Result (Vec Name Global) JsonRefusal) (read : ReadResult (List (List ℕ)))
+    → ReadsAs (λ found. map (λ name. name) found.items) result read → ReadsAs (λ found. found.items) result read
+names_seen (Ok found) read gives = gives ∙ ap Ok (map-id found.items)
+names_seen (Err refusal) read gives = gives
+
+-- the same of a list that may be absent
+pub names_if_seen : (result : Result (Option (Vec Name Global)) JsonRefusal) (read : ReadResult (Option (List
+    (List ℕ))))
+    → ReadsAs (option_map (λ found. map (λ name. name) found.items)) result read
+    → ReadsAs (option_map (λ found. found.items)) result read
+names_if_seen (Ok None) read gives = gives
+names_if_seen (Ok (Some found)) read gives = gives ∙ ap (λ names. Ok (Some names)) (map-id found.items)
+names_if_seen (Err refusal) read gives = gives
+
+-- commands are plain data as they are
+pub commands_if_seen : (result : Result (Option (Vec Command Global)) JsonRefusal) (read : ReadResult (Option
+    (List Command)))
+    → ReadsAs (option_map (λ found. map (λ command. command) found.items)) result read
+    → ReadsAs (option_map (λ found. found.items)) result read
+commands_if_seen (Ok None) read gives = gives
+commands_if_seen (Ok (Some found)) read gives = gives ∙ ap (λ commands. Ok (Some commands)) (map-id found.items)
+commands_if_seen (Err refusal) read gives = gives

@@ -1,0 +1,32 @@
+use Rattle.std.proofs.Common.{◌≡◌, ◌∙◌, ℕ, not, sym, subst, refl}
+use Rattle.pol_policy.specs.Allowing.{Judges, Request, request_of}
+use Rattle.pol_policy.specs.Deciding.{matches, verdict_of}
+use Rattle.pol_policy.specs.PlainPolicy.{plain_policy}
+use Rattle.pol_policy.specs.Places.{has, passes_at}
+use Rattle.pol_policy.specs.Policies.{PlainPolicy}
+use Rattle.pol_policy.proofs.Judging.{judged}
+use Rattle.pol_policy.proofs.Matching.{table_matches}
+use Rattle.pol_policy.proofs.policy.Policy.judge.Goals as goal
+
+pub returns-clause-value : goal.returns-clause-value
+unfolding verdict_of
+returns-clause-value c =
+    let policy : PlainPolicy = plain_policy c.args.self.now in
+    let request : Request = request_of c.args.by c.args.tag c.args.service c.args.command in
+    let matching : (place : ℕ) → has c.matching-matching.result place
+    ≡ passes_at (matches policy.groups request) policy.rules place =
+    λ place. c.matching-matching.ensures place ∙ table_matches policy c.args.self.now.table request
+    c.args.self.now.tabled place in
+    let denying = rw c.as_slice-rules.ensures.value at (c.first_rule-denying.ensures) in
+    let allowing = rw c.as_slice-rules.ensures.value at (c.first_rule-allowing.ensures) in
+    let denied = denying (matches policy.groups request) (λ rule. not rule.allow) matching
+    c.args.self.now.tabled.denying in
+    let allowed = allowing (matches policy.groups request) (λ rule. rule.allow) matching
+    c.args.self.now.tabled.allowing in
+    c.verdict_by.ensures ∙ rw (denied, allowed) refl
+
+pub returns-clause-judged : goal.returns-clause-judged
+returns-clause-judged c =
+    let policy : PlainPolicy = plain_policy c.args.self.now in
+    let request : Request = request_of c.args.by c.args.tag c.args.service c.args.command in
+    subst (λ verdict. Judges policy request verdict) (sym (returns-clause-value c)) (judged policy request)

@@ -1,0 +1,30 @@
+//! The places of the items that pass a test.
+ghost use Rattle.std.specs.Prelude.{◌≡◌, ◌≤◌, ℕ, Bool, length};
+ghost use Rattle.pol_policy.specs.Places.{has, passes_at};
+ghost use Rattle.pol_policy.specs.declared.limits.TheConstants.{MOST_PLACES};
+
+use crate::place_set::PlaceSet;
+
+/// A test of the items of a list.
+pub(crate) trait Test {
+    type Item;
+
+    ghost test: { Self → Self.Item → Bool };
+
+    /// Whether the item passes.
+    fn passes(&self, item: &Self::Item) -> bool
+        ensures { result ≡ test self.now item.now };
+}
+
+/// The places of the items that pass.
+#[tactic(auto, using(crate::proofs::Passing::passes_more))]
+pub(crate) fn places_where<T: Test>(test: &T, items: &[T::Item]) -> PlaceSet
+    requires { length items.now ≤ MOST_PLACES }
+    ensures { (place : ℕ) → has result place ≡ passes_at (T.test test.now) items.now place }
+{
+    let mut places = PlaceSet::new();
+    for (place, item) in items.iter().enumerate() {
+        places.insert_if(place, test.passes(item));
+    }
+    places
+}
