@@ -6,7 +6,7 @@ use Rattle.pol_io.specs.Edge.{Edge}
 use Rattle.pol_io.specs.Known.{Between}
 use Rattle.pol_io.proofs.Known.{between_weaker}
 use Rattle.pol_io.specs.declared.limits.TheConstants.{LONGEST_INPUT}
-use Rattle.pol_jobs.specs.Ends.{Completes, Ends, Fits, IsRefused, IsTooMuch, Writes, refused_input, refused_line}
+use Rattle.pol_jobs.specs.Ends.{Completes, Ends, IsRefused, IsTooMuch, Writes, refused_input, refused_line}
 use Rattle.pol_jobs.specs.LineWork.{Output, AcceptsAll}
 use Rattle.pol_jobs.specs.Moments.{Leaves}
 use Rattle.pol_jobs.specs.declared.fault.JobFault.{JobFault}
@@ -18,17 +18,17 @@ module _ {Reason : Type 0} (output : Output Reason) (source source' sink sink' :
   pub work_ends : (result : Result (Unit {0}) (JobFault Reason)) →
       OnOk result (Between (Writes output sink.bytes sink'.bytes) source.bytes source'.bytes) →
       IfErr result (λ fault. Between (Leaves output sink.bytes sink'.bytes fault) source.bytes source'.bytes) →
-      OnOk result (Fits source.bytes) → IfErr result (λ fault. fault ≡ TooMuch → IsTooMuch source.bytes) →
+      IfErr result (λ fault. fault ≡ TooMuch → IsTooMuch source.bytes) →
       HasCauseOf Read source.faults source'.faults result → HasCauseOf Write sink.faults sink'.faults result →
       Ends output source source' sink sink' result
-  work_ends (Ok done) writes leaves fits much read wrote = (writes, read.done, wrote.done, fits)
-  work_ends (Err Read) writes leaves fits much read wrote = (leaves, read.failed refl, wrote.other (λ same. cc))
-  work_ends (Err Write) writes leaves fits much read wrote = (leaves, read.other (λ same. cc), wrote.failed refl)
-  work_ends (Err Memory) writes leaves fits much read wrote =
+  work_ends (Ok done) writes leaves much read wrote = (writes, read.done, wrote.done)
+  work_ends (Err Read) writes leaves much read wrote = (leaves, read.failed refl, wrote.other (λ same. cc))
+  work_ends (Err Write) writes leaves much read wrote = (leaves, read.other (λ same. cc), wrote.failed refl)
+  work_ends (Err Memory) writes leaves much read wrote =
       (leaves, read.other (λ same. cc), wrote.other (λ same. cc))
-  work_ends (Err TooMuch) writes leaves fits much read wrote =
+  work_ends (Err TooMuch) writes leaves much read wrote =
       (leaves, read.other (λ same. cc), wrote.other (λ same. cc), much refl)
-  work_ends (Err (Refused reason)) writes leaves fits much read wrote =
+  work_ends (Err (Refused reason)) writes leaves much read wrote =
       (leaves, read.other (λ same. cc), wrote.other (λ same. cc))
 
   -- what is refused isn't accepted

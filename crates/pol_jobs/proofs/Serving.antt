@@ -12,7 +12,7 @@ use Rattle.pol_io.specs.declared.lines.IoFault.TheVariants as io_fault
 use Rattle.pol_io.proofs.FirstLines.{done_none, done_next, done_whole, pieces_next}
 use Rattle.pol_io.proofs.Known.{Appends_trans, Appends_none, Keeps_refl, between_both, between_trans, between_weaker, counts_kept, counts_trans}
 use Rattle.pol_io.proofs.Pieces.{pieces_append, pieces_joined, whole_append}
-use Rattle.pol_jobs.specs.Ends.{Fits, IsTooMuch, LeavesPart, stopped_within, stopped_at_end, stopped_closing, Takes, Writes, IsRefused, refused_line, refused_input, WritesReplies, WritesTaken, WritesTakenAndMore, WritesTakenPart}
+use Rattle.pol_jobs.specs.Ends.{IsRead, IsTooMuch, LeavesPart, stopped_within, stopped_at_end, stopped_closing, Takes, Writes, IsRefused, refused_line, refused_input, WritesReplies, WritesTaken, WritesTakenAndMore, WritesTakenPart}
 use Rattle.pol_jobs.specs.Faults.{RefusedFor, of_lines, of_output, of_stop}
 use Rattle.pol_jobs.specs.LineWork.{LineWork, Output, Accepts, AcceptsBehind, AcceptsEnd, AcceptsLines, KnowsAfter, line_met, met, replies, after_all, output_by}
 use Rattle.pol_jobs.specs.Moments.{Moment, Moves, IsFresh, IsNext, IsServed, Leaves, Replied, Replies, Served}
@@ -102,19 +102,20 @@ left_at_end first last fresh moves ended = moves.at_end ended
     not_both true unended is = cc
     not_both false unended is = cc
 
--- all bytes were counted
-pub fits_in_limit : {State : Type 0} (first last : Moment State) → IsFresh first.lines → Moves first last →
-    IsTrue last.lines.ended → Fits first.left
-fits_in_limit first last fresh moves ended =
+-- and the input was read: all its bytes were counted
+read_to_end : {State : Type 0} (first last : Moment State) → IsFresh first.lines → Moves first last →
+    IsTrue last.lines.ended → Between IsRead first.left last.left
+read_to_end first last fresh moves ended =
     in_limit first.left last.left last.lines.taken (rw fresh.taken at moves.counted)
     (left_at_end first last fresh moves ended) moves.limit
   where
     in_limit : (start left : Option (List ℕ)) (taken : ℕ) → Between (Counts 0 taken) start left → IsAtEnd left →
-        taken ≤ LONGEST_INPUT → Fits start
+        taken ≤ LONGEST_INPUT → Between IsRead start left
     in_limit None left taken counted ends limit = tt
     in_limit (Some bytes) None taken counted ends limit = absurd counted
-    in_limit (Some bytes) (Some left) taken counted ends limit = let none : length left ≡ 0 = rw ends refl in
-        omega arith
+    in_limit (Some bytes) (Some left) taken counted ends limit =
+        let none : length left ≡ 0 = rw ends refl in
+        record { to_end = ends; fits = omega arith }
 
 -- one byte more was counted than an input may have
 much_counted : {State : Type 0} (first now : Moment State) (left : Option (List ℕ)) → IsFresh first.lines →
@@ -354,22 +355,21 @@ module _ {State Reason : Type 0} (work : LineWork State Reason) (first : Moment 
       Between (Replied work first.state last.state held held') first.left last.left
   served_all now last held held' reply fresh served is_next moves =
       known_bytes first.left (ahead now.lines now.left)
-      (ahead last.lines last.left) last.left served is_next.replies moves.counted
-      (left_at_end first last fresh moves is_next.ended)
+      (ahead last.lines last.left) last.left served is_next.replies
+      (read_to_end first last fresh moves is_next.ended)
     where
       known_bytes : (begin text rest left : Option (List ℕ)) → Between (Served work first now held held') begin text →
           Between (λ text rest. (text ≡ []) × (rest ≡ []) × (last.state ≡ now.state)) text rest →
-          Between (Counts first.lines.taken last.lines.taken) begin left → IsAtEnd left →
-          Between (Replied work first.state last.state held held') begin left
-      known_bytes None text rest left served none counted ends = tt
-      known_bytes (Some bytes) text rest None served none counted ends = absurd counted
-      known_bytes (Some bytes) None rest (Some left) served none counted ends = absurd served
-      known_bytes (Some bytes) (Some text) None (Some left) served none counted ends = absurd none
-      known_bytes (Some bytes) (Some text) (Some rest) (Some left) served none counted ends =
+          Between IsRead begin left → Between (Replied work first.state last.state held held') begin left
+      known_bytes None text rest left served none read = tt
+      known_bytes (Some bytes) text rest None served none read = absurd read
+      known_bytes (Some bytes) None rest (Some left) served none read = absurd served
+      known_bytes (Some bytes) (Some text) None (Some left) served none read = absurd none
+      known_bytes (Some bytes) (Some text) (Some rest) (Some left) served none read =
           let all : bytes ≡ served.done = served.so_far.cut ∙ (ap (λ tail. served.done ++ tail) none.0
           ∙ append-nil served.done) in
           record {
-            read = ends;
+            read = read;
             state_is = none.2 ∙ served.state_is ∙ ap (known work first.state) (sym all);
             written = rw all served.appended;
             accepted = rw all served.accepted;
@@ -379,13 +379,13 @@ module _ {State Reason : Type 0} (work : LineWork State Reason) (first : Moment 
   stop_at_end : (now : Moment State) (held between held' : Option (List ℕ)) (bytes text line left : List ℕ) →
       Served work first now held between bytes text → IsFirstLine true line text [] →
       WritesSome between held' (work.reply now.state (met line)) →
-      left ≡ [] → WritesReplies (output_by work first.state) held held' bytes left
-  stop_at_end now held between held' bytes text line left served one some none =
+      IsRead bytes left → WritesReplies (output_by work first.state) held held' bytes left
+  stop_at_end now held between held' bytes text line left served one some read =
       let are = pieces_next now.lines.ended true bytes served.done text line [] served.so_far one in
       let all : bytes ≡ served.done ++ one.piece = served.so_far.cut
       ∙ ap (λ rest. served.done ++ rest) (one.cut ∙ append-nil one.piece) in
       record {
-        read = none;
+        read = read;
         some = some_behind held between held' (replied work first.state served.done) (work.reply now.state (met line))
             (replied work first.state bytes)
             served.appended some
@@ -440,22 +440,22 @@ module _ {State Reason : Type 0} (work : LineWork State Reason) (first : Moment 
   stopped_reply now next held between held' made out fresh served is_next moves some =
       known_bytes next.lines.ended first.left
       (ahead now.lines now.left) next.lines.waiting next.left served is_next.replies moves.counted
-      moves.spent (left_at_end first next fresh moves)
+      moves.spent (read_to_end first next fresh moves)
     where
       known_bytes : (ended : Bool) (begin text : Option (List ℕ)) (waiting : List ℕ) (left : Option (List ℕ)) →
           Between (Served work first now held between) begin text →
           Between (Replies work now.state next.state ended (Some made) out) text (joined ended waiting left) →
           Between (Counts first.lines.taken next.lines.taken) begin left → (IsTrue ended → waiting ≡ []) →
-          (IsTrue ended → IsAtEnd left) →
+          (IsTrue ended → Between IsRead begin left) →
           Between (LeavesPart (output_by work first.state) held held') begin left
-      known_bytes ended None text waiting left served replied counted spent ends = tt
-      known_bytes ended (Some bytes) None waiting left served replied counted spent ends = absurd served
-      known_bytes ended (Some bytes) (Some text) waiting None served replied counted spent ends = absurd counted
-      known_bytes true (Some bytes) (Some text) waiting (Some left) served replied counted spent ends =
+      known_bytes ended None text waiting left served replied counted spent read = tt
+      known_bytes ended (Some bytes) None waiting left served replied counted spent read = absurd served
+      known_bytes ended (Some bytes) (Some text) waiting None served replied counted spent read = absurd counted
+      known_bytes true (Some bytes) (Some text) waiting (Some left) served replied counted spent read =
           stopped_at_end (stop_at_end now held between held' bytes text replied.0 left served
           (rw (spent refl) at replied.1)
-          (some (work.reply now.state (met replied.0)) replied.2.said) (ends refl))
-      known_bytes false (Some bytes) (Some text) waiting (Some left) served replied counted spent ends =
+          (some (work.reply now.state (met replied.0)) replied.2.said) (read refl))
+      known_bytes false (Some bytes) (Some text) waiting (Some left) served replied counted spent read =
           stopped_within (stop_within now held between held' bytes text replied.0 waiting left served replied.1
           (some (work.reply now.state (met replied.0)) replied.2.said))
 
@@ -467,7 +467,7 @@ module _ {State Reason : Type 0} (work : LineWork State Reason) (first : Moment 
   stopped_refused now next reason held held' out fresh served is_next moves =
       known_bytes next.lines.ended first.left
       (ahead now.lines now.left) next.lines.waiting next.left served is_next.replies moves.counted
-      moves.spent (left_at_end first next fresh moves)
+      moves.spent (read_to_end first next fresh moves)
     where
       refused : (bytes text line waiting left : List ℕ) → Served work first now held held' bytes text →
           (piece : List ℕ) → text ≡ piece ++ (waiting ++ left) → pieces text ≡ piece ∷ pieces (waiting ++ left) →
@@ -490,19 +490,19 @@ module _ {State Reason : Type 0} (work : LineWork State Reason) (first : Moment 
           Between (Replies work now.state next.state ended (Some (Err (stop.Refused reason))) out) text
           (joined ended waiting left) →
           Between (Counts first.lines.taken next.lines.taken) begin left → (IsTrue ended → waiting ≡ []) →
-          (IsTrue ended → IsAtEnd left) →
+          (IsTrue ended → Between IsRead begin left) →
           Between (IsRefused (output_by work first.state) reason held held') begin left
-      known_bytes ended None text waiting left served replied counted spent ends = tt
-      known_bytes ended (Some bytes) None waiting left served replied counted spent ends = absurd served
-      known_bytes ended (Some bytes) (Some text) waiting None served replied counted spent ends = absurd counted
-      known_bytes true (Some bytes) (Some text) waiting (Some left) served replied counted spent ends =
-          let none : left ≡ [] = ends refl in
+      known_bytes ended None text waiting left served replied counted spent read = tt
+      known_bytes ended (Some bytes) None waiting left served replied counted spent read = absurd served
+      known_bytes ended (Some bytes) (Some text) waiting None served replied counted spent read = absurd counted
+      known_bytes true (Some bytes) (Some text) waiting (Some left) served replied counted spent read =
+          let none : left ≡ [] = (read refl).to_end in
           refused bytes text replied.0 waiting left served replied.1.piece
           (replied.1.cut ∙ ap (λ rest. replied.1.piece ++ rest)
           (sym (ap (λ rest. waiting ++ rest) none ∙ append-nil waiting)))
           (replied.1.pieces_are ∙ ap (λ rest. replied.1.piece ∷ pieces rest)
           (sym (ap (λ rest. waiting ++ rest) none ∙ append-nil waiting))) replied.1.line_is replied.2.refused
-      known_bytes false (Some bytes) (Some text) waiting (Some left) served replied counted spent ends =
+      known_bytes false (Some bytes) (Some text) waiting (Some left) served replied counted spent read =
           refused bytes text replied.0 waiting left served replied.1.piece replied.1.cut replied.1.pieces_are
           replied.1.line_is replied.2.refused
 

@@ -17,6 +17,11 @@ edge bytes faults = record { bytes = bytes; faults = faults }
 
 -- ---- what was read and written
 
+-- the input was read to its end, and it has no more bytes than an input may have
+pub record IsRead (bytes left : List ℕ) : Type 0 where
+  pub to_end : left ≡ []
+  pub fits : length bytes ≤ LONGEST_INPUT
+
 -- what was taken of an input: whole lines, and then a part of a line; and what is left of it
 pub record Takes (bytes left : List ℕ) : Type 0 where
   pub whole : List ℕ
@@ -29,7 +34,7 @@ pub record Takes (bytes left : List ℕ) : Type 0 where
 -- input at its end
 pub record Writes {Reason : Type 0} (output : Output Reason) (held held' : Option (List ℕ)) (bytes left : List ℕ)
     : Type 0 where
-  pub read : left ≡ []
+  pub read : IsRead bytes left
   pub accepted : AcceptsAll output bytes
   pub closing : List ℕ
   pub may : output.Closing bytes closing
@@ -58,13 +63,13 @@ pub record WritesTakenPart {Reason : Type 0} (output : Output Reason) (held held
 -- the input was read to its end, and a front part of the replies to its lines was written
 pub record WritesReplies {Reason : Type 0} (output : Output Reason) (held held' : Option (List ℕ))
     (bytes left : List ℕ) : Type 0 where
-  pub read : left ≡ []
+  pub read : IsRead bytes left
   pub some : WritesSome held held' (output.replies bytes)
 
 -- the input was read to its end, and a proper front part of its output was written
 pub record WritesLess {Reason : Type 0} (output : Output Reason) (held held' : Option (List ℕ)) (bytes left : List ℕ)
     : Type 0 where
-  pub read : left ≡ []
+  pub read : IsRead bytes left
   pub closing : List ℕ
   pub may : output.Closing bytes closing
   pub part : WritesPart held held' (output.replies bytes ++ closing)
@@ -93,7 +98,7 @@ pub record RefusesLine {Reason : Type 0} (output : Output Reason) (reason : Reas
 -- written
 pub record RefusesInput {Reason : Type 0} (output : Output Reason) (reason : Reason) (held held' : Option (List ℕ))
     (bytes left : List ℕ) : Type 0 where
-  pub read : left ≡ []
+  pub read : IsRead bytes left
   pub accepted : AcceptsLines output bytes
   pub refuses : output.RefusesEnd bytes reason
   pub written : Appends held held' (output.replies bytes)
@@ -106,11 +111,7 @@ pub data IsRefused {Reason : Type 0} (output : Output Reason) (reason : Reason) 
 
 -- ---- causes
 
--- the input has at most 268,435,456 bytes
-abbrev pub Fits : Option (List ℕ) → Type 0
-Fits left = IfSome left (λ bytes. length bytes ≤ LONGEST_INPUT)
-
--- the input has more
+-- the input has more than 268,435,456 bytes
 abbrev pub IsTooMuch : Option (List ℕ) → Type 0
 IsTooMuch left = IfSome left (λ bytes. LONGEST_INPUT < length bytes)
 
@@ -130,7 +131,7 @@ abbrev pub Ends : {Reason : Type 0} → Output Reason → Edge → Edge → Edge
     → Result (Unit {0}) (JobFault Reason) → Type 0
 Ends output source source' sink sink' (Ok done) =
     Between (Writes output sink.bytes sink'.bytes) source.bytes source'.bytes
-    × IsWell source source' × IsWell sink sink' × Fits source.bytes
+    × IsWell source source' × IsWell sink sink'
 Ends output source source' sink sink' (Err Read) =
     Between (WritesTaken output sink.bytes sink'.bytes) source.bytes source'.bytes
     × Failed source source' × IsWell sink sink'

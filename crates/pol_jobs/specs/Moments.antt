@@ -6,7 +6,7 @@ use Rattle.pol_io.specs.LinesState.{LinesState, ahead, given}
 use Rattle.pol_io.specs.Pieces.{pieces, IsFirstLine, IsDone}
 use Rattle.pol_io.specs.declared.limits.TheConstants.{LONGEST_INPUT}
 use Rattle.pol_jobs.specs.LineWork.{Line, LineWork, Output, Accepts, AcceptsLines, met, replies, after_all, output_by}
-use Rattle.pol_jobs.specs.Ends.{WritesTaken, WritesTakenAndMore, LeavesPart, IsRefused}
+use Rattle.pol_jobs.specs.Ends.{IsRead, WritesTaken, WritesTakenAndMore, LeavesPart, IsRefused}
 use Rattle.pol_jobs.specs.Faults.{RefusedFor}
 use Rattle.pol_jobs.specs.declared.fault.JobFault.{JobFault}
 use Rattle.pol_jobs.specs.declared.fault.JobFault.TheVariants.{Read, Write, Memory, TooMuch, Refused}
@@ -55,7 +55,7 @@ IsServed work first now held held' = Between (Served work first now held held') 
 -- the input was read to its end, its lines were replied to, and this is what the job knows after them
 pub record Replied {State Reason : Type 0} (work : LineWork State Reason) (start state : State)
     (held held' : Option (List ℕ)) (bytes left : List ℕ) : Type 0 where
-  pub read : left ≡ []
+  pub read : IsRead bytes left
   pub state_is : state ≡ after_all work start (pieces bytes)
   pub written : Appends held held' (replies work start (pieces bytes))
   pub accepted : AcceptsLines (output_by work start) bytes

@@ -5,8 +5,8 @@ ghost use Rattle.pol_io.specs.Causes.{HasCauseOf};
 ghost use Rattle.pol_io.specs.Faults.{Stops};
 ghost use Rattle.pol_io.specs.Known.{Between};
 ghost use Rattle.pol_io.specs.LinesState.{ahead};
-ghost use Rattle.pol_jobs.specs.Ends.{Completes, Ends, Fits, IsTooMuch, Writes, edge};
-ghost use Rattle.pol_jobs.specs.LineWork.{KnowsAfter, output_by};
+ghost use Rattle.pol_jobs.specs.Ends.{Completes, Ends, IsTooMuch, Writes, edge};
+ghost use Rattle.pol_jobs.specs.LineWork.{AcceptsEnd, KnowsAfter, output_by};
 ghost use Rattle.pol_jobs.specs.Moments.{moment, IsFresh, IsNext, Leaves, Replied};
 ghost use Rattle.pol_jobs.specs.Written.{WritesSome};
 
@@ -72,7 +72,6 @@ fn reply_to_all<S: Source, K: Sink, J: LineJob>(
     ensures leaves { IfErr result (λ fault. Between
         (Leaves (output_by J.work (J.state job.old)) (K.held sink.old) (K.held sink.new) fault)
         (S.left source.old) (S.left source.new)) }
-    ensures fits { OnOk result (Fits (S.left source.old)) }
     ensures too_much { IfErr result (λ fault. fault ≡ JobFault.TooMuch → IsTooMuch (S.left source.old)) }
     ensures read_cause { HasCauseOf JobFault.Read (S.faults source.old) (S.faults source.new) result }
     ensures write_cause { HasCauseOf JobFault.Write (K.faults sink.old) (K.faults sink.new) result }
@@ -101,7 +100,7 @@ fn reply_and_close<S: Source, K: Sink, J: LineJob>(
         (S.left source.old) (S.left source.new)) }
     ensures after { OnOk result (Between (KnowsAfter J.work (J.state job.old) (J.state job.new))
         (S.left source.old) (S.left source.new)) }
-    ensures fits { OnOk result (Fits (S.left source.old)) }
+    ensures accepted { OnOk result (AcceptsEnd J.work (J.state job.new)) }
     ensures too_much { IfErr result (λ fault. fault ≡ JobFault.TooMuch → IsTooMuch (S.left source.old)) }
     ensures read_cause { HasCauseOf JobFault.Read (S.faults source.old) (S.faults source.new) result }
     ensures write_cause { HasCauseOf JobFault.Write (K.faults sink.old) (K.faults sink.new) result }
@@ -130,6 +129,7 @@ pub fn work<S: Source, K: Sink, J: LineJob>(
         (edge (K.held sink.old) (K.faults sink.old)) (edge (K.held sink.new) (K.faults sink.new)) result }
     ensures after { OnOk result (Between (KnowsAfter J.work (J.state job.old) (J.state job.new))
         (S.left source.old) (S.left source.new)) }
+    ensures accepted { OnOk result (AcceptsEnd J.work (J.state job.new)) }
 {
     reply_and_close(alloc, job, source, sink)
 }

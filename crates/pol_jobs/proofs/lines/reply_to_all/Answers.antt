@@ -3,7 +3,7 @@ use Rattle.std.specs.Io.KnownBytes.{Appends}
 use Rattle.std.proofs.lemmas.Result.{err_from_is_err_and}
 use Rattle.pol_jobs.specs.Moments.{moment}
 use Rattle.pol_jobs.specs.Written.{WritesSome}
-use Rattle.pol_jobs.proofs.Serving.{fits_in_limit, moves_none, moves_on, served_all, served_none, served_on, stopped_read, too_much_counted, unput, unreplied}
+use Rattle.pol_jobs.proofs.Serving.{moves_none, moves_on, served_all, served_none, served_on, stopped_read, too_much_counted, unput, unreplied}
 use Rattle.pol_jobs.proofs.lines.reply_to_all.Goals as goal
 
 pub loop-out-init : goal.loop-out-init
@@ -38,11 +38,6 @@ returns-clause-replied g c =
     let next = rw c.in_default.is at c.in_ok-made.ensures.next in
     served_all g.J.LineJob.work _ _ _ _ _ _ c.requires invariant.served next
     (moves_on _ _ _ invariant.moves c.in_ok-made.ensures.next.moves)
-
-pub returns-clause-fits : goal.returns-clause-fits
-returns-clause-fits g c =
-    let next = rw c.in_default.is at c.in_ok-made.ensures.next in
-    fits_in_limit _ _ c.requires (moves_on _ _ _ c.loop-out.invariant.moves c.in_ok-made.ensures.next.moves) next.ended
 
 pub returns-in_err-made-clause-leaves : goal.returns-in_err-made-clause-leaves
 returns-in_err-made-clause-leaves g c =
