@@ -1,10 +1,13 @@
 -- What the words of the command line ask for.
-use Rattle.std.specs.Prelude.{◌≡◌, ◌<◌, ◌≤◌, ◌^◌, ℕ, List, [], String, Option, Some, None, codes, string_bytes, map, true}
+use Rattle.std.specs.Prelude.{◌≡◌, ◌<◌, ◌≤◌, ◌^◌, ℕ, List, [], ◌∷◌, String, Option, Some, None, codes, string_bytes, map, true, option_and_then, if◌then◌else◌}
+use Rattle.std.specs.Str.{bytes_eq}
 use Rattle.std.specs.Str.Parse.{IsNumeral, digits_value, without_leading_plus}
 use Rattle.std.specs.declared.alloc.Global.{Global}
 use Rattle.clap.specs.Words.{App, Rule, Text, first_of, matches_of, new_app, new_rule, with_rule, fault_of}
 use Rattle.clap.specs.Simple.{on_top}
 use Rattle.clap.specs.declared.builder.action.ArgAction.TheVariants.{Set}
+use Rattle.pol_arguments.specs.declared.JobForm.{JobForm}
+use Rattle.pol_arguments.specs.declared.JobForm.TheVariants.{Alone, Seeded, Watched}
 use Rattle.pol_arguments.specs.declared.SerialTask.TheVariants.{Replay, Demo, Audit}
 use Rattle.pol_arguments.specs.declared.TheConstants.{MOST_WATCHERS}
 use Rattle.pol_arguments.specs.declared.Task.{Task}
@@ -25,20 +28,27 @@ pol = with_rule (with_rule (with_rule
     (new_app (codes "pol")))
     job_rule) (option_rule (codes "seed"))) (option_rule (codes "watchers"))
 
--- the values of the options, where they are given
-pub record Options : Type 0 where
-  pub job : Option Text
-  pub seed : Option Text
-  pub watchers : Option Text
+-- ---- the jobs
 
--- the values that clap finds in some words
-abbrev pub options_of : List Text → Options
-options_of words =
-    record {
-      job = first_of (codes "job") (matches_of pol words);
-      seed = first_of (codes "seed") (matches_of pol words);
-      watchers = first_of (codes "watchers") (matches_of pol words);
-    }
+-- the jobs by their words, and what each takes beside its name
+abbrev pub job_words : List (Text × JobForm)
+job_words =
+    (codes "replay", Alone Replay)
+    ∷ (codes "demo", Seeded)
+    ∷ (codes "audit", Alone Audit)
+    ∷ (codes "plant", Watched)
+    ∷ []
+
+-- the row of a word
+abbrev pub row_of : Text → List (Text × JobForm) → Option JobForm
+row_of word [] = None
+row_of word (row ∷ rows) = if bytes_eq word row.0 then Some row.1 else row_of word rows
+
+-- the form of the job that a word names
+abbrev pub form_named : Text → Option JobForm
+form_named word = row_of word job_words
+
+-- ---- their numbers
 
 -- a text is this number in decimal, a plus before it allowed, and it is at most 4294967295
 pub record IsSeed (seed : ℕ) (text : Text) : Type 0 where
@@ -57,17 +67,24 @@ abbrev pub IsCount : ℕ → Option Text → Type 0
 IsCount count None = count ≡ 0
 IsCount count (Some text) = IsWatchers count text
 
--- the values ask for a task: a demo has a seed, and no other job has one; no job but the plant has watchers
-abbrev pub Asks : Options → Task → Type 0
-Asks options (Serial Replay) =
-    (options.job ≡ Some (codes "replay")) × (options.seed ≡ None) × (options.watchers ≡ None)
-Asks options (Serial (Demo seed)) =
-    (options.job ≡ Some (codes "demo")) × ((text : Text) × (options.seed ≡ Some text) × IsSeed seed text)
-    × (options.watchers ≡ None)
-Asks options (Serial Audit) =
-    (options.job ≡ Some (codes "audit")) × (options.seed ≡ None) × (options.watchers ≡ None)
-Asks options (Live task) =
-    (options.job ≡ Some (codes "plant")) × (options.seed ≡ None) × IsCount task.watchers options.watchers
+-- ---- what the words ask for
+
+-- a job of this form, with these values of `--seed` and `--watchers`, is this task
+abbrev pub Gives : JobForm → Option Text → Option Text → Task → Type 0
+Gives (Alone job) None None task = task ≡ Serial job
+Gives Seeded (Some text) None task = (seed : ℕ) × (task ≡ Serial (Demo seed)) × IsSeed seed text
+Gives Watched None watchers task = (count : ℕ) × (task ≡ Live (record { watchers = count })) × IsCount count watchers
+Gives _ _ _ task = ⊥
+
+-- the value of an option that clap finds in some words, where it is given
+abbrev pub value_of : Text → List Text → Option Text
+value_of name words = first_of name (matches_of pol words)
+
+-- the value of `--job` names a job that, with the other values, is this task
+pub record Asks (words : List Text) (task : Task) : Type 0 where
+  pub form : JobForm
+  pub named : option_and_then form_named (value_of (codes "job") words) ≡ Some form
+  pub gives : Gives form (value_of (codes "seed") words) (value_of (codes "watchers") words) task
 
 -- the words as texts
 abbrev pub texts_of : List (String Global) → List Text
@@ -75,4 +92,4 @@ texts_of words = map string_bytes words
 
 -- clap refuses nothing of the words, and the values that it finds ask for the task
 abbrev pub Means : List Text → Task → Type 0
-Means words task = (fault_of pol words ≡ []) × Asks (options_of words) task
+Means words task = (fault_of pol words ≡ []) × Asks words task

@@ -4,8 +4,8 @@
 //! meaning of the command reads them (`specs/Words.antt`).
 #![tactic(auto)]
 
-ghost use Rattle.std.specs.Prelude.{◌≡◌, ℕ, [], IfOk, IfErr, MatchOption, option_map};
-ghost use Rattle.pol_arguments.specs.Words.{option_rule, pol, texts_of, Asks, IsCount, IsSeed, Means};
+ghost use Rattle.std.specs.Prelude.{◌≡◌, ℕ, [], None, IfOk, IfErr, MatchOption, option_and_then, option_map};
+ghost use Rattle.pol_arguments.specs.Words.{form_named, option_rule, pol, texts_of, Gives, IsCount, IsSeed, Means};
 ghost use Rattle.pol_arguments.specs.declared.Task.{Task};
 ghost use Rattle.clap.specs.Words.{app_of, fault_of, found_of, matches_of, rows_of, with_rule};
 
@@ -124,37 +124,54 @@ fn count_of(text: Option<&str>) -> Option<u16>
     Some(count)
 }
 
+// What a job takes beside its name.
+#[derive(Clone, Copy)]
+enum JobForm {
+    // Nothing.
+    Alone(SerialTask),
+    // A seed.
+    Seeded,
+    // A number of watchers.
+    Watched,
+}
+
+// The form of the job that this word names, where one is given.
+fn form_of(word: Option<&str>) -> Option<JobForm>
+    ensures { result ≡ option_and_then form_named (option_map (λ text. text.now) word.entry) }
+{
+    match word? {
+        "replay" => Some(JobForm::Alone(SerialTask::Replay)),
+        "demo" => Some(JobForm::Seeded),
+        "audit" => Some(JobForm::Alone(SerialTask::Audit)),
+        "plant" => Some(JobForm::Watched),
+        _ => None,
+    }
+}
+
 // The plant with so many watchers, in decimal.
 fn plant_of(watchers: Option<&str>) -> Option<Task>
     ensures { MatchOption result
-        ((count : ℕ) → IsCount count (option_map (λ text. text.now) watchers.entry) → ⊥)
-        (λ task. (count : ℕ) × (task ≡ Task.Live (record { watchers = count }))
-        × IsCount count (option_map (λ text. text.now) watchers.entry)) }
+        ((task : Task) → Gives JobForm.Watched None (option_map (λ text. text.now) watchers.entry) task → ⊥)
+        (Gives JobForm.Watched None (option_map (λ text. text.now) watchers.entry)) }
 {
     let watchers = count_of(watchers)?;
     Some(Task::Live(LiveTask { watchers }))
 }
 
-// The task that these values ask for.
-fn task_of(job: Option<&str>, seed: Option<&str>, watchers: Option<&str>) -> Option<Task>
-    ensures { MatchOption result ((task : Task) → Asks (record {
-      job = option_map (λ text. text.now) job.entry;
-      seed = option_map (λ text. text.now) seed.entry;
-      watchers = option_map (λ text. text.now) watchers.entry;
-    }) task → ⊥) (Asks (record {
-      job = option_map (λ text. text.now) job.entry;
-      seed = option_map (λ text. text.now) seed.entry;
-      watchers = option_map (λ text. text.now) watchers.entry;
-    })) }
+// The task of a job of this form, where it takes these values.
+fn task_of(form: JobForm, seed: Option<&str>, watchers: Option<&str>) -> Option<Task>
+    ensures { MatchOption result
+        ((task : Task) → Gives form (option_map (λ text. text.now) seed.entry)
+        (option_map (λ text. text.now) watchers.entry) task → ⊥)
+        (Gives form (option_map (λ text. text.now) seed.entry) (option_map (λ text. text.now) watchers.entry)) }
 {
-    match (job, seed, watchers) {
-        (Some("replay"), None, None) => Some(Task::Serial(SerialTask::Replay)),
-        (Some("demo"), Some(text), None) => {
+    match (form, seed, watchers) {
+        (JobForm::Alone(task), None, None) => Some(Task::Serial(task)),
+        (JobForm::Seeded, Some(text), None) => {
             let seed = seed_of(text)?;
             Some(Task::Serial(SerialTask::Demo(seed)))
         }
-        (Some("audit"), None, None) => Some(Task::Serial(SerialTask::Audit)),
-        (Some("plant"), None, watchers) => plant_of(watchers),
+        (JobForm::Watched, None, watchers) => plant_of(watchers),
         _ => None,
     }
 }
@@ -168,11 +185,10 @@ pub fn read_words(alloc: Global, words: &[String]) -> Result<Task, WordFault>
         → Means (texts_of words.now) task → ⊥) }
 {
     let matches = matches(alloc, words)?;
-    match task_of(
-        matches.get_str("job"),
-        matches.get_str("seed"),
-        matches.get_str("watchers"),
-    ) {
+    let Some(form) = form_of(matches.get_str("job")) else {
+        return Err(WordFault::Refused);
+    };
+    match task_of(form, matches.get_str("seed"), matches.get_str("watchers")) {
         Some(task) => Ok(task),
         None => Err(WordFault::Refused),
     }

@@ -1,0 +1,20 @@
+use Rattle.std.proofs.lemmas.Result.{err_from_is_err_and}
+use Rattle.pol_jobs.proofs.Serving.{end_stopped, nothing_leaves, unclosed}
+use Rattle.pol_jobs.proofs.lines.reply_and_close.Goals as goal
+
+pub returns-in_err-lines-clause-leaves : goal.returns-in_err-lines-clause-leaves
+returns-in_err-lines-clause-leaves g c =
+    let fault = err_from_is_err_and c.from_residual.result c.from_residual.ensures.1 in
+    rw (fault.1, fault.2) (nothing_leaves _ _ _)
+
+pub returns-in_err-end-clause-leaves : goal.returns-in_err-end-clause-leaves
+returns-in_err-end-clause-leaves g c =
+    let fault = err_from_is_err_and c.from_residual-in_err-end.result c.from_residual-in_err-end.ensures.1 in
+    rw (fault.1, fault.2) (end_stopped _ _ _ _ _ _ _ _ c.in_ok-reply_to_all.ensures.replied
+    c.in_err-end.ensures.refused)
+
+pub returns-in_err-close-clause-leaves : goal.returns-in_err-close-clause-leaves
+returns-in_err-close-clause-leaves g c =
+    let fault = err_from_is_err_and c.from_residual-in_err-close.result c.from_residual-in_err-close.ensures.1 in
+    rw (fault.1, fault.2) (unclosed g.J.LineJob.work _ _ _ _ _ _ _ _
+    (rw c.in_ok-end.ensures.kept c.in_ok-reply_to_all.ensures.replied) c.in_err-close.ensures.part)

@@ -1,0 +1,6 @@
+pub mod LineWork
+pub mod InputLines
+pub mod Faults
+pub mod Written
+pub mod Ends
+pub mod Moments

@@ -1,0 +1,57 @@
+//! A job that does something with each line of its input.
+ghost use Rattle.std.specs.Prelude.{◌≡◌, ◌++◌, List, IfErr, OnOk, OnErr};
+ghost use Rattle.pol_io.specs.Causes.{HasCauseOf};
+ghost use Rattle.pol_jobs.specs.Faults.{RefusedFor};
+ghost use Rattle.pol_jobs.specs.InputLines.{plain_line};
+ghost use Rattle.pol_jobs.specs.LineWork.{LineWork, Accepts, AcceptsEnd};
+ghost use Rattle.pol_jobs.specs.Written.{Closes, ClosesPart};
+
+use crate::output::PutFault;
+use crate::stop::Stop;
+use pol_io::Sink;
+
+/// A line of the input as a job meets it.
+#[derive(Clone, Copy)]
+pub enum InputLine<'a> {
+    /// A line of at most 1,048,576 bytes, without its line feed.
+    Text(&'a [u8]),
+    /// A line of more bytes, whatever they are.
+    TooLong,
+}
+
+/// A job that does something with each line of its input, and then closes its output. It may refuse its input, with a
+/// line or at its end; one that never does has `Infallible` for its reasons.
+pub trait LineJob {
+    /// Why a job of this kind refuses its input.
+    type Refusal;
+
+    /// What a job of this kind knows between two lines.
+    ghost State: { Type 0 };
+
+    /// What this job knows.
+    ghost state: { Self → State };
+
+    /// What it does with each line, and at the end.
+    ghost work: { LineWork State Self.Refusal };
+
+    /// Puts what it replies to a line behind what a buffer holds: an output line, or nothing.
+    fn reply(&mut self, line: InputLine<'_>, out: &mut Vec<u8>) -> Result<(), Stop<Self::Refusal>>
+        ensures text { OnOk result
+            (out.new.items ≡ out.old.items ++ work.reply (state self.old) (plain_line line.entry)) }
+        ensures after { OnOk result (state self.new ≡ work.after (state self.old) (plain_line line.entry)) }
+        ensures accepted { OnOk result (Accepts work (state self.old) (plain_line line.entry)) }
+        ensures refused { IfErr result (RefusedFor (work.Refuses (state self.old) (plain_line line.entry))) };
+
+    /// Sees the end of the input, which it may refuse as a whole.
+    fn end(&mut self) -> Result<(), Stop<Self::Refusal>>
+        ensures kept { OnOk result (state self.new ≡ state self.old) }
+        ensures accepted { OnOk result (AcceptsEnd work (state self.old)) }
+        ensures refused { IfErr result (RefusedFor (work.RefusesEnd (state self.old))) };
+
+    /// Writes what closes the output.
+    fn close<K: Sink>(&mut self, sink: &mut K) -> Result<(), PutFault>
+        ensures kept { OnOk result (state self.new ≡ state self.old) }
+        ensures text { OnOk result (Closes (work.Closing (state self.old)) (K.held sink.old) (K.held sink.new)) }
+        ensures part { OnErr result (ClosesPart (work.Closing (state self.old)) (K.held sink.old) (K.held sink.new)) }
+        ensures cause { HasCauseOf PutFault.Write (K.faults sink.old) (K.faults sink.new) result };
+}

@@ -1,0 +1,21 @@
+//! Why a job goes no further.
+use std::alloc::AllocError;
+
+/// Why a job goes no further, at a line or at the end of its input.
+pub enum Stop<R> {
+    /// There was no memory.
+    Memory,
+    /// It refuses its input, for this reason.
+    Refused(R),
+}
+
+impl<R> From<AllocError> for Stop<R> {
+    ghost use Rattle.std.specs.Prelude.{◌≡◌};
+    ghost use Rattle.pol_jobs.specs.declared.stop.Stop.TheVariants.{Memory};
+
+    ghost from_gives = { λ _ stop. stop ≡ Memory };
+
+    fn from(_error: AllocError) -> Stop<R> {
+        Stop::Memory
+    }
+}
