@@ -50,4 +50,6 @@ mod stamps;
 #[cfg(test)]
 mod starts;
 #[cfg(test)]
+mod watching;
+#[cfg(test)]
 mod words;
