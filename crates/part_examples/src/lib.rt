@@ -22,6 +22,8 @@ mod plant;
 #[cfg(test)]
 mod quick_lines;
 #[cfg(test)]
+mod refused_threads;
+#[cfg(test)]
 mod site_texts;
 #[cfg(test)]
 mod streams;

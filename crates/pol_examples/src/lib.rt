@@ -50,6 +50,8 @@ mod stamps;
 #[cfg(test)]
 mod starts;
 #[cfg(test)]
+mod watchers;
+#[cfg(test)]
 mod watching;
 #[cfg(test)]
 mod words;

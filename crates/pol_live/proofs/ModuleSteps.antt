@@ -1,5 +1,5 @@
 -- A module's turn: what holds before it, what it did, and what is kept after it.
-use Rattle.std.proofs.Common.{◌≡◌, ◌<◌, ◌≤◌, ◌+◌, ℕ, suc, Bool, true, false, List, [], ◌∷◌, ◌++◌, length, get_or, Option, Some, None, refl, ap, sym, ◌∙◌, subst, arith}
+use Rattle.std.proofs.Common.{◌≡◌, ◌<◌, ◌≤◌, ℕ, suc, Bool, true, false, List, [], ◌∷◌, ◌++◌, length, get_or, Option, Some, None, refl, ap, sym, ◌∙◌, subst, arith}
 use Rattle.std.specs.Prelude.{option_map, slice_get, slice_set}
 use Rattle.std.proofs.lemmas.List.{length-map}
 use Rattle.std.proofs.lemmas.Option.{slice_get_read}
@@ -15,7 +15,7 @@ use Rattle.pol_history.specs.Modules.{Docking, absent, docked, away, docking_by,
 use Rattle.pol_safety.specs.Known.{is_there}
 use Rattle.pol_events.proofs.Histories.{length_history}
 use Rattle.pol_site.specs.Actors.{owner_of}
-use Rattle.pol_site.specs.Settled.{is_settled, is_settled_in, is_settled_module}
+use Rattle.pol_site.specs.Settled.{is_settled_in, is_settled_module}
 use Rattle.pol_site.specs.Sites.{PlainSite, PlainSiteModule, PlainSiteExchange}
 use Rattle.pol_site.specs.PlainSite.{plain_site}
 use Rattle.pol_site.specs.Sound.{IsSite}

@@ -4,7 +4,7 @@ use Rattle.std.specs.List.{range_with_len}
 use Rattle.std.proofs.lemmas.List.{map-append}
 use Rattle.std.proofs.Math.Seq.{map-set_same}
 use Rattle.pol_site.specs.Sites.{PlainSite}
-use Rattle.pol_live.specs.Parts.{made_in_all}
+use Rattle.pol_live.specs.Parts.{IsRun, made_in_all}
 use Rattle.pol_live.specs.Seats.{AreSeated, Seated, actors_of}
 use Rattle.pol_live.specs.Turns.{Locked, TookTurn, Turns}
 use Rattle.pol_live.specs.declared.turned.Turned.{Turned}
@@ -48,6 +48,8 @@ seat_kept seats place seat other same = map-set_same (λ (each : Seated). each.a
 
 -- a turn of an actor at a plant is one that it took
 pub took_turn : {E : Type 0} (site : PlainSite) (before after : Locked) (actor : ℕ) (result : Result Turned E) →
+    IsRun site before.entries before.by → IsRun site after.entries after.by →
     IfOk result (λ turned. Turns site before after actor turned) → IfOk result (λ turned. TookTurn site actor turned)
-took_turn site before after actor (Ok turned) turns = record { before = before; after = after; turns = turns }
-took_turn site before after actor (Err refused) turns = tt
+took_turn site before after actor (Ok turned) ran runs turns =
+    record { before = before; after = after; run_before = ran; run_after = runs; turns = turns }
+took_turn site before after actor (Err refused) ran runs turns = tt

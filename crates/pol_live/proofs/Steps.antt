@@ -1,6 +1,6 @@
 -- What a turn made of the parts of a locked plant.
 use Rattle.std.proofs.Common.{◌≡◌, ◌⊎◌, inl, inr, ◌<◌, ◌≤◌, ◌+◌, ℕ, suc, Bool, true, false, List, [], ◌∷◌, ◌++◌, length, get_or, Option, Some, None, refl, ap, sym, ◌∙◌, subst, arith}
-use Rattle.std.specs.Prelude.{nat_lt, option_map, slice_get, slice_set, if◌then◌else◌}
+use Rattle.std.specs.Prelude.{Result, Ok, Err, OnErr, nat_lt, option_map, slice_get, slice_set, if◌then◌else◌}
 use Rattle.std.proofs.lemmas.Bool.{and_parts}
 use Rattle.std.proofs.lemmas.List.{length-map}
 use Rattle.std.proofs.lemmas.Option.{same_Some, slice_get_read}
@@ -8,6 +8,8 @@ use Rattle.pol_events.specs.Events.{PlainEvent, start, advance, desk}
 use Rattle.pol_history.specs.Answers.{answer_of, is_full}
 use Rattle.pol_history.specs.Looking.{History}
 use Rattle.pol_history.proofs.Accepted.{paired}
+use Rattle.pol_core.specs.Plants.{is_spared}
+use Rattle.pol_io.specs.Causes.{Rose}
 use Rattle.pol_site.specs.Actors.{Actor, actors, owner_of}
 use Rattle.pol_site.specs.Settled.{is_settled}
 use Rattle.pol_site.specs.Sites.{PlainSite, PlainSiteBatch, PlainSiteDesk}
@@ -35,7 +37,7 @@ use Rattle.pol_actors.proofs.Numbers.{item_mapped}
 use Rattle.pol_actors.proofs.Owners.{owner_batch, owner_desk}
 use Rattle.pol_actors.proofs.Stages.{IsBatchTurn}
 use Rattle.pol_actors.proofs.Stamped.{entry_at}
-use Rattle.pol_live.specs.Turns.{Enters, HasRested, Locked, history_of}
+use Rattle.pol_live.specs.Turns.{AskedInVain, Enters, HasRested, IsAsBefore, Locked, history_of}
 use Rattle.pol_live.specs.declared.turned.Placed.{Placed}
 
 -- ---- in general
@@ -52,6 +54,28 @@ rested site view before actor who same room who_is settled =
       who_is = who_is;
       settled = subst (λ (locked : Locked). is_settled site (history_of locked) who ≡ true) same settled;
     }
+
+-- what holds whatever came of a call holds where it failed
+pub on_err : {T E P : Type 0} (result : Result T E) → P → OnErr result P
+on_err (Ok value) holds = tt
+on_err (Err error) holds = holds
+
+-- a turn whose event found no memory changed nothing but the clock, and that only where the event takes memory
+pub as_before : (site : PlainSite) (view before after : Locked) (actor : ℕ) (event : PlainEvent) → view ≡ before
+    → owner_of site event ≡ Some actor → (after.entries ≡ view.entries) × (after.by ≡ view.by)
+    → after.units ≡ view.units
+    → ((after.last ≡ view.last) × (after.calls ≡ view.calls))
+    ⊎ ((is_spared event ≡ false) × Rose view.calls after.calls)
+    → IsAsBefore site before after actor
+as_before site view before after actor event is owner same units clock =
+    subst (λ (locked : Locked). IsAsBefore site locked after actor) is
+    (record { entries_are = same.0; by_is = same.1; units_are = units; clock_is = asked clock })
+  where
+    asked : ((after.last ≡ view.last) × (after.calls ≡ view.calls))
+        ⊎ ((is_spared event ≡ false) × Rose view.calls after.calls)
+        → ((after.last ≡ view.last) × (after.calls ≡ view.calls)) ⊎ AskedInVain site view after actor
+    asked (inl unasked) = inl unasked
+    asked (inr vain) = inr (record { event = event; owner = owner; takes = vain.0; rose = vain.1 })
 
 -- a site has at most 64 modules
 pub few_modules : (site : PlainSite) → IsSite site → length site.modules ≤ 64

@@ -1,5 +1,5 @@
 -- What a turn at the locked plant does.
-use Rattle.std.specs.Prelude.{ℕ, suc, ◌≡◌, ◌+◌, ◌<◌, ◌++◌, ◌∷◌, List, [], length, ◌⊎◌, Bool, true, false, Option, Some, None, slice_get, slice_set, slice_index}
+use Rattle.std.specs.Prelude.{ℕ, suc, ◌≡◌, ◌≢◌, ◌+◌, ◌<◌, ◌++◌, ◌∷◌, List, [], length, ◌⊎◌, Bool, true, false, Option, Some, None, slice_get, slice_set, slice_index}
 use Rattle.pol_events.specs.Events.{PlainEvent, plain_history}
 use Rattle.pol_events.specs.declared.event.Entry.{Entry}
 use Rattle.pol_history.specs.Answers.{answer_of, is_full}
@@ -15,8 +15,10 @@ use Rattle.pol_actors.specs.Stamps.{stamped}
 use Rattle.pol_actors.specs.Turning.{made_looked, made_of, next_found, simulated}
 use Rattle.pol_actors.specs.declared.simulation.Simulation.{Simulation}
 use Rattle.pol_actors.specs.declared.unit.Unit.{Unit as Module}
+use Rattle.pol_core.specs.Plants.{is_spared}
 use Rattle.pol_core.specs.declared.commands.Sent.{Sent}
 use Rattle.mtp_sim.specs.Ticks.{is_pending, tick_report, ticked}
+use Rattle.pol_live.specs.Parts.{IsRun}
 use Rattle.pol_live.specs.declared.actor_kind.ActorKind.{ActorKind}
 use Rattle.pol_live.specs.declared.actor_kind.ActorKind.TheVariants as kind
 use Rattle.pol_live.specs.declared.turned.Placed.{Placed}
@@ -124,11 +126,34 @@ Turns site before after actor Looked = HasLooked site before after actor
 Turns site before after actor Rested = HasRested site before after actor
 Turns site before after actor Full = WasFull before after
 
--- there is a plant at which the actor took such a turn
+-- the clock was asked for the stamp of an event of the actor that takes memory, and there was none for it
+pub record AskedInVain (site : PlainSite) (before after : Locked) (actor : ℕ) : Type 0 where
+  pub event : PlainEvent
+  pub owner : owner_of site event ≡ Some actor
+  pub takes : is_spared event ≡ false
+  pub rose : Rose before.calls after.calls
+
+-- a turn that found no memory changed nothing; at most the clock was asked in vain
+pub record IsAsBefore (site : PlainSite) (before after : Locked) (actor : ℕ) : Type 0 where
+  pub entries_are : after.entries ≡ before.entries
+  pub by_is : after.by ≡ before.by
+  pub units_are : after.units ≡ before.units
+  pub clock_is :
+      ((after.last ≡ before.last) × (after.calls ≡ before.calls)) ⊎ AskedInVain site before after actor
+
+-- at some moment of a run of the site the actor took such a turn
 pub record TookTurn (site : PlainSite) (actor : ℕ) (turned : Turned) : Type 0 where
   pub before : Locked
   pub after : Locked
+  pub run_before : IsRun site before.entries before.by
+  pub run_after : IsRun site after.entries after.by
   pub turns : Turns site before after actor turned
+
+-- the actor took a turn that didn't find the history full
+pub record WentOn (site : PlainSite) (actor : ℕ) : Type 0 where
+  pub turned : Turned
+  pub took : TookTurn site actor turned
+  pub room : turned ≢ Full
 
 -- who the actor with this number is
 abbrev pub IsActorKind : PlainSite → ℕ → ActorKind → Type 0

@@ -1,6 +1,7 @@
 //! The turns of actors in threads.
-ghost use Rattle.std.specs.Prelude.{◌≡◌};
+ghost use Rattle.std.specs.Prelude.{◌≡◌, false};
 ghost use Rattle.pol_live.specs.Seats.{actors_of};
+ghost use Rattle.pol_live.specs.Turns.{WentOn};
 
 use crate::gate::Gate;
 use crate::job::Job;
@@ -49,13 +50,14 @@ impl<'a, J: Job, C: Clock + Send, G: Gate> Crew<'a, J, C, G> {
     }
 }
 
-// One turn. True where the run is over.
+// One turn. True where the run is over; else the actor took one.
 fn step<J: Job, R: Wait, C: Clock + Send>(
     rt: &R,
     live: &LivePlant<J, C>,
     seat: &mut ActorSeat<J>,
 ) -> bool
-    ensures { seat.new.actor ≡ seat.old.actor }
+    ensures actor { seat.new.actor ≡ seat.old.actor }
+    ensures went_on { result ≡ false → WentOn J.site seat.old.actor }
 {
     match live.turn(rt, seat) {
         Ok(Turned::Made(_) | Turned::Looked) => false,

@@ -7,7 +7,8 @@ ghost use Rattle.pol_site.specs.Following.{FollowsSite};
 ghost use Rattle.pol_site.specs.PlainSite.{plain_site};
 ghost use Rattle.pol_history.specs.Answers.{is_full};
 ghost use Rattle.pol_actors.specs.Kept.{AreFirstStages, AreFirstUnits, AreOwners};
-ghost use Rattle.pol_live.specs.Turns.{Turns, history_of};
+ghost use Rattle.pol_live.specs.Parts.{IsRun};
+ghost use Rattle.pol_live.specs.Turns.{IsAsBefore, Turns, history_of};
 
 use crate::actor_kind::{ActorKind, actor_kind, actors_of};
 use crate::job::Job;
@@ -119,6 +120,13 @@ impl<J: Job, C: Clock> Cast<J, C> {
         })
     }
 
+    /// The history is that of a run of the site.
+    pub(crate) fn is_of_a_run(&self)
+        ensures { IsRun J.site self.now.entries self.now.by }
+    {
+        let _ = &self.plant;
+    }
+
     /// The site.
     pub(crate) fn site(&self) -> &Site
         ensures { plain_site result.now ≡ J.site }
@@ -176,7 +184,7 @@ impl<J: Job, C: Clock> Cast<J, C> {
         requires actor { actor < length (actors J.site) }
         requires room { is_full (history_of self.old) ≡ false }
         ensures ok { IfOk result (λ turned. Turns J.site self.old self.new actor turned) }
-        ensures err { OnErr result ((self.new.entries ≡ self.old.entries) × (self.new.by ≡ self.old.by)) }
+        ensures err { OnErr result (IsAsBefore J.site self.old self.new actor) }
     {
         match actor_kind(&self.site, actor) {
             ActorKind::Exchanger => self.exchanger_turn(),
@@ -190,11 +198,11 @@ impl<J: Job, C: Clock> Cast<J, C> {
     ///
     /// # Errors
     ///
-    /// Where there is no memory. Then the history is as before.
+    /// Where there is no memory. Then nothing changed; at most the clock was asked.
     pub(crate) fn turn(&mut self, actor: u32) -> Result<Turned, AllocError>
         requires actor { actor < length (actors J.site) }
         ensures ok { IfOk result (λ turned. Turns J.site self.old self.new actor turned) }
-        ensures err { OnErr result ((self.new.entries ≡ self.old.entries) × (self.new.by ≡ self.old.by)) }
+        ensures err { OnErr result (IsAsBefore J.site self.old self.new actor) }
     {
         if self.is_full() {
             return Ok(Turned::Full);

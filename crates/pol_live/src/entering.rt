@@ -1,9 +1,10 @@
 //! One event enters the history, with its stamp and with who made it.
-ghost use Rattle.std.specs.Prelude.{◌≡◌, ◌<◌, ◌++◌, ◌∷◌, [], IfOk, OnErr, IsTrue, false, length, vec_len, vec_capacity};
+ghost use Rattle.std.specs.Prelude.{◌≡◌, ◌<◌, ◌++◌, ◌∷◌, ◌⊎◌, [], IfOk, OnErr, IsTrue, false, length, vec_len, vec_capacity};
 ghost use Rattle.pol_events.specs.Events.{plain_event};
 ghost use Rattle.pol_events.specs.Orderly.{is_orderly};
 ghost use Rattle.pol_history.specs.Answers.{is_full};
 ghost use Rattle.pol_core.specs.Plants.{is_spared, plant_history};
+ghost use Rattle.pol_io.specs.Causes.{Rose};
 ghost use Rattle.pol_actors.specs.Stamps.{stamped};
 ghost use Rattle.pol_live.specs.Turns.{Enters};
 
@@ -41,8 +42,8 @@ fn stamped(mut event: Event, now: u64) -> Event
 ///
 /// # Errors
 ///
-/// Where there is no memory. Then neither the history nor the list of actors changed, and of an event that takes no
-/// memory the clock wasn't asked.
+/// Where there is no memory. Then neither the history nor the list of actors changed; and the clock wasn't asked, unless
+/// the event is one that takes memory.
 pub(crate) fn enter<C: Clock>(
     plant: &mut Plant,
     by: &mut Vec<u32>,
@@ -56,8 +57,8 @@ pub(crate) fn enter<C: Clock>(
         (plant_history plant.old) (plant_history plant.new) (plain_event event) placed) }
     ensures by { IfOk result (λ placed. by.new.items ≡ by.old.items ++ actor ∷ []) }
     ensures err { OnErr result ((plant.new.entries ≡ plant.old.entries) × (by.new.items ≡ by.old.items)) }
-    ensures unasked { OnErr result
-        (IsTrue (is_spared (plain_event event)) → C.calls clock.new ≡ C.calls clock.old) }
+    ensures clock { OnErr result (((C.last clock.new ≡ C.last clock.old) × (C.calls clock.new ≡ C.calls clock.old))
+        ⊎ ((is_spared (plain_event event) ≡ false) × Rose (C.calls clock.old) (C.calls clock.new))) }
 {
     plant.reserve(1)?;
     by.reserve(1)?;

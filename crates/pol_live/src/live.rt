@@ -40,7 +40,10 @@ impl<J: Job, C: Clock> Under<J, C> {
         ensures actor { seat.new.actor ≡ seat.old.actor }
     {
         let Under { plant, book, .. } = self;
-        seat.turn(plant, book)
+        plant.is_of_a_run();
+        let turned = seat.turn(plant, book);
+        plant.is_of_a_run();
+        turned
     }
 
     // A watcher of the plant's board.

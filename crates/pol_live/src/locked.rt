@@ -9,7 +9,8 @@ ghost use Rattle.pol_site.specs.Commanded.{IsCommanded};
 ghost use Rattle.pol_site.specs.Following.{FollowsSite};
 ghost use Rattle.pol_site.specs.PlainSite.{plain_site};
 ghost use Rattle.pol_actors.specs.Kept.{AreFirstUnits, AreOwners};
-ghost use Rattle.pol_live.specs.Turns.{Tells, Turns, history_of};
+ghost use Rattle.pol_live.specs.Parts.{IsRun};
+ghost use Rattle.pol_live.specs.Turns.{IsAsBefore, Tells, Turns, history_of};
 
 use crate::cast::Cast;
 use crate::job::Job;
@@ -90,16 +91,25 @@ impl<J: Job, C: Clock> LockedPlant<J, C> {
         self.cast.is_over()
     }
 
+    /// Whatever turns were taken, the history is legal and orderly, follows the site, has a command for each change, and
+    /// it is told who made each entry.
+    pub fn is_of_a_run(&self)
+        ensures { IsRun J.site self.now.entries self.now.by }
+    {
+        self.cast.is_of_a_run();
+    }
+
     /// One turn of an actor. It applies at most one event of the actor, whose stamp the clock gives in this turn. What
     /// the event shows stands on the status board before the turn ends.
     ///
     /// # Errors
     ///
-    /// Where there is no memory. Then the history is as before.
+    /// Where there is no memory. Then nothing changed: neither the history nor a module; only of an event that takes
+    /// memory, a recipe, a plug, a start or the end of an exchange, the clock may have been asked.
     pub fn turn(&mut self, actor: u32) -> Result<Turned, AllocError>
         requires actor { actor < length (actors J.site) }
         ensures ok { IfOk result (λ turned. Turns J.site self.old self.new actor turned) }
-        ensures err { OnErr result ((self.new.entries ≡ self.old.entries) × (self.new.by ≡ self.old.by)) }
+        ensures err { OnErr result (IsAsBefore J.site self.old self.new actor) }
     {
         let turned = self.cast.turn(actor)?;
         match turned {

@@ -27,7 +27,7 @@ use std::marker::Brand;
 use std::sync::ledger::Blank;
 use std::sync::{Arc, Wait};
 use std::thread;
-use std::thread::{Promise, Threads};
+use std::thread::{Promise, SpawnError, Threads};
 
 /// What a run left: the history, the oldest entry first, and the number of the actor that made each entry.
 #[derive(Drop)]
@@ -200,7 +200,13 @@ fn drive<J: Job + Send + Sync, R: Threads + Wait + Sync, C: Clock + Send, G: Gat
                     continue;
                 }
                 let actor = seat.actor();
-                match scope.spawn_with(SeatOf(actor), move || act(rt, crew, seat)) {
+                let work = move || act(rt, crew, seat);
+                let begun = if crew.gate.may_begin() {
+                    scope.spawn_with(SeatOf(actor), work)
+                } else {
+                    Err(SpawnError { value: work })
+                };
+                match begun {
                     Ok(child) => children.push_reserved(child),
                     Err(refused) => {
                         crew.refuse(actor);
@@ -222,9 +228,12 @@ fn drive<J: Job + Send + Sync, R: Threads + Wait + Sync, C: Clock + Send, G: Gat
 const READS: u32 = 1_000;
 
 // What a watcher does.
-fn watch(watcher: Watcher) {
+fn watch<G: Gate>(gate: &G, number: usize, watcher: Watcher) {
     let mut watcher = watcher;
-    watcher.watch(READS);
+    for time in 0..READS {
+        gate.look(number, time);
+        watcher.look();
+    }
 }
 
 // The turns of all actors, while the watchers read the board, each in a thread of its own. Where such a thread can't be
@@ -243,11 +252,18 @@ fn drive_watched<J: Job + Send + Sync, R: Threads + Wait + Sync, C: Clock + Send
         thread::scope_env(),
         rt,
         |scope| -> Result<Vec<ActorSeat<J>>, AllocError>
-            requires { AreSeated (length (actors J.site)) seats.items }
+            requires { IsSync G.row × AreSeated (length (actors J.site)) seats.items }
             ensures { IfOk result (λ seats. AreSeated (length (actors J.site)) seats.items) }
         {
-            for watcher in watchers {
-                if let Err(refused) = scope.spawn(move || watch(watcher)) {
+            let gate = crew.gate;
+            for (number, watcher) in watchers.into_iter().enumerate() {
+                let work = move || watch(gate, number, watcher);
+                let begun = if gate.may_begin() {
+                    scope.spawn(work)
+                } else {
+                    Err(SpawnError { value: work })
+                };
+                if let Err(refused) = begun {
                     (refused.value)();
                 }
             }

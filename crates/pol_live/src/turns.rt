@@ -5,7 +5,7 @@ ghost use Rattle.pol_events.specs.Events.{plain_event};
 ghost use Rattle.pol_simulated.specs.Units.{report_event};
 ghost use Rattle.pol_history.specs.Modules.{docking_of};
 ghost use Rattle.pol_core.specs.Plants.{plant_history};
-ghost use Rattle.pol_live.specs.Turns.{Turns, history_of, is_docked};
+ghost use Rattle.pol_live.specs.Turns.{IsAsBefore, Turns, history_of, is_docked};
 
 use crate::cast::Cast;
 use crate::entering::{enter, enter_spared};
@@ -51,7 +51,7 @@ impl<J: Job, C: Clock> Cast<J, C> {
     pub(crate) fn exchanger_turn(&mut self) -> Result<Turned, AllocError>
         requires room { is_full (history_of self.old) ≡ false }
         ensures ok { IfOk result (λ turned. Turns J.site self.old self.new 0 turned) }
-        ensures err { OnErr result ((self.new.entries ≡ self.old.entries) × (self.new.by ≡ self.old.by)) }
+        ensures err { OnErr result (IsAsBefore J.site self.old self.new 0) }
     {
         let length = self.plant.history().len() as u32;
         let Some(errand) = self.exchanger.errand(&self.site, &self.plant, length) else {
@@ -71,7 +71,7 @@ impl<J: Job, C: Clock> Cast<J, C> {
         requires place { place < length J.site.modules }
         requires room { is_full (history_of self.old) ≡ false }
         ensures ok { IfOk result (λ turned. Turns J.site self.old self.new (suc place) turned) }
-        ensures err { OnErr result ((self.new.entries ≡ self.old.entries) × (self.new.by ≡ self.old.by)) }
+        ensures err { OnErr result (IsAsBefore J.site self.old self.new (suc place)) }
     {
         let unit = &self.site.modules[place];
         if !is_docked(&self.plant, unit.tag) {
@@ -104,7 +104,8 @@ impl<J: Job, C: Clock> Cast<J, C> {
         requires room { is_full (history_of self.old) ≡ false }
         ensures ok { IfOk result
             (λ turned. Turns J.site self.old self.new (suc (length J.site.modules + place)) turned) }
-        ensures err { OnErr result ((self.new.entries ≡ self.old.entries) × (self.new.by ≡ self.old.by)) }
+        ensures err { OnErr result
+            (IsAsBefore J.site self.old self.new (suc (length J.site.modules + place))) }
     {
         let batch = &self.site.batches[place];
         let stage = self.stages[place];
@@ -123,7 +124,8 @@ impl<J: Job, C: Clock> Cast<J, C> {
         ensures ok { IfOk result
             (λ turned. Turns J.site self.old self.new (suc (length J.site.modules + (length J.site.batches + 0)))
             turned) }
-        ensures err { OnErr result ((self.new.entries ≡ self.old.entries) × (self.new.by ≡ self.old.by)) }
+        ensures err { OnErr result (IsAsBefore J.site self.old self.new
+            (suc (length J.site.modules + (length J.site.batches + 0)))) }
     {
         let length = self.plant.history().len() as u32;
         let Some(event) = self.desk.next_event(&self.site, length) else {

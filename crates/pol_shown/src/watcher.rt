@@ -43,24 +43,14 @@ impl Watcher {
         }
     }
 
-    // Reads every word once.
-    fn look(&mut self)
+    /// Reads every word of the board once. At no word anything older is found than what was seen there or told before.
+    /// It never waits.
+    pub fn look(&mut self)
         ensures board { self.new.board ≡ self.old.board }
         ensures newer { AreOlder self.old.words self.new.words }
     {
         for word in 0..self.words {
             let _ = self.reader.read(&self.board, word);
-        }
-    }
-
-    /// Reads every word of the board `times` times. At no word anything older is found than what was seen there or told
-    /// before. It never waits.
-    pub fn watch(&mut self, times: u32)
-        ensures board { self.new.board ≡ self.old.board }
-        ensures newer { AreOlder self.old.words self.new.words }
-    {
-        for _ in 0..times {
-            self.look();
         }
     }
 }

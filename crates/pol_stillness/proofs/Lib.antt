@@ -18,3 +18,4 @@ pub mod KeepingUp
 pub mod Resting
 pub mod Rested
 pub mod Exchanges
+pub mod Planned

@@ -10,3 +10,4 @@ pub mod Allowed
 pub mod KeepingUp
 pub mod Resting
 pub mod Exchanges
+pub mod Planned

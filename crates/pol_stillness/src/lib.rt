@@ -15,6 +15,7 @@ ghost use Rattle.pol_stillness.specs.Law.{CommandsFindServicesStill, UnansweredA
 ghost use Rattle.pol_stillness.specs.Phases.{OthersKeepPhases, SendsGive, TakesSettle, TicksKeepPhases};
 ghost use Rattle.pol_stillness.specs.Plain.{PlantsArePlain};
 ghost use Rattle.pol_stillness.specs.Desks.{DesksAreRefused};
+ghost use Rattle.pol_stillness.specs.Planned.{DockedArePlanned};
 ghost use Rattle.pol_stillness.specs.Resting.{RestsAreSettled, SettledRest};
 ghost use Rattle.pol_stillness.specs.Served.{FirstsAreServed, LooksServe, OthersServe, RestIsAnswered, SendsServe, TicksServe};
 ghost use Rattle.pol_stillness.specs.Starting.{StartsExist};
@@ -195,4 +196,10 @@ pub fn settled_rest()
 /// In a history that follows its site a module is away exactly under the ticket of the exchange that is open.
 pub fn open_is_away()
     ensures { OpenIsAway }
+{}
+
+/// In a history that follows its site a docked module has a plan: the site tells how it is simulated.
+#[tactic(auto, using(crate::proofs::Planned::docked_planned))]
+pub fn docked_are_planned()
+    ensures { DockedArePlanned }
 {}

@@ -1,4 +1,4 @@
-use Rattle.std.proofs.Common.{rules, ◌≡◌, ◌<◌, ◌+◌, ◌++◌, ◌∷◌, [], ◌∙◌, ap, length, suc, sym, subst, arith}
+use Rattle.std.proofs.Common.{rules, ◌≡◌, ◌<◌, ◌+◌, ◌++◌, ◌∷◌, [], ◌∙◌, ap, length, refl, suc, sym, subst, arith}
 use Rattle.std.specs.Prelude.{option_map, slice_get, slice_set}
 use Rattle.std.proofs.lemmas.List.{length-map}
 use Rattle.pol_events.specs.Events.{plain_event}
@@ -11,7 +11,7 @@ use Rattle.pol_site.specs.Views.{plain_batch, plain_module}
 use Rattle.pol_actors.proofs.Owners.{actor_batch}
 use Rattle.pol_actors.proofs.Stages.{batch_acts, batch_rests, batch_turn}
 use Rattle.pol_live.specs.Turns.{Locked, history_of}
-use Rattle.pol_live.proofs.Steps.{batch_at, batch_owner, batch_turned, own_at, rested}
+use Rattle.pol_live.proofs.Steps.{as_before, batch_at, batch_owner, batch_turned, on_err, own_at, rested}
 use Rattle.pol_live.proofs.cast.Cast.batch_turn.Goals as goal
 
 pub returns-in_default-clause-ok : goal.returns-in_default-clause-ok
@@ -108,3 +108,24 @@ returns-clause-ok g c =
       enters = c.in_ok-placed.ensures.ok;
       by_is = c.in_ok-placed.ensures.by ∙ ap (λ n. c.self.inside.by.items ++ n ∷ []) actor;
     }
+
+pub returns-in_err-placed-clause-err : goal.returns-in_err-placed-clause-err
+returns-in_err-placed-clause-err g c =
+    let kept = c.self.invariant.1 in
+    let history = plant_history c.self.inside.plant in
+    let room = ap (λ (locked : Locked). is_full (history_of locked)) c.self.view_is ∙ c.requires.room in
+    let held = ap plain_site c.deref.ensures ∙ c.self.invariant.0 in
+    let batch = plain_batch c.index-batch.result.now in
+    let here = subst (λ (site : PlainSite). c.args.place < length site.batches) (sym held) c.requires.place in
+    let listed = ap (λ (site : PlainSite). slice_get site.batches c.args.place) (sym held)
+    ∙ batch_at c.deref.result.now c.args.place c.index-batch.result.now here c.index-batch.ensures in
+    let stands = own_at c.self.inside.stages.items (length g.J.Job.site.batches) c.args.place c.index-stage.result.now
+    kept.stage_count c.requires.place c.index-stage.ensures in
+    let turn = batch_turn g.J.Job.site history c.args.place batch c.index-stage.result.now (plain_event c.in-Some.event)
+    room kept.sound listed (kept.stages_are c.args.place batch c.index-stage.result.now listed stands)
+    (sym c.in_ok-event.ensures ∙ ap (option_map plain_event) c.in-Some.is) in
+    on_err c.from_residual-in_err-placed.result
+    (as_before g.J.Job.site _ c.args.self.now _ (suc (length g.J.Job.site.modules + c.args.place))
+    (plain_event c.in-Some.event) c.self.view_is
+    (batch_owner g.J.Job.site history c.args.place batch c.index-stage.result.now (plain_event c.in-Some.event)
+    kept.sound listed turn) c.in_err-placed.ensures.err refl c.in_err-placed.ensures.clock)

@@ -13,7 +13,7 @@ use Rattle.pol_actors.specs.Moved.{units_after}
 use Rattle.pol_actors.proofs.ExchangerRests.{exchanger_acts, exchanger_rests}
 use Rattle.pol_actors.proofs.Exchanging.{errand_next}
 use Rattle.pol_live.specs.Turns.{Locked, history_of}
-use Rattle.pol_live.proofs.Steps.{exchanger_turned, few_modules, rested}
+use Rattle.pol_live.proofs.Steps.{as_before, exchanger_turned, few_modules, on_err, rested}
 use Rattle.pol_live.proofs.cast.Cast.exchanger_turn.Goals as goal
 
 pub returns-in_default-clause-ok : goal.returns-in_default-clause-ok
@@ -117,3 +117,22 @@ returns-clause-ok g c =
       enters = c.in_ok-placed.ensures.ok;
       by_is = c.in_ok-placed.ensures.by;
     }
+
+pub returns-in_err-placed-clause-err : goal.returns-in_err-placed-clause-err
+returns-in_err-placed-clause-err g c =
+    let kept = c.self.invariant.1 in
+    let history = plant_history c.self.inside.plant in
+    let room = ap (λ (locked : Locked). is_full (history_of locked)) c.self.view_is ∙ c.requires.room in
+    let held = ap plain_site c.deref.ensures ∙ c.self.invariant.0 in
+    let count = ap length c.history.ensures.entries ∙ sym (length_history c.self.inside.plant.entries) in
+    let turn = errand_next g.J.Job.site history (length c.history.result.now) c.self.inside.exchanger c.in-Some.errand
+    kept.sound (few_modules g.J.Job.site kept.sound) kept.legal kept.follows room count kept.exchanger_is
+    (ap (λ site. errand_of site history (length c.history.result.now) c.self.inside.exchanger) (sym held)
+    ∙ sym c.errand.ensures ∙ c.in-Some.is) in
+    let event = same_Some (plain_event c.in-Some-2.event) turn.event
+    (ap (option_map plain_event) (sym c.in-Some-2.is) ∙ c.in_ok-event.ensures
+    ∙ ap (λ site. event_of site c.in-Some.errand) (ap plain_site c.deref-2.ensures ∙ c.self.invariant.0)
+    ∙ turn.event_is) in
+    on_err c.from_residual-in_err-placed.result
+    (as_before g.J.Job.site _ c.args.self.now _ 0 (plain_event c.in-Some-2.event) c.self.view_is
+    (ap (owner_of g.J.Job.site) event ∙ turn.owner) c.in_err-placed.ensures.err refl c.in_err-placed.ensures.clock)

@@ -1,4 +1,4 @@
-use Rattle.std.proofs.Common.{◌≡◌, ◌<◌, ◌+◌, ◌++◌, ◌∷◌, [], ◌∙◌, List, ap, length, refl, suc, sym, subst, true, false, arith}
+use Rattle.std.proofs.Common.{◌≡◌, ◌<◌, ◌+◌, ◌++◌, ◌∷◌, [], ◌∙◌, List, ap, length, refl, suc, sym, subst, arith}
 use Rattle.std.specs.Prelude.{slice_get, slice_set}
 use Rattle.pol_events.specs.Events.{plain_event, plain_history}
 use Rattle.pol_events.specs.declared.event.Entry.{Entry}
@@ -10,7 +10,7 @@ use Rattle.pol_site.specs.PlainSite.{plain_site}
 use Rattle.pol_site.specs.Views.{plain_module}
 use Rattle.pol_simulated.specs.Units.{report_event}
 use Rattle.pol_actors.proofs.Owners.{actor_module}
-use Rattle.pol_live.specs.Turns.{Enters, Locked, history_of, is_docked}
+use Rattle.pol_live.specs.Turns.{Enters, Locked, history_of}
 use Rattle.pol_live.proofs.Looking.{look_of}
 use Rattle.pol_live.proofs.ModuleSteps.{at_turn, kept_calm, kept_reported, module_at, module_count, module_known, module_turned, module_within, moved, report_owner, settled_before, undocked_settled}
 use Rattle.pol_live.proofs.Steps.{entered_is, rested}

@@ -40,8 +40,8 @@ returns g c =
     (kept.handle, kept.handle_is, kept.kept)))
     c.rotate.ensures)
 
-pub spawn_with-requires-send-F : goal.spawn_with-requires-send-F
-spawn_with-requires-send-F g c =
+pub spawn_with-begun-requires-send-F : goal.spawn_with-begun-requires-send-F
+spawn_with-begun-requires-send-F g c =
     λ κs outlives.
     captured_send _ _ _ _ _ _ _ c.requires.0
     (crew_sync (param 0 g.row.J) (param 2 g.row.C) g.J.Job g.J.Ledger g.C.Clock _ (param 3 g.row.G) c.requires.3

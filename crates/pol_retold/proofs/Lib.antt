@@ -1,0 +1,12 @@
+mod Judged
+mod Keys
+mod Closing
+mod Good
+mod Exact
+mod Fields
+mod Answers
+mod Entries
+mod Feeds
+mod Replayed
+mod Inputs
+mod Events

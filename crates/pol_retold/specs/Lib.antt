@@ -1,0 +1,4 @@
+pub mod Retold
+pub mod Inputs
+pub mod Replayed
+pub mod Exact

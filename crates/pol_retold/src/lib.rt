@@ -1,0 +1,62 @@
+//! What is written of a history is read again: the audit finds it good, a replay of its events gives its answers and
+//! its batch lines, and each answer and each entry is read from its own line as it was. Each is a law over all legal
+//! histories, or over all answers or entries that a program holds: the contract of a function with an empty body.
+//!
+//! It knows nothing of how a history came about, nor of who writes it.
+#![tactic(auto)]
+
+ghost use Rattle.std.specs.Prelude.{IfOk, IsTrue};
+ghost use Rattle.pol_events.specs.Events.{plain_event};
+ghost use Rattle.pol_events.specs.Orderly.{is_orderly};
+ghost use Rattle.pol_retold.specs.Exact.{AnswersAreExact, AnswersAreRetold, EntriesAreRetold, IsWritten};
+ghost use Rattle.pol_retold.specs.Inputs.{InputsAreGood};
+ghost use Rattle.pol_retold.specs.Replayed.{ReplaysAnswer};
+ghost use Rattle.pol_retold.specs.Retold.{PlantsAreGood};
+
+use pol_events::{Event, event_value};
+use std::alloc::{AllocError, Global};
+
+/// The lines that are written of a legal history of at most 20,000 entries say its entries, and the verdict over them
+/// is good.
+pub fn plants_are_good()
+    ensures { PlantsAreGood }
+{}
+
+/// The bytes that are written of a legal history of at most 20,000 entries, cut into lines again, are audited good,
+/// where no line is longer than a line may be.
+pub fn inputs_are_good()
+    ensures { InputsAreGood }
+{}
+
+/// The replay of a legal history's events gives its answers, its batch lines and the end line.
+pub fn replays_answer()
+    ensures { ReplaysAnswer }
+{}
+
+/// What is written of an answer that a program holds has just the tokens of the answer's object, and is read as it.
+pub fn answers_are_exact()
+    ensures { AnswersAreExact }
+{}
+
+/// What is written of an answer that a program holds is read as that answer, and is written of no other.
+pub fn answers_are_retold()
+    ensures { AnswersAreRetold }
+{}
+
+/// What is written of an entry that a program holds is read as that entry.
+pub fn entries_are_retold()
+    ensures { EntriesAreRetold }
+{}
+
+/// The text of an event, without a line feed. The event has to be one that a line can say.
+///
+/// # Errors
+///
+/// Where there is no memory.
+pub fn event_text(alloc: Global, event: &Event) -> Result<Vec<u8>, AllocError>
+    requires { IsTrue (is_orderly (plain_event event.now)) }
+    ensures { IfOk result (λ _. IsWritten (plain_event event.now)) }
+{
+    let value = event_value(alloc, event)?;
+    value.to_vec(alloc)
+}
