@@ -9,9 +9,9 @@ import tempfile
 import time
 
 NAMES = ('chromium', 'chromium-browser', 'google-chrome')
-WORDS = ('--headless=new', '--no-sandbox', '--disable-gpu', '--hide-scrollbars', '--no-first-run',
-         '--disable-extensions', '--disable-background-networking', '--disable-component-update',
-         '--force-color-profile=srgb', '--font-render-hinting=none')
+WORDS = ('--headless=new', '--no-sandbox', '--disable-gpu', '--no-first-run', '--disable-extensions',
+         '--disable-background-networking', '--disable-component-update', '--force-color-profile=srgb',
+         '--font-render-hinting=none')
 
 
 class NoBrowser(Exception):
@@ -128,10 +128,12 @@ class Browser:
 
     def picture(self, path):
         """The whole page as a picture."""
+        self.send('Emulation.setScrollbarsHidden', hidden=True)
         self.settle()
         image = self.send('Page.captureScreenshot', format='png', captureBeyondViewport=True)['data']
         with open(path, 'wb') as file:
             file.write(base64.b64decode(image))
+        self.send('Emulation.setScrollbarsHidden', hidden=False)
 
     def paper(self, path):
         sheet = self.send('Page.printToPDF', preferCSSPageSize=True, printBackground=True)['data']

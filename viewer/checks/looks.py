@@ -22,6 +22,9 @@ OUT = """[...document.querySelectorAll('.card *')]
 CHARTED = """[...document.querySelectorAll('#chart text')]
     .filter(each => { const box = each.getBBox(), view = each.ownerSVGElement.viewBox.baseVal;
       return box.x < 0 || box.x + box.width > view.width; })""" + SHORT
+# Strip and panes have one width, so that one cursor stands in one line.
+ALIGNED = """(() => { const wide = each => document.querySelector(each).clientWidth;
+    return ['#batches', '#modules'].map(wide).filter(each => each > 0).every(each => each === wide('#ruler')); })()"""
 CONTRAST = """(() => {
     const style = getComputedStyle(document.documentElement);
     const part = (colour, k) => parseInt(colour.slice(k, k + 2), 16) / 255;
@@ -45,6 +48,7 @@ def check(checks):
             checks.page.settle()
             title = '%s at %d: nothing ' % (name, wide)
             checks.is_true(title + 'too wide', 'document.documentElement.scrollWidth <= innerWidth')
+            checks.is_true(title + 'out of line', ALIGNED)
             for what, code in (('cut off', CUT), ('out of its place', OUT), ('out of the chart', CHARTED)):
                 checks.gives(title + what, code, [])
     check_contrast(checks)

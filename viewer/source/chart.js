@@ -3,7 +3,7 @@
 // entries.
 "use strict";
 const chart = (() => {
-  const GAP = 16, LEAST = 0.8, ROW = 15, BOX = 44, SPACE = "http://www.w3.org/2000/svg";
+  const GAP = 16, LEAST = 0.8, FIT = 0.9, ROW = 15, BOX = 44, SPACE = "http://www.w3.org/2000/svg";
   const pen = document.createElement("canvas").getContext("2d");
   function wideOf(text, isStrong) {
     pen.font = (isStrong ? "600 13px" : "12px") + paint.colours.font.slice(4);
@@ -28,22 +28,21 @@ const chart = (() => {
   }
   // A transition: a bar across the link, its condition beside it, and the values known now.
   function transition(text, now, letters) {
-    const rows = wrapped(text, letters).map(row => [row, "when"]).concat(now.flatMap(each => wrapped(each, letters))
-      .map(row => [row, "now"]));
-    const h = Math.max(28, rows.length * ROW + 12);
+    const rows = wrapped(text, letters).map(row => [row, "when"]);
+    rows.push(...now.flatMap(each => wrapped(each, letters)).map(row => [row, "now"]));
+    const h = Math.max(28, rows.length * ROW + 12), first = (1 - rows.length) / 2;
     return { l: 10, r: 20 + Math.max(...rows.map(([row]) => wideOf(row))), h, draw(g, x, y, style = "") {
       line(g, x, y, x, y + h, style);
       put(g, "path", { d: `M${x - 9} ${y + h / 2}h18`, class: `bar ${style}` });
       rows.forEach(([row, kind], k) => {
-        put(g, "text", { x: x + 15, y: y + h / 2 + 4 + (k - (rows.length - 1) / 2) * ROW, class: `${kind} ${style}` },
-          row);
+        put(g, "text", { x: x + 15, y: y + h / 2 + 4 + (first + k) * ROW, class: `${kind} ${style}` }, row);
       });
     } };
   }
   function stack(parts, gap = GAP) {
     const h = parts.reduce((sum, part) => sum + part.h, 0) + gap * (parts.length - 1);
-    return { l: Math.max(...parts.map(part => part.l)), r: Math.max(...parts.map(part => part.r)), h,
-      draw(g, x, y, style) {
+    const l = Math.max(...parts.map(part => part.l)), r = Math.max(...parts.map(part => part.r));
+    return { l, r, h, draw(g, x, y, style) {
       parts.forEach((part, k) => {
         if (k) { line(g, x, y, x, y + gap, style); y += gap; }
         part.draw(g, x, y, style);
@@ -138,7 +137,7 @@ const chart = (() => {
     for (const letters of [26, 18, 12]) {
       const whole = part(known.chart, known, { ...place, letters }), l = Math.max(whole.l, 30) + 18;
       found = { whole, l, wide: l + Math.max(whole.r, 60) + 14, h: whole.h + 84 };
-      if (found.wide <= room) break;
+      if (found.wide <= room / FIT) break;
     }
     return found;
   }

@@ -23,9 +23,9 @@ const here = (() => {
   }
   // An answer without more is said with the words of the event's row in the docs.
   function said(history, at, event, answer) {
-    const isPlain = answer && ("done" in answer || "ticket" in answer), own = isPlain ? words.word("events", event?.ev)
-      : null;
-    if (!own || "did" in answer) return history.answerTo(at, event, answer);
+    const isPlain = answer && !isRefused(answer) && ("done" in answer || "ticket" in answer);
+    const own = isPlain ? words.word("events", event?.ev) : null;
+    if (!own) return history.answerTo(at, event, answer);
     return "ticket" in answer ? own.replace(/^[^;]*/, words.say("ticket", answer.ticket)) : own;
   }
   // How the entry's module stands at the cursor.
@@ -33,9 +33,8 @@ const here = (() => {
     const module = history.modules.get(tag), dock = module?.dockAt(at);
     if (!module || !dock) return null;
     const span = module.hold.span(at), parts = [`${dock.type} ${dock.version}`];
-    if (span < 0) parts.push(words.say("unplugged"));
-    else parts.push(module.hold.style[span] === "held" ? words.say("heldBy", module.hold.text[span])
-      : words.say(module.hold.style[span]));
+    const style = span < 0 ? "unplugged" : module.hold.style[span];
+    parts.push(style === "held" ? words.say("heldBy", module.hold.text[span]) : words.say(style));
     const watchers = module.watch.textAt(at);
     if (watchers) parts.push(words.say("watchedBy", watchers));
     return make("p", { class: "note" }, words.say("moduleNow", tag, parts.join(", ")));
@@ -63,21 +62,21 @@ const here = (() => {
   // Where a batch stands at an entry, and how its conditions' values are said then.
   function place(history, batch, at) {
     const kindOf = test => (batch ? history.kindAt(batch.tagOf(test.role), test.name ?? test.test, at) : undefined);
-    const isReached = batch !== null && at >= batch.started, isEnded = isReached && batch.ended !== null
-      && batch.ended <= at;
+    const isReached = batch !== null && at >= batch.started;
+    const isEnded = isReached && batch.ended !== null && batch.ended <= at, isOpen = isReached && !isEnded;
     return {
-      standing: isReached ? batch.standing(at) : null, wait: isReached && !isEnded ? batch.waitAt(at) : null, isReached,
-      isOpen: isReached && !isEnded, isDone: isEnded && batch.outcome === "Completed",
-      said: test => words.value(test.value, kindOf(test)), now: condition => nowOf(history, batch, condition, at,
-        kindOf),
+      isReached, isOpen, isDone: isEnded && batch.outcome === "Completed",
+      standing: isReached ? batch.standing(at) : null, wait: isOpen ? batch.waitAt(at) : null,
+      said: test => words.value(test.value, kindOf(test)),
+      now: condition => nowOf(history, batch, condition, at, kindOf),
     };
   }
   function nowOf(history, batch, condition, at, kindOf) {
     const tests = new Map([...recipes.tests(condition)].map(test => [`${test.role}.${test.test}`, test]));
     return [...tests].map(([key, test]) => {
       const value = history.modules.get(batch.tagOf(test.role))?.series.get(test.test)?.known(at) ?? NaN;
-      const told = Number.isNaN(value) ? words.say("unreported") : kindOf(test) === "BinView" ? String(Boolean(value))
-        : words.value(value, kindOf(test));
+      const kind = kindOf(test), shown = kind === "BinView" ? String(Boolean(value)) : words.value(value, kind);
+      const told = Number.isNaN(value) ? words.say("unreported") : shown;
       return tests.size === 1 ? words.say("nowIs", told) : `${key}: ${words.say("nowIs", told)}`;
     });
   }
@@ -86,8 +85,7 @@ const here = (() => {
     try { chart.draw(holder, known, standing); } catch { holder.replaceChildren(words.say("unlike")); }
   }
   function under(batch, standing) {
-    const parts = [batch.recipe, words.listed(batch.bind)
-      + (Object.keys(batch.watch).length ? words.say("watches", words.listed(batch.watch)) : "")];
+    const parts = [batch.recipe, words.played(batch)];
     if (standing.isReached) parts.push(standing.isOpen ? standing.wait && words.answer(standing.wait) : batch.outcome);
     return parts.filter(each => each).join(" · ");
   }

@@ -53,7 +53,7 @@ const labels = {
   more: ["{0} more", "{0} weitere"],
   entriesTo: ["entries {0} to {1}", "Einträge {0} bis {1}"],
   // States of things.
-  running: ["Running", "Running"], neverStarted: ["never started", "nie gestartet"],
+  running: ["Running", "Running"], neverStarted: ["never started", "nie gestartet"], unknown: ["unknown", "unbekannt"],
   unreported: ["unreported", "ungemeldet"],
   away: ["in exchange", "im Tausch"], held: ["held by a batch", "von Charge belegt"], waiting: ["waits", "wartet"],
   watching: ["watched by a batch", "von Charge beobachtet"], refused: ["refused", "abgelehnt"],
@@ -87,6 +87,8 @@ const labels = {
   deskSent: ["an operator sent {0} to {1} of {2}", "Bediener sandte {0} an {1} von {2}"],
   deskRefused: ["an operator asked {1} of {2} for {0}: refused, {3}",
     "Bediener verlangte {0} von {1} an {2}: abgelehnt, {3}"],
+  deskUnknown: ["an operator asked {1} of {2} for {0}; no answer is known",
+    "Bediener verlangte {0} von {1} an {2}; keine Antwort ist bekannt"],
   exchangedIn: ["{0} was exchanged while batch {1} had it", "{0} wurde getauscht, während Charge {1} es hatte"],
   exchangedWatched: ["{0} was exchanged while batch {1} watched it",
     "{0} wurde getauscht, während Charge {1} es beobachtete"],

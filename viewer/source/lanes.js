@@ -61,8 +61,8 @@ const lanes = (() => {
       g.font = paint.colours.font; g.textBaseline = "middle";
       g.fillStyle = paint.colours.ground; g.fillRect(0, 0, this.width, this.height);
       this.begin();
-      for (let k = Math.max(0, spans.below(this.tops, top)); k < this.lanes.length && this.tops[k] < top + this.height;
-        k += 1) {
+      const first = Math.max(0, spans.below(this.tops, top)), foot = top + this.height;
+      for (let k = first; k < this.lanes.length && this.tops[k] < foot; k += 1) {
         this.lane(this.lanes[k], this.tops[k] - top);
       }
       const x = this.x(this.view.middle(this.view.cursor));
@@ -88,11 +88,15 @@ const lanes = (() => {
       g.fillRect(lane.kind === "service" || lane.kind === "trend" ? 14 : 0, y, this.width, 1);
       g.save();
       g.beginPath(); g.rect(this.edge, y, this.width - this.edge, tall); g.clip();
-      if (lane.kind === "trend") lane.draw(this, y + label, tall - label);
-      else { this.marked = this.marksSeen(lane); this.tracks(lane, y + label, tall - label);
-        this.marks(lane, y + label, tall - label); }
+      (lane.kind === "trend" ? lane : this).draws(this, lane, y + label, tall - label);
       g.restore();
       this.label(lane, y, label || tall);
+    }
+    // The bars of a lane and the marks upon them.
+    draws(_, lane, y, tall) {
+      this.marked = this.marksSeen(lane);
+      this.tracks(lane, y, tall);
+      this.marks(lane, y, tall);
     }
     tracks(lane, y, tall) {
       let slot = y + 4;
@@ -132,8 +136,7 @@ const lanes = (() => {
           if (k >= track.length || this.across(track.from[k]) >= this.wide) break;
           px = Math.max(px, Math.floor(this.across(track.from[k])));
         }
-        const to = track.to[k] < 0 ? this.across(this.view.count) : this.across(track.to[k]),
-          from = this.across(track.from[k]);
+        const from = this.across(track.from[k]), to = this.across(track.to[k] < 0 ? this.view.count : track.to[k]);
         this.bar(track.style[k], from, Math.max(to, from + 1), y, tall, track.text[k]);
         px = Math.max(px + 1, Math.floor(to));
       }
@@ -163,20 +166,19 @@ const lanes = (() => {
     loud(track, y, tall) {
       let n = Math.max(0, spans.below(track.loud, spans.below(track.from, this.entries[0])));
       while (n < track.loud.length) {
-        const k = track.loud[n], from = this.across(track.from[k]), to = track.to[k] < 0 ? this.wide
-          : this.across(track.to[k]);
+        const k = track.loud[n], from = this.across(track.from[k]);
+        const to = track.to[k] < 0 ? this.wide : this.across(track.to[k]);
         if (from > this.wide) break;
         if (to >= 0 && to - from < 2) this.bar(track.style[k], from, from + 2, y, tall, "");
         const px = Math.max(0, Math.floor(from)) + 2;
-        n = px < this.wide ? Math.max(n + 1, spans.below(track.loud, spans.below(track.from, this.entries[px] - 1))
-          + 1) : n + 1;
+        const last = px < this.wide ? spans.below(track.from, this.entries[px] - 1) : -1;
+        n = Math.max(n + 1, spans.below(track.loud, last) + 1);
       }
     }
     // Where marks of this lane stand that would hide a name: at most some tens.
     marksSeen(lane) {
-      const found = [];
-      for (let k = Math.max(0, spans.below(lane.at, this.entries[0] - 1)); k < lane.at.length && found.length < 60;
-        k += 1) {
+      const found = [], first = Math.max(0, spans.below(lane.at, this.entries[0] - 1));
+      for (let k = first; k < lane.at.length && found.length < 60; k += 1) {
         const x = this.x(this.view.middle(lane.at[k]));
         if (x > this.width) break;
         if (lane.mark[k] !== "log" && !this.hides(lane.at[k], lane.mark[k])) found.push(x);

@@ -7,14 +7,16 @@ const lines = (() => {
   const ANSWERS = ["done", "ticket", "did", "wait", "closed", "refused", "bad"];
   const isObject = value => typeof value === "object" && value !== null && !Array.isArray(value);
   function parsed(text) { try { return JSON.parse(text); } catch { return undefined; } }
-  // Numbers that a browser can't hold are kept as whole numbers of any size, where the browser tells their digits.
+  // Whole numbers that a browser can't hold are read by their digits, as whole numbers of any size.
+  const LARGE = /"(?:[^"\\]|\\.)*"|(?<![\d.eE+-])-?\d{16,}(?![\d.eE])/g;
+  const isLarge = value => isObject(value) && /^-?\d+$/.test(value.digits ?? "") && Object.keys(value).length === 1;
   function exact(text) {
-    if (!/\d{16}/.test(text)) return parsed(text);
-    const whole = (_, value, told) => (typeof value === "number" && !Number.isSafeInteger(value)
-      && /^-?\d+$/.test(told?.source ?? "")
-      ? BigInt(told.source) : value);
-    try { return JSON.parse(text, whole); } catch { return undefined; }
+    const plain = parsed(text);
+    if (plain === undefined || !/\d{16}/.test(text)) return plain;
+    const told = text.replace(LARGE, found => (found.startsWith('"') ? found : `{"digits":"${found}"}`));
+    return JSON.parse(told, (_, value) => (isLarge(value) ? whole(value.digits) : value));
   }
+  const whole = digits => (Number.isSafeInteger(Number(digits)) ? Number(digits) : BigInt(digits));
   function kindOf(value) {
     if (!isObject(value)) return "fault";
     if (isObject(value.event) && isObject(value.answer)) return "entry";

@@ -2,11 +2,11 @@
 // the values of its variables. Takes what was accepted and decides nothing. Knows nothing of batches but their names.
 "use strict";
 const modules = (() => {
-  const STYLES = { Idle: "idle", Execute: "run", Starting: "move", Completing: "move", Resetting: "move",
-    Resuming: "move",
-    Unholding: "move", Completed: "full", Pausing: "pause", Paused: "pause", Holding: "hold", Held: "hold",
-      Stopping: "stop",
-    Stopped: "stop", Aborting: "abort", Aborted: "abort" };
+  const STYLES = {
+    Idle: "idle", Execute: "run", Completed: "full", Starting: "move", Completing: "move", Resetting: "move",
+    Resuming: "move", Unholding: "move", Pausing: "pause", Paused: "pause", Holding: "hold", Held: "hold",
+    Stopping: "stop", Stopped: "stop", Aborting: "abort", Aborted: "abort",
+  };
   const nameOf = code => docs.states[code] ?? String(code);
   class Service {
     constructor(name, tag) {
@@ -19,8 +19,8 @@ const modules = (() => {
       if (isNew) this.state.open(at, STYLES[name] ?? "unreported", name);
       this.code = event.StateCur;
       const forRecipes = event.Mode === "Automatic" && event.Src === "External";
-      if (forRecipes) this.mode.close(at); else if (!this.mode.isOpen()) this.mode.open(at, "mode",
-        `${event.Mode}, ${event.Src}`);
+      if (forRecipes) this.mode.close(at);
+      else if (!this.mode.isOpen()) this.mode.open(at, "mode", `${event.Mode}, ${event.Src}`);
       return isNew ? name : null;
     }
     begin(at) { this.code = null; this.state.open(at, "unreported", ""); }

@@ -12,10 +12,10 @@ const opening = (() => {
     return { name: file.name, size: bytes.byteLength, sum: digest && hex(digest), text };
   }
   async function build(found, progress) {
-    const history = new past.History(), isAssumed = !found.hasAnswers;
+    const history = new past.History(!found.hasAnswers);
     for (let at = 0; at < found.length; at += 1) {
       try {
-        history.take(at, ...found.entry(at), isAssumed);
+        history.take(at, ...found.entry(at));
       } catch {
         found.faults.push({ file: found.fileOf(at), line: found.line(at), why: "unlike" });
       }

@@ -4,8 +4,8 @@
 const page = (() => {
   const by = id => document.getElementById(id), { make } = tables;
   const FEW_TRENDS = 8, MOST_FAULTS = 50, MOST_NAMES = 400;
-  const state = { found: null, history: null, view: null, chosen: null, batch: null, alarm: -1, trends: true,
-    took: {} };
+  const state = { found: null, history: null, view: null, chosen: null, batch: null, alarms: [], alarm: -1,
+    trends: true, took: {} };
   const panes = { batches: new lanes.Pane(by("batches"), "overTime"),
     modules: new lanes.Pane(by("modules"), "modulesOverTime") };
   const entries = new list.List(by("entries"), at => go(at));
@@ -68,7 +68,10 @@ const page = (() => {
     by("rows").textContent = rows ? words.many("Entries", rows.length) : "";
     tables.batches(by("outcomes"), chosen, pick);
     tables.refusals(by("refused"), chosen, go, () => view.cursor);
-    told(); choices();
+    state.alarms = chosen.alarms();
+    look(state.alarms.findIndex(each => each.at === view.cursor), true);
+    told();
+    choices();
   }
   function said(at) {
     const { found, history } = state, [event, answer] = found.entry(at);
@@ -86,18 +89,20 @@ const page = (() => {
     if (shown.length < faults.length) shown.push(words.say("more", words.number(faults.length - shown.length)));
     by("faults").replaceChildren(...shown.map(text => make("p", {}, text)));
   }
+  // The names of all batches, also of those that never started.
+  function named() {
+    const { batches, never } = state.history;
+    return [...batches.keys(), ...never.map(each => each.name)].slice(0, MOST_NAMES);
+  }
   const option = (value, text, now) => make("option", { value, ...(value === now ? { selected: "" } : {}) },
     words.visible(text));
   function choices() {
-    const { chosen, history } = state,
-      names = [...history.batches.keys(), ...history.never.map(each => each.name)].slice(0, MOST_NAMES);
-    by("chosenBatch").replaceChildren(option("", words.say("allBatches"), chosen.batch),
-      ...names.map(name => option(name, name, chosen.batch)));
-    by("chosenTag").replaceChildren(option("", words.say("allModules"), chosen.tag),
-      ...[...history.modules.keys()].map(tag => option(tag, tag, chosen.tag)));
-    const rules = new Set(history.rules.filter(rule => rule !== null));
-    by("chosenRule").replaceChildren(option("", words.say("allRules"), chosen.rule),
-      ...[...rules].map(rule => option(rule, rule, chosen.rule)));
+    const { chosen, history } = state, rules = new Set(history.rules.filter(rule => rule !== null));
+    const fill = (field, all, names, now) => by(field).replaceChildren(option("", words.say(all), now),
+      ...[...names].map(name => option(name, name === "bad" ? words.say("faults") : name, now)));
+    fill("chosenBatch", "allBatches", named(), chosen.batch);
+    fill("chosenTag", "allModules", history.modules.keys(), chosen.tag);
+    fill("chosenRule", "allRules", rules, chosen.rule);
     by("clear").hidden = chosen.isAll;
   }
   function labelled() {
@@ -115,27 +120,31 @@ const page = (() => {
   }
 
   // What the cursor touches.
-  const padding = () => { const style = getComputedStyle(by("time")); return parseFloat(style.paddingLeft)
-    + parseFloat(style.paddingRight); };
+  // How wide the panes are without their bars for scrolling, which both have or both lack.
+  const room = () => Math.max(panes.batches.holder.clientWidth, panes.modules.holder.clientWidth);
   function move() {
     if (!state.view) return;
-    ruler.draw(by("ruler"), panes.modules.edge, by("ruler").parentElement.clientWidth - padding(), state.view,
-      state.chosen.alarms());
-    panes.batches.later(); panes.modules.later();
+    ruler.draw(by("ruler"), panes.modules.edge, room(), state.view, state.alarms);
+    panes.batches.later();
+    panes.modules.later();
   }
   // Goes to an entry, or to what a reviewer has to look at.
   function go(to) {
-    const { view, chosen } = state, isAlarm = typeof to === "object", at = isAlarm ? to.at : to,
-      shown = chosen.alarms();
-    view.go(at);
-    state.alarm = isAlarm ? shown.indexOf(to) : shown.findIndex(each => each.at === view.cursor);
+    const { view, alarms } = state, isAlarm = typeof to === "object";
+    view.go(isAlarm ? to.at : to);
+    look(isAlarm ? alarms.indexOf(to) : alarms.findIndex(each => each.at === view.cursor));
     cursor();
   }
+  // The place in the reviewer's list, or -1.
+  function look(place, isNew) {
+    if (state.alarm === place && !isNew) return;
+    state.alarm = place;
+    tables.alarms(by("alarms"), state.alarms, go, place);
+  }
   function cursor() {
-    const { found, history, view, chosen } = state;
+    const { found, history, view } = state;
     move();
     entries.follow();
-    tables.alarms(by("alarms"), chosen.alarms(), go, state.alarm);
     if (!found.length) { by("here").replaceChildren(); return; }
     here.entry(by("here"), found, history, view);
     const own = here.batchOf(found, history, view.cursor);
@@ -153,24 +162,27 @@ const page = (() => {
     return state.batch;
   }
   function recipe() {
-    const { history, view } = state, name = batchHere(), batch = history.batches.get(name) ?? null, attempt = batch
-      ? null : history.attempts.get(name);
-    const names = [...history.batches.keys(), ...history.never.map(each => each.name)].slice(0, MOST_NAMES);
+    const { history, view } = state, name = batchHere(), batch = history.batches.get(name) ?? null;
+    const attempt = batch ? null : history.attempts.get(name) ?? null, names = named();
     by("which").replaceChildren(...names.map(each => option(each, each, name)));
     by("which").hidden = names.length === 0;
-    const known = batch?.known ?? history.recipes.get(attempt?.recipe)
-      ?? (batch ? null : [...history.recipes.values()][0]) ?? null;
-    const standing = here.place(history, batch, view.cursor);
-    by("under").textContent = batch ? here.under(batch, standing) : attempt
-      ? `${attempt.recipe} · ${words.say("neverStarted")}` : known?.name ?? "";
-    if (known) here.drawn(by("chart"), known, standing); else by("chart").replaceChildren(tables.calm("noRecipe"));
-    by("waitsOf").hidden = !batch && !attempt;
-    if (batch) tables.waits(by("waits"), reasons.waited(batch, history), go, pick, history.stamps);
-    else if (attempt) {
-      by("waits").replaceChildren(make("ul", {}, ...reasons.never(attempt, history).map(text => make("li", {}, text))));
-    }
+    const any = batch ? null : history.recipes.get(attempt?.recipe) ?? history.recipes.values().next().value;
+    const known = batch?.known ?? any ?? null, standing = here.place(history, batch, view.cursor);
+    const never = attempt ? `${attempt.recipe} · ${words.say("neverStarted")}` : known?.name ?? "";
+    by("under").textContent = batch ? here.under(batch, standing) : never;
+    if (known) here.drawn(by("chart"), known, standing);
+    else by("chart").replaceChildren(tables.calm("noRecipe"));
+    waits(batch, attempt);
     panes.batches.hot = batch?.lane ?? attempt?.lane ?? null;
     panes.batches.later();
+  }
+  function waits(batch, attempt) {
+    const { history } = state;
+    by("waitsOf").hidden = !batch && !attempt;
+    if (batch) tables.waits(by("waits"), reasons.waited(batch, history), go, pick, history.stamps);
+    if (!attempt) return;
+    const told = reasons.never(attempt, history).map(text => make("li", {}, text));
+    by("waits").replaceChildren(make("ul", {}, ...told));
   }
   // A batch is chosen by hand: its chart is shown, and the cursor goes to its end.
   function pick(name) {
@@ -189,10 +201,9 @@ const page = (() => {
     again();
     const rows = state.chosen.rows(), { batch } = state.chosen;
     if (batch !== "") state.batch = batch;
-    if (rows && rows.length && !rows.includes(state.view.cursor)) {
-      go(rows[Math.max(0, spans.below(rows, state.view.cursor))]);
-    }
-    else cursor();
+    const isShown = !rows?.length || rows[spans.below(rows, state.view.cursor)] === state.view.cursor;
+    if (isShown) cursor();
+    else go(rows[Math.max(0, spans.below(rows, state.view.cursor))]);
   }
   function pressed(pane, x, y) {
     const at = pane.entryAt(x), lane = pane.laneAt(y);
@@ -201,22 +212,27 @@ const page = (() => {
   }
   // The next one to look at: also where several stand at one entry.
   function loud(way) {
-    const shown = state.chosen.alarms(), { cursor: at } = state.view, isOn = shown[state.alarm]?.at === at;
-    let next = isOn ? state.alarm + way : way > 0 ? shown.findIndex(each => each.at > at)
-      : shown.findLastIndex(each => each.at < at);
-    if (next < 0 || next >= shown.length) next = -1;
-    if (next >= 0) go(shown[next]);
+    const { alarms, alarm, view: { cursor: at } } = state, isOn = alarms[alarm]?.at === at;
+    const beside = way > 0 ? alarms.find(each => each.at > at) : alarms.findLast(each => each.at < at);
+    const next = isOn ? alarms[alarm + way] : beside;
+    if (next) go(next);
   }
-  const zoom = factor => { state.view.zoom(factor); move(); };
+  function zoom(factor) {
+    state.view.zoom(factor);
+    move();
+  }
+  function whole() {
+    state.view.whole();
+    move();
+  }
   const step = by => go(entries.beside(state.view.cursor, by));
   const ready = deed => shift => (state.view && !by("main").hidden ? deed(shift) : false);
   const KEYS = {
-    ArrowLeft: shift => step(shift ? -10 : -1), ArrowRight: shift => step(shift ? 10 : 1), Home: () => step(-Infinity),
-      End: () => step(Infinity),
-    "list ArrowUp": () => step(-1), "list ArrowDown": () => step(1), "list PageUp": () => step(-10),
-      "list PageDown": () => step(10),
-    n: () => loud(1), p: () => loud(-1), "+": () => zoom(0.6), "-": () => zoom(1 / 0.6),
-      0: () => { state.view.whole(); move(); },
+    ArrowLeft: shift => step(shift ? -10 : -1), ArrowRight: shift => step(shift ? 10 : 1),
+    Home: () => step(-Infinity), End: () => step(Infinity), n: () => loud(1), p: () => loud(-1),
+    "list ArrowUp": () => step(-1), "list ArrowDown": () => step(1),
+    "list PageUp": () => step(-10), "list PageDown": () => step(10),
+    "+": () => zoom(0.6), "-": () => zoom(1 / 0.6), 0: whole,
   };
 
   // Paper.
@@ -229,7 +245,12 @@ const page = (() => {
       state.kept = [view.low, view.high];
       view.whole();
       paper.fill(by("paper"), { found, history, chosen, panes, verdict: seal.told(found, history) });
-    } else { view.set(...state.kept); by("paper").replaceChildren(); again(); move(); }
+      return;
+    }
+    view.set(...state.kept);
+    by("paper").replaceChildren();
+    again();
+    move();
   }
   function start() {
     const press = (id, deed) => by(id).addEventListener("click", deed);
@@ -240,8 +261,10 @@ const page = (() => {
     press("language", () => { words.set(!words.isGerman()); again(); if (state.history) cursor(); });
     press("stamp", () => { state.view.byStamp = !state.view.byStamp; state.view.whole(); labelled(); move(); });
     press("trends", () => { state.trends = !state.trends; again(); move(); });
-    press("whole", () => { state.view.whole(); move(); });
-    press("closer", () => zoom(0.6)); press("wider", () => zoom(1 / 0.6)); press("print", () => print());
+    press("whole", whole);
+    press("closer", () => zoom(0.6));
+    press("wider", () => zoom(1 / 0.6));
+    press("print", () => print());
     by("which").addEventListener("change", () => pick(by("which").value));
     by("ruler").addEventListener("pointerdown", event => {
       const { view } = state, wide = by("ruler").clientWidth, half = view.size / 2;

@@ -29,8 +29,8 @@ const paper = (() => {
     const shown = history.desk.filter(at => chosen.fits(at, history.names[at], history.tags[at]));
     if (!shown.length) return section("signDesk", tables.calm("signNoDesk"));
     const rows = shown.map(at => {
-      const [event, answer] = found.entry(at),
-        command = `${words.command(event.CommandOp)}: ${event.service}, ${event.tag}`;
+      const [event, answer] = found.entry(at);
+      const command = `${words.command(event.CommandOp)}: ${event.service}, ${event.tag}`;
       const sent = answer && "did" in answer ? words.say("sent") : words.answer(answer);
       return [words.number(at + 1), words.stamp(event.at), command, sent];
     });
@@ -52,11 +52,11 @@ const paper = (() => {
       ...never.map(each => tables.neverRow(each, none))];
     if (!rows.length) return section("overview", tables.calm("noBatch"));
     const running = own.filter(batch => !batch.outcome).map(batch => [batch.name, reasons.running(batch, history)]);
-    const why = [...running, ...never.map(each => [each.name, reasons.never(each, history)])].filter(([, told]) =>
-      told.length);
-    const told = why.slice(0, MOST_ROWS).map(([name, list]) => make("p", { class: "why" },
-      make("b", {}, words.visible(name)), `: ${list.join(" ")}`));
-    return section("overview", cut(tables.BATCH_KEYS, rows, "overview"), ...told);
+    const why = [...running, ...never.map(each => [each.name, reasons.never(each, history)])];
+    const told = ([name, list]) => make("p", { class: "why" }, make("b", {}, words.visible(name)),
+      `: ${list.join(" ")}`);
+    return section("overview", cut(tables.BATCH_KEYS, rows, "overview"),
+      ...why.filter(([, list]) => list.length).slice(0, MOST_ROWS).map(told));
   }
   function refusals(chosen) {
     const found = [...chosen.refusals()].sort(([, one], [, two]) => two.length - one.length);
@@ -78,13 +78,13 @@ const paper = (() => {
     return make("div", { class: "signature" }, field("signName"), field("signDate"), field("signed"));
   }
   function signPage(found, history, chosen, verdict) {
-    return make("article", { class: "sign" }, make("h1", {}, words.say("signTitle")),
-      chosen.isAll ? null : make("p", { class: "only" }, words.say("signOnly", chosen.told)),
-      span(found, history), files(found),
-        section("signVerdict", make("p", { class: `verdict ${verdict.style}` }, verdict.inWords)),
-      batches(chosen), refusals(chosen), desk(found, history, chosen), exchanges(history, chosen),
-        alarms(chosen),
-      signature(), make("p", { class: "small" }, words.say("notProved")));
+    const only = chosen.isAll ? null : make("p", { class: "only" }, words.say("signOnly", chosen.told));
+    const doubts = seal.faults(found, history).slice(0, MOST_ROWS).map(text => make("p", { class: "why" }, text));
+    return make("article", { class: "sign" }, make("h1", {}, words.say("signTitle")), only, span(found, history),
+      files(found), doubts.length ? section("faults", ...doubts) : null,
+      section("signVerdict", make("p", { class: `verdict ${verdict.style}` }, verdict.inWords)), batches(chosen),
+      refusals(chosen), desk(found, history, chosen), exchanges(history, chosen), alarms(chosen), signature(),
+      make("p", { class: "small" }, words.say("notProved")));
   }
   // Pictures of as many lanes as a page takes, of the whole history.
   function sheets(pane) {

@@ -9,20 +9,20 @@ const past = (() => {
     plug: { tag: "string", desc: "object" }, unplug: { tag: "string" }, variable: { tag: "string", name: "string" },
     report: { tag: "string", service: "string", StateCur: "number" }, recipe: { recipe: "string", chart: "object" },
     start: { batch: "string", recipe: "string", bind: "object" }, advance: { batch: "string" },
-      freeze: { batch: "string" },
-    thaw: { batch: "string" }, stop: { batch: "string" }, abandon: { batch: "string" },
+    freeze: { batch: "string" }, thaw: { batch: "string" }, stop: { batch: "string" }, abandon: { batch: "string" },
     desk: { tag: "string", service: "string", CommandOp: "number" }, exchange_begin: { tag: "string" },
     exchange_end: { tag: "string", desc: "object" }, exchange_cancel: { tag: "string" },
   };
-  const fits = event => Object.entries(FIELDS[event.ev]).every(([key, kind]) => typeof event[key] === kind
-    && event[key] !== null);
-  const isNames = bind => typeof bind === "object" && bind !== null && Object.values(bind)
-    .every(tag => typeof tag === "string");
+  const isOf = (value, kind) => typeof value === kind && value !== null;
+  const fits = event => Object.entries(FIELDS[event.ev]).every(([key, kind]) => isOf(event[key], kind));
+  const isNames = bind => isOf(bind, "object") && Object.values(bind).every(tag => typeof tag === "string");
   class History {
-    constructor() {
-      Object.assign(this, { modules: new Map(), batches: new Map(), recipes: new Map(), alarms: [], desk: [],
-        exchanges: [],
-        refusals: new Map(), attempts: new Map(), stamps: [], tags: [], names: [], rules: [], known: new Map() });
+    // Where the files have no answers, each event is assumed to be accepted.
+    constructor(assumed) {
+      Object.assign(this, { assumed, modules: new Map(), batches: new Map(), recipes: new Map(), refusals: new Map(),
+        attempts: new Map(), known: new Map(), alarms: [], desk: [], exchanges: [], never: [] });
+      // Of each entry: its stamp, the tag and the batch that it names, the rule that refused it.
+      Object.assign(this, { stamps: [], tags: [], names: [], rules: [] });
       this.counts = { lines: 0, done: 0, ticket: 0, did: 0, wait: 0, closed: 0, refused: 0, bad: 0, none: 0 };
     }
     // A text that comes again and again is kept once.
@@ -32,15 +32,14 @@ const past = (() => {
       return this.known.get(text);
     }
     alarm(at, style, subject, key, ...values) { this.alarms.push({ at, style, subject, key, values }); }
-    // One entry. Where the files have no answers, each event is taken as accepted.
-    take(at, event, answer, assumed) {
+    take(at, event, answer) {
       const kind = answer ? KINDS.find(key => key in answer) ?? "none" : "none";
       this.counts.lines += 1; this.counts[kind] += 1;
       this.stamps.push(["number", "bigint"].includes(typeof event?.at) ? Number(event.at) : NaN);
       this.tags.push(this.once(event?.tag)); this.names.push(this.once(event?.batch));
       this.rules.push(kind === "refused" ? this.once(String(answer.rule)) : kind === "bad" ? "bad" : null);
       if (kind === "refused" || kind === "bad") this.refuse(at, event, answer);
-      else if ((kind !== "none" || assumed) && event && Object.hasOwn(TAKES, event.ev)) {
+      else if ((kind !== "none" || this.assumed) && event && Object.hasOwn(TAKES, event.ev)) {
         if (!fits(event)) throw new TypeError("an event without its fields");
         TAKES[event.ev](this, at, event, answer ?? {});
       }
@@ -74,10 +73,11 @@ const past = (() => {
       return { name, recipe: String(recipe), bind: isNames(bind) ? bind : {}, lane, first: at, why: new Map() };
     }
     asked(at, event, answer) {
-      const sent = "did" in answer, command = words.command(event.CommandOp);
+      const isSent = "did" in answer, key = isSent ? "deskSent" : "rule" in answer ? "deskRefused" : "deskUnknown";
+      const command = words.command(event.CommandOp);
       this.desk.push(at);
-      if (sent) this.alarm(at, "asked", { tag: event.tag }, "deskSent", command, event.service, event.tag);
-      else this.alarm(at, "refused", { tag: event.tag }, "deskRefused", command, event.service, event.tag, answer.rule);
+      const values = [command, event.service, event.tag, answer.rule];
+      this.alarm(at, isSent ? "asked" : "refused", { tag: event.tag }, key, ...values);
     }
     free(at, batch) {
       for (const tag of batch.tags) this.modules.get(tag)?.held(at, null);
@@ -99,7 +99,7 @@ const past = (() => {
       }
       this.never = [...this.attempts.values()].filter(each => !this.batches.has(each.name));
       for (const batch of this.batches.values()) {
-        if (!batch.outcome) this.alarm(end, "hold", { batch: batch.name }, "openBatch", batch.name);
+        if (!batch.outcome && !this.assumed) this.alarm(end, "hold", { batch: batch.name }, "openBatch", batch.name);
       }
       for (const each of this.never) this.alarm(end, "hold", { batch: each.name }, "neverBatch", each.name);
       this.alarms.sort((one, two) => one.at - two.at);
@@ -135,8 +135,8 @@ const past = (() => {
     report(all, at, event) {
       const state = all.modules.get(event.tag)?.services.get(event.service)?.report(at, event);
       if (state === "Aborted" || state === "Stopped") {
-        all.alarm(at, state === "Aborted" ? "abort" : "stop", { tag: event.tag }, "abnormal", event.service, event.tag,
-          state);
+        const style = state === "Aborted" ? "abort" : "stop";
+        all.alarm(at, style, { tag: event.tag }, "abnormal", event.service, event.tag, state);
       }
     },
     variable: (all, at, event) => all.modules.get(event.tag)?.value(at, event.name, event.value),
@@ -180,7 +180,7 @@ const past = (() => {
     },
     desk(all, at, event, answer) {
       all.modules.get(event.tag)?.services.get(event.service)?.lane.note(at, "asked");
-      all.asked(at, event, "did" in answer ? answer : { did: {} });
+      all.asked(at, event, answer);
     },
     exchange_begin(all, at, event, answer) {
       const module = all.modules.get(event.tag);

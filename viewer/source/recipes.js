@@ -44,13 +44,14 @@ const recipes = (() => {
       this.reads = variables(this.nodes.flatMap(node => conditions(node)).flatMap(each => [...tests(each)]));
     }
   }
+  const sign = op => SIGNS[op] ?? op;
   // A condition in words and signs. How a value of a role's variable is said is told by the caller.
   function told(condition, said) {
     if ("const" in condition) return String(condition.const);
     if ("not" in condition) return `${words.say("not")} (${told(condition.not, said)})`;
     const list = condition.all ?? condition.any;
-    if (!list) return `${condition.role}.${condition.test} ${SIGNS[condition.op] ?? condition.op} ${said(condition)}`;
+    if (!list) return `${condition.role}.${condition.test} ${sign(condition.op)}\u00a0${said(condition)}`;
     return list.map(each => told(each, said)).join(` ${words.say(condition.all ? "and" : "or")} `);
   }
-  return { Recipe, SIGNS, told, conditions, tests };
+  return { Recipe, sign, told, conditions, tests };
 })();

@@ -4,11 +4,11 @@
 const runs = (() => {
   const POINT = 1000;
   const PHASES = { start: "on", finish: "on", reset: "ending", unhold: "on", hold: "held", end: "done", stop: "off",
-    left: "off",
-    broke: "broke" };
+    left: "off", broke: "broke" };
+  const MARKS = { chose: "node", turn: "node", leave: "node", broke: "broke", stop: "stop", left: "stop",
+    stop_asked: "stop" };
   const ENDS = { Completed: "full", Broken: "abort", Stopped: "stop", Abandoned: "stop" };
-  // Where a batch stands in its chart: the phase and runs of each step, the arm of each selection, the turns of each
-  // loop.
+  // Where a batch stands in its chart: phase and runs of each step, arm of each selection, turns of each loop.
   class Standing {
     constructor(steps = [], arms = [], turns = []) {
       this.steps = new Map(steps); this.arms = new Map(arms); this.turns = new Map(turns);
@@ -27,9 +27,9 @@ const runs = (() => {
   }
   class Batch {
     constructor(at, event, known, lane) {
-      Object.assign(this, { name: event.batch, recipe: event.recipe, known, bind: event.bind, watch: event.watch ?? {},
-        lane,
-        started: at, ended: null, outcome: null, frozen: false, slots: [], reasons: [], points: [new Standing()] });
+      Object.assign(this, { name: event.batch, recipe: event.recipe, bind: event.bind, watch: event.watch ?? {} });
+      Object.assign(this, { known, lane, started: at, ended: null, outcome: null, frozen: false, slots: [], reasons: [],
+        before: [], points: [new Standing()] });
       this.log = { at: [], did: [] };
       this.whole = lane.track("whole"); this.waits = lane.track("wait");
       this.whole.open(at, "batch", "");
@@ -54,8 +54,7 @@ const runs = (() => {
       this.log.at.push(at); this.log.did.push(did);
       if (did.do === "start") this.begin(at, did.step);
       else this.moved(at, did);
-      this.lane.note(at, { chose: "node", turn: "node", leave: "node", broke: "broke", stop: "stop", left: "stop",
-        stop_asked: "stop" }[did.do] ?? "log");
+      this.lane.note(at, Object.hasOwn(MARKS, did.do) ? MARKS[did.do] : "log");
     }
     begin(at, step) {
       let free = this.slots.find(track => !track.isOpen());
@@ -79,8 +78,9 @@ const runs = (() => {
     // Where the batch stands once an entry is answered: from the last kept point on.
     standing(cursor) {
       const count = spans.below(this.log.at, cursor) + 1;
-      while (this.points.length * POINT <= count) this.points.push(this.after(this.points.length - 1,
-        this.points.length * POINT));
+      while (this.points.length * POINT <= count) {
+        this.points.push(this.after(this.points.length - 1, this.points.length * POINT));
+      }
       return this.after(Math.floor(count / POINT), count);
     }
     after(point, count) {
@@ -93,8 +93,8 @@ const runs = (() => {
     waited(count, stamps) {
       const found = new Map();
       this.reasons.forEach((answer, k) => {
-        const key = JSON.stringify(answer), from = this.waits.from[k], to = this.waits.to[k] < 0 ? count - 1
-          : this.waits.to[k];
+        const key = JSON.stringify(answer), from = this.waits.from[k];
+        const to = this.waits.to[k] < 0 ? count - 1 : this.waits.to[k];
         if (!found.has(key)) found.set(key, { answer, times: 0, entries: 0, lasted: 0, first: from });
         const own = found.get(key);
         own.times += 1; own.entries += to - from; own.lasted += stamps[Math.min(to, stamps.length - 1)] - stamps[from];

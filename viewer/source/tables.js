@@ -2,7 +2,7 @@
 // a batch waited for. All text goes in as text, never as markup. Knows nothing of files, and nothing of the drawing.
 "use strict";
 const tables = (() => {
-  const MOST = 200;
+  const MOST = 200, MOST_WAITS = 40;
   // An element with its attributes, or what is to be done when it is pressed, and what is in it.
   function make(name, attributes = {}, ...within) {
     const made = document.createElement(name);
@@ -16,10 +16,11 @@ const tables = (() => {
   }
   const name = text => make("bdi", {}, words.visible(text));
   function jump(at, go) {
-    return make("button", { class: "jump", type: "button", click: () => go(at),
-      "aria-label": `${words.say("entry")} ${at + 1}` },
-      words.number(at + 1));
+    const named = `${words.say("entry")} ${at + 1}`;
+    const attributes = { class: "jump", type: "button", click: () => go(at), "aria-label": named };
+    return make("button", attributes, words.number(at + 1));
   }
+  const picked = (text, pick) => make("button", { class: "jump", type: "button", click: () => pick(text) }, name(text));
   const NUMBERS = new Set(["from", "to", "duration", "count", "size"]);
   function table(keys, rows, title) {
     const named = keys.map(key => make("th", { scope: "col", class: NUMBERS.has(key) ? "number" : null },
@@ -32,36 +33,31 @@ const tables = (() => {
   const more = (count, columns) => make("tr", {}, make("td", { colspan: columns, class: "calm" },
     words.say("more", words.number(count))));
   const OUTCOMES = { Completed: "full", Broken: "abort", Stopped: "stop", Abandoned: "stop" };
+  const number = text => make("td", { class: "number" }, text);
+  function row(each, pick, bind, numbers, style, outcome) {
+    return make("tr", {}, make("td", { class: "first" }, picked(each.name, pick)), make("td", {}, name(each.recipe)),
+      make("td", { class: "wide" }, words.visible(bind)), ...numbers.map(number),
+      make("td", { class: "outcome" }, chip(style), outcome));
+  }
   function batchRow(batch, history, pick) {
-    const modulesOf = words.listed(batch.bind)
-      + (Object.keys(batch.watch).length ? words.say("watches", words.listed(batch.watch)) : "");
     const { stamps } = history, end = batch.ended ?? stamps.length - 1;
-    return make("tr", {},
-      make("td", { class: "first" }, make("button", { class: "jump", type: "button", click: () => pick(batch.name) },
-        name(batch.name))),
-      make("td", {}, name(batch.recipe)), make("td", { class: "wide" }, words.visible(modulesOf)),
-      make("td", { class: "number" }, words.number(batch.started + 1)),
-      make("td", { class: "number" }, batch.ended === null ? "…" : words.number(batch.ended + 1)),
-      make("td", { class: "number" }, words.lasted(stamps[batch.started], stamps[end])),
-      make("td", { class: "outcome" }, chip(OUTCOMES[batch.outcome] ?? "hold"), batch.outcome ?? words.say("running")));
+    const ended = batch.ended === null ? "…" : words.number(batch.ended + 1);
+    const numbers = [words.number(batch.started + 1), ended, words.lasted(stamps[batch.started], stamps[end])];
+    const outcome = batch.outcome ?? words.say(history.assumed ? "unknown" : "running");
+    return row(batch, pick, words.played(batch), numbers, OUTCOMES[batch.outcome] ?? "hold", outcome);
   }
   function neverRow(attempt, pick) {
-    return make("tr", {},
-      make("td", { class: "first" }, make("button", { class: "jump", type: "button", click: () => pick(attempt.name) },
-        name(attempt.name))),
-      make("td", {}, name(attempt.recipe)), make("td", { class: "wide" }, words.visible(words.listed(attempt.bind))),
-      make("td", { class: "number" }, "–"), make("td", { class: "number" }, "–"), make("td"),
-      make("td", { class: "outcome" }, chip("hold"), words.say("neverStarted")));
+    return row(attempt, pick, words.listed(attempt.bind), ["–", "–", ""], "hold", words.say("neverStarted"));
   }
   const BATCH_KEYS = ["batch", "recipe", "modulesOf", "from", "to", "duration", "outcome"];
   function batches(holder, chosen, pick) {
-    const own = chosen.batches(), never = chosen.never(), shown = own.slice(0, MOST)
-      .map(batch => batchRow(batch, chosen.history, pick));
-    const rows = [...shown, ...never.slice(0, MOST).map(each => neverRow(each, pick))], left = own.length
-      + never.length - rows.length;
-    if (left) rows.push(more(left, 7));
-    holder.replaceChildren(rows.length ? table(BATCH_KEYS, rows, "overview")
-      : calm(chosen.isAll ? "noBatch" : "noMatch"));
+    const own = chosen.batches(), never = chosen.never();
+    const rows = own.slice(0, MOST).map(batch => batchRow(batch, chosen.history, pick));
+    rows.push(...never.slice(0, MOST).map(each => neverRow(each, pick)));
+    const left = own.length + never.length - rows.length;
+    if (left) rows.push(more(left, BATCH_KEYS.length));
+    const none = calm(chosen.isAll ? "noBatch" : "noMatch");
+    holder.replaceChildren(rows.length ? table(BATCH_KEYS, rows, "overview") : none);
   }
   function alarmRow(alarm, go, isHere) {
     return make("tr", isHere ? { "aria-current": "true", class: "here" } : {},
@@ -76,7 +72,13 @@ const tables = (() => {
     if (first) rows.unshift(more(first, 2));
     if (first + MOST < list.length) rows.push(more(list.length - first - MOST, 2));
     holder.replaceChildren(table(["entry", "what"], rows, "reviewer"));
-    if (here >= 0) holder.querySelector(".here")?.scrollIntoView({ block: "nearest" });
+    if (here >= 0) show(holder, holder.querySelector(".here"));
+  }
+  // Scrolls a row into sight within its table, and leaves the page where it is.
+  function show(holder, row) {
+    const top = row.getBoundingClientRect().top - holder.getBoundingClientRect().top + holder.scrollTop;
+    const isSeen = top >= holder.scrollTop && top + row.offsetHeight <= holder.scrollTop + holder.clientHeight;
+    if (!isSeen) holder.scrollTop = top - holder.clientHeight / 2;
   }
   function refusalRow(rule, places, go, current) {
     const own = words.rule(rule), next = () => go(places[(spans.below(places, current()) + 1) % places.length]);
@@ -101,15 +103,14 @@ const tables = (() => {
     if (isCounted && reason.lasted > 0) {
       parts.push(words.lasted(stamps[reason.first], stamps[reason.first] + reason.lasted));
     }
-    const other = reason.other ? make("button", { class: "jump", type: "button", click: () => pick(reason.other) },
-      name(reason.other)) : null;
-    return make("li", {}, jump(reason.at, go), other, make("span", {}, reason.text),
-      make("span", { class: "small block" }, parts.filter(each => each).join(" · ")
-        + (reason.look ? `. ${words.say("lookAt")}: ${reason.look}` : "")));
+    const other = reason.other ? picked(reason.other, pick) : null;
+    const look = reason.look ? `. ${words.say("lookAt")}: ${reason.look}` : "";
+    const under = make("span", { class: "small block" }, parts.filter(each => each).join(" · ") + look);
+    return make("li", {}, jump(reason.at, go), other, make("span", {}, reason.text), under);
   }
   function waits(holder, told, go, pick, stamps) {
-    holder.replaceChildren(told.length
-      ? make("ul", {}, ...told.slice(0, 40).map(each => waitItem(each, go, pick, stamps))) : calm("noWait"));
+    const items = told.slice(0, MOST_WAITS).map(each => waitItem(each, go, pick, stamps));
+    holder.replaceChildren(items.length ? make("ul", {}, ...items) : calm("noWait"));
   }
   return { make, name, jump, table, more, NUMBERS, chip, calm, batches, alarms, refusals, waits, BATCH_KEYS, batchRow,
     neverRow, refusalRow };

@@ -13,7 +13,7 @@ const trends = (() => {
       return kind === "BinView" ? String(Boolean(value)) : words.value(value, kind);
     }
     limits(at) {
-      return this.read.limits.map(({ op, value }) => `${recipes.SIGNS[op] ?? op} ${this.said(value, at)}`).join(", ");
+      return this.read.limits.map(({ op, value }) => `${recipes.sign(op)} ${this.said(value, at)}`).join(", ");
     }
     // The value known at an entry within the batch's time, as it is said; else null.
     now(at) {
@@ -26,7 +26,11 @@ const trends = (() => {
       if (this.edges) return this.edges;
       const { at, value } = this.series, end = this.batch.ended ?? Infinity;
       let low = Infinity, high = -Infinity;
-      const see = each => { if (Number.isFinite(each)) { low = Math.min(low, each); high = Math.max(high, each); } };
+      const see = each => {
+        if (Number.isNaN(each)) return;
+        low = Math.min(low, each);
+        high = Math.max(high, each);
+      };
       for (const limit of this.read.limits) see(Number(limit.value));
       for (let k = Math.max(0, spans.below(at, this.batch.started)); k < at.length && at[k] <= end; k += 1) {
         see(value[k]);
@@ -35,15 +39,15 @@ const trends = (() => {
       return this.edges;
     }
     title(g, x, y, tall, room, cursor, onPaper) {
-      const now = onPaper ? null : this.now(cursor), limits = this.limits(cursor), second = now === null ? limits
-        : `${limits} · ${words.say("nowIs", now)}`;
-      const isOneLine = tall < 30, name = paint.fit(g, this.label, room), used = isOneLine ? g.measureText(name).width
-        + 8 : 0;
-      g.fillText(name, x, y + (isOneLine ? tall / 2 : tall / 2 - 8) + 1);
+      const now = onPaper ? null : this.now(cursor), limits = this.limits(cursor);
+      const name = paint.fit(g, this.label, room);
+      const second = now === null ? limits : `${limits} · ${words.say("nowIs", now)}`, middle = y + tall / 2 + 1;
+      const isOneLine = tall < 30, apart = isOneLine ? 0 : 8, used = isOneLine ? g.measureText(name).width + 8 : 0;
+      g.fillText(name, x, middle - apart);
       g.fillStyle = paint.colours.faint;
-      g.fillText(paint.fit(g, second, room - used), x + used, y + (isOneLine ? tall / 2 : tall / 2 + 8) + 1);
+      g.fillText(paint.fit(g, second, room - used), x + used, middle + apart);
     }
-    draw(pane, y, tall) {
+    draws(pane, _, y, tall) {
       const [low, high] = this.bounds(), end = this.batch.ended ?? pane.view.count;
       const place = value => y + tall - ROOM - (value - low) / (high - low) * (tall - 2 * ROOM);
       const from = pane.x(pane.view.value(this.batch.started)), to = pane.x(pane.view.value(end));
@@ -66,8 +70,8 @@ const trends = (() => {
       const { g, view } = pane, { at, value } = this.series, last = Math.min(end, pane.entries[pane.wide] + 1);
       let pen = null;
       g.strokeStyle = paint.colours.trend; g.lineWidth = 1.6; g.beginPath();
-      for (let k = Math.max(0, spans.below(at, Math.max(this.batch.started, pane.entries[0])));
-        k < at.length && at[k] <= last; k += 1) {
+      const first = Math.max(0, spans.below(at, Math.max(this.batch.started, pane.entries[0])));
+      for (let k = first; k < at.length && at[k] <= last; k += 1) {
         const x = Math.max(pane.edge - 2, pane.x(view.value(Math.max(this.batch.started, at[k]))));
         pen = step(g, pen, x, place(value[k]));
       }
@@ -87,8 +91,15 @@ const trends = (() => {
   }
   // The pen goes to a new value: level to its place, then up or down. NaN lifts it.
   function step(g, pen, x, y) {
-    if (Number.isNaN(y)) { if (pen) { flush(g, pen); g.lineTo(x, pen.y); } return null; }
-    if (!pen) { g.moveTo(x, y); return { x, y, top: y, foot: y }; }
+    if (Number.isNaN(y)) {
+      if (pen) flush(g, pen);
+      if (pen) g.lineTo(x, pen.y);
+      return null;
+    }
+    if (!pen) {
+      g.moveTo(x, y);
+      return { x, y, top: y, foot: y };
+    }
     if (x - pen.x < 1) return { x: pen.x, y, top: Math.min(pen.top, y), foot: Math.max(pen.foot, y) };
     flush(g, pen);
     g.lineTo(x, pen.y); g.lineTo(x, y);

@@ -7,6 +7,8 @@ const words = (() => {
   // Shows what could steer a screen or turn the order of writing as its escape, so that a text looks like what it is.
   const visible = text => String(text).replace(TURNS, sign => "\\u" + sign.charCodeAt(0).toString(16).padStart(4, "0"));
   const listed = pairs => Object.entries(pairs ?? {}).map(([role, tag]) => `${role} = ${tag}`).join(", ");
+  // Which modules play a batch's roles, and which it watches.
+  const played = ({ bind, watch }) => listed(bind) + (Object.keys(watch).length ? say("watches", listed(watch)) : "");
   // How a field of an event or an answer is said.
   const SAID = {
     state: code => docs.states[code] ?? `state ${code}`,
@@ -115,6 +117,6 @@ const words = (() => {
     : null);
   const set = isGerman => { language = isGerman ? 1 : 0; };
   return { say, many, visible, number, thousandths, value, stamp, isTime, lasted, event, answer, refusal, rule, wait,
-    word, listed, set,
+    word, listed, played, set,
     state: SAID.state, command: SAID.command, isGerman: () => language === 1 };
 })();
