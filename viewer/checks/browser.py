@@ -128,12 +128,10 @@ class Browser:
 
     def picture(self, path):
         """The whole page as a picture."""
-        self.send('Emulation.setScrollbarsHidden', hidden=True)
         self.settle()
         image = self.send('Page.captureScreenshot', format='png', captureBeyondViewport=True)['data']
         with open(path, 'wb') as file:
             file.write(base64.b64decode(image))
-        self.send('Emulation.setScrollbarsHidden', hidden=False)
 
     def paper(self, path):
         sheet = self.send('Page.printToPDF', preferCSSPageSize=True, printBackground=True)['data']

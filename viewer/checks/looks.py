@@ -78,6 +78,7 @@ def check_silence(checks):
 def take(checks, folder):
     """The pictures that GUIDE.md shows."""
     folder.mkdir(parents=True, exist_ok=True)
+    checks.page.send('Emulation.setScrollbarsHidden', hidden=True)
     for name, entry in PICTURES.items():
         for wide in (1280, 390):
             checks.page.size(wide, 900)

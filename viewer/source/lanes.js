@@ -65,11 +65,6 @@ const lanes = (() => {
       for (let k = first; k < this.lanes.length && this.tops[k] < foot; k += 1) {
         this.lane(this.lanes[k], this.tops[k] - top);
       }
-      const x = this.x(this.view.middle(this.view.cursor));
-      if (x >= this.edge && !onPaper) {
-        g.fillStyle = paint.colours.cursor;
-        g.fillRect(Math.round(x) - 1, 0, 2, this.height);
-      }
     }
     // The entry whose bar begins at each pixel: worked out once a drawing, used by every lane.
     begin() {
@@ -89,8 +84,14 @@ const lanes = (() => {
       g.save();
       g.beginPath(); g.rect(this.edge, y, this.width - this.edge, tall); g.clip();
       (lane.kind === "trend" ? lane : this).draws(this, lane, y + label, tall - label);
+      if (!this.onPaper) this.cursor(y + label, tall - label);
       g.restore();
       this.label(lane, y, label || tall);
+    }
+    // The cursor is drawn lane by lane, so that it crosses no label.
+    cursor(y, tall) {
+      this.g.fillStyle = paint.colours.cursor;
+      this.g.fillRect(Math.round(this.x(this.view.middle(this.view.cursor))) - 1, y, 2, tall);
     }
     // The bars of a lane and the marks upon them.
     draws(_, lane, y, tall) {

@@ -61,6 +61,7 @@ const page = (() => {
       pane.holder.hidden = shown.length === 0;
       pane.canvas.setAttribute("aria-label", `${words.say(pane.name)}; ${words.say("sameInLists")}`);
     }
+    by("time").classList.toggle("long", Object.values(panes).some(pane => pane.total > pane.holder.clientHeight + 1));
     by("none").hidden = own.length > 0;
     by("none").textContent = words.say(chosen.isAll ? "noBatch" : "noMatch");
     const rows = chosen.rows();
