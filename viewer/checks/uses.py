@@ -159,7 +159,7 @@ def check_holding_and_watching(checks):
 def check_waits(checks):
     checks.open(checks.data('broken'), checks.data('broken.answers'))
     checks.run('page.go(75)')
-    checks.says('what a batch waited for, and how long', 'waits', 'K12 is in exchange', '36 s', 'frozen')
+    checks.says('what a batch waited for, and how long', 'waits', 'the module K12 is being exchanged', '36 s', 'frozen')
 
 
 def check_never_started(checks):

@@ -43,7 +43,7 @@ const docs = {
       "number": 7,
       "star": false,
       "holds": "the two tickets differ: the exchange's, and that of the event",
-      "remedy": "use the ticket kept; if you have another one, your exchange is over and somebody began a new one"
+      "remedy": "use the ticket {kept}; if you have another one, your exchange is over and somebody began a new one"
     },
     NoService: {
       "number": 8,
@@ -133,7 +133,7 @@ const docs = {
       "number": 22,
       "star": false,
       "holds": "the module can't do this step of the role, the first such in chart order; or, where it can do all, it has no fitting variable of this name, the first such in order of appearance",
-      "remedy": "the module lacks what the step or the condition missing needs: a service, a procedure, a parameter, its range, or a variable"
+      "remedy": "the module lacks what the step or the condition {missing} needs: a service, a procedure, a parameter, its range, or a variable"
     },
     NotReported: {
       "number": 23,
@@ -239,19 +239,19 @@ const docs = {
     },
     Away: {
       "for": "a module that is in exchange",
-      "look": "the module tag is being exchanged; end or cancel the exchange"
+      "look": "the module {tag} is being exchanged; end or cancel the exchange"
     },
     NotReported: {
       "for": "a first report of a service or variable since docking",
-      "look": "no report or value of name came since the module was docked; let the module tell it"
+      "look": "no report or value of {name} came since the module was docked; let the module tell it"
     },
     InState: {
       "for": "another state of the step's service than the one told",
-      "look": "the service of step is in state (its code); wait for its next report. If it waits in Idle after a start, the command was lost or somebody else has reset the service: stop or abandon the batch"
+      "look": "the service of {step} is in {state}; wait for its next report. If it waits in Idle after a start, the command was lost or somebody else has reset the service: stop or abandon the batch"
     },
     Forbidden: {
       "for": "a mode, state or enabled bit: the reason is one of the four above, for a recipe",
-      "look": "the module isn't in Automatic and External, or doesn't enable the command; by names which"
+      "look": "the module isn't in Automatic and External, or doesn't enable the command; {by} names which"
     },
     Unmet: {
       "for": "the step's finish condition",

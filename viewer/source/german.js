@@ -16,7 +16,7 @@ const german = {
     NotInExchange: ["das Modul des Tags ist angedockt",
       "es ist nichts zu beenden; der Tausch wurde vorher beendet oder abgesagt"],
     WrongTicket: ["die beiden Tickets sind verschieden: das des Tausches und das des Ereignisses",
-      "das Ticket kept verwenden; wer ein anderes hat, dessen Tausch ist vorbei, und jemand begann einen neuen"],
+      "das Ticket {kept} verwenden; wer ein anderes hat, dessen Tausch ist vorbei, und jemand begann einen neuen"],
     NoService: ["die Beschreibung des Moduls hat keinen solchen Dienst",
       "nach einem vertippten Namen suchen; mit der gesteckten Beschreibung vergleichen"],
     NotAnEdge: ["der Dienst hat seit dem Andocken einen Zustand gemeldet, der neue ist ein anderer, und keine "
@@ -51,7 +51,7 @@ const german = {
     NotCovered: ["das Modul kann diesen Schritt der Rolle nicht, den ersten solchen in der Reihenfolge des "
       + "Plans; oder es kann "
       + "alle und hat keine passende Variable dieses Namens, die erste solche in der Reihenfolge des Auftretens",
-      "dem Modul fehlt, was der Schritt oder die Bedingung missing braucht: ein Dienst, eine Prozedur, ein "
+      "dem Modul fehlt, was der Schritt oder die Bedingung {missing} braucht: ein Dienst, eine Prozedur, ein "
         + "Parameter, dessen "
       + "Bereich oder eine Variable"],
     NotReported: ["dieser Dienst wurde seit dem Andocken nicht gemeldet",
@@ -93,15 +93,15 @@ const german = {
   },
   waits: {
     Frozen: ["ein Auftauen, Anhalten oder Aufgeben", "die Charge wurde eingefroren; auftauen, anhalten oder aufgeben"],
-    Away: ["ein Modul, das im Tausch ist", "das Modul tag wird getauscht; den Tausch beenden oder absagen"],
+    Away: ["ein Modul, das im Tausch ist", "das Modul {tag} wird getauscht; den Tausch beenden oder absagen"],
     NotReported: ["eine erste Meldung eines Dienstes oder einer Variablen seit dem Andocken",
-      "seit dem Andocken kam keine Meldung und kein Wert von name; das Modul melden lassen"],
+      "seit dem Andocken kam keine Meldung und kein Wert von {name}; das Modul melden lassen"],
     InState: ["einen anderen Zustand des Dienstes als den genannten",
-      "der Dienst von step ist in state; auf die nächste Meldung warten. Wartet er nach einem Start in Idle, "
+      "der Dienst von {step} ist in {state}; auf die nächste Meldung warten. Wartet er nach einem Start in Idle, "
         + "ging der Befehl "
       + "verloren oder jemand anders hat den Dienst zurückgesetzt: die Charge anhalten oder aufgeben"],
     Forbidden: ["eine Betriebsart, einen Zustand oder ein Freigabebit",
-      "das Modul ist nicht in Automatic und External oder gibt den Befehl nicht frei; by nennt, was davon"],
+      "das Modul ist nicht in Automatic und External oder gibt den Befehl nicht frei; {by} nennt, was davon"],
     Unmet: ["die Bedingung finish des Schrittes", "die Bedingung des Schrittes ist noch nicht wahr"],
     NoArm: ["einen Zweig, dessen Bedingung wahr ist",
       "kein Zweig der Auswahl ist für die zuletzt gemeldeten Werte wahr"],

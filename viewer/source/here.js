@@ -9,13 +9,13 @@ const here = (() => {
   function behind(event, answer) {
     if (!answer) return [];
     if ("refused" in answer) {
-      const rule = words.rule(answer.rule);
+      const rule = words.rule(answer.rule, answer);
       return rule ? [note("holdsWhere", rule.holds), note("remedy", rule.remedy)]
         : [make("p", { class: "note" }, words.say("noWords"))];
     }
     if ("bad" in answer) return [make("p", { class: "note" }, words.say("badLine"))];
     if ("wait" in answer) {
-      const wait = words.wait(answer.wait), forbid = answer.by ? words.word("forbids", answer.by) : null;
+      const wait = words.wait(answer.wait, answer), forbid = answer.by ? words.word("forbids", answer.by) : null;
       return [note("waitsFor", wait?.for), note("lookAt", wait?.look),
         forbid ? note("holdsWhere", `${answer.by}: ${forbid}`) : null];
     }

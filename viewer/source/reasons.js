@@ -11,7 +11,8 @@ const reasons = (() => {
         other });
     }
     for (const each of batch.waited(history.stamps.length, history.stamps)) {
-      told.push({ ...each, text: words.answer(each.answer), at: each.first, look: words.wait(each.answer.wait)?.look });
+      told.push({ ...each, text: words.answer(each.answer), at: each.first,
+        look: words.wait(each.answer.wait, each.answer)?.look });
     }
     return told;
   }
@@ -41,7 +42,7 @@ const reasons = (() => {
   // Why a batch never started.
   function never(attempt, history) {
     const told = [...attempt.why.values()].map(({ answer, times }) => {
-      const remedy = words.rule(answer.rule)?.remedy;
+      const remedy = words.rule(answer.rule, answer)?.remedy;
       return words.say("startRefused", words.many("Times", times), words.refusal(answer))
         + (remedy ? `. ${words.say("remedy")}: ${remedy}.` : "");
     });

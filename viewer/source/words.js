@@ -102,17 +102,22 @@ const words = (() => {
       `${visible(key)} ${["state", "from", "to"].includes(key) ? SAID.state(part) : visible(part)}`);
     return said.length ? ` (${said.join(", ")})` : "";
   }
-  // The docs' words of a rule, a wait and an answer without more, in the chosen language.
-  function rule(name) {
+  // The docs' words of a rule, a wait and an answer without more, in the chosen language. In braces they have fields,
+  // which are an answer's where one is given, and else stand by their names.
+  function rule(name, given = {}) {
     if (!Object.hasOwn(docs.rules, name)) return null;
     const own = docs.rules[name], [holds, remedy] = (language && german.rules[name]) || [own.holds, own.remedy];
-    return { number: own.number, star: own.star, holds, remedy };
+    return { number: own.number, star: own.star, holds, remedy: withFields(remedy, given) };
   }
-  function wait(name) {
+  function wait(name, given = {}) {
     if (!Object.hasOwn(docs.waits, name)) return null;
     const [what, look] = (language && german.waits[name]) || [docs.waits[name].for, docs.waits[name].look];
-    return { for: what, look };
+    return { for: what, look: withFields(look, given) };
   }
+  const withFields = (text, given) => text.replace(/\{(\w+)\}/g, (_, key) => {
+    if (!Object.hasOwn(given, key)) return key;
+    return visible(key === "state" ? SAID.state(given[key]) : given[key]);
+  });
   const word = (table, key) => (Object.hasOwn(docs[table], key) ? (language && german[table][key]) || docs[table][key]
     : null);
   const set = isGerman => { language = isGerman ? 1 : 0; };
