@@ -4,8 +4,8 @@ import json
 
 
 def check(checks):
-    for part in (check_drop_and_keys, check_language, check_alarms, check_hands, check_choice, check_reader,
-                 check_values, check_holding_and_watching, check_waits, check_never_started):
+    for part in (check_drop_and_keys, check_language, check_alarms, check_hands, check_chart, check_choice,
+                 check_reader, check_values, check_holding_and_watching, check_waits, check_never_started):
         part(checks)
 
 
@@ -76,6 +76,21 @@ def check_hands(checks):
     checks.page.touch([(x, y)], [(x - 50, y)], [(x - 100, y)])
     checks.is_true('one finger moves', 'page.state.view.low > %f' % before)
     at_cursor(checks, 'and sets no cursor', 50)
+
+
+def check_chart(checks):
+    checks.open(checks.data('site'))
+    checks.choose('which', 'noon')
+    start = next(k for k, each in enumerate(entries_of(checks)) if each['answer'].get('did', {}).get('step') == 'vent')
+    spot = """(() => { const step = document.querySelector('[data-step=vent]');
+        step.scrollIntoView({ block: 'center' });
+        const box = step.getBoundingClientRect();
+        return [box.x + box.width / 2, box.y + 20]; })()"""
+    checks.page.press(*checks.run(spot))
+    at_cursor(checks, 'a press on a step goes to its start', start)
+    checks.open(checks.example('blend.jsonl'), checks.data('blend.answers'))
+    checks.run('page.go(7)')
+    checks.says('a start is said with its settings', 'here', 'Start goes to dose of M1', 'amount = 1500')
 
 
 def check_choice(checks):

@@ -91,7 +91,8 @@ const chart = (() => {
     const isAwaited = place.wait?.step === node.step || (own?.phase === "on" && place.wait?.wait === "Away");
     return { l: wide / 2, r: wide / 2, h: BOX, draw(g, x, y, style = "") {
       const group = put(g, "g", { class: `step ${own?.phase ?? ""} ${style} ${isAwaited ? "waits" : ""}` });
-      put(group, "title", {}, settings(node));
+      group.dataset.step = node.step;
+      put(group, "title", {}, place.title(node));
       put(group, "rect", { x: x - wide / 2, y, width: wide, height: BOX, rx: 2 });
       put(group, "text", { x, y: y + 19, class: "name" }, node.step);
       put(group, "text", { x, y: y + 35, class: "under" }, under);
@@ -101,10 +102,6 @@ const chart = (() => {
         put(group, "path", { d: `M${x - wide / 2 - 4} ${y + BOX / 2}l-9 -6v12z`, class: "stands" });
       }
     } };
-  }
-  function settings(node) {
-    const set = (node.settings ?? []).map(each => `, ${each.name} = ${each.value}`).join("");
-    return `${node.step}: ${node.service} @ ${node.role}, ${node.procedure}${set}`;
   }
   const transitionOf = (condition, place, isNow) => transition(recipes.told(condition, place.said),
     isNow && place.isOpen ? place.now(condition) : [], place.letters);

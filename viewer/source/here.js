@@ -69,7 +69,14 @@ const here = (() => {
       standing: isReached ? batch.standing(at) : null, wait: isOpen ? batch.waitAt(at) : null,
       said: test => words.value(test.value, kindOf(test)),
       now: condition => nowOf(history, batch, condition, at, kindOf),
+      title: node => title(history, batch, node, at),
     };
+  }
+  // A step with its procedure and settings.
+  function title(history, batch, node, at) {
+    const tag = batch?.tagOf(node.role), set = history.settings(batch, { ...node, tag }, at);
+    const procedure = words.say("procedureOf", node.procedure, `${node.service} @ ${tag ?? node.role}`);
+    return words.visible([`${node.step}: ${procedure}`, ...set].join(", "));
   }
   function nowOf(history, batch, condition, at, kindOf) {
     const tests = new Map([...recipes.tests(condition)].map(test => [`${test.role}.${test.test}`, test]));

@@ -208,6 +208,7 @@ const labels = {
   didAsked: ["{command:command} goes to {service} of {tag}, for the operator",
     "{command:command} geht an {service} von {tag}, für den Bediener"],
   byNothing: ["nothing", "nichts"],
+  procedureOf: ["procedure {0} of {1}", "Prozedur {0} von {1}"],
   // Phases of a step.
   phase_on: ["runs", "läuft"], phase_ending: ["is reset", "wird zurückgesetzt"], phase_held: ["held", "gehalten"],
   phase_done: ["ended", "zu Ende"], phase_off: ["stopped", "angehalten"],

@@ -72,12 +72,21 @@ const modules = (() => {
       return this.docks[k] ?? null;
     }
     kindAt(name, at) { return this.dockAt(at)?.kinds.get(name); }
+    // The kind of a parameter of a service's procedure.
+    parameterAt(service, procedure, name, at) {
+      return this.dockAt(at)?.parameters.get(`${service} ${procedure} ${name}`);
+    }
   }
   function described({ type, version, services, variables }) {
     const named = services.map(service => service.name);
     if (named.some(name => typeof name !== "string")) throw new TypeError("a service without a name");
-    return { type: String(type), version: String(version), services: named,
-      kinds: new Map((variables ?? []).map(each => [each.name, each.kind])) };
+    const parameters = new Map(), kinds = new Map((variables ?? []).map(each => [each.name, each.kind]));
+    for (const service of services) {
+      for (const { number, params } of service.procedures ?? []) {
+        for (const each of params ?? []) parameters.set(`${service.name} ${number} ${each.name}`, each.kind);
+      }
+    }
+    return { type: String(type), version: String(version), services: named, kinds, parameters };
   }
   return { Module };
 })();

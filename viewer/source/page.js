@@ -196,6 +196,12 @@ const page = (() => {
     }
     go(batch ? batch.ended ?? batch.log.at[batch.log.at.length - 1] ?? batch.started : attempt?.first ?? 0);
   }
+  // A step in the chart is pressed: the cursor goes to its start.
+  function started(event) {
+    const { history, view } = state, step = event.target.closest("[data-step]")?.dataset.step;
+    const at = step === undefined ? null : history.batches.get(batchHere())?.startOf(step, view.cursor) ?? null;
+    if (at !== null) go(at);
+  }
   function choose() {
     Object.assign(state.chosen, { batch: by("chosenBatch").value, tag: by("chosenTag").value,
       rule: by("chosenRule").value });
@@ -267,6 +273,7 @@ const page = (() => {
     press("wider", () => zoom(1 / 0.6));
     press("print", () => print());
     by("which").addEventListener("change", () => pick(by("which").value));
+    by("chart").addEventListener("click", started);
     by("ruler").addEventListener("pointerdown", event => {
       const { view } = state, wide = by("ruler").clientWidth, half = view.size / 2;
       const value = ruler.valueAt(panes.modules.edge, wide, view, event.offsetX);

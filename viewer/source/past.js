@@ -120,9 +120,18 @@ const past = (() => {
         return `${read.role}.${read.name} = ${words.value(value, kind)}`;
       });
     }
+    // The settings with which a step is started: they stand in its recipe.
+    settings(batch, did, at) {
+      const node = batch?.known?.stepOf(did.step), module = this.modules.get(did.tag);
+      const kindOf = name => module?.parameterAt(did.service, did.procedure, name, at);
+      return (node?.settings ?? []).map(({ name, value }) => `${name} = ${words.value(value, kindOf(name))}`);
+    }
+    // An answer in words, with what the recipe and the descriptions know of it.
     answerTo(at, event, answer) {
-      if (!Array.isArray(answer?.did?.values)) return words.answer(answer);
-      return words.answer(answer, this.decided(this.batches.get(event?.batch), answer.did, at));
+      const did = answer?.did, batch = this.batches.get(event?.batch);
+      if (Array.isArray(did?.values)) return words.answer(answer, this.decided(batch, did, at));
+      const set = did?.do === "start" ? this.settings(batch, did, at) : [];
+      return words.answer(answer) + (set.length ? `: ${words.visible(set.join(", "))}` : "");
     }
   }
   const TAKES = {

@@ -39,10 +39,12 @@ const recipes = (() => {
     constructor(event) {
       this.name = event.recipe; this.roles = event.roles; this.chart = event.chart;
       this.nodes = [...nodes(event.chart)];
+      this.steps = new Map(this.nodes.filter(node => "step" in node).map(node => [node.step, node]));
       this.numbers = new Map(this.nodes.map((node, number) => [node, number]));
       this.readsOf = this.nodes.map(node => variables(conditions(node).flatMap(each => [...tests(each)])));
       this.reads = variables(this.nodes.flatMap(node => conditions(node)).flatMap(each => [...tests(each)]));
     }
+    stepOf(name) { return this.steps.get(name); }
   }
   const sign = op => SIGNS[op] ?? op;
   // A condition in words and signs. How a value of a role's variable is said is told by the caller.

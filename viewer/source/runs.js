@@ -88,6 +88,11 @@ const runs = (() => {
       for (let k = point * POINT; k < count; k += 1) standing.take(this.log.did[k]);
       return standing;
     }
+    // Where a step was started last before an entry, else where first; null where never.
+    startOf(step, cursor) {
+      const { at, did } = this.log, starts = at.filter((_, k) => did[k].do === "start" && did[k].step === step);
+      return starts.findLast(each => each < cursor) ?? starts[0] ?? null;
+    }
     waitAt(cursor) { const k = this.waits.span(cursor); return k < 0 ? null : this.reasons[k]; }
     // What it waited for, each reason once: how often, how many entries and stamps in all, and where first.
     waited(count, stamps) {
