@@ -1,6 +1,6 @@
-// A pane of lanes on a canvas: draws only the lanes and the pixels that are seen, whatever the history's length. Where
-// a pixel has several spans the first is drawn, and each span that must not be overlooked above it, two pixels wide at
-// least. Knows nothing of files, and nothing of what its lanes stand for but their kinds.
+// A pane of lanes on a canvas: draws only the lanes and the pixels that are seen, whatever the history's length. A span
+// is a pixel wide at least where there are few, and one that must not be overlooked two pixels in any case. Knows
+// nothing of files, and nothing of what its lanes stand for but their kinds.
 "use strict";
 const lanes = (() => {
   const ROW = { service: 26, module: 28, slot: 21, trend: 40, wait: 6, pad: 7, label: 17 };
@@ -123,13 +123,24 @@ const lanes = (() => {
       if (g.measureText(more).width <= room - used) g.fillText(more, indent + used, y + tall / 2 + 1);
     }
     track(track, y, tall) {
-      if (PROFILED.has(track.form) && this.seen(track.from) > this.wide / DENSE) this.profile(track, y, tall);
-      else this.bars(track, y, tall);
+      if (this.seen(track.from) <= this.wide / DENSE) this.bars(track, y, tall);
+      else if (PROFILED.has(track.form)) this.profile(track, y, tall);
+      else this.firsts(track, y, tall);
       this.loud(track, y, tall);
     }
     seen(list) { return spans.below(list, this.entries[this.wide]) - spans.below(list, this.entries[0]); }
     across(entry) { return this.x(this.view.value(entry)) - this.edge; }
+    ends(track, k) { return this.across(track.to[k] < 0 ? this.view.count : track.to[k]); }
+    // Each span that is seen, a pixel wide at least.
     bars(track, y, tall) {
+      for (let k = Math.max(0, spans.below(track.from, this.entries[0])); k < track.length; k += 1) {
+        const from = this.across(track.from[k]), to = this.ends(track, k);
+        if (from >= this.wide) break;
+        if (to >= 0) this.bar(track.style[k], from, Math.max(to, from + 1), y, tall, track.text[k]);
+      }
+    }
+    // Many spans: the first one of each pixel.
+    firsts(track, y, tall) {
       for (let px = 0; px < this.wide;) {
         let k = spans.below(track.from, this.entries[px]);
         if (k < 0 || (track.to[k] >= 0 && track.to[k] <= this.entries[px])) {
@@ -137,7 +148,7 @@ const lanes = (() => {
           if (k >= track.length || this.across(track.from[k]) >= this.wide) break;
           px = Math.max(px, Math.floor(this.across(track.from[k])));
         }
-        const from = this.across(track.from[k]), to = this.across(track.to[k] < 0 ? this.view.count : track.to[k]);
+        const from = this.across(track.from[k]), to = this.ends(track, k);
         this.bar(track.style[k], from, Math.max(to, from + 1), y, tall, track.text[k]);
         px = Math.max(px + 1, Math.floor(to));
       }
@@ -152,14 +163,16 @@ const lanes = (() => {
     }
     // Too many spans for bars: the height at each two pixels is the share of their entries that Execute had.
     profile(track, y, tall) {
-      const { g } = this, foot = Math.round(y + tall) - 2;
-      g.fillStyle = paint.colours.idle; g.fillRect(this.edge, foot, this.wide, 2);
+      const { g } = this, foot = Math.round(y + tall) - 2, first = Math.max(0, Math.floor(this.across(track.from[0])));
+      const last = Math.min(this.wide, this.ends(track, track.length - 1));
+      g.fillStyle = paint.colours.idle;
+      g.fillRect(this.edge + first, foot, last - first, 2);
       g.fillStyle = paint.colours.run;
-      for (let px = 0; px < this.wide; px += 2) {
+      for (let px = first; px < last; px += 2) {
         const from = this.entries[px];
         if (from >= this.view.count - 1) break;
         const to = Math.max(from + 1, this.entries[Math.min(this.wide, px + 2)]);
-        const high = Math.round((track.executed(to) - track.executed(from)) / (to - from) * (tall - 2));
+        const share = (track.executed(to) - track.executed(from)) / (to - from), high = Math.ceil(share * (tall - 2));
         if (high > 0) g.fillRect(this.edge + px, foot - high, 2, high);
       }
     }
