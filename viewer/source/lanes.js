@@ -3,7 +3,7 @@
 // nothing of files, and nothing of what its lanes stand for but their kinds.
 "use strict";
 const lanes = (() => {
-  const ROW = { service: 26, module: 28, slot: 21, trend: 40, wait: 6, pad: 7, label: 17 };
+  const ROW = { service: 26, module: 28, slot: 21, trend: 40, wait: 13, pad: 7, label: 17 };
   // More spans than a pixel in so many turn bars into noise: then their share is drawn.
   const DENSE = 6, PROFILED = new Set(["state", "step"]), COMMON = new Set(["log", "refused", "node"]);
   const isNarrow = () => window.innerWidth < 700;
@@ -159,7 +159,7 @@ const lanes = (() => {
       const place = paint.bar(this.g, style, x, wide, y, tall);
       if (!place || text === "" || wide < 20 || tall < 12) return;
       const shown = Math.max(x, this.edge), said = style === "away" ? words.say("ticket", text) : text;
-      paint.name(this.g, said, style, shown, x + wide - shown, place, this.marked);
+      paint.name(this.g, said, style, shown, x + wide - shown, place, style === "wait" ? [] : this.marked);
     }
     // Too many spans for bars: the height at each two pixels is the share of their entries that Execute had.
     profile(track, y, tall) {
@@ -208,10 +208,17 @@ const lanes = (() => {
         const isLost = isDense && (kind === "log" || kind === "node");
         if (!isLost && !this.hides(lane.at[k], kind)) {
           paint.mark(this.g, kind, x, y, tall, lane.kind === "batch" ? ROW.wait : 0);
+          if (kind.startsWith("end ") && kind !== "end full") this.outcome(lane, x, y, tall);
         }
         const px = Math.max(0, Math.floor(x - this.edge)) + 2;
         k = COMMON.has(kind) && px < this.wide ? Math.max(k + 1, this.past(lane, k, this.entries[px])) : k + 1;
       }
+    }
+    // How a batch ended stands behind its end, where there is room.
+    outcome(lane, x, y, tall) {
+      const { g } = this, text = lane.outcome ?? "";
+      g.font = paint.colours.font; g.textAlign = "left"; g.fillStyle = paint.colours.ink;
+      if (x + 10 + g.measureText(text).width < this.width) g.fillText(text, x + 8, y + tall / 2 + 1);
     }
     // The next mark from the entry on, or an earlier one that must not be overlooked.
     past(lane, k, entry) {

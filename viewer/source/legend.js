@@ -20,7 +20,7 @@ const legend = (() => {
     return canvas;
   }
   // Where a bar's track lies in its sign, and how tall it is.
-  const TRACKS = { wait: [9, 6], mode: [10, 3], watch: [6, 5] };
+  const TRACKS = { wait: [6, 6], mode: [10, 3], watch: [6, 5] };
   const barred = style => sign(g => paint.bar(g, style, 0, WIDE, ...(TRACKS[style] ?? [2, TALL - 4])));
   const marked = kind => sign(g => paint.mark(g, kind, WIDE / 2, kind === "log" ? -2 : -1, TALL, 0));
   function fill(holder) {

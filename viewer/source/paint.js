@@ -7,12 +7,14 @@ const paint = (() => {
     "hold-ink", "stop", "abort", "loud-ink", "away", "held", "asked", "batch", "wait", "trend"];
   // How high a bar of a style stands in its lane: what does most stands highest, so that it reads without colours too.
   const SHARE = { idle: 0.14, unreported: 0.1, free: 0.1, move: 0.72, full: 0.72, held: 0.8, watch: 0.3 };
+  const TEETH = 5;
   const INKS = { run: "run-ink", abort: "loud-ink", stop: "loud-ink", hold: "hold-ink" };
   const colours = {};
   function repaint() {
     const style = getComputedStyle(document.documentElement);
     for (const name of NAMES) colours[name] = style.getPropertyValue(`--${name}`).trim();
     Object.assign(colours, { free: colours.idle, unreported: colours.idle, mode: colours.asked, watch: colours.away });
+    colours.small = `10.5px ${style.getPropertyValue("--sans")}`;
     colours.font = `12px ${style.getPropertyValue("--sans")}`;
   }
   // The text, or as much of its front as there is room for.
@@ -34,24 +36,26 @@ const paint = (() => {
     const top = Math.round(style === "watch" ? y : y + tall - high);
     g.fillStyle = colours[style] ?? colours.idle;
     if (style === "unreported" || style === "watch") dotted(g, x, wide, top);
-    else if (style === "away" || style === "wait") combed(g, style, x, wide, top, high);
+    else if (style === "away" || style === "wait") combed(g, style, x, wide, top, style === "away" ? high : TEETH);
     else g.fillRect(x, top, Math.max(1, wide - (wide > 3 ? 1 : 0)), high);
     if (style === "hold" && wide > 4) {
       g.strokeStyle = colours.ink; g.lineWidth = 1;
       g.strokeRect(Math.round(x) + 0.5, top + 0.5, Math.round(wide) - 2, high - 1);
     }
-    return share >= 0.5 && style !== "wait" && style !== "batch" ? { top, high } : null;
+    return share >= 0.5 && style !== "batch" ? { top, high } : null;
   }
   // A name stands in its bar whole or not at all, beside the marks that stand there.
   function name(g, text, style, x, wide, place, marks) {
+    g.font = style === "wait" ? colours.small : colours.font;
     const width = g.measureText(text).width;
     let left = x + 5;
     for (const mark of marks) if (mark > left - 8 && mark < left + width + 8) left = mark + 9;
     if (left + width + 3 > x + wide) return;
     g.textAlign = "left";
-    if (style === "away") {
-      g.fillStyle = colours.ground;
-      g.fillRect(left - 3, place.top + 3, width + 6, place.high - 5);
+    const isAway = style === "away";
+    if (isAway || style === "wait") {
+      g.fillStyle = isAway ? colours.ground : colours.batch;
+      g.fillRect(left - 3, place.top + (isAway ? 3 : 0), width + 6, place.high - (isAway ? 5 : 0));
     }
     g.fillStyle = colours[INKS[style]] ?? colours.ink;
     g.fillText(text, left, place.top + place.high / 2 + 1);

@@ -73,6 +73,7 @@ const runs = (() => {
     close(at, outcome) {
       this.outcome = outcome; this.ended = at; this.frozen = false;
       for (const track of [this.whole, this.waits, ...this.slots]) track.close(at);
+      this.lane.outcome = outcome;
       this.lane.note(at, `end ${ENDS[outcome] ?? "stop"}`);
     }
     // Where the batch stands once an entry is answered: from the last kept point on.

@@ -59,7 +59,8 @@ const spans = (() => {
   // A row of the drawing: its tracks of spans, and marks at entries. Its label may change over the entries.
   class Lane {
     constructor(kind, label) {
-      Object.assign(this, { kind, label, more: new Track("more"), tracks: [], at: [], mark: [], owner: null });
+      Object.assign(this, { kind, label, more: new Track("more"), tracks: [], at: [], mark: [], owner: null,
+        outcome: null });
     }
     track(form) { const made = new Track(form); this.tracks.push(made); return made; }
     note(at, mark) { this.at.push(at); this.mark.push(mark); }
