@@ -7,9 +7,9 @@ const choice = (() => {
     get isAll() { return this.batch === "" && this.tag === "" && this.rule === ""; }
     // In words, for the paper.
     get told() {
-      const parts = [["batch", this.batch], ["module", this.tag], ["rule", this.rule]].filter(([, name]) =>
-        name !== "");
-      return parts.map(([key, name]) => `${words.say(key)} ${words.visible(name)}`).join(", ");
+      const parts = [["batch", this.batch], ["module", this.tag], ["rule", this.rule]];
+      const named = parts.filter(([, name]) => name !== "");
+      return named.map(([key, name]) => `${words.say(key)} ${words.visible(name)}`).join(", ");
     }
     tagsOf(name) {
       const batch = this.history.batches.get(name);

@@ -19,15 +19,14 @@ const german = {
       "das Ticket {kept} verwenden; wer ein anderes hat, dessen Tausch ist vorbei, und jemand begann einen neuen"],
     NoService: ["die Beschreibung des Moduls hat keinen solchen Dienst",
       "nach einem vertippten Namen suchen; mit der gesteckten Beschreibung vergleichen"],
-    NotAnEdge: ["der Dienst hat seit dem Andocken einen Zustand gemeldet, der neue ist ein anderer, und keine "
-      + "Kante führt dorthin",
-      "eine Meldung ging verloren oder ist falsch. Um mit dem weiterzumachen, was das Modul sagt, ist es zu "
-        + "ziehen und zu "
-      + "stecken, oder ein Tausch zu beginnen und abzusagen: danach ist es ungemeldet"],
+    NotAnEdge: ["der Dienst hat seit dem Andocken einen Zustand gemeldet, der neue ist ein anderer, und keine Kante "
+      + "führt dorthin",
+      "eine Meldung ging verloren oder ist falsch. Um mit dem weiterzumachen, was das Modul sagt, ist es zu ziehen "
+      + "und zu stecken, oder ein Tausch zu beginnen und abzusagen: danach ist es ungemeldet"],
     NoVariable: ["die Beschreibung des Moduls hat keine solche Variable",
       "nach einem vertippten Namen suchen; mit der gesteckten Beschreibung vergleichen"],
-    WrongKind: ["der Wert ist keine ganze Zahl für AnaView oder DIntView, kein Wahrheitswert für BinView, kein "
-      + "Text für StringView",
+    WrongKind: ["der Wert ist keine ganze Zahl für AnaView oder DIntView, kein Wahrheitswert für BinView, kein Text "
+      + "für StringView",
       "der Wert passt nicht zur Art der Variablen; mit der Beschreibung vergleichen"],
     RecipeKnown: ["ein Rezept dieses Namens wurde angenommen",
       "ein Rezept wird nie geändert; dem neuen einen anderen Namen geben"],
@@ -41,19 +40,18 @@ const german = {
     RoleUnknown: ["der Start nennt ein Modul für diese Rolle, die dem Rezept fehlt; die erste solche in "
       + "Byte-Reihenfolge",
       "jede Rolle des Rezepts an ein Modul binden, und keine andere Rolle"],
-    OneModuleTwice: ["dieses Modul spielt zwei Rollen; das erste in der Reihenfolge der Rollen, das eine "
-      + "frühere Rolle hat",
+    OneModuleTwice: ["dieses Modul spielt zwei Rollen; das erste in der Reihenfolge der Rollen, das eine frühere "
+      + "Rolle hat",
       "an eine der beiden Rollen ein anderes Modul binden"],
     WrongType: ["der Typ des Moduls ist nicht der der Rolle",
       "ein Modul vom Typ und von den Versionen der Rolle binden"],
     WrongVersion: ["nach semver erfüllt die Version des Moduls nicht, was die Rolle verlangt",
       "ein Modul vom Typ und von den Versionen der Rolle binden"],
-    NotCovered: ["das Modul kann diesen Schritt der Rolle nicht, den ersten solchen in der Reihenfolge des "
-      + "Plans; oder es kann "
-      + "alle und hat keine passende Variable dieses Namens, die erste solche in der Reihenfolge des Auftretens",
+    NotCovered: ["das Modul kann diesen Schritt der Rolle nicht, den ersten solchen in der Reihenfolge des Plans; "
+      + "oder es kann alle und hat keine passende Variable dieses Namens, die erste solche in der Reihenfolge des "
+      + "Auftretens",
       "dem Modul fehlt, was der Schritt oder die Bedingung {missing} braucht: ein Dienst, eine Prozedur, ein "
-        + "Parameter, dessen "
-      + "Bereich oder eine Variable"],
+      + "Parameter, dessen Bereich oder eine Variable"],
     NotReported: ["dieser Dienst wurde seit dem Andocken nicht gemeldet",
       "den Dienst seit dem Andocken einmal melden lassen"],
     NotIdle: ["der Dienst wurde in diesem Zustand gemeldet, und er ist nicht Idle",
@@ -61,12 +59,12 @@ const german = {
     Busy: ["diese offene Charge belegt das Modul; das erste solche in der Reihenfolge der Rollen",
       "auf die andere Charge warten, oder ein anderes Modul binden"],
     BatchesFull: ["128 Chargen wurden gestartet", "das Journal ist voll: mit einem neuen weitermachen"],
-    NotAtRest: ["dieser Dienst wurde zuletzt in einem anderen Zustand als Idle, Completed, Stopped, Aborted "
-      + "gemeldet; der erste "
-      + "solche in der Reihenfolge der Beschreibung", "den Dienst vor dem Tausch fertig werden lassen oder anhalten"],
+    NotAtRest: ["dieser Dienst wurde zuletzt in einem anderen Zustand als Idle, Completed, Stopped, Aborted gemeldet; "
+      + "der erste solche in der Reihenfolge der Beschreibung",
+      "den Dienst vor dem Tausch fertig werden lassen oder anhalten"],
     ActiveStep: ["die Charge, die das Modul belegt, hat diesen Schritt darauf aktiv; den ersten solchen in der "
-      + "Reihenfolge des "
-      + "Plans", "den Schritt vor dem Tausch enden lassen, oder die Charge anhalten"],
+      + "Reihenfolge des Plans",
+      "den Schritt vor dem Tausch enden lassen, oder die Charge anhalten"],
     HeldBack: ["das neue Modul passt nicht zu seiner Rolle in der Charge, die den Tag belegt",
       "ein Modul bringen, das zur Rolle passt, oder den Tausch absagen"],
     ModeForbids: ["in der zuletzt gemeldeten Betriebsart darf ein Bediener nicht befehlen",
@@ -77,8 +75,8 @@ const german = {
       "das Modul gibt den Befehl jetzt nicht frei"],
     OutOfRange: ["der Wert einer DIntView liegt außerhalb von 32 Bit",
       "der Wert passt nicht zur Art der Variablen; mit der Beschreibung vergleichen"],
-    NotFrozen: ["das letzte angenommene Einfrieren, Auftauen oder Anhalten der Charge ist kein Einfrieren, oder "
-      + "es gibt keines",
+    NotFrozen: ["das letzte angenommene Einfrieren, Auftauen oder Anhalten der Charge ist kein Einfrieren, oder es "
+      + "gibt keines",
       "nichts ist zu tun"],
     AlreadyFrozen: ["das letzte angenommene Einfrieren, Auftauen oder Anhalten der Charge ist ein Einfrieren",
       "nichts ist zu tun"],
@@ -97,9 +95,8 @@ const german = {
     NotReported: ["eine erste Meldung eines Dienstes oder einer Variablen seit dem Andocken",
       "seit dem Andocken kam keine Meldung und kein Wert von {name}; das Modul melden lassen"],
     InState: ["einen anderen Zustand des Dienstes als den genannten",
-      "der Dienst von {step} ist in {state}; auf die nächste Meldung warten. Wartet er nach einem Start in Idle, "
-        + "ging der Befehl "
-      + "verloren oder jemand anders hat den Dienst zurückgesetzt: die Charge anhalten oder aufgeben"],
+      "der Dienst von {step} ist in {state}; auf die nächste Meldung warten. Wartet er nach einem Start in Idle, ging "
+      + "der Befehl verloren oder jemand anders hat den Dienst zurückgesetzt: die Charge anhalten oder aufgeben"],
     Forbidden: ["eine Betriebsart, einen Zustand oder ein Freigabebit",
       "das Modul ist nicht in Automatic und External oder gibt den Befehl nicht frei; {by} nennt, was davon"],
     Unmet: ["die Bedingung finish des Schrittes", "die Bedingung des Schrittes ist noch nicht wahr"],
@@ -132,8 +129,7 @@ const german = {
   does: {
     freeze: "advance tut nichts bis zu einem Auftauen oder Anhalten. Nichts wird gesandt; Dienste laufen weiter.",
     thaw: "die Charge macht weiter, wo sie war",
-    abandon: "sofort geschlossen als Abandoned. Kein Befehl wird gesandt, ihre Dienste bleiben also, wie sie "
-      + "sind; ihre Module "
-      + "sind frei.",
+    abandon: "sofort geschlossen als Abandoned. Kein Befehl wird gesandt, ihre Dienste bleiben also, wie sie sind; "
+      + "ihre Module sind frei.",
   },
 };

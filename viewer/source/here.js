@@ -23,10 +23,12 @@ const here = (() => {
   }
   // An answer without more is said with the words of the event's row in the docs.
   function said(history, at, event, answer) {
-    const isPlain = answer && !isRefused(answer) && ("done" in answer || "ticket" in answer);
-    const own = isPlain ? words.word("events", event?.ev) : null;
-    if (!own) return history.answerTo(at, event, answer);
-    return "ticket" in answer ? own.replace(/^[^;]*/, words.say("ticket", answer.ticket)) : own;
+    const own = words.word("events", event?.ev), row = own && answer && !isRefused(answer) ? docs.events[event.ev] : "";
+    if (row.startsWith("done") && "done" in answer) return own;
+    if (row.startsWith("the ticket") && "ticket" in answer) {
+      return own.replace(/^[^;]*/, words.say("ticket", answer.ticket));
+    }
+    return history.answerTo(at, event, answer);
   }
   // How the entry's module stands at the cursor.
   function moduleLine(history, at, tag) {

@@ -7,12 +7,10 @@ const labels = {
   open: ["Open files", "Dateien öffnen"],
   print: ["Print", "Drucken"],
   drop: ["Drop here what pol wrote", "Hier ablegen, was pol schrieb"],
-  dropMore: ["The output of the job plant, or a journal together with the output of its replay. The verdict of "
-    + "the job audit "
-    + "and the site may come along. The files stay on this machine.",
-    "Die Ausgabe der Arbeit plant, oder ein Journal mit der Ausgabe seiner Wiedergabe. Das Urteil der Arbeit "
-      + "audit und die "
-    + "Anlage dürfen dabei sein. Die Dateien bleiben auf diesem Rechner."],
+  dropMore: ["The output of the job plant, or a journal together with the output of its replay. The verdict of the "
+    + "job audit and the site may come along. The files stay on this machine.",
+    "Die Ausgabe der Arbeit plant, oder ein Journal mit der Ausgabe seiner Wiedergabe. Das Urteil der Arbeit audit "
+    + "und die Anlage dürfen dabei sein. Die Dateien bleiben auf diesem Rechner."],
   notProved: ["This page is no part of what is proved. It draws what the files say and checks nothing.",
     "Diese Seite ist kein Teil dessen, was bewiesen ist. Sie zeichnet, was die Dateien sagen, und prüft nichts."],
   batches: ["Batches", "Chargen"], modules: ["Modules", "Module"], cursor: ["At the cursor", "Am Cursor"],
@@ -26,7 +24,7 @@ const labels = {
   sameInLists: ["the tables and the list of entries say the same",
     "die Tabellen und die Liste der Einträge sagen dasselbe"],
   // Controls.
-  byEntry: ["By entry", "Nach Eintrag"], byStamp: ["By stamp", "Nach Stempel"], whole: ["Whole", "Ganz"],
+  byStamp: ["By stamp", "Nach Stempel"], whole: ["Whole", "Ganz"],
   closer: ["Zoom in", "Vergrößern"], wider: ["Zoom out", "Verkleinern"], trends: ["Trends", "Verläufe"],
   showOnly: ["Show only", "Nur zeigen"], allBatches: ["all batches", "alle Chargen"],
   allModules: ["all modules", "alle Module"],
@@ -51,7 +49,6 @@ const labels = {
   nTimes: ["{0} times", "{0}-mal"], n1Times: ["once", "einmal"], nStamps: ["{0} stamps", "{0} Stempel"],
   entryOf: ["entry {0} of {1}", "Eintrag {0} von {1}"], atLine: ["line {0}", "Zeile {0}"],
   more: ["{0} more", "{0} weitere"],
-  entriesTo: ["entries {0} to {1}", "Einträge {0} bis {1}"],
   // States of things.
   running: ["Running", "Running"], neverStarted: ["never started", "nie gestartet"], unknown: ["unknown", "unbekannt"],
   unreported: ["unreported", "ungemeldet"],
@@ -61,17 +58,15 @@ const labels = {
   operator: ["not for recipes (mode)", "nicht für Rezepte (Modus)"],
   logged: ["entry of the log", "Eintrag des Protokolls"],
   node: ["arm or loop decided", "Zweig oder Schleife entschieden"],
-  ended: ["end of the batch", "Ende der Charge"], movesItself: ["Starting, Completing, Resetting, Resuming, Unholding",
-    "Starting, Completing, Resetting, Resuming, Unholding"],
-  start: ["start", "Start"], end: ["end", "Ende"], noBatch: ["No batch was started.", "Keine Charge wurde gestartet."],
+  ended: ["end of the batch", "Ende der Charge"],
+  noBatch: ["No batch was started.", "Keine Charge wurde gestartet."],
   noAlarm: ["Nothing a reviewer has to look at.", "Nichts, was eine Prüfung ansehen müsste."],
   noRefusal: ["Nothing was refused.", "Nichts wurde abgelehnt."], noWait: ["It never waited.", "Sie wartete nie."],
   noMatch: ["Nothing fits what is chosen.", "Nichts passt zur Auswahl."],
   noRecipe: ["No recipe is known.", "Kein Rezept ist bekannt."],
   starred: ["for another's sake", "wegen anderer"],
-  badLine: ["The line is no event; it isn't in the history. Mend what is told "
-    + "at the path.", "Die Zeile ist kein Ereignis und steht nicht in der Historie. Zu berichtigen ist, was am "
-      + "Pfad genannt ist."],
+  badLine: ["The line is no event; it isn't in the history. Mend what is told at the path.",
+    "Die Zeile ist kein Ereignis und steht nicht in der Historie. Zu berichtigen ist, was am Pfad genannt ist."],
   noWords: ["this rule isn't in the page's docs", "diese Regel steht nicht in den Texten der Seite"],
   nowIs: ["now {0}", "jetzt {0}"], moduleNow: ["{0} is {1}", "{0} ist {1}"], heldBy: ["held by {0}", "belegt von {0}"],
   watchedBy: ["watched by {0}", "beobachtet von {0}"], free: ["free", "frei"],
@@ -103,11 +98,10 @@ const labels = {
   auditBad: ["audit: wrong", "Audit: falsch"],
   sealMore: ["as the verdict line says; this page checks nothing", "laut der Urteilszeile; diese Seite prüft nichts"],
   sealMissing: ["no verdict of the job audit stands in the files", "kein Urteil der Arbeit audit steht in den Dateien"],
-  goodWords: ["The job audit found {0} entries true: each answer is the one that looking back in the history "
-    + "gives, and the "
-    + "batch lines follow.",
-      "Die Arbeit audit fand {0} Einträge wahr: jede Antwort ist die, die der Blick zurück in die Historie "
-    + "ergibt, und die Zeilen der Chargen folgen."],
+  goodWords: ["The job audit found {0} entries true: each answer is the one that looking back in the history gives, "
+    + "and the batch lines follow.",
+    "Die Arbeit audit fand {0} Einträge wahr: jede Antwort ist die, die der Blick zurück in die Historie ergibt, und "
+    + "die Zeilen der Chargen folgen."],
   otherLength: ["The verdict is of {0} entries, the file has {1}.",
     "Das Urteil gilt für {0} Einträge, die Datei hat {1}."],
   whyAnswer: ["the answer isn't the one that the entries before it give",
@@ -118,11 +112,10 @@ const labels = {
   // Faults of files.
   pairing: ["{0} events and {1} answers: they don't belong together, or one file is cut",
     "{0} Ereignisse und {1} Antworten: sie gehören nicht zusammen, oder eine Datei ist abgeschnitten"],
-  noAnswers: ["The files hold events without answers. They are drawn as if each had been accepted; put the "
-    + "output of their "
-    + "replay along to see what pol answered.",
-      "Die Dateien enthalten Ereignisse ohne Antworten. Sie sind gezeichnet, als wäre jedes "
-    + "angenommen worden; die Ausgabe ihrer Wiedergabe zeigt, was pol antwortete."],
+  noAnswers: ["The files hold events without answers. They are drawn as if each had been accepted; put the output of "
+    + "their replay along to see what pol answered.",
+    "Die Dateien enthalten Ereignisse ohne Antworten. Sie sind gezeichnet, als wäre jedes angenommen worden; die "
+    + "Ausgabe ihrer Wiedergabe zeigt, was pol antwortete."],
   noEnd: ["the end line is missing: the output is cut", "die Endzeile fehlt: die Ausgabe ist abgeschnitten"],
   nothing: ["no line that pol writes stands in the files", "keine Zeile, die pol schreibt, steht in den Dateien"],
   faultLine: ["{0}, line {1}: {2}", "{0}, Zeile {1}: {2}"], notJson: ["no JSON", "kein JSON"],
@@ -155,8 +148,8 @@ const labels = {
   signNoSum: ["this browser gives no checksum", "dieser Browser gibt keine Prüfsumme"],
   signOnly: ["Shown is only what was chosen: {0}.", "Gezeigt ist nur, was ausgewählt war: {0}."],
   signMoreBatches: ["Charts and logs of {0} further batches aren't on paper: choose a batch and print again.",
-    "Pläne und Protokolle von {0} weiteren Chargen stehen nicht auf dem Papier: eine Charge auswählen und "
-      + "erneut drucken."],
+    "Pläne und Protokolle von {0} weiteren Chargen stehen nicht auf dem Papier: eine Charge auswählen und erneut "
+    + "drucken."],
   signMoreLog: ["{0} further entries of the log aren't on paper: choose this batch and print again.",
     "{0} weitere Einträge des Protokolls stehen nicht auf dem Papier: diese Charge auswählen und erneut drucken."],
   sent: ["sent", "gesandt"], cancelled: ["cancelled", "abgesagt"], notEnded: ["not ended", "nicht beendet"],

@@ -11,8 +11,7 @@ const list = (() => {
       holder.addEventListener("scroll", () => this.later(), { passive: true });
     }
     get tall() { return lanes.isNarrow() ? NARROW : WIDE; }
-    // Rows are the entries to be shown, or null for all; texts says an entry's event, its answer and whether it was
-    // refused.
+    // Rows are the entries to be shown, or null for all; texts says an entry's event, its answer and if it was refused.
     show(rows, count, texts, view) {
       Object.assign(this, { rows, count: rows ? rows.length : count, texts, view });
       this.room.style.height = `${this.count * this.tall}px`;
@@ -24,8 +23,7 @@ const list = (() => {
     // The entry so many rows further.
     beside(entry, by) {
       if (!this.rows) return entry + by;
-      const row = this.row(entry), isShown = row >= 0 && this.rows[row] === entry, from = by > 0 || isShown ? row
-        : row + 1;
+      const row = this.row(entry), isShown = this.rows[row] === entry, from = by > 0 || isShown ? row : row + 1;
       return this.rows[Math.max(0, Math.min(this.count - 1, from + by))] ?? entry;
     }
     later() {
@@ -52,14 +50,13 @@ const list = (() => {
       else this.holder.removeAttribute("aria-activedescendant");
     }
     made(row, tall) {
-      const entry = this.entry(row), { event, answer, refused } = this.texts(entry),
-        isHere = entry === this.view.cursor;
-      return tables.make("div",
-        { id: `row-${row}`, role: "option", class: `row${isHere ? " here" : ""}${refused ? " no" : ""}`,
-        "aria-selected": String(isHere), "aria-setsize": this.count, "aria-posinset": row + 1,
-        style: `top:${row * tall}px;height:${tall}px`, click: () => this.go(entry) },
-      tables.make("span", { class: "n" }, words.number(entry + 1)), tables.make("bdi", { class: "e" }, event),
-      tables.make("bdi", { class: "a" }, answer));
+      const { make } = tables, entry = this.entry(row), { event, answer, refused } = this.texts(entry);
+      const isHere = entry === this.view.cursor, style = `row${isHere ? " here" : ""}${refused ? " no" : ""}`;
+      const attributes = { id: `row-${row}`, role: "option", class: style, "aria-selected": String(isHere),
+        "aria-setsize": this.count, "aria-posinset": row + 1, style: `top:${row * tall}px;height:${tall}px` };
+      return make("div", { ...attributes, click: () => this.go(entry) },
+        make("span", { class: "n" }, words.number(entry + 1)), make("bdi", { class: "e" }, event),
+        make("bdi", { class: "a" }, answer));
     }
   }
   return { List };

@@ -81,9 +81,8 @@ const page = (() => {
   }
   function told() {
     const { found, history } = state, verdict = seal.told(found, history), faults = seal.faults(found, history);
-    const under = verdict.style === "good" ? words.say("sealMore") : verdict.inWords;
     by("seal").className = verdict.style;
-    by("seal").replaceChildren(make("b", {}, verdict.short), make("span", { class: "small" }, under));
+    by("seal").replaceChildren(make("b", {}, verdict.short), make("span", { class: "small" }, verdict.more));
     by("counts").textContent = seal.counts(history).join(" · ");
     by("faults").hidden = faults.length === 0;
     const shown = faults.slice(0, MOST_FAULTS);

@@ -3,7 +3,8 @@
 // panes.
 "use strict";
 const paper = (() => {
-  const { make } = tables, MOST_BATCHES = 24, MOST_LOG = 60, MOST_ROWS = 60, SHEET = 850, WIDE = 690, SHARP = 3;
+  const { make } = tables, MOST_BATCHES = 24, MOST_LOG = 60, ALONE = 4000, MOST_ROWS = 60, MOST_WAITS = 12;
+  const SHEET = 850, WIDE = 690, SHARP = 3;
   // A table cut after so many rows, with how many are left. A row is a list of cells, or made already.
   function cut(keys, rows, title) {
     const cell = (text, k) => make("td", { class: tables.NUMBERS.has(keys[k]) ? "number" : null }, text);
@@ -108,20 +109,23 @@ const paper = (() => {
     pane.layout(lanes.isNarrow());
     return made;
   }
-  // Chart and log of a batch; the whole log where the batch alone is chosen.
+  // Chart and log of a batch; more of the log where the batch alone is chosen.
   function figure(batch, found, history, isAlone) {
-    const holder = make("div", { class: "drawn" }), most = isAlone ? Infinity : MOST_LOG, { at } = batch.log;
+    const holder = make("div", { class: "drawn" }), { at } = batch.log, shown = at.slice(0, isAlone ? ALONE : MOST_LOG);
     const end = batch.ended ?? history.stamps.length - 1, standing = here.place(history, batch, end);
     if (batch.known) here.drawn(holder, batch.known, standing);
-    const log = at.slice(0, most === Infinity ? at.length : most)
-      .map(place => make("li", { value: place + 1 }, history.answerTo(place, ...found.entry(place))));
-    const left = at.length - log.length, told = reasons.waited(batch, history);
-    const waits = told.slice(0, 12).map(each => make("li", {}, each.text + (each.times === undefined ? "" :
-      ` (${words.many("Times", each.times)}, ${words.many("Entries", each.entries)})`)));
+    const log = shown.map(each => make("li", { value: each + 1 }, history.answerTo(each, ...found.entry(each))));
+    const left = at.length - log.length, more = left ? words.say("signMoreLog", words.number(left)) : "";
+    const list = make("ol", { class: "log" }, ...log), rest = make("p", { class: "small" }, more);
     return make("figure", {}, make("figcaption", {}, `${batch.name}: ${here.under(batch, standing)}`), holder,
-      make("div", {}, make("ol", { class: "log" }, ...log),
-        left ? make("p", { class: "small" }, words.say("signMoreLog", words.number(left))) : null,
-        waits.length ? make("h3", {}, words.say("waits")) : null, waits.length ? make("ul", {}, ...waits) : null));
+      make("div", {}, list, rest, ...waits(batch, history)));
+  }
+  function waits(batch, history) {
+    const told = reasons.waited(batch, history).slice(0, MOST_WAITS).map(({ text, times, entries }) => {
+      const counted = times === undefined ? "" : ` (${words.many("Times", times)}, ${words.many("Entries", entries)})`;
+      return make("li", {}, text + counted);
+    });
+    return told.length ? [make("h3", {}, words.say("waits")), make("ul", {}, ...told)] : [];
   }
   function figures(found, history, chosen) {
     const own = chosen.batches(), shown = own.slice(0, MOST_BATCHES);
@@ -133,11 +137,11 @@ const paper = (() => {
   }
   // Fills the place that only paper shows.
   function fill(holder, { found, history, chosen, panes, verdict }) {
-    const pictures = [["overTime", panes.batches], ["modulesOverTime", panes.modules]].map(([key, pane]) => [key,
-      sheets(pane)]);
-    holder.replaceChildren(signPage(found, history, chosen, verdict),
-      make("article", {}, ...pictures.filter(([, made]) => made.length)
-        .flatMap(([key, made]) => [make("h2", {}, words.say(key)), ...made])),
+    const pictures = [panes.batches, panes.modules].flatMap(pane => {
+      const made = sheets(pane);
+      return made.length ? [make("h2", {}, words.say(pane.name)), ...made] : [];
+    });
+    holder.replaceChildren(signPage(found, history, chosen, verdict), make("article", {}, ...pictures),
       make("article", {}, ...figures(found, history, chosen)));
   }
   return { fill };

@@ -93,6 +93,7 @@ const past = (() => {
     // After the last entry: what never came to its end, and the order of what is shown.
     finish(site) {
       const end = Math.max(0, this.stamps.length - 1);
+      this.level();
       for (const each of site?.batches ?? []) {
         if (typeof each?.batch !== "string" || this.batches.has(each.batch) || this.attempts.has(each.batch)) continue;
         this.attempts.set(each.batch, this.attempted(each.batch, each.recipe, each.bind, end));
@@ -104,6 +105,15 @@ const past = (() => {
       for (const each of this.never) this.alarm(end, "hold", { batch: each.name }, "neverBatch", each.name);
       this.alarms.sort((one, two) => one.at - two.at);
       this.known.clear();
+    }
+    // A line without a stamp stands at the stamp before it, so that the others can still be an axis.
+    level() {
+      const { stamps } = this;
+      let last = stamps.find(stamp => !Number.isNaN(stamp)) ?? NaN;
+      for (let at = 0; at < stamps.length; at += 1) {
+        if (Number.isNaN(stamps[at])) stamps[at] = last;
+        last = stamps[at];
+      }
     }
     // Where an audit found the first thing wrong.
     doubt({ place, why, says }) {
@@ -156,7 +166,8 @@ const past = (() => {
       lane.owner = event.batch;
       const batch = new runs.Batch(at, event, all.recipes.get(event.recipe) ?? null, lane);
       all.batches.set(event.batch, batch);
-      batch.before = batch.tags.map(tag => heldBefore(all.modules.get(tag), tag)).filter(each => each !== null);
+      const before = batch.tags.map(tag => heldBefore(all.modules.get(tag), tag, event.batch));
+      batch.before = before.filter(each => each !== null);
       for (const tag of batch.tags) all.modules.get(tag)?.held(at, event.batch);
       for (const tag of Object.values(batch.watch)) all.modules.get(tag)?.watched(at, event.batch, true);
     },
@@ -216,14 +227,12 @@ const past = (() => {
       Object.assign(own, { ended: at, how: description ? "ended" : "cancelled", after: module.lane.more.textAt(at) });
     }
   }
-  // By whom a module was held last before it is taken.
-  function heldBefore(module, tag) {
+  // By which other batch a module was held last before a batch takes it.
+  function heldBefore(module, tag, batch) {
     const hold = module?.hold;
-    if (!hold) return null;
-    for (let k = hold.length - 1; k >= 0; k -= 1) {
-      if (hold.style[k] === "held") return { tag, batch: hold.text[k], from: hold.from[k], to: hold.to[k] };
-    }
-    return null;
+    let k = (hold?.length ?? 0) - 1;
+    while (k >= 0 && (hold.style[k] !== "held" || hold.text[k] === batch)) k -= 1;
+    return k < 0 ? null : { tag, batch: hold.text[k], from: hold.from[k], to: hold.to[k] };
   }
   return { History };
 })();

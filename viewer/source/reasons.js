@@ -7,8 +7,8 @@ const reasons = (() => {
   function waited(batch, history) {
     const told = [];
     for (const { tag, batch: other, from, to } of batch.before) {
-      told.push({ text: words.say("beforeStart", tag, other, words.number(from + 1), words.number(to + 1)), at: from,
-        other });
+      const text = words.say("beforeStart", tag, other, words.number(from + 1), words.number(to + 1));
+      told.push({ text, at: from, other });
     }
     for (const each of batch.waited(history.stamps.length, history.stamps)) {
       told.push({ ...each, text: words.answer(each.answer), at: each.first,

@@ -3,21 +3,22 @@
 "use strict";
 const seal = (() => {
   const WHY = { Answer: "whyAnswer", TooMany: "whyTooMany", Tail: "whyTail" };
+  function good(verdict, entries) {
+    const count = Number(verdict.entries), isSame = count === entries, other = words.say("otherLength", count, entries);
+    return { style: isSame ? "good" : "bad", short: `${words.say("auditGood")} · ${words.many("Entries", count)}`,
+      more: isSame ? words.say("sealMore") : other,
+      inWords: words.say("goodWords", words.number(count)) + (isSame ? "" : ` ${other}`) };
+  }
   function told(found, history) {
     const { verdict } = found, entries = history.counts.lines - history.counts.bad;
-    if (!verdict) return { style: "none", short: words.say("notAudited"), inWords: words.say("sealMissing") };
-    if (verdict.audit === "good") {
-      const same = verdict.entries === entries, count = words.many("Entries", Number(verdict.entries));
-      return { style: same ? "good" : "bad",
-        short: `${words.say("auditGood")} · ${count}${same ? "" : ` ≠ ${words.number(entries)}`}`,
-        inWords: words.say("goodWords", words.number(Number(verdict.entries)))
-          + (same ? "" : ` ${words.say("otherLength", verdict.entries, entries)}`) };
-    }
+    const missing = words.say("sealMissing");
+    if (!verdict) return { style: "none", short: words.say("notAudited"), more: missing, inWords: missing };
+    if (verdict.audit === "good") return good(verdict, entries);
     const why = words.say(Object.hasOwn(WHY, verdict.why) ? WHY[verdict.why] : "unlike");
     const place = words.say("entryOf", words.number(Number(verdict.place) + 1), words.number(entries));
-    const should = verdict.says ? ` ${words.say("shouldBe", words.answer(verdict.says))}` : "";
-    return { style: "bad", short: `${words.say("auditBad")} · ${place}`,
-      inWords: `${words.say("auditBad")}: ${place}, ${why}.${should}` };
+    const should = verdict.says ? `; ${words.say("shouldBe", words.answer(verdict.says))}` : "", more = why + should;
+    const short = `${words.say("auditBad")} · ${place}`;
+    return { style: "bad", short, more, inWords: `${words.say("auditBad")}, ${place}: ${more}.` };
   }
   // How many of each there are, in words.
   function counts({ counts: own, batches, modules: tags }) {

@@ -44,7 +44,8 @@ const tables = (() => {
     const ended = batch.ended === null ? "…" : words.number(batch.ended + 1);
     const numbers = [words.number(batch.started + 1), ended, words.lasted(stamps[batch.started], stamps[end])];
     const outcome = batch.outcome ?? words.say(history.assumed ? "unknown" : "running");
-    return row(batch, pick, words.played(batch), numbers, OUTCOMES[batch.outcome] ?? "hold", outcome);
+    const style = OUTCOMES[batch.outcome] ?? (history.assumed ? "idle" : "hold");
+    return row(batch, pick, words.played(batch), numbers, style, outcome);
   }
   function neverRow(attempt, pick) {
     return row(attempt, pick, words.listed(attempt.bind), ["–", "–", ""], "hold", words.say("neverStarted"));
