@@ -1,0 +1,75 @@
+"""Verdicts, files at fault, forged lines and hostile texts: each is told, and what could be read is drawn."""
+import made
+
+SEAL = "document.getElementById('seal').className"
+TOLD = "document.getElementById('faults').innerText"
+
+
+def check(checks):
+    check_verdicts(checks)
+    check_faults(checks)
+    check_answers(checks)
+    check_hostile(checks)
+
+
+def site_lines(checks):
+    return checks.data('site').read_text().splitlines(keepends=True)
+
+
+def check_verdicts(checks):
+    checks.open(checks.data('site'))
+    checks.gives('a good verdict is a good seal', SEAL, 'good')
+    lines = site_lines(checks)[:-1]
+    lines[10] = lines[10].replace('"refused":30,"rule":"ModeForbids"', '"done":true')
+    verdict = '{"audit":"bad","place":10,"says":{"refused":30,"rule":"ModeForbids"},"why":"Answer"}\n'
+    checks.open(checks.kept('wrong', ''.join(lines) + verdict))
+    checks.gives('a bad verdict is a red seal', SEAL, 'bad')
+    checks.says('which says where and what', 'seal', 'entry 11 of 113', 'refused: ModeForbids')
+    checks.gives('its place is in the list', "page.state.history.alarms.find(each => each.key === 'auditHere').at", 10)
+    checks.open(checks.kept('short', ''.join(lines) + '{"audit":"good","entries":112}\n'))
+    checks.gives('a verdict of another history is no good seal', SEAL, 'bad')
+
+
+def check_faults(checks):
+    lines = site_lines(checks)
+    checks.open(checks.kept('cut', ''.join(lines[:40]) + '{"answer":{"done":tr\n[]\n' + ''.join(lines[40:60])))
+    checks.says('lines at fault are told by line', 'faults', 'line 41', 'line 42', 'end line is missing')
+    checks.gives('and what could be read is drawn', 'page.state.found.length', 60)
+    checks.open(checks.kept('forged', made.text(made.forged()) + ''.join(lines)))
+    checks.visit(20)
+    checks.says('forged lines are told', 'faults', 'line 1:')
+    checks.is_true('and the rest is drawn', "page.state.history.batches.has('evening')")
+    checks.open(checks.kept('nothing', '\x00\x01 no such thing\n'))
+    checks.says('a file of something else is told', 'faults', 'line 1')
+    turned = ''.join(lines).replace('"outcome":"Completed"', '"outcome":"Broken"', 1)
+    checks.open(checks.kept('turned', turned))
+    checks.says('a batch line that says otherwise is told', 'faults', 'its line says Broken')
+
+
+def check_answers(checks):
+    """A journal's events and their answers, whole or not."""
+    blend, answers = checks.example('blend.jsonl'), checks.data('blend.answers').read_text()
+    checks.open(blend)
+    checks.says('that there are no answers is told', 'faults', 'events without answers')
+    checks.gives('and the events are drawn', 'page.state.history.modules.size', 2)
+    checks.open(blend, checks.kept('fewer', ''.join(answers.splitlines(keepends=True)[:20])))
+    checks.says('answers that are too few are told', 'faults', '34 events and 20 answers')
+    checks.open(checks.kept('joined', blend.read_text() + answers))
+    checks.gives('a journal and its output in one file', TOLD, '')
+    checks.gives('give the same', 'page.state.history.counts.refused', 4)
+
+
+def check_hostile(checks):
+    checks.open(checks.data('hostile'), checks.data('hostile.answers'))
+    checks.visit(17)
+    checks.is_true('hostile texts stay texts',
+                   "!document.body.dataset.hit && !document.querySelector('main img, main script, main textarea')")
+    seen = ((2, 'markup is seen whole', '<img src=x onerror'), (3, '254 bytes of faces too', '😀' * 63 + 'é'),
+            (4, 'signs that turn the writing are shown', '\\u202e'),
+            (8, 'the greatest value to its last digit', '9223372036854775.807'),
+            (0, 'the greatest stamp too', '18446744073709551615'))
+    for entry, name, text in seen:
+        checks.run('page.go(%d)' % entry)
+        checks.says(name, 'here', text)
+    checks.is_true('no name is taken for something of the language',
+                   "page.state.history.batches.get('constructor').outcome === null")

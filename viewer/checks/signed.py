@@ -1,0 +1,48 @@
+"""The page that is signed, and what is printed behind it."""
+import hashlib
+import re
+
+# What has to stand on paper of the journal in which a batch breaks.
+WANTED = ('101 entries', '2026-11-29 06:00:04.000 UTC', '2026-11-29 06:05:57.500 UTC', 'Broken', 'Stopped', 'Abandoned',
+          'never started', 'InExchange', 'Abort: stir, K11', 'Stop: heat, K11', 'Kettle 2.0.0', 'Kettle 2.1.0',
+          'no verdict', 'Signature', 'Its start was refused once')
+
+
+def check(checks):
+    files = [checks.data('broken'), checks.data('broken.answers')]
+    checks.open(*files)
+    to_paper(checks, 'before')
+    for file in files:
+        digest = hashlib.sha256(file.read_bytes()).hexdigest()
+        grouped = re.sub(r'(.{8})(?=.)', r'\1 ', digest)
+        checks.says('paper: %s and its checksum' % file.name, 'paper', file.name, grouped)
+    whole = checks.text('paper')
+    checks.same('paper: all that is signed', [each for each in WANTED if each not in whole], [])
+    checks.is_true('paper: lanes in pictures', "document.querySelectorAll('#paper .sheet').length >= 3")
+    checks.gives('paper: a chart and a log for each batch', "document.querySelectorAll('#paper figure svg').length", 3)
+    to_paper(checks, 'after')
+    checks.gives('and the screen is as before', "document.getElementById('paper').children.length", 0)
+    check_one_batch(checks)
+    check_verdict(checks)
+    checks.page.paper(checks.folder / 'signed.pdf')
+    checks.that('paper is made', (checks.folder / 'signed.pdf').read_bytes().startswith(b'%PDF'))
+
+
+def to_paper(checks, when):
+    checks.run("dispatchEvent(new Event('%sprint'))" % when)
+
+
+def check_one_batch(checks):
+    checks.choose('chosenBatch', 'blue')
+    to_paper(checks, 'before')
+    checks.says('paper of one batch says so', 'paper', 'only what was chosen: Batch blue')
+    outcomes = "document.querySelector('#paper [aria-label=\"Batches and their outcome\"] tbody').textContent"
+    checks.is_true('and has no other', outcomes + ".includes('blue') && !%s.includes('red')" % outcomes)
+    to_paper(checks, 'after')
+
+
+def check_verdict(checks):
+    checks.open(checks.data('site'))
+    to_paper(checks, 'before')
+    checks.says('paper: the verdict in words', 'paper', 'The job audit found 113 entries true')
+    to_paper(checks, 'after')

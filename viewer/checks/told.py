@@ -1,0 +1,123 @@
+"""What the page counts and draws, compared with what the files say themselves: answers by kind, refusals by rule,
+outcomes and logs of batches. Written without a look at the page's code."""
+import json
+import subprocess
+
+import made
+import rows
+
+# In this order: a refusal may have the field ticket too.
+KINDS = ('refused', 'bad', 'wait', 'did', 'closed', 'ticket', 'done')
+
+
+def counts_of(lines):
+    """Answers by kind, refusals by rule, and each batch's outcome and length of log."""
+    kinds, rules, batches = dict.fromkeys(KINDS, 0), {}, {}
+    for line in map(json.loads, lines):
+        if 'outcome' in line:
+            batches[line['batch']] = [line['outcome'], len(line['log'])]
+        elif 'audit' not in line and 'end' not in line:
+            answer = line.get('answer', line)
+            kind = next(kind for kind in KINDS if kind in answer)
+            kinds[kind] += 1
+            if kind in ('refused', 'bad'):
+                rule = answer['rule'] if kind == 'refused' else 'bad ' + answer['bad']
+                rules[rule] = rules.get(rule, 0) + 1
+    return {'kinds': kinds, 'rules': rules, 'batches': batches}
+
+
+DRAWN = """(() => { const { history } = page.state; return {
+    kinds: Object.fromEntries(%s.map(kind => [kind, history.counts[kind]])),
+    rules: Object.fromEntries([...history.refusals].map(([rule, places]) => [rule, places.length])),
+    batches: Object.fromEntries([...history.batches.values()]
+      .map(each => [each.name, [each.outcome ?? 'Running', each.log.at.length]])),
+  }; })()""" % json.dumps(KINDS)
+
+
+def compare(checks, name, *files):
+    """Opens files, the last of which has the output."""
+    checks.open(*files)
+    wanted = counts_of(files[-1].read_text().splitlines())
+    checks.same(name + ': what is drawn is what the output says', checks.run(DRAWN), wanted)
+
+
+def seal_of(checks):
+    return checks.run("document.getElementById('seal').className")
+
+
+def sets(checks):
+    """The files of each example: a history, or a journal and its output."""
+    names = ('broken', 'hostile', 'watched', 'holding')
+    pair = {name: [checks.data(name), checks.data(name + '.answers')] for name in names}
+    blend = [checks.example('blend.jsonl'), checks.data('blend.answers')]
+    return {'site': [checks.data('site')], 'blend': blend, **pair}
+
+
+def check(checks):
+    for name, files in sets(checks).items():
+        compare(checks, name, *files)
+        checks.same(name + ': no fault is told', checks.run("document.getElementById('faults').innerText"), '')
+    check_journals(checks)
+    check_program(checks)
+    check_long(checks)
+
+
+def check_journals(checks):
+    """The worked journals of crates/pol_examples."""
+    found = rows.journals(checks.repository)
+    checks.that('the worked journals are found', len(found) > 40, len(found))
+    for k, (file, title, given, output) in enumerate(found):
+        journal, answers = checks.kept('row-%d' % k, given), checks.kept('row-%d.answers' % k, output)
+        if file == 'audits':
+            checks.open(journal, answers)
+            good = json.loads(output.splitlines()[0])['audit'] == 'good'
+            checks.same('%s: the seal' % title, seal_of(checks), 'good' if good else 'bad')
+        else:
+            compare(checks, title, journal, answers)
+
+
+def check_program(checks):
+    """Where the program is built: its answers are those that are stored, and a run of the site is drawn as it says."""
+    program = checks.repository / 'crates' / 'pol' / 'out' / 'pol'
+    if not program.exists():
+        print('      the program is not built: stored output is taken as it is')
+        return
+
+    def run(job, given):
+        return subprocess.run([program, '--job', job], input=given, capture_output=True, check=True).stdout
+    for name in ('blend', 'broken', 'hostile'):
+        journal, answers = sets(checks)[name]
+        made_now = run('replay', journal.read_bytes())
+        checks.that(name + ': the stored output is the program\'s', made_now == answers.read_bytes())
+    plant = run('plant', checks.example('site.json').read_bytes())
+    history = checks.kept('run', (plant + run('audit', plant)).decode())
+    compare(checks, 'a run of the site', history)
+    checks.same('a run of the site: the seal', seal_of(checks), 'good')
+
+
+def check_long(checks):
+    """A history of 200,000 entries: opened in seconds, and smooth while zooming, moving, scrolling and stepping."""
+    long = checks.kept('long', made.text(made.history()))
+    compare(checks, '200,000 entries', long)
+    took = checks.run('page.state.took')
+    checks.that('200,000 entries open in seconds %s' % took, sum(took.values()) < 15000, took)
+    smooth = checks.run("""(async () => {
+        const frame = () => new Promise(requestAnimationFrame), { view } = page.state, took = [];
+        const began = performance.now();
+        for (let k = 0; k < 120; k += 1) {
+          if (k < 40) view.zoom(0.8, 100000); else if (k < 80) view.move(view.size / 20); else view.zoom(1.25, 120000);
+          page.panes.modules.holder.scrollTop = k * 9;
+          page.go(100000 + k * 500);
+          await frame();
+          took.push(page.panes.modules.took + page.panes.batches.took);
+        }
+        took.sort((one, two) => one - two);
+        const all = performance.now() - began;
+        return { half: Math.round(took[60]), most: Math.round(took[119]), frame: Math.round(all / 120) }; })()""")
+    checks.that('200,000 entries move smoothly, ms: %s' % smooth, smooth['frame'] < 60, smooth)
+    listed = checks.run("""(async () => {
+        const box = document.getElementById('entries'), began = performance.now();
+        for (let k = 0; k < 60; k += 1) { box.scrollTop = k * 80000; await new Promise(requestAnimationFrame); }
+        return Math.round((performance.now() - began) / 60); })()""")
+    checks.that('the list of 200,000 scrolls, ms a frame: %s' % listed, listed < 60)
+    checks.same('only seen rows exist', checks.run("document.querySelectorAll('.row').length < 40"), True)

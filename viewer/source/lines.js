@@ -1,0 +1,119 @@
+// From files to entries: tells the kind of each line, pairs a journal with its answers, and keeps of each line its
+// place in its file, so that it is read again when it is shown. Lines at fault are kept with their number. Gives way to
+// the browser between slices. Knows nothing of plants, and nothing of drawing.
+"use strict";
+const lines = (() => {
+  const SLICE = 5000;
+  const ANSWERS = ["done", "ticket", "did", "wait", "closed", "refused", "bad"];
+  const isObject = value => typeof value === "object" && value !== null && !Array.isArray(value);
+  function parsed(text) { try { return JSON.parse(text); } catch { return undefined; } }
+  // Whole numbers that a browser can't hold are read by their digits, as whole numbers of any size.
+  const LARGE = /"(?:[^"\\]|\\.)*"|(?<![\d.eE+-])-?\d{16,}(?![\d.eE])/g;
+  const isLarge = value => isObject(value) && /^-?\d+$/.test(value.digits ?? "") && Object.keys(value).length === 1;
+  function exact(text) {
+    const plain = parsed(text);
+    if (plain === undefined || !/\d{16}/.test(text)) return plain;
+    const told = text.replace(LARGE, found => (found.startsWith('"') ? found : `{"digits":"${found}"}`));
+    return JSON.parse(told, (_, value) => (isLarge(value) ? whole(value.digits) : value));
+  }
+  const whole = digits => (Number.isSafeInteger(Number(digits)) ? Number(digits) : BigInt(digits));
+  function kindOf(value) {
+    if (!isObject(value)) return "fault";
+    if (isObject(value.event) && isObject(value.answer)) return "entry";
+    if ("ev" in value) return "event";
+    if ("audit" in value) return "verdict";
+    if (value.end === true) return "end";
+    if (Array.isArray(value.log) && "outcome" in value) return "batch";
+    if (Array.isArray(value.modules) && Array.isArray(value.batches)) return "site";
+    return ANSWERS.some(key => key in value) ? "answer" : "fault";
+  }
+  const OUTPUT = new Set(["answer", "batch", "end", "verdict"]);
+  // Columns of places: an entry's event and its answer stand in a file from one sign to another, in a line.
+  class Places {
+    constructor() { Object.assign(this, { file: [], from: [], to: [], line: [] }); }
+    get length() { return this.file.length; }
+    put(file, from, to, line) { this.file.push(file); this.from.push(from); this.to.push(to); this.line.push(line); }
+    raw(files, k) { return files[this.file[k]].text.slice(this.from[k], this.to[k]); }
+  }
+  // What was found in the files. Entries are either whole lines, or an event's line and its answer's.
+  class Found {
+    constructor(files) {
+      Object.assign(this, { files, whole: new Places(), events: new Places(), answers: new Places(), batches: [],
+        faults: [],
+        verdict: null, site: null, ended: false });
+    }
+    get length() { return this.whole.length + this.events.length; }
+    get hasAnswers() { return this.whole.length > 0 || this.answers.length > 0; }
+    // The event and the answer of an entry. An event is null where its line is none.
+    entry(k) {
+      if (k < this.whole.length) {
+        const entry = exact(this.whole.raw(this.files, k));
+        return [entry.event, entry.answer];
+      }
+      const own = k - this.whole.length, event = exact(this.events.raw(this.files, own));
+      const answer = own < this.answers.length ? exact(this.answers.raw(this.files, own)) : null;
+      return [kindOf(event) === "event" ? event : null, answer];
+    }
+    // The lines of an entry as they stand in the files, and the number of the first.
+    raw(k) {
+      if (k < this.whole.length) return [this.whole.raw(this.files, k)];
+      const own = k - this.whole.length, told = [this.events.raw(this.files, own)];
+      return own < this.answers.length ? [...told, this.answers.raw(this.files, own)] : told;
+    }
+    line(k) { return k < this.whole.length ? this.whole.line[k] : this.events.line[k - this.whole.length]; }
+    fileOf(k) {
+      return this.files[k < this.whole.length ? this.whole.file[k] : this.events.file[k - this.whole.length]].name;
+    }
+    fault(file, line, why) { this.faults.push({ file: this.files[file].name, line, why }); }
+  }
+  // Does a file begin as a journal? Lines at fault don't tell; where no line tells, it is one if it came with another
+  // file.
+  function isJournal(text, alone) {
+    for (let from = 0; from < text.length;) {
+      const to = lineEnd(text, from), kind = kindOf(parsed(text.slice(from, to)));
+      if (kind !== "fault") return kind === "event";
+      from = to + 1;
+    }
+    return !alone;
+  }
+  function lineEnd(text, from) { const to = text.indexOf("\n", from); return to < 0 ? text.length : to; }
+  const isBlank = code => code === 32 || code === 9 || code === 13;
+  // The line without blanks around it: from where to where.
+  function trimmed(text, from, to) {
+    while (from < to && isBlank(text.charCodeAt(from))) from += 1;
+    while (to > from && isBlank(text.charCodeAt(to - 1))) to -= 1;
+    return [from, to];
+  }
+  // Puts a line where it belongs. In a journal each line that isn't blank has an answer, also one that is no event.
+  function sort(found, file, from, to, line, journal) {
+    const value = parsed(found.files[file].text.slice(from, to)), kind = kindOf(value);
+    if (journal.on && journal.alone && OUTPUT.has(kind)) journal.on = false;
+    if (kind === "site") found.site = value;
+    else if (journal.on) found.events.put(file, from, to, line);
+    else if (kind === "entry") found.whole.put(file, from, to, line);
+    else if (kind === "event") found.events.put(file, from, to, line);
+    else if (kind === "answer") found.answers.put(file, from, to, line);
+    else if (kind === "batch") found.batches.push(value);
+    else if (kind === "end") found.ended = true;
+    else if (kind === "verdict") found.verdict = value;
+    else found.fault(file, line, value === undefined ? "notJson" : "unknownForm");
+  }
+  async function read(files, progress) {
+    const found = new Found(files), size = files.reduce((sum, file) => sum + file.text.length, 0),
+      alone = files.length === 1;
+    let before = 0;
+    for (let file = 0; file < files.length; file += 1) {
+      const { text } = files[file], journal = { on: isJournal(text, alone), alone };
+      for (let at = 0, line = 1; at < text.length; line += 1) {
+        const end = lineEnd(text, at), [from, to] = trimmed(text, at, end);
+        if (from < to) sort(found, file, from, to, line, journal);
+        at = end + 1;
+        if (line % SLICE === 0) { progress((before + at) / size); await pause(); }
+      }
+      before += text.length;
+    }
+    return found;
+  }
+  const pause = () => new Promise(done => setTimeout(done));
+  return { read, pause, kindOf };
+})();

@@ -1,0 +1,42 @@
+// From files that a browser hands over to a history: their texts and checksums, their lines, and what became of them.
+// Knows nothing of the drawing.
+"use strict";
+const opening = (() => {
+  const SLICE = 5000;
+  const hex = bytes => [...new Uint8Array(bytes)].map(byte => byte.toString(16).padStart(2, "0")).join("");
+  // A file's text, with its size and its checksum where the browser gives one.
+  async function textOf(file) {
+    const bytes = await file.arrayBuffer(), subtle = globalThis.crypto?.subtle;
+    const digest = subtle ? await subtle.digest("SHA-256", bytes).catch(() => null) : null;
+    const text = new TextDecoder("utf-8", { ignoreBOM: true }).decode(bytes);
+    return { name: file.name, size: bytes.byteLength, sum: digest && hex(digest), text };
+  }
+  async function build(found, progress) {
+    const history = new past.History(!found.hasAnswers);
+    for (let at = 0; at < found.length; at += 1) {
+      try {
+        history.take(at, ...found.entry(at));
+      } catch {
+        found.faults.push({ file: found.fileOf(at), line: found.line(at), why: "unlike" });
+      }
+      if (at % SLICE === SLICE - 1) {
+        progress(at / found.length);
+        await lines.pause();
+      }
+    }
+    if (found.verdict?.audit === "bad" && found.verdict.place < found.length) history.doubt(found.verdict);
+    history.finish(found.site);
+    return history;
+  }
+  async function open(files, busy) {
+    const began = performance.now(), texts = await Promise.allSettled(files.map(textOf));
+    const found = await lines.read(texts.flatMap(each => each.value ?? []), share => busy(share / 2));
+    texts.forEach((each, k) => {
+      if (each.status === "rejected") found.faults.push({ file: files[k].name, line: 0, why: "unreadable" });
+    });
+    const sorted = performance.now(), history = await build(found, share => busy(0.5 + share / 2));
+    const took = { lines: Math.round(sorted - began), history: Math.round(performance.now() - sorted) };
+    return { found, history, took };
+  }
+  return { open };
+})();

@@ -1,0 +1,148 @@
+// What is printed on A4: a page to sign, the lanes in pictures of a page's height at most, and chart and log of each
+// batch. Takes what is chosen. Light always, and without the cursor. Knows nothing of the page on the screen but its
+// panes.
+"use strict";
+const paper = (() => {
+  const { make } = tables, MOST_BATCHES = 24, MOST_LOG = 60, ALONE = 4000, MOST_ROWS = 60, MOST_WAITS = 12;
+  const SHEET = 850, WIDE = 690, SHARP = 3;
+  // A table cut after so many rows, with how many are left. A row is a list of cells, or made already.
+  function cut(keys, rows, title) {
+    const cell = (text, k) => make("td", { class: tables.NUMBERS.has(keys[k]) ? "number" : null }, text);
+    const shown = rows.slice(0, MOST_ROWS)
+      .map(each => (Array.isArray(each) ? make("tr", {}, ...each.map(cell)) : each));
+    if (rows.length > MOST_ROWS) shown.push(tables.more(rows.length - MOST_ROWS, keys.length));
+    return tables.table(keys, shown, title);
+  }
+  const section = (key, ...within) => make("section", {}, make("h2", {}, words.say(key)), ...within);
+  const grouped = sum => sum.replace(/(.{8})(?=.)/g, "$1 ");
+  function files(found) {
+    const rows = found.files.map(file => [tables.name(file.name), words.number(file.size),
+      make("span", { class: "sum" }, file.sum ? grouped(file.sum) : words.say("signNoSum"))]);
+    return section("signWhat", cut(["file", "size", "checksum"], rows, "signWhat"));
+  }
+  function span(found, history) {
+    const last = found.length - 1, ends = last < 0 ? [] : [found.entry(0)[0], found.entry(last)[0]];
+    const told = ends.map(event => (event?.at === undefined ? "–" : words.stamp(event.at))).join(" – ");
+    return make("p", { class: "span" }, seal.counts(history).join(" · "), make("br"),
+      `${words.say("signSpan")}: ${told}`);
+  }
+  function desk(found, history, chosen) {
+    const shown = history.desk.filter(at => chosen.fits(at, history.names[at], history.tags[at]));
+    if (!shown.length) return section("signDesk", tables.calm("signNoDesk"));
+    const rows = shown.map(at => {
+      const [event, answer] = found.entry(at);
+      const command = `${words.command(event.CommandOp)}: ${event.service}, ${event.tag}`;
+      const sent = answer && "did" in answer ? words.say("sent") : words.answer(answer);
+      return [words.number(at + 1), words.stamp(event.at), command, sent];
+    });
+    return section("signDesk", cut(["entry", "stamp", "command", "answer"], rows, "signDesk"));
+  }
+  function exchanges(history, chosen) {
+    const shown = history.exchanges.filter(each => chosen.fits(each.begun, each.batch, each.tag));
+    if (!shown.length) return section("signExchanges", tables.calm("signNoExchange"));
+    const rows = shown.map(({ begun, ended, tag, before, after, batch, how }) => {
+      const place = words.number(begun + 1) + (ended === null ? "" : ` – ${words.number(ended + 1)}`);
+      return [place, tag, before ?? "–", how === "ended" ? after : words.say(how), batch ?? "–"];
+    });
+    return section("signExchanges", cut(["entry", "module", "before", "after", "batch"], rows, "signExchanges"));
+  }
+  // Batches with their outcome, and why one still runs or never started.
+  function batches(chosen) {
+    const { history } = chosen, none = () => undefined, own = chosen.batches(), never = chosen.never();
+    const rows = [...own.map(each => tables.batchRow(each, history, none)),
+      ...never.map(each => tables.neverRow(each, none))];
+    if (!rows.length) return section("overview", tables.calm("noBatch"));
+    const running = own.filter(batch => !batch.outcome).map(batch => [batch.name, reasons.running(batch, history)]);
+    const why = [...running, ...never.map(each => [each.name, reasons.never(each, history)])];
+    const told = ([name, list]) => make("p", { class: "why" }, make("b", {}, words.visible(name)),
+      `: ${list.join(" ")}`);
+    return section("overview", cut(tables.BATCH_KEYS, rows, "overview"),
+      ...why.filter(([, list]) => list.length).slice(0, MOST_ROWS).map(told));
+  }
+  function refusals(chosen) {
+    const found = [...chosen.refusals()].sort(([, one], [, two]) => two.length - one.length);
+    if (!found.length) return section("refusals", tables.calm("noRefusal"));
+    return section("refusals", cut(["rule", "count", "remedy", "place"], found.map(([rule, places]) => {
+      const more = places.length > 6 ? ` … (${words.say("more", words.number(places.length - 6))})` : "";
+      return [rule, words.number(places.length), words.rule(rule)?.remedy ?? words.say("badLine"),
+        places.slice(0, 6).map(at => words.number(at + 1)).join(", ") + more];
+    }), "refusals"));
+  }
+  function alarms(chosen) {
+    const list = chosen.alarms();
+    if (!list.length) return section("reviewer", tables.calm("noAlarm"));
+    return section("reviewer", cut(["entry", "what"], list.map(alarm => [words.number(alarm.at + 1),
+      make("span", {}, tables.chip(alarm.style), words.say(alarm.key, ...alarm.values))]), "reviewer"));
+  }
+  function signature() {
+    const field = key => make("div", { class: "field" }, make("span", {}, words.say(key)));
+    return make("div", { class: "signature" }, field("signName"), field("signDate"), field("signed"));
+  }
+  function signPage(found, history, chosen, verdict) {
+    const only = chosen.isAll ? null : make("p", { class: "only" }, words.say("signOnly", chosen.told));
+    const doubts = seal.faults(found, history).slice(0, MOST_ROWS).map(text => make("p", { class: "why" }, text));
+    return make("article", { class: "sign" }, make("h1", {}, words.say("signTitle")), only, span(found, history),
+      files(found), doubts.length ? section("faults", ...doubts) : null,
+      section("signVerdict", make("p", { class: `verdict ${verdict.style}` }, verdict.inWords)), batches(chosen),
+      refusals(chosen), desk(found, history, chosen), exchanges(history, chosen), alarms(chosen), signature(),
+      make("p", { class: "small" }, words.say("notProved")));
+  }
+  // Pictures of as many lanes as a page takes, of the whole history.
+  function sheets(pane) {
+    const made = [], { lanes: shown } = pane;
+    if (!pane.view || !shown.length) return made;
+    const kept = [pane.width, pane.height, pane.hot], canvas = document.createElement("canvas");
+    pane.layout(false);
+    pane.width = WIDE; pane.hot = null;
+    ruler.scale(canvas, pane.edge, WIDE, pane.view, SHARP);
+    made.push(make("img", { class: "sheet ruler", src: canvas.toDataURL(), alt: "" }));
+    for (let first = 0, k = 1; k <= shown.length; k += 1) {
+      const foot = at => (at < shown.length ? pane.tops[at] : pane.total);
+      if (k < shown.length && foot(k + 1) - pane.tops[first] <= SHEET) continue;
+      pane.height = foot(k) - pane.tops[first];
+      canvas.width = WIDE * SHARP; canvas.height = pane.height * SHARP;
+      pane.paint(canvas, pane.tops[first], SHARP, true);
+      made.push(make("img", { class: "sheet", src: canvas.toDataURL(), alt: "" }));
+      first = k;
+    }
+    [pane.width, pane.height, pane.hot] = kept;
+    pane.layout(lanes.isNarrow());
+    return made;
+  }
+  // Chart and log of a batch; more of the log where the batch alone is chosen.
+  function figure(batch, found, history, isAlone) {
+    const holder = make("div", { class: "drawn" }), { at } = batch.log, shown = at.slice(0, isAlone ? ALONE : MOST_LOG);
+    const end = batch.ended ?? history.stamps.length - 1, standing = here.place(history, batch, end);
+    if (batch.known) here.drawn(holder, batch.known, standing);
+    const log = shown.map(each => make("li", { value: each + 1 }, history.answerTo(each, ...found.entry(each))));
+    const left = at.length - log.length, more = left ? words.say("signMoreLog", words.number(left)) : "";
+    const list = make("ol", { class: "log" }, ...log), rest = make("p", { class: "small" }, more);
+    return make("figure", {}, make("figcaption", {}, `${batch.name}: ${here.under(batch, standing)}`), holder,
+      make("div", {}, list, rest, ...waits(batch, history)));
+  }
+  function waits(batch, history) {
+    const told = reasons.waited(batch, history).slice(0, MOST_WAITS).map(({ text, times, entries }) => {
+      const counted = times === undefined ? "" : ` (${words.many("Times", times)}, ${words.many("Entries", entries)})`;
+      return make("li", {}, text + counted);
+    });
+    return told.length ? [make("h3", {}, words.say("waits")), make("ul", {}, ...told)] : [];
+  }
+  function figures(found, history, chosen) {
+    const own = chosen.batches(), shown = own.slice(0, MOST_BATCHES);
+    const made = shown.map(batch => figure(batch, found, history, own.length === 1));
+    if (own.length > shown.length) {
+      made.push(make("p", { class: "calm" }, words.say("signMoreBatches", words.number(own.length - shown.length))));
+    }
+    return made;
+  }
+  // Fills the place that only paper shows.
+  function fill(holder, { found, history, chosen, panes, verdict }) {
+    const pictures = [panes.batches, panes.modules].flatMap(pane => {
+      const made = sheets(pane);
+      return made.length ? [make("h2", {}, words.say(pane.name)), ...made] : [];
+    });
+    holder.replaceChildren(signPage(found, history, chosen, verdict), make("article", {}, ...pictures),
+      make("article", {}, ...figures(found, history, chosen)));
+  }
+  return { fill };
+})();

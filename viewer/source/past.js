@@ -1,0 +1,238 @@
+// From entries to what is drawn: modules, batches, recipes, what a reviewer has to look at, and refusals by rule.
+// Believes the answers and decides nothing by itself. Knows nothing of files, and nothing of drawing.
+"use strict";
+const past = (() => {
+  // In this order: a refusal may have the field ticket too, and a wait the field name.
+  const KINDS = ["refused", "bad", "wait", "did", "closed", "ticket", "done"];
+  // What an event must have to be drawn; a forged one may lack it.
+  const FIELDS = {
+    plug: { tag: "string", desc: "object" }, unplug: { tag: "string" }, variable: { tag: "string", name: "string" },
+    report: { tag: "string", service: "string", StateCur: "number" }, recipe: { recipe: "string", chart: "object" },
+    start: { batch: "string", recipe: "string", bind: "object" }, advance: { batch: "string" },
+    freeze: { batch: "string" }, thaw: { batch: "string" }, stop: { batch: "string" }, abandon: { batch: "string" },
+    desk: { tag: "string", service: "string", CommandOp: "number" }, exchange_begin: { tag: "string" },
+    exchange_end: { tag: "string", desc: "object" }, exchange_cancel: { tag: "string" },
+  };
+  const isOf = (value, kind) => typeof value === kind && value !== null;
+  const fits = event => Object.entries(FIELDS[event.ev]).every(([key, kind]) => isOf(event[key], kind));
+  const isNames = bind => isOf(bind, "object") && Object.values(bind).every(tag => typeof tag === "string");
+  class History {
+    // Where the files have no answers, each event is assumed to be accepted.
+    constructor(assumed) {
+      Object.assign(this, { assumed, modules: new Map(), batches: new Map(), recipes: new Map(), refusals: new Map(),
+        attempts: new Map(), known: new Map(), alarms: [], desk: [], exchanges: [], never: [] });
+      // Of each entry: its stamp, the tag and the batch that it names, the rule that refused it.
+      Object.assign(this, { stamps: [], tags: [], names: [], rules: [] });
+      this.counts = { lines: 0, done: 0, ticket: 0, did: 0, wait: 0, closed: 0, refused: 0, bad: 0, none: 0 };
+    }
+    // A text that comes again and again is kept once.
+    once(text) {
+      if (typeof text !== "string") return null;
+      if (!this.known.has(text)) this.known.set(text, text);
+      return this.known.get(text);
+    }
+    alarm(at, style, subject, key, ...values) { this.alarms.push({ at, style, subject, key, values }); }
+    take(at, event, answer) {
+      const kind = answer ? KINDS.find(key => key in answer) ?? "none" : "none";
+      this.counts.lines += 1; this.counts[kind] += 1;
+      this.stamps.push(["number", "bigint"].includes(typeof event?.at) ? Number(event.at) : NaN);
+      this.tags.push(this.once(event?.tag)); this.names.push(this.once(event?.batch));
+      this.rules.push(kind === "refused" ? this.once(String(answer.rule)) : kind === "bad" ? "bad" : null);
+      if (kind === "refused" || kind === "bad") this.refuse(at, event, answer);
+      else if ((kind !== "none" || this.assumed) && event && Object.hasOwn(TAKES, event.ev)) {
+        if (!fits(event)) throw new TypeError("an event without its fields");
+        TAKES[event.ev](this, at, event, answer ?? {});
+      }
+    }
+    refuse(at, event, answer) {
+      const rule = answer.rule ?? `bad ${answer.bad}`;
+      if (!this.refusals.has(rule)) this.refusals.set(rule, []);
+      this.refusals.get(rule).push(at);
+      if (event?.ev === "start" && typeof event.batch === "string") this.attempt(event, at, answer);
+      else this.laneOf(event)?.note(at, "refused");
+      if (event?.ev === "desk") this.asked(at, event, answer);
+    }
+    laneOf(event) {
+      const module = this.modules.get(event?.tag);
+      return this.batches.get(event?.batch)?.lane ?? module?.services.get(event?.service)?.lane ?? module?.lane;
+    }
+    // A start that was refused: its batch has a lane from then on, and keeps why.
+    attempt(event, at, answer) {
+      if (this.batches.has(event.batch)) { this.batches.get(event.batch).lane.note(at, "refused"); return; }
+      if (!this.attempts.has(event.batch)) {
+        this.attempts.set(event.batch, this.attempted(event.batch, event.recipe, event.bind, at));
+      }
+      const own = this.attempts.get(event.batch), key = JSON.stringify(answer);
+      own.lane.note(at, "refused");
+      own.why.set(key, { answer, times: (own.why.get(key)?.times ?? 0) + 1 });
+    }
+    attempted(name, recipe, bind, at) {
+      const lane = new spans.Lane("batch", name);
+      lane.owner = name;
+      lane.more.open(0, "", String(recipe));
+      return { name, recipe: String(recipe), bind: isNames(bind) ? bind : {}, lane, first: at, why: new Map() };
+    }
+    asked(at, event, answer) {
+      const isSent = "did" in answer, key = isSent ? "deskSent" : "rule" in answer ? "deskRefused" : "deskUnknown";
+      const command = words.command(event.CommandOp);
+      this.desk.push(at);
+      const values = [command, event.service, event.tag, answer.rule];
+      this.alarm(at, isSent ? "asked" : "refused", { tag: event.tag }, key, ...values);
+    }
+    free(at, batch) {
+      for (const tag of batch.tags) this.modules.get(tag)?.held(at, null);
+      for (const tag of Object.values(batch.watch)) this.modules.get(tag)?.watched(at, batch.name, false);
+    }
+    shut(at, batch, outcome) {
+      batch.close(at, outcome);
+      this.free(at, batch);
+      if (outcome !== "Completed") {
+        this.alarm(at, runs.ENDS[outcome] ?? "stop", { batch: batch.name }, "closedBatch", batch.name, outcome);
+      }
+    }
+    // After the last entry: what never came to its end, and the order of what is shown.
+    finish(site) {
+      const end = Math.max(0, this.stamps.length - 1);
+      this.level();
+      for (const each of site?.batches ?? []) {
+        if (typeof each?.batch !== "string" || this.batches.has(each.batch) || this.attempts.has(each.batch)) continue;
+        this.attempts.set(each.batch, this.attempted(each.batch, each.recipe, each.bind, end));
+      }
+      this.never = [...this.attempts.values()].filter(each => !this.batches.has(each.name));
+      for (const batch of this.batches.values()) {
+        if (!batch.outcome && !this.assumed) this.alarm(end, "hold", { batch: batch.name }, "openBatch", batch.name);
+      }
+      for (const each of this.never) this.alarm(end, "hold", { batch: each.name }, "neverBatch", each.name);
+      this.alarms.sort((one, two) => one.at - two.at);
+      this.known.clear();
+    }
+    // A line without a stamp stands at the stamp before it, so that the others can still be an axis.
+    level() {
+      const { stamps } = this;
+      let last = stamps.find(stamp => !Number.isNaN(stamp)) ?? NaN;
+      for (let at = 0; at < stamps.length; at += 1) {
+        if (Number.isNaN(stamps[at])) stamps[at] = last;
+        last = stamps[at];
+      }
+    }
+    // Where an audit found the first thing wrong.
+    doubt({ place, why, says }) {
+      this.alarm(place, "abort", {}, "auditHere", String(why), says ? words.answer(says) : "?");
+    }
+    kindAt(tag, name, at) { return this.modules.get(tag)?.kindAt(name, at); }
+    // The values by which a node decided, each with its variable's name and in its unit.
+    decided(batch, did, at) {
+      const reads = batch?.known?.readsOf[did.node];
+      return did.values.map((value, k) => {
+        const read = reads?.[k];
+        if (!read) return words.value(value);
+        const kind = this.kindAt(batch.tagOf(read.role), read.name, at);
+        return `${read.role}.${read.name} = ${words.value(value, kind)}`;
+      });
+    }
+    // The settings with which a step is started: they stand in its recipe.
+    settings(batch, did, at) {
+      const node = batch?.known?.stepOf(did.step), module = this.modules.get(did.tag);
+      const kindOf = name => module?.parameterAt(did.service, did.procedure, name, at);
+      return (node?.settings ?? []).map(({ name, value }) => `${name} = ${words.value(value, kindOf(name))}`);
+    }
+    // An answer in words, with what the recipe and the descriptions know of it.
+    answerTo(at, event, answer) {
+      const did = answer?.did, batch = this.batches.get(event?.batch);
+      if (Array.isArray(did?.values)) return words.answer(answer, this.decided(batch, did, at));
+      const set = did?.do === "start" ? this.settings(batch, did, at) : [];
+      return words.answer(answer) + (set.length ? `: ${words.visible(set.join(", "))}` : "");
+    }
+  }
+  const TAKES = {
+    plug(all, at, event) {
+      const module = all.modules.get(event.tag) ?? new modules.Module(event.tag);
+      module.dock(at, event.desc);
+      all.modules.set(event.tag, module);
+    },
+    unplug: (all, at, event) => all.modules.get(event.tag)?.undock(at),
+    report(all, at, event) {
+      const state = all.modules.get(event.tag)?.services.get(event.service)?.report(at, event);
+      if (state === "Aborted" || state === "Stopped") {
+        const style = state === "Aborted" ? "abort" : "stop";
+        all.alarm(at, style, { tag: event.tag }, "abnormal", event.service, event.tag, state);
+      }
+    },
+    variable: (all, at, event) => all.modules.get(event.tag)?.value(at, event.name, event.value),
+    recipe: (all, at, event) => { all.recipes.set(event.recipe, new recipes.Recipe(event)); },
+    start(all, at, event) {
+      if (!isNames(event.bind) || !isNames(event.watch ?? {})) throw new TypeError("a start without its modules");
+      const lane = all.attempts.get(event.batch)?.lane ?? new spans.Lane("batch", event.batch);
+      lane.owner = event.batch;
+      const batch = new runs.Batch(at, event, all.recipes.get(event.recipe) ?? null, lane);
+      all.batches.set(event.batch, batch);
+      const before = batch.tags.map(tag => heldBefore(all.modules.get(tag), tag, event.batch));
+      batch.before = before.filter(each => each !== null);
+      for (const tag of batch.tags) all.modules.get(tag)?.held(at, event.batch);
+      for (const tag of Object.values(batch.watch)) all.modules.get(tag)?.watched(at, event.batch, true);
+    },
+    advance(all, at, event, answer) {
+      const batch = all.batches.get(event.batch);
+      if (!batch) return;
+      if ("wait" in answer) batch.wait(at, answer);
+      else if ("closed" in answer) all.shut(at, batch, answer.closed);
+      else if ("did" in answer) {
+        const { did } = answer;
+        batch.did(at, did);
+        if (did.do === "broke") {
+          all.alarm(at, "abort", { batch: batch.name }, "brokenBatch", batch.name, did.step, words.state(did.state));
+        }
+      }
+    },
+    freeze(all, at, event) {
+      all.batches.get(event.batch)?.freeze(at);
+      all.alarm(at, "hold", { batch: event.batch }, event.hold === true ? "frozenHolding" : "frozen", event.batch);
+    },
+    thaw: (all, at, event) => all.batches.get(event.batch)?.thaw(at),
+    stop(all, at, event, answer) {
+      const batch = all.batches.get(event.batch);
+      batch?.thaw(at);
+      if (batch && "did" in answer) batch.did(at, answer.did);
+      all.alarm(at, "stop", { batch: event.batch }, "stopAsked", event.batch);
+    },
+    abandon(all, at, event, answer) {
+      if (all.batches.has(event.batch)) all.shut(at, all.batches.get(event.batch), answer.closed ?? "Abandoned");
+    },
+    desk(all, at, event, answer) {
+      all.modules.get(event.tag)?.services.get(event.service)?.lane.note(at, "asked");
+      all.asked(at, event, answer);
+    },
+    exchange_begin(all, at, event, answer) {
+      const module = all.modules.get(event.tag);
+      if (!module) return;
+      const { holder, watchers } = module, before = module.lane.more.textAt(at);
+      module.undock(at);
+      module.hold.open(at, "away", String(answer.ticket ?? "?"));
+      all.exchanges.push({ tag: event.tag, ticket: answer.ticket, begun: at, ended: null, before, after: null,
+        batch: holder, how: "notEnded" });
+      if (holder !== null) all.alarm(at, "away", { tag: event.tag, batch: holder }, "exchangedIn", event.tag, holder);
+      for (const each of watchers) {
+        all.alarm(at, "away", { tag: event.tag, batch: each }, "exchangedWatched", event.tag, each);
+      }
+    },
+    exchange_end: (all, at, event) => back(all, at, event, event.desc),
+    exchange_cancel: (all, at, event) => back(all, at, event, null),
+  };
+  function back(all, at, event, description) {
+    const module = all.modules.get(event.tag);
+    if (!module) return;
+    module.dock(at, description);
+    const own = all.exchanges.findLast(each => each.tag === event.tag);
+    if (own) {
+      Object.assign(own, { ended: at, how: description ? "ended" : "cancelled", after: module.lane.more.textAt(at) });
+    }
+  }
+  // By which other batch a module was held last before a batch takes it.
+  function heldBefore(module, tag, batch) {
+    const hold = module?.hold;
+    let k = (hold?.length ?? 0) - 1;
+    while (k >= 0 && (hold.style[k] !== "held" || hold.text[k] === batch)) k -= 1;
+    return k < 0 ? null : { tag, batch: hold.text[k], from: hold.from[k], to: hold.to[k] };
+  }
+  return { History };
+})();

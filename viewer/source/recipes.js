@@ -1,0 +1,59 @@
+// A recipe's chart as a list of nodes in chart order, with the variables that each reads and the limits they are
+// compared with. Knows nothing of batches, and nothing of drawing. Throws where a forged chart has no form of a chart.
+"use strict";
+const recipes = (() => {
+  const SIGNS = { lt: "<", le: "≤", eq: "=", ne: "≠", ge: "≥", gt: ">" };
+  const within = node => node.seq ?? node.par ?? node.sel?.map(arm => arm.then) ?? (node.loop ? [node.loop] : []);
+  // The node and all in it: a node before the nodes in it, and these from first to last.
+  function* nodes(node) {
+    yield node;
+    for (const each of within(node)) yield* nodes(each);
+  }
+  // The conditions by which a node decides, in order.
+  function conditions(node) {
+    if ("step" in node) return node.finish ? [node.finish] : [];
+    if ("seq" in node || "par" in node) return [];
+    return node.sel ? node.sel.map(arm => arm.when) : [node.until];
+  }
+  function* tests(condition) {
+    if ("const" in condition) return;
+    if ("not" in condition) yield* tests(condition.not);
+    else if ("all" in condition || "any" in condition) {
+      for (const each of condition.all ?? condition.any) yield* tests(each);
+    }
+    else yield condition;
+  }
+  // The different variables of some tests, in the order in which they first appear, each with its limits.
+  function variables(found) {
+    const reads = new Map();
+    for (const { role, test, op, value } of found) {
+      const key = `${role}.${test}`;
+      if (!reads.has(key)) reads.set(key, { role, name: test, limits: [] });
+      if (!reads.get(key).limits.some(each => each.op === op && each.value === value)) {
+        reads.get(key).limits.push({ op, value });
+      }
+    }
+    return [...reads.values()];
+  }
+  class Recipe {
+    constructor(event) {
+      this.name = event.recipe; this.roles = event.roles; this.chart = event.chart;
+      this.nodes = [...nodes(event.chart)];
+      this.steps = new Map(this.nodes.filter(node => "step" in node).map(node => [node.step, node]));
+      this.numbers = new Map(this.nodes.map((node, number) => [node, number]));
+      this.readsOf = this.nodes.map(node => variables(conditions(node).flatMap(each => [...tests(each)])));
+      this.reads = variables(this.nodes.flatMap(node => conditions(node)).flatMap(each => [...tests(each)]));
+    }
+    stepOf(name) { return this.steps.get(name); }
+  }
+  const sign = op => SIGNS[op] ?? op;
+  // A condition in words and signs. How a value of a role's variable is said is told by the caller.
+  function told(condition, said) {
+    if ("const" in condition) return String(condition.const);
+    if ("not" in condition) return `${words.say("not")} (${told(condition.not, said)})`;
+    const list = condition.all ?? condition.any;
+    if (!list) return `${condition.role}.${condition.test} ${sign(condition.op)}\u00a0${said(condition)}`;
+    return list.map(each => told(each, said)).join(` ${words.say(condition.all ? "and" : "or")} `);
+  }
+  return { Recipe, sign, told, conditions, tests };
+})();

@@ -1,0 +1,112 @@
+// What became of a batch over the entries: its steps side by side, its log, what it waited for and how it ended; and
+// where it stands in its chart at any entry. Takes what was answered and decides nothing. Knows nothing of drawing.
+"use strict";
+const runs = (() => {
+  const POINT = 1000;
+  const PHASES = { start: "on", finish: "on", reset: "ending", unhold: "on", hold: "held", end: "done", stop: "off",
+    left: "off", broke: "broke" };
+  const MARKS = { chose: "node", turn: "node", leave: "node", broke: "broke", stop: "stop", left: "stop",
+    stop_asked: "stop" };
+  const ENDS = { Completed: "full", Broken: "abort", Stopped: "stop", Abandoned: "stop" };
+  // Where a batch stands in its chart: phase and runs of each step, arm of each selection, turns of each loop.
+  class Standing {
+    constructor(steps = [], arms = [], turns = []) {
+      this.steps = new Map(steps); this.arms = new Map(arms); this.turns = new Map(turns);
+    }
+    copy() { return new Standing(this.steps, this.arms, this.turns); }
+    take(did) {
+      if (did.step !== undefined) this.step(did.step, did.do);
+      if (did.do === "chose") this.arms.set(did.node, did.arm);
+      if (did.do === "turn") this.turns.set(did.node, (this.turns.get(did.node) ?? 0) + 1);
+    }
+    step(name, deed) {
+      const old = this.steps.get(name) ?? { runs: 0, phase: "" };
+      const phase = old.phase === "broke" ? "broke" : PHASES[deed] ?? old.phase;
+      this.steps.set(name, { runs: old.runs + (deed === "start" ? 1 : 0), phase });
+    }
+  }
+  class Batch {
+    constructor(at, event, known, lane) {
+      Object.assign(this, { name: event.batch, recipe: event.recipe, bind: event.bind, watch: event.watch ?? {} });
+      Object.assign(this, { known, lane, started: at, ended: null, outcome: null, frozen: false, slots: [], reasons: [],
+        before: [], points: [new Standing()] });
+      this.log = { at: [], did: [] };
+      this.whole = lane.track("whole"); this.waits = lane.track("wait");
+      this.whole.open(at, "batch", "");
+      lane.more.open(at, "", event.recipe);
+    }
+    get tags() { return Object.values(this.bind); }
+    tagOf(role) {
+      if (Object.hasOwn(this.bind, role)) return this.bind[role];
+      return Object.hasOwn(this.watch, role) ? this.watch[role] : undefined;
+    }
+    wait(at, answer) {
+      const last = this.waits.length - 1, key = JSON.stringify(answer);
+      if (this.waits.isOpen() && JSON.stringify(this.reasons[last]) === key) return;
+      this.waits.open(at, "wait", answer.wait); this.reasons.push(answer);
+    }
+    goOn(at) { if (!this.frozen) this.waits.close(at); }
+    freeze(at) { this.frozen = true; this.wait(at, { wait: "Frozen" }); }
+    thaw(at) { this.frozen = false; this.waits.close(at); }
+    // An entry of the log: kept, and shown in the slot of its step.
+    did(at, did) {
+      this.goOn(at);
+      this.log.at.push(at); this.log.did.push(did);
+      if (did.do === "start") this.begin(at, did.step);
+      else this.moved(at, did);
+      this.lane.note(at, Object.hasOwn(MARKS, did.do) ? MARKS[did.do] : "log");
+    }
+    begin(at, step) {
+      let free = this.slots.find(track => !track.isOpen());
+      if (!free) { free = this.lane.track("step"); this.slots.push(free); }
+      free.owner = step;
+      free.open(at, "run", String(step));
+    }
+    moved(at, did) {
+      const slot = this.slots.find(track => track.isOpen() && track.owner === did.step);
+      if (!slot) return;
+      if (["end", "stop", "left"].includes(did.do)) slot.close(at);
+      else if (["finish", "reset"].includes(did.do)) slot.open(at, "move", "");
+      else if (did.do === "hold") slot.open(at, "hold", slot.owner);
+      else if (did.do === "unhold") slot.open(at, "run", slot.owner);
+    }
+    close(at, outcome) {
+      this.outcome = outcome; this.ended = at; this.frozen = false;
+      for (const track of [this.whole, this.waits, ...this.slots]) track.close(at);
+      this.lane.outcome = outcome;
+      this.lane.note(at, `end ${ENDS[outcome] ?? "stop"}`);
+    }
+    // Where the batch stands once an entry is answered: from the last kept point on.
+    standing(cursor) {
+      const count = spans.below(this.log.at, cursor) + 1;
+      while (this.points.length * POINT <= count) {
+        this.points.push(this.after(this.points.length - 1, this.points.length * POINT));
+      }
+      return this.after(Math.floor(count / POINT), count);
+    }
+    after(point, count) {
+      const standing = this.points[point].copy();
+      for (let k = point * POINT; k < count; k += 1) standing.take(this.log.did[k]);
+      return standing;
+    }
+    // Where a step was started last before an entry, else where first; null where never.
+    startOf(step, cursor) {
+      const { at, did } = this.log, starts = at.filter((_, k) => did[k].do === "start" && did[k].step === step);
+      return starts.findLast(each => each < cursor) ?? starts[0] ?? null;
+    }
+    waitAt(cursor) { const k = this.waits.span(cursor); return k < 0 ? null : this.reasons[k]; }
+    // What it waited for, each reason once: how often, how many entries and stamps in all, and where first.
+    waited(count, stamps) {
+      const found = new Map();
+      this.reasons.forEach((answer, k) => {
+        const key = JSON.stringify(answer), from = this.waits.from[k];
+        const to = this.waits.to[k] < 0 ? count - 1 : this.waits.to[k];
+        if (!found.has(key)) found.set(key, { answer, times: 0, entries: 0, lasted: 0, first: from });
+        const own = found.get(key);
+        own.times += 1; own.entries += to - from; own.lasted += stamps[Math.min(to, stamps.length - 1)] - stamps[from];
+      });
+      return [...found.values()];
+    }
+  }
+  return { Batch, ENDS };
+})();

@@ -1,0 +1,118 @@
+// The tables beside the drawing: batches and their outcome, what a reviewer has to look at, refusals by rule, and what
+// a batch waited for. All text goes in as text, never as markup. Knows nothing of files, and nothing of the drawing.
+"use strict";
+const tables = (() => {
+  const MOST = 200, MOST_WAITS = 40;
+  // An element with its attributes, or what is to be done when it is pressed, and what is in it.
+  function make(name, attributes = {}, ...within) {
+    const made = document.createElement(name);
+    for (const [key, value] of Object.entries(attributes)) {
+      if (key === "click") made.addEventListener("click", value);
+      else if (key === "style") made.style.cssText = value;
+      else if (value !== null) made.setAttribute(key, value);
+    }
+    made.append(...within.filter(each => each !== null && each !== undefined && each !== ""));
+    return made;
+  }
+  const name = text => make("bdi", {}, words.visible(text));
+  function jump(at, go) {
+    const named = `${words.say("entry")} ${at + 1}`;
+    const attributes = { class: "jump", type: "button", click: () => go(at), "aria-label": named };
+    return make("button", attributes, words.number(at + 1));
+  }
+  const picked = (text, pick) => make("button", { class: "jump", type: "button", click: () => pick(text) }, name(text));
+  const NUMBERS = new Set(["from", "to", "duration", "count", "size"]);
+  function table(keys, rows, title) {
+    const named = keys.map(key => make("th", { scope: "col", class: NUMBERS.has(key) ? "number" : null },
+      words.say(key)));
+    const head = make("thead", {}, make("tr", {}, ...named));
+    return make("table", { "aria-label": words.say(title) }, head, make("tbody", {}, ...rows));
+  }
+  const calm = key => make("p", { class: "calm" }, words.say(key));
+  const chip = style => make("i", { class: `chip ${style}`, "aria-hidden": "true" });
+  const more = (count, columns) => make("tr", {}, make("td", { colspan: columns, class: "calm" },
+    words.say("more", words.number(count))));
+  const OUTCOMES = { Completed: "full", Broken: "abort", Stopped: "stop", Abandoned: "stop" };
+  const number = text => make("td", { class: "number" }, text);
+  function row(each, pick, bind, numbers, style, outcome) {
+    return make("tr", {}, make("td", { class: "first" }, picked(each.name, pick)), make("td", {}, name(each.recipe)),
+      make("td", { class: "wide" }, words.visible(bind)), ...numbers.map(number),
+      make("td", { class: "outcome" }, chip(style), outcome));
+  }
+  function batchRow(batch, history, pick) {
+    const { stamps } = history, end = batch.ended ?? stamps.length - 1;
+    const ended = batch.ended === null ? "…" : words.number(batch.ended + 1);
+    const numbers = [words.number(batch.started + 1), ended, words.lasted(stamps[batch.started], stamps[end])];
+    const outcome = batch.outcome ?? words.say(history.assumed ? "unknown" : "running");
+    const style = OUTCOMES[batch.outcome] ?? (history.assumed ? "idle" : "hold");
+    return row(batch, pick, words.played(batch), numbers, style, outcome);
+  }
+  function neverRow(attempt, pick) {
+    return row(attempt, pick, words.listed(attempt.bind), ["–", "–", ""], "hold", words.say("neverStarted"));
+  }
+  const BATCH_KEYS = ["batch", "recipe", "modulesOf", "from", "to", "duration", "outcome"];
+  function batches(holder, chosen, pick) {
+    const own = chosen.batches(), never = chosen.never();
+    const rows = own.slice(0, MOST).map(batch => batchRow(batch, chosen.history, pick));
+    rows.push(...never.slice(0, MOST).map(each => neverRow(each, pick)));
+    const left = own.length + never.length - rows.length;
+    if (left) rows.push(more(left, BATCH_KEYS.length));
+    const none = calm(chosen.isAll ? "noBatch" : "noMatch");
+    holder.replaceChildren(rows.length ? table(BATCH_KEYS, rows, "overview") : none);
+  }
+  function alarmRow(alarm, go, isHere) {
+    return make("tr", isHere ? { "aria-current": "true", class: "here" } : {},
+      make("td", { class: "where" }, jump(alarm.at, () => go(alarm))),
+      make("td", {}, chip(alarm.style), words.say(alarm.key, ...alarm.values)));
+  }
+  // What a reviewer has to look at, around the one that is looked at.
+  function alarms(holder, list, go, here) {
+    if (!list.length) { holder.replaceChildren(calm("noAlarm")); return; }
+    const first = here < MOST ? 0 : here - MOST / 2, shown = list.slice(first, first + MOST);
+    const rows = shown.map((alarm, k) => alarmRow(alarm, go, first + k === here));
+    if (first) rows.unshift(more(first, 2));
+    if (first + MOST < list.length) rows.push(more(list.length - first - MOST, 2));
+    holder.replaceChildren(table(["entry", "what"], rows, "reviewer"));
+    if (here >= 0) show(holder, holder.querySelector(".here"));
+  }
+  // Scrolls a row into sight within its table, and leaves the page where it is.
+  function show(holder, row) {
+    const top = row.getBoundingClientRect().top - holder.getBoundingClientRect().top + holder.scrollTop;
+    const isSeen = top >= holder.scrollTop && top + row.offsetHeight <= holder.scrollTop + holder.clientHeight;
+    if (!isSeen) holder.scrollTop = top - holder.clientHeight / 2;
+  }
+  function refusalRow(rule, places, go, current) {
+    const own = words.rule(rule), next = () => go(places[(spans.below(places, current()) + 1) % places.length]);
+    const remedy = own ? own.remedy : words.say(rule.startsWith("bad ") ? "badLine" : "noWords");
+    return make("tr", {},
+      make("td", { class: "rule" }, make("b", {}, words.visible(rule)),
+        make("span", { class: "small" }, own ? ` ${own.number}${own.star ? ` · ${words.say("starred")}` : ""}` : "")),
+      make("td", { class: "number" }, words.number(places.length)),
+      make("td", { class: "remedy" }, remedy, own ? make("span", { class: "small block" }, own.holds) : null),
+      make("td", { class: "where" }, jump(places[0], go),
+        places.length > 1 ? make("button", { class: "jump", type: "button", click: next }, words.say("next")) : null));
+  }
+  function refusals(holder, chosen, go, current) {
+    const found = [...chosen.refusals()].sort(([, one], [, two]) => two.length - one.length);
+    const rows = found.map(([rule, places]) => refusalRow(rule, places, go, current));
+    holder.replaceChildren(rows.length ? table(["rule", "count", "remedy", "place"], rows, "refusals")
+      : calm("noRefusal"));
+  }
+  function waitItem(reason, go, pick, stamps) {
+    const isCounted = reason.times !== undefined, parts = [];
+    if (isCounted) parts.push(words.many("Times", reason.times), words.many("Entries", reason.entries));
+    if (isCounted && reason.lasted > 0) {
+      parts.push(words.lasted(stamps[reason.first], stamps[reason.first] + reason.lasted));
+    }
+    const other = reason.other ? picked(reason.other, pick) : null;
+    const look = reason.look ? `. ${words.say("lookAt")}: ${reason.look}` : "";
+    const under = make("span", { class: "small block" }, parts.filter(each => each).join(" · ") + look);
+    return make("li", {}, jump(reason.at, go), other, make("span", {}, reason.text), under);
+  }
+  function waits(holder, told, go, pick, stamps) {
+    const items = told.slice(0, MOST_WAITS).map(each => waitItem(each, go, pick, stamps));
+    holder.replaceChildren(items.length ? make("ul", {}, ...items) : calm("noWait"));
+  }
+  return { make, name, jump, table, more, NUMBERS, chip, calm, batches, alarms, refusals, waits, BATCH_KEYS, batchRow,
+    neverRow, refusalRow };
+})();
