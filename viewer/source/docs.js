@@ -25,7 +25,7 @@ const docs = {
       "number": 4,
       "star": true,
       "holds": "this open batch holds the module",
-      "remedy": "wait for the end of the batch, stop or abandon it, or exchange the module"
+      "remedy": "wait for the end of the batch that is told, stop or abandon it, or exchange the module"
     },
     InExchange: {
       "number": 5,
@@ -55,7 +55,7 @@ const docs = {
       "number": 9,
       "star": false,
       "holds": "the service reported a state since docking, the new one is another, and no edge leads there",
-      "remedy": "a report was lost or is wrong. To go on with what the module says, unplug and plug it, or begin and cancel an exchange: it then begins unreported"
+      "remedy": "a report was lost or is wrong. Report the states that were passed, in their order (a report was lost). Where no batch runs a step on the module it may be unplugged and plugged, or an exchange begun and cancelled: it then begins unreported"
     },
     NoVariable: {
       "number": 10,
@@ -102,20 +102,20 @@ const docs = {
     RoleUnbound: {
       "number": 17,
       "star": false,
-      "holds": "the start names no module for this role, the first such in the recipe's order",
-      "remedy": "bind each role of the recipe to one module, and no other role"
+      "holds": "the start neither binds nor watches a module for this role, the first such in the recipe's order",
+      "remedy": "bind or watch one module for each role of the recipe, and for no other role"
     },
     RoleUnknown: {
       "number": 18,
       "star": false,
-      "holds": "the start names a module for this role, which the recipe lacks; the first such in byte order",
-      "remedy": "bind each role of the recipe to one module, and no other role"
+      "holds": "the start binds or watches a module for this role, which the recipe lacks; the first such in byte order",
+      "remedy": "bind or watch one module for each role of the recipe, and for no other role"
     },
     OneModuleTwice: {
       "number": 19,
       "star": false,
-      "holds": "this module plays two roles; the first, in the recipe's order of roles, that an earlier role has",
-      "remedy": "bind another module to one of the two roles"
+      "holds": "this module plays two roles, bound or watched; the first, in the recipe's order of roles, that an earlier role has",
+      "remedy": "bind or watch another module for one of the two roles"
     },
     WrongType: {
       "number": 20,
@@ -133,7 +133,7 @@ const docs = {
       "number": 22,
       "star": false,
       "holds": "the module can't do this step of the role, the first such in chart order; or, where it can do all, it has no fitting variable of this name, the first such in order of appearance",
-      "remedy": "the module lacks what the step or the condition {missing} needs: a service, a procedure, a parameter, its range, or a variable"
+      "remedy": "the module can't do the step {missing}, or lacks the variable {missing}. One of seven: it has no such service; no such procedure; no such parameter; the setting's value is outside its range; or of another kind; the step has a {finish} where the procedure completes by itself, or none where it doesn't (then the recipe is at fault); it has no such variable, or one of a kind that the condition can't compare"
     },
     NotReported: {
       "number": 23,
@@ -145,19 +145,19 @@ const docs = {
       "number": 24,
       "star": false,
       "holds": "the service was reported in this state, which isn't Idle",
-      "remedy": "bring the service to Idle, by hand if need be"
+      "remedy": "bring the service to Idle, by hand if need be, and report it"
     },
     Busy: {
       "number": 25,
       "star": true,
-      "holds": "this open batch holds the module; the first such in the order of roles",
+      "holds": "this open batch holds the module, which the start binds; the first such in the order of roles",
       "remedy": "wait for the other batch, or bind another module"
     },
     BatchesFull: {
       "number": 26,
       "star": true,
       "holds": "128 batches were started",
-      "remedy": "the journal is full: go on with a new one"
+      "remedy": "begin a new journal once the open batches are closed"
     },
     NotAtRest: {
       "number": 27,
@@ -174,8 +174,8 @@ const docs = {
     HeldBack: {
       "number": 29,
       "star": true,
-      "holds": "the new module doesn't fit its role in the batch that holds the tag",
-      "remedy": "bring a module that fits the role, or cancel the exchange"
+      "holds": "the new module doesn't fit its role in this batch: the one that holds the tag, or else the first of those that watch it",
+      "remedy": "bring a module that fits its role in the batch that holds the tag and in each that watches it, or cancel the exchange"
     },
     ModeForbids: {
       "number": 30,
@@ -223,13 +223,25 @@ const docs = {
       "number": 37,
       "star": false,
       "holds": "64 recipes are known",
-      "remedy": "the journal is full: go on with a new one"
+      "remedy": "begin a new journal once the open batches are closed"
     },
     HistoryFull: {
       "number": 38,
       "star": true,
       "holds": "the history has 200,000 entries; the event is then not recorded",
-      "remedy": "the journal is full: go on with a new one"
+      "remedy": "the history takes nothing more, a stop or an abandon neither: see how long a journal lasts"
+    },
+    Watched: {
+      "number": 39,
+      "star": true,
+      "holds": "no batch holds the module, and this open batch watches it; the first such in the order of the starts",
+      "remedy": "wait for the end of the batch that is told, stop or abandon it, or exchange the module"
+    },
+    WatchedStep: {
+      "number": 40,
+      "star": false,
+      "holds": "the start watches a module for this role, and the chart has a step of the role; the first such in the recipe's order",
+      "remedy": "bind the module: the recipe has a step of this role, and commands go only to modules that the batch holds"
     },
   },
   waits: {
@@ -247,7 +259,7 @@ const docs = {
     },
     InState: {
       "for": "another state of the step's service than the one told",
-      "look": "the service of {step} is in {state}; wait for its next report. If it waits in Idle after a start, the command was lost or somebody else has reset the service: stop or abandon the batch"
+      "look": "the service of {step} is in {state}; wait for its next report. If it waits in Idle after a start, the command was lost (send it again: the report that follows is taken as ever), a report was lost (what helps), or somebody else has reset the service: then stop or abandon the batch"
     },
     Forbidden: {
       "for": "a mode, state or enabled bit: the reason is one of the four above, for a recipe",
@@ -274,7 +286,7 @@ const docs = {
     report: "done; this is the service's last report",
     variable: "done; this is the variable's last value",
     recipe: "done; the recipe is known",
-    start: "done; the batch is open and holds its modules",
+    start: "done; the batch is open, holds the modules that it binds and watches the others",
     advance: "did, waiting or closed, as told under Batches",
     freeze: "done",
     thaw: "done",
