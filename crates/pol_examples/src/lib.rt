@@ -50,6 +50,6 @@ mod stamps;
 #[cfg(test)]
 mod starts;
 #[cfg(test)]
-mod watching;
+mod watchers;
 #[cfg(test)]
 mod words;
