@@ -20,7 +20,7 @@ use Rattle.pol_events.specs.declared.event.Event.TheVariants.{Plug, Variable, Re
 use Rattle.pol_events.specs.Events.{plain_event, recipe}
 use Rattle.pol_events.specs.Forms.{event_in}
 use Rattle.pol_events.specs.Orderly.{is_orderly}
-use Rattle.pol_events.specs.Written.{bind_members, written_batch, written_binds, written_desk, written_event, written_exchange_cancel, written_exchange_end, written_plug, written_recipe, written_report, written_start, written_tag, written_variable}
+use Rattle.pol_events.specs.Written.{bind_members, written_batch, written_binds, written_desk, written_event, written_exchange_cancel, written_exchange_end, written_plug, written_recipe, written_report, start_with, written_tag, written_variable, watch_member}
 use Rattle.pol_events.proofs.Again.{faultless}
 use Rattle.pol_retold.specs.Exact.{IsExact, IsWritten}
 
@@ -34,11 +34,16 @@ binds_depth : (binds : List Bind) → depth (written_binds binds) ≤ 1
 unfolding written_binds
 binds_depth binds = omega (arith, members_depth_is binds)
 
+-- what is written of the modules that are watched nests one deep at most
+watch_depth : (binds : List Bind) → members_depth (watch_member binds) ≤ 1
+watch_depth [] = omega arith
+watch_depth (bind ∷ binds) = omega (arith, binds_depth (bind ∷ binds))
+
 -- a written event nests less deep than reading goes
 event_depth : (event : Event) → is_orderly (plain_event event) ≡ true
     → suc (depth (written_event (plain_event event))) ≤ max_depth
 unfolding written_plug written_tag written_report written_variable written_desk written_exchange_end
-    written_exchange_cancel written_recipe written_start written_batch
+    written_exchange_cancel written_recipe start_with written_batch
 event_depth (Plug at tag desc) orderly = omega (arith, description_depth (plain_description desc.value))
 event_depth (Variable at tag name value) orderly = omega (arith, scalar_depth value)
 event_depth (Recipe at name chart) orderly =
@@ -49,7 +54,8 @@ event_depth (Recipe at name chart) orderly =
       root_depth chart_plan chart.value.form
           (valid_shallow chart_plan (faultless (recipe at name chart_plan) orderly)),
     )
-event_depth (Start at batch name bind) orderly = omega (arith, binds_depth bind.items)
+event_depth (Start at batch name bind watch) orderly =
+    omega (arith, binds_depth bind.items, watch_depth watch.items)
 event_depth (ExchangeEnd at tag ticket desc) orderly = omega (arith, description_depth (plain_description desc.value))
 event_depth _ orderly = omega arith
 
