@@ -87,14 +87,16 @@ pub fn settings(runs: &IndexMap<Name, Run>, batch: Name, step: Name) -> Option<&
 
 // Lets the run of a batch do what comes next.
 fn settle(runs: &mut IndexMap<Name, Run>, batch: Name, next: &Next)
-    requires { (seen : Sights) × ((run : PlainRun) → lookup (bytes_eq batch) runs.old.entries ≡ Some run
+    requires known { (run : PlainRun) × (lookup (bytes_eq batch) runs.old.entries ≡ Some run) }
+    requires next { (seen : Sights) × ((run : PlainRun) → lookup (bytes_eq batch) runs.old.entries ≡ Some run
         → ComesNext seen next.now run) }
     ensures count { length runs.new.entries ≡ length runs.old.entries }
     ensures settled { (run : PlainRun) → lookup (bytes_eq batch) runs.old.entries ≡ Some run
         → SettlesOne batch next.now run runs.old.entries runs.new.entries }
 {
-    if let Some(run) = runs.get_mut(&batch) {
-        run.settle(next);
+    match runs.get_mut(&batch) {
+        Some(run) => run.settle(next),
+        None => unreachable!(),
     }
 }
 
@@ -127,6 +129,7 @@ pub fn advance(modules: &mut Table<Slot>, runs: &mut IndexMap<Name, Run>, batch:
 
 // Freezes the run of a batch.
 fn freeze_run(runs: &mut IndexMap<Name, Run>, batch: Name) -> Result<(), Rule>
+    requires { (run : PlainRun) × (lookup (bytes_eq batch) runs.old.entries ≡ Some run) }
     ensures count { length runs.new.entries ≡ length runs.old.entries }
     ensures answer { (run : PlainRun) → lookup (bytes_eq batch) runs.old.entries ≡ Some run
         → result ≡ done_unless (when run.frozen AlreadyFrozen) }
@@ -135,7 +138,7 @@ fn freeze_run(runs: &mut IndexMap<Name, Run>, batch: Name) -> Result<(), Rule>
 {
     match runs.get_mut(&batch) {
         Some(run) => run.freeze(),
-        None => Err(Rule::NoBatch),
+        None => unreachable!(),
     }
 }
 
@@ -154,6 +157,7 @@ pub fn freeze(runs: &mut IndexMap<Name, Run>, batch: Name) -> Answer
 
 // Ends the freeze of the run of a batch.
 fn thaw_run(runs: &mut IndexMap<Name, Run>, batch: Name) -> Result<(), Rule>
+    requires { (run : PlainRun) × (lookup (bytes_eq batch) runs.old.entries ≡ Some run) }
     ensures count { length runs.new.entries ≡ length runs.old.entries }
     ensures answer { (run : PlainRun) → lookup (bytes_eq batch) runs.old.entries ≡ Some run
         → result ≡ done_unless (when (not run.frozen) NotFrozen) }
@@ -162,7 +166,7 @@ fn thaw_run(runs: &mut IndexMap<Name, Run>, batch: Name) -> Result<(), Rule>
 {
     match runs.get_mut(&batch) {
         Some(run) => run.thaw(),
-        None => Err(Rule::NoBatch),
+        None => unreachable!(),
     }
 }
 
@@ -181,13 +185,14 @@ pub fn thaw(runs: &mut IndexMap<Name, Run>, batch: Name) -> Answer
 
 // Lets the run of a batch be stopped step by step; true where that is new.
 fn stop_run(runs: &mut IndexMap<Name, Run>, batch: Name) -> bool
+    requires { (run : PlainRun) × (lookup (bytes_eq batch) runs.old.entries ≡ Some run) }
     ensures count { length runs.new.entries ≡ length runs.old.entries }
     ensures stopped { (run : PlainRun) → lookup (bytes_eq batch) runs.old.entries ≡ Some run
         → StopsOne batch result run runs.old.entries runs.new.entries }
 {
     match runs.get_mut(&batch) {
         Some(run) => run.stop(),
-        None => false,
+        None => unreachable!(),
     }
 }
 
@@ -210,12 +215,14 @@ pub fn stop(runs: &mut IndexMap<Name, Run>, batch: Name) -> Answer
 
 // Closes the run of a batch.
 fn give_up(runs: &mut IndexMap<Name, Run>, batch: Name)
+    requires { (run : PlainRun) × (lookup (bytes_eq batch) runs.old.entries ≡ Some run) }
     ensures count { length runs.new.entries ≡ length runs.old.entries }
     ensures changed { (run : PlainRun) → lookup (bytes_eq batch) runs.old.entries ≡ Some run
         → ChangesRun batch (record run { outcome = Some Abandoned }) runs.old.entries runs.new.entries }
 {
-    if let Some(run) = runs.get_mut(&batch) {
-        run.abandon();
+    match runs.get_mut(&batch) {
+        Some(run) => run.abandon(),
+        None => unreachable!(),
     }
 }
 

@@ -21,3 +21,6 @@ returns-clause-answered c =
     c.give_up.new.runs.entries seats counted batches room open'
     (c.give_up.ensures.changed c.in_default.field-0.now open'.found)
     c.release.ensures.freed c.release.ensures.count
+
+pub give_up-requires : goal.give_up-requires
+give_up-requires c = (c.in_default.field-0.now, c.in_default.ensures.run.found)

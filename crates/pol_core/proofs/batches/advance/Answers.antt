@@ -18,14 +18,18 @@ returns-in-Err-clause-answered c =
     refl room seats counted batches c.in-Err.ensures.rule
 
 pub settle-requires : goal.settle-requires
-settle-requires c = (
-  table_sights c.args.modules.now c.in-Ok.run'.now.binds,
-  λ run found.
-      let is : c.in-Ok.run'.now ≡ run = some_same (lookup (bytes_eq c.args.batch) c.args.runs.now.entries)
-      c.in-Ok.run'.now run c.in-Ok.ensures.run.found found in
-      subst (ComesNext (table_sights c.args.modules.now c.in-Ok.run'.now.binds) c.next_of-next.result)
-      is c.next_of-next.ensures,
-)
+settle-requires c =
+    record {
+      known = (c.in-Ok.run'.now, c.in-Ok.ensures.run.found);
+      next = (
+        table_sights c.args.modules.now c.in-Ok.run'.now.binds,
+        λ run found.
+            let is : c.in-Ok.run'.now ≡ run = some_same (lookup (bytes_eq c.args.batch) c.args.runs.now.entries)
+            c.in-Ok.run'.now run c.in-Ok.ensures.run.found found in
+            subst (ComesNext (table_sights c.args.modules.now c.in-Ok.run'.now.binds) c.next_of-next.result)
+            is c.next_of-next.ensures,
+      );
+    }
 
 pub returns-clause-answered : goal.returns-clause-answered
 returns-clause-answered c =

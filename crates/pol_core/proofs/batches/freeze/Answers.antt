@@ -25,3 +25,6 @@ returns-clause-answered c =
     (freeze_answered history at c.args.batch c.in_default.field-0.now modules c.args.runs.now.entries
     c.freeze_run.new.runs.entries room open'
     (c.freeze_run.ensures.changed c.in_default.field-0.now open'.found) seats counted batches)
+
+pub freeze_run-requires : goal.freeze_run-requires
+freeze_run-requires c = (c.in_default.field-0.now, c.in_default.ensures.run.found)

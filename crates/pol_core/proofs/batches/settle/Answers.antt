@@ -1,5 +1,5 @@
 -- The run of the batch does what comes next.
-use Rattle.std.proofs.Common.{◌≡◌, ◌∙◌, sym, ap, subst}
+use Rattle.std.proofs.Common.{◌≡◌, ◌∙◌, sym, ap, subst, Some, None}
 use Rattle.std.specs.Map.{lookup}
 use Rattle.std.specs.Option.{option_copied_mut}
 use Rattle.std.specs.Str.{bytes_eq}
@@ -9,8 +9,8 @@ use Rattle.pol_history.proofs.Names.{written}
 use Rattle.pol_core.proofs.Runs.{inner_same}
 use Rattle.pol_core.proofs.batches.settle.Goals as goal
 
-pub returns-in-Some-clause-settled : goal.returns-in-Some-clause-settled
-returns-in-Some-clause-settled c =
+pub returns-clause-settled : goal.returns-clause-settled
+returns-clause-settled c =
     λ run found.
     let is : c.in-Some.run'.now ≡ run = inner_same c.in-Some.run'.now run (sym (ap option_copied_mut c.in-Some.is)
     ∙ c.get_mut.ensures.value ∙ found) in
@@ -29,4 +29,9 @@ returns-in-Some-clause-settled c =
 
 pub settle-requires : goal.settle-requires
 settle-requires c =
-    (c.requires.0, c.requires.1 c.in-Some.run'.now (sym c.get_mut.ensures.value ∙ ap option_copied_mut c.in-Some.is))
+    (c.requires.next.0, c.requires.next.1 c.in-Some.run'.now (sym c.get_mut.ensures.value ∙ ap option_copied_mut c.in-Some.is))
+
+pub unreachable-requires : goal.unreachable-requires
+unreachable-requires c =
+    let clash : None ≡ Some c.requires.known.0 = ap option_copied_mut (sym c.in-None.is) ∙ c.get_mut.ensures.value
+    ∙ c.requires.known.1 in cc

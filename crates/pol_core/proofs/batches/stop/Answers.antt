@@ -33,3 +33,6 @@ returns-else-stop_run-clause-answered c =
     (stop_answered history at c.args.batch c.stop_run.result c.in_default.field-0.now modules
     c.args.runs.now.entries c.stop_run.new.runs.entries room open'
     (c.stop_run.ensures.stopped c.in_default.field-0.now open'.found) seats counted batches)
+
+pub stop_run-requires : goal.stop_run-requires
+stop_run-requires c = (c.in_default.field-0.now, c.in_default.ensures.run.found)

@@ -1,5 +1,5 @@
 -- The run of the batch is to be stopped.
-use Rattle.std.proofs.Common.{◌≡◌, ◌∙◌, sym, ap, subst}
+use Rattle.std.proofs.Common.{◌≡◌, ◌∙◌, sym, ap, subst, Some, None}
 use Rattle.std.specs.Map.{lookup}
 use Rattle.std.specs.Option.{option_copied_mut}
 use Rattle.std.specs.Str.{bytes_eq}
@@ -9,8 +9,8 @@ use Rattle.pol_history.proofs.Names.{written}
 use Rattle.pol_core.proofs.Runs.{inner_same}
 use Rattle.pol_core.proofs.batches.stop_run.Goals as goal
 
-pub returns-in-Some-clause-stopped : goal.returns-in-Some-clause-stopped
-returns-in-Some-clause-stopped c =
+pub returns-clause-stopped : goal.returns-clause-stopped
+returns-clause-stopped c =
     λ run found.
     let is : c.in-Some.run'.now ≡ run = inner_same c.in-Some.run'.now run (sym (ap option_copied_mut c.in-Some.is)
     ∙ c.get_mut.ensures.value ∙ found) in
@@ -27,3 +27,8 @@ returns-in-Some-clause-stopped c =
       runs = λ other. ap (lookup (bytes_eq other)) (c.get_mut.follows.holds c.stop.new.self).0
           ∙ written c.args.batch other c.args.runs.now.entries run c.stop.new.self found;
     }
+
+pub unreachable-requires : goal.unreachable-requires
+unreachable-requires c =
+    let clash : None ≡ Some c.requires.0 = ap option_copied_mut (sym c.in-None.is) ∙ c.get_mut.ensures.value
+    ∙ c.requires.1 in cc

@@ -25,3 +25,6 @@ returns-clause-answered c =
     (thaw_answered history at c.args.batch c.in_default.field-0.now modules c.args.runs.now.entries
     c.thaw_run.new.runs.entries room open'
     (c.thaw_run.ensures.changed c.in_default.field-0.now open'.found) seats counted batches)
+
+pub thaw_run-requires : goal.thaw_run-requires
+thaw_run-requires c = (c.in_default.field-0.now, c.in_default.ensures.run.found)

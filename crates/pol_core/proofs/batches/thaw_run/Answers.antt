@@ -1,5 +1,5 @@
 -- The run of the batch is changed in its place.
-use Rattle.std.proofs.Common.{◌≡◌, ◌∙◌, sym, ap, Some, cond, false}
+use Rattle.std.proofs.Common.{◌≡◌, ◌∙◌, sym, ap, Some, cond, false, None}
 use Rattle.std.specs.Map.{lookup}
 use Rattle.std.specs.Option.{option_copied_mut}
 use Rattle.std.specs.Str.{bytes_eq}
@@ -8,8 +8,8 @@ use Rattle.pol_history.proofs.Names.{written}
 use Rattle.pol_core.proofs.Runs.{inner_same}
 use Rattle.pol_core.proofs.batches.thaw_run.Goals as goal
 
-pub returns-in-Some-clause-changed : goal.returns-in-Some-clause-changed
-returns-in-Some-clause-changed c =
+pub returns-clause-changed : goal.returns-clause-changed
+returns-clause-changed c =
     λ run found other.
     let is : c.in-Some.run'.now ≡ run = inner_same c.in-Some.run'.now run (sym (ap option_copied_mut c.in-Some.is)
     ∙ c.get_mut.ensures.value ∙ found) in
@@ -18,3 +18,8 @@ returns-in-Some-clause-changed c =
     ∙ ap (λ (run : PlainRun). cond (bytes_eq c.args.batch other) (Some run)
     (lookup (bytes_eq other) c.args.runs.now.entries))
     (c.thaw.ensures.frozen ∙ ap (λ (run : PlainRun). record run { frozen = false }) is)
+
+pub unreachable-requires : goal.unreachable-requires
+unreachable-requires c =
+    let clash : None ≡ Some c.requires.0 = ap option_copied_mut (sym c.in-None.is) ∙ c.get_mut.ensures.value
+    ∙ c.requires.1 in cc
