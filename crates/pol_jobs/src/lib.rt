@@ -13,5 +13,5 @@ mod stop;
 pub use fault::JobFault;
 pub use line_job::{InputLine, LineJob};
 pub use lines::work;
-pub use output::{PutFault, put};
+pub use output::{PutFault, close_with, put};
 pub use stop::Stop;
