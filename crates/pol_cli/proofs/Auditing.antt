@@ -1,9 +1,8 @@
 -- The work of an audit, line by line, gives its output; and what follows from a good verdict.
-use Rattle.std.proofs.Common.{◌≡◌, ◌<◌, ℕ, List, [], ◌∷◌, ◌++◌, Bool, true, false, length, map, reverse, refl, ap, sym, subst, ◌∙◌, arith, length-append, if◌then◌else◌}
-use Rattle.std.proofs.lemmas.Bool.{lt-ltb}
+use Rattle.std.proofs.Common.{◌≡◌, ◌<◌, ℕ, List, [], ◌∷◌, Bool, true, false, length, map, reverse, refl, ap, sym, subst, ◌∙◌, arith, length-append, if◌then◌else◌}
 use Rattle.std.proofs.lemmas.List.{length-reverse}
 use Rattle.std.specs.List.{fold, list_all}
-use Rattle.std.specs.Prelude.{filter, Option, None, Some}
+use Rattle.std.specs.Prelude.{filter, Some}
 use Rattle.serde_json.specs.Written.{compact_text}
 use Rattle.pol_events.specs.Events.{PlainEntry}
 use Rattle.pol_events.specs.Lines.{is_blank_byte}
@@ -11,10 +10,8 @@ use Rattle.pol_events.specs.Orderly.{is_orderly}
 use Rattle.pol_history.specs.Looking.{History}
 use Rattle.pol_history.specs.Runs.{AreOrderly, IsLegal, IsOrderly}
 use Rattle.pol_io.specs.Pieces.{pieces, line_of}
-use Rattle.pol_io.specs.declared.limits.TheConstants.{LONGEST_LINE}
 use Rattle.pol_record.specs.Verdicts.{verdict_data, verdict_text}
 use Rattle.pol_record.specs.declared.verdicts.Verdict.{Verdict}
-use Rattle.pol_record.specs.declared.verdicts.Verdict.TheVariants as verdict
 use Rattle.pol_audit.specs.Reading.{Read, after_line, nothing_read, verdict_after}
 use Rattle.pol_audit.specs.Truth.{GoodIsTrue, spelled}
 use Rattle.pol_audit.specs.Verdict.{entries_of}
@@ -23,62 +20,48 @@ use Rattle.pol_audit.proofs.Reading.{read_to_verdict}
 use Rattle.pol_safety.specs.Sound.{HistoriesAreSound, EntriesAreRight}
 use Rattle.pol_removal.specs.Removal.{RemovalOfEvents}
 use Rattle.pol_site.specs.Texts.{is_filled}
-use Rattle.pol_cli.specs.Audits.{AuditTheorem, after_audited, audit_of, audit_work, audited, events_of, line_read, lines_read}
-use Rattle.pol_cli.specs.LineWork.{IsShort, IsTooLong, after_all, output_by, replies}
+use Rattle.pol_jobs.specs.LineWork.{after_all, line_met, met, output_by, replies}
+use Rattle.pol_cli.specs.Audits.{AuditTheorem, after_audited, audit_of, audit_work, audited, events_of, lines_read}
 use Rattle.pol_cli.proofs.Journals.{legal_before, orderly_before}
-use Rattle.pol_cli.specs.Written.{WritesPart}
-use Rattle.pol_cli.proofs.Spoken.{in_limit}
-use Rattle.pol_cli.proofs.Written.{none_written}
+use Rattle.pol_cli.proofs.Spoken.{met_filled}
 
 -- ---- one line
 
--- of a short line of blanks nothing is kept
-pub blank_read : (read : Read) (line : List ℕ) → IsShort line → list_all is_blank_byte line ≡ true →
-    read ≡ after_audited read line
-unfolding after_audited
-blank_read read line short blank = rw (in_limit line short, blank) refl
+-- of a line of blanks nothing is kept
+pub blank_read : (read : Read) (line : List ℕ) → list_all is_blank_byte line ≡ true →
+    read ≡ after_audited read (Some line)
+blank_read read line blank = rw blank refl
 
 -- another one is read
-pub short_read : (read next : Read) (line : List ℕ) → IsShort line → list_all is_blank_byte line ≡ false →
-    next ≡ after_line read (Some line) → next ≡ after_audited read line
-unfolding after_audited
-short_read read next line short some is = rw (in_limit line short, some) is
-
--- and so is one that is too long
-pub long_read : (read next : Read) (line : List ℕ) → IsTooLong line → next ≡ after_line read None →
-    next ≡ after_audited read line
-unfolding after_audited
-long_read read next line long is = rw (lt-ltb LONGEST_LINE (length line) long) is
+pub filled_read : (read next : Read) (line : List ℕ) → list_all is_blank_byte line ≡ false →
+    next ≡ after_line read (Some line) → next ≡ after_audited read (Some line)
+filled_read read next line some is = rw some is
 
 -- the line of a verdict isn't empty
-some_verdict : (found : Verdict) → 0 < length (verdict_text found)
+pub some_verdict : (found : Verdict) → 0 < length (verdict_text found)
 some_verdict found =
     let feed : List ℕ = 10 ∷ [] in rw (length-append (compact_text (verdict_data found)) feed) (omega arith)
-
--- before anything is written of it, a proper front part is: none
-pub no_verdict_written : (held : Option (List ℕ)) (found : Verdict) → WritesPart held held (verdict_text found)
-no_verdict_written held found = none_written held (verdict_text found) (some_verdict found)
 
 -- ---- all lines
 
 -- an audit replies nothing to any line
 no_replies : (read : Read) (parts : List (List ℕ)) → replies audit_work read parts ≡ []
 no_replies read [] = refl
-no_replies read (piece ∷ parts) = no_replies (after_audited read (line_of piece)) parts
+no_replies read (piece ∷ parts) = no_replies (after_audited read (line_met piece)) parts
 
 -- what is kept of all lines is what is kept of those that aren't blank
 kept_of_filled : (read : Read) (parts : List (List ℕ)) →
-    after_all audit_work read parts ≡ fold after_line read (map line_read (filter is_filled (map line_of parts)))
-unfolding after_audited
+    after_all audit_work read parts ≡ fold after_line read (map met (filter is_filled (map line_of parts)))
 kept_of_filled read [] = refl
-kept_of_filled read (piece ∷ parts) = by_line (is_filled (line_of piece)) (λ later. kept_of_filled later parts)
+kept_of_filled read (piece ∷ parts) =
+    rw (met_filled (line_of piece)) (by_line (is_filled (line_of piece)) (λ later. kept_of_filled later parts))
   where
     by_line : (filled : Bool) → ((later : Read) → after_all audit_work later parts
-        ≡ fold after_line later (map line_read (filter is_filled (map line_of parts)))) →
-        after_all audit_work (if filled then after_line read (line_read (line_of piece)) else read) parts
-        ≡ fold after_line read (map line_read (if filled then line_of piece ∷ filter is_filled (map line_of parts)
+        ≡ fold after_line later (map met (filter is_filled (map line_of parts)))) →
+        after_all audit_work (if filled then after_line read (line_met piece) else read) parts
+        ≡ fold after_line read (map met (if filled then line_of piece ∷ filter is_filled (map line_of parts)
         else filter is_filled (map line_of parts)))
-    by_line true rest = rest (after_line read (line_read (line_of piece)))
+    by_line true rest = rest (after_line read (line_met piece))
     by_line false rest = rest read
 
 -- behind all lines its verdict is the one of the whole input
@@ -89,8 +72,10 @@ closed_with bytes = ap verdict_after (kept_of_filled nothing_read (pieces bytes)
 pub audit_output : output_by audit_work nothing_read ≡ audited
 audit_output =
     λ i. record {
-      of_lines = λ bytes. no_replies nothing_read (pieces bytes) i;
-      of_input = λ bytes. no_replies nothing_read (pieces bytes) i ++ verdict_text (closed_with bytes i);
+      replies = λ bytes. no_replies nothing_read (pieces bytes) i;
+      Closing = λ bytes text. text ≡ verdict_text (closed_with bytes i);
+      Refuses = λ bytes line reason. ⊥;
+      RefusesEnd = λ bytes reason. ⊥;
     }
 
 -- ---- what follows from a good verdict

@@ -14,7 +14,7 @@ use Rattle.pol_history.specs.Runs.{IsOrderly}
 use Rattle.pol_record.specs.Lines.{closing_text}
 use Rattle.pol_record.specs.Texts.{IsReadBack, batches_text, end_text, entry_line_text}
 use Rattle.pol_cli.specs.SiteRuns.{AreReadBack, entries_text, entry_lines, run_text}
-use Rattle.pol_cli.specs.Written.{WritesPart, WritesSome}
+use Rattle.pol_jobs.specs.Written.{WritesPart, WritesSome}
 use Rattle.pol_cli.proofs.BatchLines.{some_end}
 
 -- ---- orderly entries

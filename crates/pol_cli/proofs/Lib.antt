@@ -1,6 +1,4 @@
-pub mod Written
 pub mod Spoken
-pub mod Serving
 pub mod Ending
 pub mod BatchLines
 pub mod Replaying
@@ -9,3 +7,4 @@ pub mod SiteTexts
 pub mod EntryLines
 pub mod PlantEnding
 pub mod Auditing
+pub mod Told

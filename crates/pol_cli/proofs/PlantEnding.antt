@@ -1,212 +1,187 @@
 -- How the job plant ended, by how its input was read and its run was written.
-use Rattle.std.proofs.Common.{ℕ, ◌≡◌, ◌≤◌, List, [], ap, refl, sym, subst, inl, inr, arith, length}
-use Rattle.std.specs.Prelude.{Option, Some, None, Result, Ok, Err, IfErr, IfSome, OnOk, ◌⊎◌, ◌≢◌}
-use Rattle.std.specs.Io.KnownBytes.{Keeps}
-use Rattle.mtp_json.specs.ReadResult.{ReadResult}
-use Rattle.mtp_json.specs.declared.fault.FaultKind.{FaultKind}
+use Rattle.std.proofs.Common.{ℕ, ◌≡◌, ◌∙◌, List, [], ◌∷◌, ◌++◌, refl, sym, arith}
+use Rattle.std.specs.Prelude.{Option, None, Result, Ok, Err, IfErr, ◌≢◌}
 use Rattle.mtp_json.specs.declared.fault.JsonFault.{JsonFault}
-use Rattle.mtp_json.specs.declared.path.PathPart.{PathPart}
 use Rattle.pol_io.specs.Causes.{HasCauseOf, Rose}
 use Rattle.pol_io.specs.Edge.{Edge}
 use Rattle.pol_io.specs.Known.{Between}
-use Rattle.pol_io.specs.declared.limits.TheConstants.{LONGEST_INPUT}
-use Rattle.pol_io.proofs.Known.{Keeps_refl}
+use Rattle.pol_io.proofs.Known.{Appends_none, Keeps_refl, between_weaker}
+use Rattle.pol_jobs.specs.Ends.{Ends, IsRefused, LeavesPart, Writes, WritesTaken, WritesTakenAndMore, edge, refused_input, refused_line, stopped_at_end, stopped_closing, stopped_within}
+use Rattle.pol_jobs.specs.Faults.{of_output}
+use Rattle.pol_jobs.specs.LineWork.{AcceptsBehind, Output, output_by}
+use Rattle.pol_jobs.specs.declared.fault.JobFault.{JobFault}
+use Rattle.pol_jobs.specs.declared.fault.JobFault.TheVariants.{Read, Write, Memory, TooMuch, Refused}
+use Rattle.pol_jobs.specs.declared.output.PutFault.{PutFault}
+use Rattle.pol_jobs.specs.declared.output.PutFault.TheVariants as put_fault
+use Rattle.pol_jobs.proofs.Ending.{completes}
+use Rattle.pol_jobs.proofs.Written.{nothing_written}
 use Rattle.pol_site.specs.Sites.{PlainSite}
-use Rattle.pol_site.specs.Texts.{site_of}
-use Rattle.pol_cli.specs.Ends.{Fits, IsTooMuch, TakesTooMuch}
-use Rattle.pol_cli.specs.SiteRuns.{IsDue, LeavesRun, PlantEnds, PutsPart, PutsRun, WritesRunPart}
-use Rattle.pol_cli.specs.SiteTexts.{Says}
-use Rattle.pol_cli.specs.Statuses.{status_of}
-use Rattle.pol_cli.specs.declared.job_fault.JobFault.{JobFault}
-use Rattle.pol_cli.specs.declared.job_fault.JobFault.TheVariants.{Read, Write, Memory, TooMuch}
-use Rattle.pol_cli.specs.declared.status.Status.{Status}
+use Rattle.pol_cli.specs.SiteRuns.{PutsPart, PutsRun, RunWrites, planted}
+use Rattle.pol_cli.specs.SiteTexts.{Says, none_yet, site_work}
+use Rattle.pol_cli.specs.Statuses.{bad_site, status_of}
+use Rattle.pol_cli.specs.Tasks.{PlantEnds}
 use Rattle.pol_cli.specs.declared.status.Status.TheVariants as status
+use Rattle.pol_cli.proofs.SiteTexts.{text_told}
 
--- where nothing failed and the input fits the status is the one that is due
-abbrev Completes : Edge → Edge → Edge → Edge → Status → Type 0
-Completes source source' sink sink' ended =
-    ¬ Rose source.faults source'.faults → ¬ Rose sink.faults sink'.faults
-    → IfSome source.bytes (λ bytes. length bytes ≤ LONGEST_INPUT → IsDue (site_of bytes) ended)
+-- no line of a site text is refused
+all_accepted : (done : List ℕ) (parts : List (List ℕ)) → AcceptsBehind planted done parts
+all_accepted done [] = tt
+all_accepted done (piece ∷ parts) = (λ reason refuses. refuses, all_accepted (done ++ piece) parts)
 
--- want of memory is always allowed
-memory_due : (said : ReadResult PlainSite) → IsDue said status.OutOfMemory
-memory_due (Ok site) = inr refl
-memory_due (Err fault) = inr refl
+-- ---- a text that was read to nowhere
 
--- the status is due where it is by what the text was read to say
-due_said : (begin left : Option (List ℕ)) (said : ReadResult PlainSite) (ended : Status) →
-    Between (Says said) begin left → IsDue said ended →
-    IfSome begin (λ bytes. length bytes ≤ LONGEST_INPUT → IsDue (site_of bytes) ended)
-due_said None left said ended says due = tt
-due_said (Some bytes) None said ended says due = absurd says
-due_said (Some bytes) (Some left) said ended says due = λ fits. subst (λ said. IsDue said ended) (sym says.text) due
+-- nowhere nothing fails
+not_nowhere : Rose 0 0 → ⊥
+not_nowhere rose = omega (arith, rose)
 
--- an input that has too much doesn't fit
-much_due : (begin : Option (List ℕ)) (ended : Status) → IsTooMuch begin →
-    IfSome begin (λ bytes. length bytes ≤ LONGEST_INPUT → IsDue (site_of bytes) ended)
-much_due None ended much = tt
-much_due (Some bytes) ended much = λ fits. absurd (omega arith)
+-- the reading of a site text, and what it wrote
+abbrev reading : Output JsonFault
+reading = output_by site_work none_yet
 
--- whatever the text says, there may have been no memory
-unread_due : (begin : Option (List ℕ)) →
-    IfSome begin (λ bytes. length bytes ≤ LONGEST_INPUT → IsDue (site_of bytes) status.OutOfMemory)
-unread_due None = tt
-unread_due (Some bytes) = λ fits. memory_due (site_of bytes)
+module _ (held nowhere nowhere' : Option (List ℕ)) where
+  -- the lines that were taken
+  taken_so : (bytes left : List ℕ) → WritesTaken reading nowhere nowhere' bytes left →
+      WritesTaken planted held held bytes left
+  taken_so bytes left it = record {
+    takes = it.takes;
+    accepted = all_accepted [] _;
+    written = Appends_none held held (Keeps_refl held);
+  }
 
--- there was no memory to begin
-pub unbegun_plant : (source sink : Edge) → PlantEnds source source sink sink status.OutOfMemory
-unbegun_plant source sink = record {
-  good = λ is. cc;
-  part = λ is. cc;
-  memory = λ is. inl (Keeps_refl sink.bytes);
-  bad_site = λ path fault is. cc;
-  read_fault = λ is. cc;
-  read_well = λ is. refl;
-  write_fault = λ is. cc;
-  written_well = λ is. refl;
-  too_much = λ is. cc;
-  taken = λ is. cc;
-  fits = λ unfailed some. absurd (some refl);
-  complete = λ unread unwritten. unread_due source.bytes;
+  -- and a byte more
+  more_so : (bytes left : List ℕ) → WritesTakenAndMore reading nowhere nowhere' bytes left →
+      WritesTakenAndMore planted held held bytes left
+  unfolding taken_so
+  more_so bytes left it = record { last = it.last; taken = taken_so bytes _ it.taken; full = it.full }
+
+  -- what is left where there was no memory
+  part_so : (bytes left : List ℕ) → LeavesPart reading nowhere nowhere' bytes left →
+      LeavesPart planted held held bytes left
+  part_so bytes left (stopped_within part) =
+      stopped_within (record { takes = part.takes; some = nothing_written held [] })
+  part_so bytes left (stopped_at_end part) =
+      stopped_at_end (record { read = part.read; some = nothing_written held [] })
+  part_so bytes left (stopped_closing part) =
+      stopped_at_end (record { read = part.read; some = nothing_written held [] })
+
+  -- the text says no site
+  refused_so : (fault : JsonFault) (bytes left : List ℕ) → IsRefused reading fault nowhere nowhere' bytes left →
+      IsRefused planted fault held held bytes left
+  refused_so fault bytes left (refused_line line) = absurd line.refuses
+  refused_so fault bytes left (refused_input input) =
+      refused_input (record {
+        read = input.read;
+        accepted = all_accepted [] _;
+        refuses = text_told bytes ∙ input.refuses;
+        written = Appends_none held held (Keeps_refl held);
+      })
+
+-- where the text wasn't read, or says no site, nothing was written
+pub unread_ends : (source source' sink : Edge) (fault : JobFault JsonFault) →
+    Ends reading source source' (edge None 0) (edge None 0) (Err fault) → Ends planted source source' sink sink (Err fault)
+unread_ends source source' sink Read ends =
+    (between_weaker _ _ source.bytes source'.bytes (taken_so sink.bytes None None) ends.0, ends.1, refl)
+unread_ends source source' sink Write ends = absurd (not_nowhere ends.2)
+unread_ends source source' sink Memory ends =
+    (between_weaker _ _ source.bytes source'.bytes (part_so sink.bytes None None) ends.0, ends.1, refl)
+unread_ends source source' sink TooMuch ends =
+    (between_weaker _ _ source.bytes source'.bytes (more_so sink.bytes None None) ends.0, ends.1, refl, ends.3)
+unread_ends source source' sink (Refused fault) ends =
+    (between_weaker _ _ source.bytes source'.bytes (refused_so sink.bytes None None fault) ends.0, ends.1, refl)
+
+-- nor did the sink fail
+pub no_write : (source source' : Edge) (fault : JobFault JsonFault) →
+    Ends reading source source' (edge None 0) (edge None 0) (Err fault) → fault ≢ Write
+no_write source source' Read ends = λ is. cc
+no_write source source' Write ends = λ is. not_nowhere ends.2
+no_write source source' Memory ends = λ is. cc
+no_write source source' TooMuch ends = λ is. cc
+no_write source source' (Refused fault) ends = λ is. cc
+
+-- ---- a text that says a site
+
+module _ (site : PlainSite) (source source' : Edge) (says : Between (Says (Ok site)) source.bytes source'.bytes)
+    (well : source'.faults ≡ source.faults) where
+  -- all of a run was written
+  pub run_done : (sink sink' : Edge) → PutsRun site sink.bytes sink'.bytes → sink'.faults ≡ sink.faults →
+      Ends planted source source' sink sink' (Ok tt)
+  run_done sink sink' puts wrote = (
+    between_weaker _ (Writes planted sink.bytes sink'.bytes) source.bytes source'.bytes
+        (λ bytes left said. record {
+          read = said.read;
+          accepted = (all_accepted [] _, λ fault refuses. other site fault (sym said.text ∙ refuses));
+          closing = _;
+          may = (
+            site,
+            said.text,
+            record { history = puts.history; is_run = puts.is_run; text_is = refl },
+          );
+          written = puts.written;
+        }) says,
+    well,
+    wrote,
+  )
+    where
+      other : (site : PlainSite) (fault : JsonFault) → Ok site ≡ Err fault → ⊥
+      other site fault is = cc
+
+  -- or a part of it
+  broken_leaves : (sink sink' : Edge) → PutsPart site sink.bytes sink'.bytes →
+      Between (LeavesPart planted sink.bytes sink'.bytes) source.bytes source'.bytes
+  broken_leaves sink sink' puts =
+      between_weaker _ (LeavesPart planted sink.bytes sink'.bytes) source.bytes source'.bytes
+      (λ bytes left said. stopped_closing (record {
+        read = said.read;
+        closing = _;
+        may = (
+          site,
+          said.text,
+          record { history = puts.history; is_run = puts.is_run; text_is = refl },
+        );
+        part = puts.part;
+      })) says
+
+  -- with the fault that ended it
+  pub run_broken : (sink sink' : Edge) (fault : PutFault) → PutsPart site sink.bytes sink'.bytes →
+      HasCauseOf {T = Unit {0}} put_fault.Write sink.faults sink'.faults (Err fault) →
+      Ends planted source source' sink sink' (Err (of_output fault))
+  run_broken sink sink' put_fault.Write puts wrote = (broken_leaves sink sink' puts, well, wrote.failed refl)
+  run_broken sink sink' put_fault.Memory puts wrote =
+      (broken_leaves sink sink' puts, well, wrote.other (λ same. cc))
+
+  -- or there was no memory for the run
+  pub run_unbegun : (sink : Edge) → Ends planted source source' sink sink (Err Memory)
+  run_unbegun sink = (
+    between_weaker _ (LeavesPart planted sink.bytes sink.bytes) source.bytes source'.bytes
+        (λ bytes left said. stopped_at_end (record { read = said.read; some = nothing_written sink.bytes [] })) says,
+    well,
+    refl,
+  )
+
+-- ---- its status
+
+-- what is known of the result is known of its status
+pub plant_ends : (source source' sink sink' : Edge) (result : Result (Unit {0}) (JobFault JsonFault)) →
+    Ends planted source source' sink sink' result →
+    RunWrites source.bytes source'.bytes sink.bytes sink'.bytes result →
+    PlantEnds source source' sink sink' (status_of bad_site result)
+plant_ends source source' sink sink' result ends writes = record {
+  job = record {
+    result = result;
+    told = refl;
+    ends = ends;
+    complete = completes planted source source' sink sink' result ends;
+  };
+  writes = writes;
 }
 
--- the input was not read to its end
-pub unread_ends : {T : Type 0} (source source' sink : Edge) (fault : JobFault) →
-    (fault ≡ TooMuch → IsTooMuch source.bytes) →
-    (fault ≡ TooMuch → Between TakesTooMuch source.bytes source'.bytes) →
-    HasCauseOf {T = T} Read source.faults source'.faults (Err fault) → fault ≢ Write →
-    PlantEnds source source' sink sink (status_of (Err fault))
-unread_ends source source' sink Read much taken read only = record {
-  good = λ is. cc;
-  part = λ is. cc;
-  memory = λ is. cc;
-  bad_site = λ path fault is. cc;
-  read_fault = λ is. read.failed refl;
-  read_well = λ is. absurd (is refl);
-  write_fault = λ is. cc;
-  written_well = λ is. refl;
-  too_much = λ is. cc;
-  taken = λ is. cc;
-  fits = λ unfailed. absurd (unfailed refl);
-  complete = λ unread. absurd (unread (read.failed refl));
-}
-unread_ends source source' sink Write much taken read only = absurd (only refl)
-unread_ends source source' sink Memory much taken read only = record {
-  good = λ is. cc;
-  part = λ is. cc;
-  memory = λ is. inl (Keeps_refl sink.bytes);
-  bad_site = λ path fault is. cc;
-  read_fault = λ is. cc;
-  read_well = λ is. read.other (λ same. cc);
-  write_fault = λ is. cc;
-  written_well = λ is. refl;
-  too_much = λ is. cc;
-  taken = λ is. cc;
-  fits = λ unfailed some. absurd (some refl);
-  complete = λ unread unwritten. unread_due source.bytes;
-}
-unread_ends source source' sink TooMuch much taken read only = record {
-  good = λ is. cc;
-  part = λ is. cc;
-  memory = λ is. cc;
-  bad_site = λ path fault is. cc;
-  read_fault = λ is. cc;
-  read_well = λ is. read.other (λ same. cc);
-  write_fault = λ is. cc;
-  written_well = λ is. refl;
-  too_much = λ is. much refl;
-  taken = λ is. taken refl;
-  fits = λ unfailed some few. absurd (few refl);
-  complete = λ unread unwritten. much_due source.bytes status.TooMuchInput (much refl);
-}
-
--- the path and the fault that a status tells
-abbrev path_in : Status → List PathPart
-path_in (status.BadSite path fault) = path
-path_in _ = []
-
--- the fault that a status tells, or else a given one
-abbrev kind_in : FaultKind → Status → FaultKind
-kind_in other (status.BadSite path fault) = fault
-kind_in other _ = other
-
--- the input is at fault
-pub faulty_ends : (source source' sink : Edge) (fault : JsonFault) →
-    Between (Says (Err fault)) source.bytes source'.bytes →
-    Fits source.bytes → source'.faults ≡ source.faults →
-    PlantEnds source source' sink sink (status.BadSite fault.path fault.kind)
-faulty_ends source source' sink fault says fits read = record {
-  good = λ is. cc;
-  part = λ is. cc;
-  memory = λ is. cc;
-  bad_site = λ path kind is.
-      let whole : fault ≡ record { kind = kind; path = path } =
-      (λ i. record { kind = ap (kind_in fault.kind) is i; path = ap path_in is i }) in
-      subst (λ told. Between (Says (Err told)) source.bytes source'.bytes) whole says;
-  read_fault = λ is. cc;
-  read_well = λ is. read;
-  write_fault = λ is. cc;
-  written_well = λ is. refl;
-  too_much = λ is. cc;
-  taken = λ is. cc;
-  fits = λ unfailed some few. fits;
-  complete = λ unread unwritten.
-      due_said source.bytes source'.bytes (Err fault) (status.BadSite fault.path fault.kind) says (inl refl);
-}
-
--- the input says a site, and this came of its run
-pub run_ends : (site : PlainSite) (source source' sink sink' : Edge) (result : Result (Unit {0}) JobFault) →
-    Between (Says (Ok site)) source.bytes source'.bytes →
-    Fits source.bytes → source'.faults ≡ source.faults →
-    OnOk result (PutsRun site sink.bytes sink'.bytes) →
-    IfErr result (LeavesRun site sink.bytes sink'.bytes) →
-    HasCauseOf Write sink.faults sink'.faults result → PlantEnds source source' sink sink' (status_of result)
-run_ends site source source' sink sink' (Ok done) says fits read puts leaves wrote = record {
-  good = λ is. record { site = site; says = says; puts = puts };
-  part = λ is. cc;
-  memory = λ is. cc;
-  bad_site = λ path kind is. cc;
-  read_fault = λ is. cc;
-  read_well = λ is. read;
-  write_fault = λ is. cc;
-  written_well = λ is. wrote.done;
-  too_much = λ is. cc;
-  taken = λ is. cc;
-  fits = λ unfailed some few. fits;
-  complete = λ unread unwritten. due_said source.bytes source'.bytes (Ok site) status.Good says (inl refl);
-}
-run_ends site source source' sink sink' (Err Read) says fits read puts leaves wrote = absurd leaves
-run_ends site source source' sink sink' (Err TooMuch) says fits read puts leaves wrote = absurd leaves
-run_ends site source source' sink sink' (Err Write) says fits read puts leaves wrote = record {
-  good = λ is. cc;
-  part = λ is. record { site = site; says = says; puts = leaves };
-  memory = λ is. cc;
-  bad_site = λ path kind is. cc;
-  read_fault = λ is. cc;
-  read_well = λ is. read;
-  write_fault = λ is. wrote.failed refl;
-  written_well = λ is. absurd (is refl);
-  too_much = λ is. cc;
-  taken = λ is. cc;
-  fits = λ unfailed some few. fits;
-  complete = λ unread unwritten. absurd (unwritten (wrote.failed refl));
-}
-run_ends site source source' sink sink' (Err Memory) says fits read puts leaves wrote = record {
-  good = λ is. cc;
-  part = λ is. cc;
-  memory = λ is. some_or_none leaves;
-  bad_site = λ path kind is. cc;
-  read_fault = λ is. cc;
-  read_well = λ is. read;
-  write_fault = λ is. cc;
-  written_well = λ is. wrote.other (λ same. cc);
-  too_much = λ is. cc;
-  taken = λ is. cc;
-  fits = λ unfailed some few. fits;
-  complete = λ unread unwritten. unread_due source.bytes;
-}
-  where
-    some_or_none : Keeps sink.bytes sink'.bytes ⊎ PutsPart site sink.bytes sink'.bytes →
-        Keeps sink.bytes sink'.bytes ⊎ WritesRunPart source.bytes source'.bytes sink.bytes sink'.bytes
-    some_or_none (inl none) = inl none
-    some_or_none (inr part) = inr (record { site = site; says = says; puts = part })
+-- where the status tells neither an end nor a fault of the sink nor want of memory, the result tells none either
+pub unbegun_by_status : (P : Type 0) (result : Result (Unit {0}) (JobFault JsonFault)) →
+    IfErr result (λ fault. fault ≢ Write → fault ≢ Memory → P) → status_of bad_site result ≢ status.Good →
+    status_of bad_site result ≢ status.WriteFault → status_of bad_site result ≢ status.OutOfMemory → P
+unbegun_by_status P (Ok done) unbegun good write memory = absurd (good refl)
+unbegun_by_status P (Err Read) unbegun good write memory = unbegun (λ is. cc) (λ is. cc)
+unbegun_by_status P (Err Write) unbegun good write memory = absurd (write refl)
+unbegun_by_status P (Err Memory) unbegun good write memory = absurd (memory refl)
+unbegun_by_status P (Err TooMuch) unbegun good write memory = unbegun (λ is. cc) (λ is. cc)
+unbegun_by_status P (Err (Refused fault)) unbegun good write memory = unbegun (λ is. cc) (λ is. cc)

@@ -8,15 +8,17 @@ use Rattle.pol_record.specs.Lines as lines
 use Rattle.pol_record.specs.Lines.{as_input_line, input_line_of, events_in, answered_lines_after, answered_texts, closing_text, meaning_of}
 use Rattle.pol_history.specs.Runs.{entry_of, recorded, history_after}
 use Rattle.pol_record.specs.Texts.{answer_text, fault_text}
-use Rattle.pol_cli.specs.LineWork.{replies, after_all, output_by}
+use Rattle.pol_jobs.specs.LineWork.{replies, after_all, output_by}
 use Rattle.pol_cli.specs.Replay.{replay_work, replayed}
 use Rattle.pol_cli.specs.Meanings.{reply_text, after_meaning}
+use Rattle.pol_cli.proofs.Spoken.{met_means}
 
 -- the replies to lines are the texts of their rows
 replies_rows : (history : History) (parts : List (List ℕ)) →
     replies replay_work history parts ≡ answered_texts (answered_lines_after history (map input_line_of parts))
 replies_rows history [] = refl
-replies_rows history (piece ∷ parts) = by_meaning (meaning_of (line_of piece)) (λ later. replies_rows later parts)
+replies_rows history (piece ∷ parts) =
+    rw (met_means (line_of piece)) (by_meaning (meaning_of (line_of piece)) (λ later. replies_rows later parts))
   where
     by_meaning : (meaning : lines.LineMeaning) → ((later : History) → replies replay_work later parts
         ≡ answered_texts (answered_lines_after later (map input_line_of parts))) →
@@ -31,7 +33,8 @@ replies_rows history (piece ∷ parts) = by_meaning (meaning_of (line_of piece))
 after_rows : (history : History) (parts : List (List ℕ)) → after_all replay_work history parts
     ≡ history_after history (events_in (map input_line_of parts))
 after_rows history [] = refl
-after_rows history (piece ∷ parts) = by_meaning (meaning_of (line_of piece)) (λ later. after_rows later parts)
+after_rows history (piece ∷ parts) =
+    rw (met_means (line_of piece)) (by_meaning (meaning_of (line_of piece)) (λ later. after_rows later parts))
   where
     by_meaning : (meaning : lines.LineMeaning) → ((later : History) → after_all replay_work later parts
         ≡ history_after later (events_in (map input_line_of parts))) →
@@ -45,6 +48,8 @@ after_rows history (piece ∷ parts) = by_meaning (meaning_of (line_of piece)) (
 pub replay_output : output_by replay_work [] ≡ replayed
 replay_output =
     λ i. record {
-      of_lines = λ bytes. replies_rows [] (pieces bytes) i;
-      of_input = λ bytes. replies_rows [] (pieces bytes) i ++ closing_text (after_rows [] (pieces bytes) i);
+      replies = λ bytes. replies_rows [] (pieces bytes) i;
+      Closing = λ bytes text. text ≡ closing_text (after_rows [] (pieces bytes) i);
+      Refuses = λ bytes line reason. ⊥;
+      RefusesEnd = λ bytes reason. ⊥;
     }

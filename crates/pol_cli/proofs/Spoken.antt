@@ -1,7 +1,6 @@
--- What a line says, by how it was read.
-use Rattle.std.proofs.Common.{ℕ, ◌≡◌, List, length, true, false, arith}
-use Rattle.std.proofs.lemmas.Bool.{false_from_ne_true, ltb-true, lt-ltb}
-use Rattle.std.specs.Prelude.{Ok, Err, nat_lt}
+-- What a line says, by how it was read and met.
+use Rattle.std.proofs.Common.{ℕ, ◌≡◌, ◌∙◌, List, Bool, length, true, false, ap, refl, if◌then◌else◌}
+use Rattle.std.specs.Prelude.{◌||◌, not, Ok, Err, Some, None, nat_lt}
 use Rattle.std.specs.List.{list_all}
 use Rattle.pol_events.specs.Events.{PlainEvent}
 use Rattle.pol_events.specs.Lines.{event_of, is_blank_byte}
@@ -9,36 +8,40 @@ use Rattle.pol_events.specs.declared.fault.LineFault.{LineFault}
 use Rattle.pol_events.specs.declared.fault.LineFault.TheVariants.{TooLong}
 use Rattle.pol_io.specs.declared.limits.TheConstants.{LONGEST_LINE}
 use Rattle.pol_record.specs.Lines as lines
-use Rattle.pol_cli.specs.LineWork.{IsShort, IsTooLong}
+use Rattle.pol_jobs.specs.LineWork.{met}
+use Rattle.pol_jobs.proofs.Meeting.{met_by_length}
+use Rattle.pol_site.specs.Texts.{is_filled, is_long}
+use Rattle.pol_cli.specs.Meanings.{is_some_line, meaning_met}
 
--- a short line is not too long
-pub in_limit : (line : List ℕ) → IsShort line → nat_lt LONGEST_LINE (length line) ≡ false
-in_limit line short =
-    false_from_ne_true (nat_lt LONGEST_LINE (length line)) (λ long. let over =
-    ltb-true LONGEST_LINE (length line) long in
-    absurd (omega arith))
-
--- a short line of blanks says nothing
-pub says_nothing : (line : List ℕ) → IsShort line → list_all is_blank_byte line ≡ true →
-    lines.nothing ≡ lines.meaning_of line
-unfolding lines.meaning_of
-says_nothing line short blank = rw (in_limit line short, blank)
+-- a line of blanks says nothing
+pub says_nothing : (line : List ℕ) → list_all is_blank_byte line ≡ true → lines.nothing ≡ lines.short_meaning line
+says_nothing line blank = rw blank refl
 
 -- another one says its event
-pub says_event : (line : List ℕ) (event : PlainEvent) → IsShort line → list_all is_blank_byte line ≡ false →
-    event_of line ≡ Ok event →
-    lines.an_event event ≡ lines.meaning_of line
-unfolding lines.meaning_of
-says_event line event short some is = rw (in_limit line short, some, is)
+pub says_event : (line : List ℕ) (event : PlainEvent) → list_all is_blank_byte line ≡ false →
+    event_of line ≡ Ok event → lines.an_event event ≡ lines.short_meaning line
+says_event line event some is = rw (some, is) refl
 
 -- or is at fault
-pub says_fault : (line : List ℕ) (fault : LineFault) → IsShort line → list_all is_blank_byte line ≡ false →
-    event_of line ≡ Err fault →
-    lines.a_fault fault ≡ lines.meaning_of line
-unfolding lines.meaning_of
-says_fault line fault short some is = rw (in_limit line short, some, is)
+pub says_fault : (line : List ℕ) (fault : LineFault) → list_all is_blank_byte line ≡ false →
+    event_of line ≡ Err fault → lines.a_fault fault ≡ lines.short_meaning line
+says_fault line fault some is = rw (some, is) refl
 
--- a line that is too long says so
-pub says_too_long : (line : List ℕ) → IsTooLong line → lines.a_fault TooLong ≡ lines.meaning_of line
+-- a line says what it says as it is met
+pub met_means : (line : List ℕ) → meaning_met (met line) ≡ lines.meaning_of line
 unfolding lines.meaning_of
-says_too_long line long = rw (lt-ltb LONGEST_LINE (length line) long)
+met_means line = ap meaning_met (met_by_length line) ∙ by_length (nat_lt LONGEST_LINE (length line))
+  where
+    by_length : (long : Bool) → meaning_met (if long then None else Some line)
+        ≡ (if long then lines.a_fault TooLong else lines.short_meaning line)
+    by_length true = refl
+    by_length false = refl
+
+-- a line isn't blank as it is met where it isn't
+pub met_filled : (line : List ℕ) → is_some_line (met line) ≡ is_filled line
+met_filled line = ap is_some_line (met_by_length line) ∙ by_length (is_long line)
+  where
+    by_length : (long : Bool) →
+        is_some_line (if long then None else Some line) ≡ (long || not (list_all is_blank_byte line))
+    by_length true = refl
+    by_length false = refl

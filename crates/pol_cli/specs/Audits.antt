@@ -1,5 +1,6 @@
 -- The audit of a history: the lines of an input, what is kept of them, the output, and what a good verdict says.
-use Rattle.std.specs.Prelude.{ℕ, ◌≡◌, List, [], ◌∷◌, ◌++◌, length, map, reverse, Some, None, if◌then◌else◌}
+use Rattle.std.specs.Prelude.{ℕ, ◌≡◌, List, [], ◌∷◌, ◌++◌, length, map, reverse, if◌then◌else◌}
+use Rattle.std.specs.declared.convert.Infallible.{Infallible}
 use Rattle.pol_events.specs.Events.{PlainEntry, PlainEvent}
 use Rattle.pol_history.specs.Looking.{History}
 use Rattle.pol_history.specs.Runs.{run_of}
@@ -8,44 +9,36 @@ use Rattle.pol_record.specs.declared.verdicts.Verdict.{Verdict}
 use Rattle.pol_record.specs.declared.verdicts.Verdict.TheVariants as verdict
 use Rattle.pol_audit.specs.Reading.{Read, after_line, verdict_after}
 use Rattle.pol_audit.specs.Truth.{spelled}
-use Rattle.pol_audit.specs.Verdict.{Line, verdict_of}
+use Rattle.pol_audit.specs.Verdict.{verdict_of}
 use Rattle.pol_safety.specs.Sound.{IsRight, IsSound}
 use Rattle.pol_removal.specs.Removal.{entries_without}
-use Rattle.pol_site.specs.Texts.{filled_lines, is_filled, is_long}
-use Rattle.pol_cli.specs.LineWork.{LineWork, Output}
+use Rattle.pol_site.specs.Texts.{filled_lines}
+use Rattle.pol_jobs.specs.LineWork.{Line, LineWork, Output, met, texts_of, work_of}
+use Rattle.pol_cli.specs.Meanings.{is_some_line}
 
 -- ---- its output
 
--- a line that isn't blank, as it is read: one that is too long is told as such
-abbrev pub line_read : List ℕ → Line
-line_read line = if is_long line then None else Some line
-
--- the lines of an input that aren't blank
+-- the lines of an input that aren't blank, as they are met
 abbrev pub lines_read : List ℕ → List Line
-lines_read bytes = map line_read (filled_lines bytes)
+lines_read bytes = map met (filled_lines bytes)
 
 -- the verdict over an input
 abbrev pub audit_of : List ℕ → Verdict
 audit_of bytes = verdict_of (lines_read bytes)
 
 -- the output of an audit: nothing for lines, and the line of the verdict for an input
-abbrev pub audited : Output
-audited = record { of_lines = λ lines. []; of_input = λ input. verdict_text (audit_of input) }
+abbrev pub audited : Output Infallible
+audited = texts_of (λ lines. []) (λ input. verdict_text (audit_of input))
 
 -- ---- its work
 
 -- what is kept after one more line
-unfoldable pub after_audited : Read → List ℕ → Read
-after_audited read line = if is_filled line then after_line read (line_read line) else read
+abbrev pub after_audited : Read → Line → Read
+after_audited read line = if is_some_line line then after_line read line else read
 
 -- what an audit does with each line, and at the end
-abbrev pub audit_work : LineWork Read
-audit_work =
-    record {
-      reply = λ read line. [];
-      after = after_audited;
-      closing = λ read. verdict_text (verdict_after read);
-    }
+abbrev pub audit_work : LineWork Read Infallible
+audit_work = work_of (λ read line. []) after_audited (λ read. verdict_text (verdict_after read))
 
 -- ---- what a good verdict says
 

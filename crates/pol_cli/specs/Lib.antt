@@ -1,13 +1,9 @@
-pub mod LineWork
-pub mod Written
-pub mod Ends
 pub mod Journal
 pub mod Statuses
 pub mod Meanings
 pub mod Replay
 pub mod Tasks
 pub mod BatchLines
-pub mod Moments
 pub mod SiteTexts
 pub mod SiteRuns
 pub mod Audits

@@ -1,14 +1,9 @@
--- How the job plant ends: the site that the input says, the history that its run leaves, and what is written of it.
-use Rattle.std.specs.Prelude.{ℕ, ◌≡◌, ◌≢◌, ◌≤◌, ◌++◌, ◌⊎◌, List, length, reverse, Option, IfSome, Ok, Err}
+-- What the job plant writes: the site that the input says, the history that a run of it leaves, and its text.
+use Rattle.std.specs.Prelude.{ℕ, ◌≡◌, ◌++◌, ◌⊎◌, List, [], reverse, Option, Result, Ok, Err}
 use Rattle.std.specs.List.{AllByRecursion, flat_map}
 use Rattle.std.specs.Io.KnownBytes.{Appends, Keeps}
-use Rattle.mtp_json.specs.ReadResult.{ReadResult}
-use Rattle.mtp_json.specs.declared.fault.FaultKind.{FaultKind}
-use Rattle.mtp_json.specs.declared.path.PathPart.{PathPart}
-use Rattle.pol_io.specs.Causes.{Rose}
-use Rattle.pol_io.specs.Edge.{Edge}
+use Rattle.mtp_json.specs.declared.fault.JsonFault.{JsonFault}
 use Rattle.pol_io.specs.Known.{Between}
-use Rattle.pol_io.specs.declared.limits.TheConstants.{LONGEST_INPUT}
 use Rattle.pol_events.specs.Events.{PlainEntry, plain_entry}
 use Rattle.pol_events.specs.declared.event.Entry.{Entry}
 use Rattle.pol_history.specs.Looking.{History}
@@ -20,13 +15,11 @@ use Rattle.pol_site.specs.Following.{FollowsSite}
 use Rattle.pol_site.specs.Settled.{IsSettled}
 use Rattle.pol_site.specs.Sites.{PlainSite}
 use Rattle.pol_site.specs.Texts.{site_of}
-use Rattle.pol_cli.specs.Ends.{Fits, IsTooMuch, TakesTooMuch}
+use Rattle.pol_jobs.specs.LineWork.{Output}
+use Rattle.pol_jobs.specs.Written.{WritesPart}
+use Rattle.pol_jobs.specs.declared.fault.JobFault.{JobFault}
+use Rattle.pol_jobs.specs.declared.fault.JobFault.TheVariants.{Write, Memory}
 use Rattle.pol_cli.specs.SiteTexts.{Says}
-use Rattle.pol_cli.specs.Written.{WritesPart}
-use Rattle.pol_cli.specs.declared.job_fault.JobFault.{JobFault}
-use Rattle.pol_cli.specs.declared.job_fault.JobFault.TheVariants.{Read, Write, Memory, TooMuch}
-use Rattle.pol_cli.specs.declared.status.Status.{Status}
-use Rattle.pol_cli.specs.declared.status.Status.TheVariants.{Good, BadWords, ReadFault, WriteFault, OutOfMemory, TooMuchInput, BadSite}
 
 -- ---- a run and its text
 
@@ -68,13 +61,6 @@ pub record PutsPart (site : PlainSite) (held held' : Option (List ℕ)) : Type 0
   pub is_run : IsRunOf site history
   pub part : WritesPart held held' (run_text history)
 
--- what was written where a fault ended the run, or the writing of it
-abbrev pub LeavesRun : PlainSite → Option (List ℕ) → Option (List ℕ) → JobFault → Type 0
-LeavesRun site held held' Read = ⊥
-LeavesRun site held held' Write = PutsPart site held held'
-LeavesRun site held held' Memory = Keeps held held' ⊎ PutsPart site held held'
-LeavesRun site held held' TooMuch = ⊥
-
 -- the input was read to its end and says a site, and all of a run of it was written
 pub record WritesRun (begin left held held' : Option (List ℕ)) : Type 0 where
   pub site : PlainSite
@@ -87,46 +73,30 @@ pub record WritesRunPart (begin left held held' : Option (List ℕ)) : Type 0 wh
   pub says : Between (Says (Ok site)) begin left
   pub puts : PutsPart site held held'
 
--- ---- how the job ends
+-- what was written, whether the source tells its bytes or not: at the end all, where the sink failed a part, and for
+-- want of memory none or a part; where no run was begun, nothing
+abbrev pub RunWrites : Option (List ℕ) → Option (List ℕ) → Option (List ℕ) → Option (List ℕ)
+    → Result (Unit {0}) (JobFault JsonFault) → Type 0
+RunWrites begin left held held' (Ok done) = WritesRun begin left held held'
+RunWrites begin left held held' (Err Write) = WritesRunPart begin left held held'
+RunWrites begin left held held' (Err Memory) = Keeps held held' ⊎ WritesRunPart begin left held held'
+RunWrites begin left held held' (Err _) = Keeps held held'
 
--- the status tells that no run was begun: the source failed, the input has too much, or it isn't the text of a site
-abbrev pub IsUnbegun : Status → Type 0
-IsUnbegun Good = ⊥
-IsUnbegun BadWords = ⊥
-IsUnbegun ReadFault = Unit {0}
-IsUnbegun WriteFault = ⊥
-IsUnbegun OutOfMemory = ⊥
-IsUnbegun TooMuchInput = Unit {0}
-IsUnbegun (BadSite path fault) = Unit {0}
+-- ---- the output
 
--- the status tells a fault of a site
-abbrev pub TellsOfSite : Status → Type 0
-TellsOfSite (BadSite path fault) = Unit {0}
-TellsOfSite _ = ⊥
+-- this is the text of a run of the site
+pub record IsRunText (site : PlainSite) (text : List ℕ) : Type 0 where
+  pub history : History
+  pub is_run : IsRunOf site history
+  pub text_is : text ≡ run_text history
 
--- the status where nothing failed, by what the text says: a site is run to its end, and a fault is told, unless there
--- was no memory
-abbrev pub IsDue : ReadResult PlainSite → Status → Type 0
-IsDue (Ok site) status = (status ≡ Good) ⊎ (status ≡ OutOfMemory)
-IsDue (Err fault) status = (status ≡ BadSite fault.path fault.kind) ⊎ (status ≡ OutOfMemory)
-
--- How the job plant ended, by its source and its sink before and after: what each status says of the input and of what
--- was written, and what causes each status.
-pub record PlantEnds (source source' sink sink' : Edge) (status : Status) : Type 0 where
-  -- what was written
-  pub good : status ≡ Good → WritesRun source.bytes source'.bytes sink.bytes sink'.bytes
-  pub part : status ≡ WriteFault → WritesRunPart source.bytes source'.bytes sink.bytes sink'.bytes
-  pub memory : status ≡ OutOfMemory
-      → Keeps sink.bytes sink'.bytes ⊎ WritesRunPart source.bytes source'.bytes sink.bytes sink'.bytes
-  -- causes
-  pub bad_site : (path : List PathPart) (fault : FaultKind) → status ≡ BadSite path fault
-      → Between (Says (Err (record { kind = fault; path = path }))) source.bytes source'.bytes
-  pub read_fault : status ≡ ReadFault → Rose source.faults source'.faults
-  pub read_well : status ≢ ReadFault → source'.faults ≡ source.faults
-  pub write_fault : status ≡ WriteFault → Rose sink.faults sink'.faults
-  pub written_well : status ≢ WriteFault → sink'.faults ≡ sink.faults
-  pub too_much : status ≡ TooMuchInput → IsTooMuch source.bytes
-  pub taken : status ≡ TooMuchInput → Between TakesTooMuch source.bytes source'.bytes
-  pub fits : status ≢ ReadFault → status ≢ OutOfMemory → status ≢ TooMuchInput → Fits source.bytes
-  pub complete : ¬ Rose source.faults source'.faults → ¬ Rose sink.faults sink'.faults
-      → IfSome source.bytes (λ bytes. length bytes ≤ LONGEST_INPUT → IsDue (site_of bytes) status)
+-- nothing is replied; what may close the output is the text of any run of the site that the input says; and an input
+-- that says none is refused, for its fault
+abbrev pub planted : Output JsonFault
+planted =
+    record {
+      replies = λ bytes. [];
+      Closing = λ bytes text. (site : PlainSite) × (site_of bytes ≡ Ok site) × IsRunText site text;
+      Refuses = λ bytes line fault. ⊥;
+      RefusesEnd = λ bytes fault. site_of bytes ≡ Err fault;
+    }

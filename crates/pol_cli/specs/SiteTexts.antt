@@ -1,11 +1,14 @@
 -- A site text that is read line by line, and what it says in all.
-use Rattle.std.specs.Prelude.{ℕ, ◌≡◌, List, [], Ok, Err, if◌then◌else◌}
+use Rattle.std.specs.Prelude.{ℕ, ◌≡◌, List, [], Ok, Err, Some, None, if◌then◌else◌}
 use Rattle.mtp_json.specs.ReadResult.{ReadResult, here}
 use Rattle.mtp_json.specs.declared.fault.FaultKind.TheVariants.{Missing, Unknown, TooLong}
+use Rattle.mtp_json.specs.declared.fault.JsonFault.{JsonFault}
 use Rattle.pol_site.specs.PlainSite.{plain_site}
 use Rattle.pol_site.specs.Sites.{PlainSite}
-use Rattle.pol_site.specs.Texts.{is_filled, is_long, site_of, site_on}
-use Rattle.pol_cli.specs.LineWork.{LineWork}
+use Rattle.pol_site.specs.Texts.{site_of, site_on}
+use Rattle.pol_jobs.specs.Ends.{IsRead}
+use Rattle.pol_jobs.specs.LineWork.{Line, LineWork}
+use Rattle.pol_cli.specs.Meanings.{is_some_line}
 use Rattle.pol_cli.specs.declared.jobs.site_text.Telling.{Telling}
 use Rattle.pol_cli.specs.declared.jobs.site_text.Telling.TheVariants.{Nothing, Site, Fault, More}
 
@@ -24,18 +27,19 @@ telling_of (Fault fault) = one (Err fault)
 telling_of More = more
 
 -- what a line says that isn't blank
-unfoldable pub line_says : List ℕ → ReadResult PlainSite
-line_says line = if is_long line then here (Err TooLong) else site_on line
+unfoldable pub line_says : Line → ReadResult PlainSite
+line_says None = here (Err TooLong)
+line_says (Some text) = site_on text
 
 -- what was told, once one more line wasn't blank
-abbrev pub after_filled : Told → List ℕ → Told
+abbrev pub after_filled : Told → Line → Told
 after_filled none_yet line = one (line_says line)
 after_filled (one said) line = more
 after_filled more line = more
 
 -- what was told, once one more line was read
-unfoldable pub after_line : Told → List ℕ → Told
-after_line so_far line = if is_filled line then after_filled so_far line else so_far
+abbrev pub after_line : Told → Line → Told
+after_line so_far line = if is_some_line line then after_filled so_far line else so_far
 
 -- what the whole text says
 abbrev pub told : Told → ReadResult PlainSite
@@ -43,11 +47,18 @@ told none_yet = here (Err Missing)
 told (one said) = said
 told more = here (Err Unknown)
 
--- reading a site text replies nothing
-abbrev pub site_work : LineWork Told
-site_work = record { reply = λ so_far line. []; after = after_line; closing = λ so_far. [] }
+-- reading a site text replies nothing and closes with nothing; a text that says no site is refused, for its fault
+abbrev pub site_work : LineWork Told JsonFault
+site_work =
+    record {
+      reply = λ so_far line. [];
+      after = after_line;
+      Closing = λ so_far text. text ≡ [];
+      Refuses = λ so_far line fault. ⊥;
+      RefusesEnd = λ so_far fault. told so_far ≡ Err fault;
+    }
 
 -- the input was read to its end, and its text says this
 pub record Says (said : ReadResult PlainSite) (bytes left : List ℕ) : Type 0 where
-  pub read : left ≡ []
+  pub read : IsRead bytes left
   pub text : site_of bytes ≡ said

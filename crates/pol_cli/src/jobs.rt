@@ -1,9 +1,9 @@
 //! The jobs.
-ghost use Rattle.std.specs.Prelude.{◌≡◌, ◌≢◌, ℕ, List};
+ghost use Rattle.std.specs.Prelude.{◌≡◌, ℕ, List};
+ghost use Rattle.pol_arguments.specs.declared.Task.TheVariants.{Serial};
+ghost use Rattle.pol_jobs.specs.Ends.{edge};
 ghost use Rattle.pol_cli.specs.Audits.{AuditTheorem};
-ghost use Rattle.pol_cli.specs.Ends.{edge};
 ghost use Rattle.pol_cli.specs.Journal.{JournalTheorem, Laws};
-ghost use Rattle.pol_cli.specs.SiteRuns.{TellsOfSite};
 ghost use Rattle.pol_cli.specs.Tasks.{TaskEnds};
 
 mod auditing;
@@ -15,13 +15,13 @@ mod replay;
 mod site_text;
 
 use crate::journal::{audits_are_sound, journals_are_sound};
-use crate::lines::work;
-use crate::status::Status;
-use auditing::audit;
+use crate::status::{Status, status_of};
+use auditing::Auditing;
 use demo::demonstrate;
 pub use plant::live;
 use pol_arguments::SerialTask;
 use pol_io::{Sink, Source};
+use pol_jobs::work;
 use replay::Replay;
 use std::alloc::Global;
 
@@ -34,21 +34,19 @@ pub fn serve<S: Source, K: Sink>(
     source: &mut S,
     sink: &mut K,
 ) -> Status
-    ensures ends { TaskEnds task.now
+    ensures ends { TaskEnds (Serial task.now)
         (edge (S.left source.old) (S.faults source.old)) (edge (S.left source.new) (S.faults source.new))
         (edge (K.held sink.old) (K.faults sink.old)) (edge (K.held sink.new) (K.faults sink.new)) result }
     ensures unread { (seed : ℕ) → task.now ≡ SerialTask.Demo seed → source.new ≡ source.old }
     ensures theorem { (bytes : List ℕ) → JournalTheorem bytes }
     ensures laws { Laws }
     ensures audits { (bytes : List ℕ) → AuditTheorem bytes }
-    ensures words { result ≢ Status.BadWords }
-    ensures no_site { ¬ TellsOfSite result }
 {
     journals_are_sound();
     audits_are_sound();
     match task {
-        SerialTask::Replay => work(alloc, &mut Replay::new(alloc), source, sink),
-        SerialTask::Demo(seed) => demonstrate(alloc, *seed, sink),
-        SerialTask::Audit => audit(alloc, source, sink),
+        SerialTask::Replay => status_of(work(alloc, &mut Replay::new(alloc), source, sink)),
+        SerialTask::Demo(seed) => status_of(demonstrate(alloc, *seed, sink)),
+        SerialTask::Audit => status_of(work(alloc, &mut Auditing::new(alloc), source, sink)),
     }
 }

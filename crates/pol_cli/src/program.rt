@@ -1,20 +1,21 @@
 //! From words to a status: what the program does.
 ghost use Rattle.std.specs.Prelude.{◌≡◌, ◌≢◌, ◌⊎◌, ℕ, List};
+ghost use Rattle.std.specs.Io.KnownBytes.{Keeps};
 ghost use Rattle.pol_arguments.specs.Words.{Means, texts_of};
 ghost use Rattle.pol_arguments.specs.declared.LiveTask.{LiveTask};
 ghost use Rattle.pol_arguments.specs.declared.SerialTask.{SerialTask};
 ghost use Rattle.pol_arguments.specs.declared.Task.{Task};
+ghost use Rattle.pol_jobs.specs.Ends.{edge};
 ghost use Rattle.pol_cli.specs.Audits.{AuditTheorem};
-ghost use Rattle.pol_cli.specs.Ends.{edge};
 ghost use Rattle.pol_cli.specs.Journal.{JournalTheorem, Laws};
-ghost use Rattle.pol_cli.specs.SiteRuns.{IsUnbegun, PlantEnds, TellsOfSite};
+ghost use Rattle.pol_cli.specs.Statuses.{IsEnd};
 ghost use Rattle.pol_cli.specs.Tasks.{TaskEnds};
 
 use crate::jobs::{live, serve};
 use crate::journal::{audits_are_sound, journals_are_sound};
 use crate::status::Status;
 use pol_arguments::{Task, WordFault, read_words};
-use pol_io::{Clock, Sink, Source};
+use pol_io::{Clock, Sink, SinkFault, Source};
 use pol_live::Gate;
 use std::alloc::Global;
 use std::sync::Wait;
@@ -32,15 +33,11 @@ pub fn top<R: Threads + Wait + Sync, S: Source, K: Sink, C: Clock + Send, G: Gat
     clock: C,
     gate: &G,
 ) -> Status
-    ensures ends { (task : SerialTask) → Means (texts_of words.now) (Task.Serial task) → TaskEnds task
-        (edge (S.left source.old) (S.faults source.old)) (edge (S.left source.new) (S.faults source.new))
-        (edge (K.held sink.old) (K.faults sink.old)) (edge (K.held sink.new) (K.faults sink.new)) result }
-    ensures plant { (task : LiveTask) → Means (texts_of words.now) (Task.Live task) → PlantEnds
+    ensures ends { (task : Task) → Means (texts_of words.now) task → TaskEnds task
         (edge (S.left source.old) (S.faults source.old)) (edge (S.left source.new) (S.faults source.new))
         (edge (K.held sink.old) (K.faults sink.old)) (edge (K.held sink.new) (K.faults sink.new)) result }
     ensures unbegun { (task : LiveTask) → Means (texts_of words.now) (Task.Live task)
-        → IsUnbegun result → sink.new ≡ sink.old }
-    ensures of_site { TellsOfSite result → (task : LiveTask) × Means (texts_of words.now) (Task.Live task) }
+        → result ≢ Status.Good → result ≢ Status.WriteFault → result ≢ Status.OutOfMemory → sink.new ≡ sink.old }
     ensures theorem { (bytes : List ℕ) → JournalTheorem bytes }
     ensures laws { Laws }
     ensures audits { (bytes : List ℕ) → AuditTheorem bytes }
@@ -60,5 +57,17 @@ pub fn top<R: Threads + Wait + Sync, S: Source, K: Sink, C: Clock + Send, G: Gat
         Ok(Task::Live(task)) => live(rt, alloc, &task, source, sink, clock, gate),
         Err(WordFault::Refused) => Status::BadWords,
         Err(WordFault::Memory) => Status::OutOfMemory,
+    }
+}
+
+/// The status of a program whose job ended so, once all that was written is handed on.
+pub fn end<K: Sink>(status: Status, sink: &mut K) -> Status
+    ensures bytes { Keeps (K.held sink.old) (K.held sink.new) }
+    ensures told { IsEnd status (K.faults sink.old) (K.faults sink.new) result }
+{
+    match sink.flush() {
+        Ok(()) => status,
+        Err(SinkFault::Failed) => Status::WriteFault,
+        Err(SinkFault::Memory) => Status::OutOfMemory,
     }
 }

@@ -2,11 +2,11 @@
 ghost use Rattle.std.specs.Prelude.{◌≡◌, IfOk};
 ghost use Rattle.std.specs.List.{list_all};
 ghost use Rattle.pol_events.specs.Lines.{is_blank_byte};
-ghost use Rattle.pol_record.specs.Lines.{meaning_of};
-ghost use Rattle.pol_cli.specs.LineWork.{IsShort};
-ghost use Rattle.pol_cli.specs.Meanings.{IsOrderly, plain_meaning};
+ghost use Rattle.pol_jobs.specs.InputLines.{plain_line};
+ghost use Rattle.pol_cli.specs.Meanings.{IsOrderly, meaning_met, plain_meaning};
 
 use pol_events::{Event, LineFault, LineRefusal};
+use pol_jobs::InputLine;
 use pol_lines::read_line;
 use std::alloc::{AllocError, Global};
 
@@ -29,17 +29,19 @@ pub fn is_blank(line: &[u8]) -> bool
         .all(|byte| *byte == b' ' || *byte == b'\t' || *byte == b'\r')
 }
 
-/// What a line says that isn't too long.
+/// What a line says.
 #[tactic(auto, using(crate::proofs::Spoken::says_nothing, crate::proofs::Spoken::says_event, crate::proofs::Spoken::says_fault))]
-pub fn read_meaning(alloc: Global, line: &[u8]) -> Result<LineMeaning, AllocError>
-    requires { IsShort line.now }
-    ensures said { IfOk result (λ meaning. plain_meaning meaning ≡ meaning_of line.now) }
+pub fn read_meaning(alloc: Global, line: InputLine<'_>) -> Result<LineMeaning, AllocError>
+    ensures said { IfOk result (λ meaning. plain_meaning meaning ≡ meaning_met (plain_line line.entry)) }
     ensures orderly { IfOk result IsOrderly }
 {
-    if is_blank(line) {
+    let InputLine::Text(text) = line else {
+        return Ok(LineMeaning::Fault(LineFault::TooLong));
+    };
+    if is_blank(text) {
         return Ok(LineMeaning::Nothing);
     }
-    match read_line(alloc, line) {
+    match read_line(alloc, text) {
         Ok(event) => Ok(LineMeaning::Event(event)),
         Err(LineRefusal::Fault(fault)) => Ok(LineMeaning::Fault(fault)),
         Err(LineRefusal::Memory) => Err(AllocError),

@@ -7,20 +7,21 @@ ghost use Rattle.pol_history.specs.Runs.{IsOrderly};
 ghost use Rattle.pol_record.specs.Texts.{IsReadBack, entry_line_text};
 ghost use Rattle.pol_io.specs.Causes.{HasCauseOf};
 ghost use Rattle.pol_site.specs.PlainSite.{plain_site};
-ghost use Rattle.pol_cli.specs.Ends.{edge};
+ghost use Rattle.pol_jobs.specs.Ends.{Ends, edge};
+ghost use Rattle.pol_jobs.specs.Written.{WritesPart, WritesSome};
 ghost use Rattle.pol_cli.specs.Journal.{Laws};
-ghost use Rattle.pol_cli.specs.SiteRuns.{AreReadBack, IsRunOf, IsUnbegun, LeavesRun, PlantEnds, PutsRun, entries_text, entry_lines, run_text};
-ghost use Rattle.pol_cli.specs.Written.{WritesPart, WritesSome};
+ghost use Rattle.pol_cli.specs.SiteRuns.{AreReadBack, IsRunOf, RunWrites, entries_text, entry_lines, planted, run_text};
+ghost use Rattle.pol_cli.specs.Tasks.{PlantEnds};
 
-use crate::job_fault::{JobFault, put, status_of};
 use crate::jobs::closing::close;
 use crate::jobs::site_text::read_text;
 use crate::journal::journals_are_sound;
-use crate::status::Status;
+use crate::status::{Status, status_of};
 use mtp_json::JsonFault;
 use pol_arguments::LiveTask;
 use pol_events::Entry;
 use pol_io::{Clock, Sink, Source};
+use pol_jobs::{JobFault, PutFault, put};
 use pol_live::{Gate, Ran, run_site};
 use pol_record::put_entry_line;
 use pol_site::Site;
@@ -29,13 +30,13 @@ use std::sync::Wait;
 use std::thread::Threads;
 
 // Writes the line of an entry, and gives its memory back.
-#[tactic(auto, using(crate::proofs::Written::nothing_written, crate::proofs::Written::some_written))]
+#[tactic(auto, using(pol_jobs::proofs::Written::nothing_written, pol_jobs::proofs::Written::some_written))]
 fn put_entry<K: Sink>(
     alloc: Global,
     buffer: Vec<u8>,
     entry: &Entry,
     sink: &mut K,
-) -> Result<Vec<u8>, JobFault>
+) -> Result<Vec<u8>, PutFault>
     requires orderly { IsTrue (is_orderly (plain_event entry.now.event)) }
     requires empty { buffer.items ≡ [] }
     ensures empty { IfOk result (λ buffer. buffer.items ≡ []) }
@@ -43,8 +44,7 @@ fn put_entry<K: Sink>(
     ensures read_back { OnOk result (IsReadBack (plain_entry entry.now)) }
     ensures part { OnErr result (WritesSome (K.held sink.old) (K.held sink.new)
         (entry_line_text (plain_entry entry.now))) }
-    ensures cause { HasCauseOf JobFault.Write (K.faults sink.old) (K.faults sink.new) result }
-    ensures only { IfErr result (λ fault. (fault ≢ JobFault.Read) × (fault ≢ JobFault.TooMuch)) }
+    ensures cause { HasCauseOf PutFault.Write (K.faults sink.old) (K.faults sink.new) result }
 {
     let mut line = put_entry_line(alloc, buffer, entry)?;
     put(sink, &line)?;
@@ -53,13 +53,12 @@ fn put_entry<K: Sink>(
 }
 
 // Writes the line of each of these entries.
-fn put_each<K: Sink>(alloc: Global, entries: &[Entry], sink: &mut K) -> Result<(), JobFault>
+fn put_each<K: Sink>(alloc: Global, entries: &[Entry], sink: &mut K) -> Result<(), PutFault>
     requires { IsOrderly (plain_history entries.now) }
     ensures text { OnOk result (Appends (K.held sink.old) (K.held sink.new) (entry_lines entries.now)) }
     ensures read_back { OnOk result (AreReadBack (map plain_entry entries.now)) }
     ensures part { OnErr result (WritesSome (K.held sink.old) (K.held sink.new) (entry_lines entries.now)) }
-    ensures cause { HasCauseOf JobFault.Write (K.faults sink.old) (K.faults sink.new) result }
-    ensures only { IfErr result (λ fault. (fault ≢ JobFault.Read) × (fault ≢ JobFault.TooMuch)) }
+    ensures cause { HasCauseOf PutFault.Write (K.faults sink.old) (K.faults sink.new) result }
 {
     let mut buffer = Vec::new(alloc);
     for entry in entries {
@@ -69,28 +68,26 @@ fn put_each<K: Sink>(alloc: Global, entries: &[Entry], sink: &mut K) -> Result<(
 }
 
 // Writes the line of each entry of the history, the oldest first.
-fn put_entries<K: Sink>(alloc: Global, history: &[Entry], sink: &mut K) -> Result<(), JobFault>
+fn put_entries<K: Sink>(alloc: Global, history: &[Entry], sink: &mut K) -> Result<(), PutFault>
     requires { IsOrderly (plain_history history.now) }
     ensures text { OnOk result
         (Appends (K.held sink.old) (K.held sink.new) (entries_text (plain_history history.now))) }
     ensures read_back { OnOk result (AreReadBack (plain_history history.now)) }
     ensures part { OnErr result (WritesSome (K.held sink.old) (K.held sink.new)
         (entries_text (plain_history history.now))) }
-    ensures cause { HasCauseOf JobFault.Write (K.faults sink.old) (K.faults sink.new) result }
-    ensures only { IfErr result (λ fault. (fault ≢ JobFault.Read) × (fault ≢ JobFault.TooMuch)) }
+    ensures cause { HasCauseOf PutFault.Write (K.faults sink.old) (K.faults sink.new) result }
 {
     put_each(alloc, history, sink)
 }
 
 // Writes the line of each entry, the line of each batch, and the end line.
-fn put_run<K: Sink>(alloc: Global, history: &[Entry], sink: &mut K) -> Result<(), JobFault>
+fn put_run<K: Sink>(alloc: Global, history: &[Entry], sink: &mut K) -> Result<(), PutFault>
     requires { IsOrderly (plain_history history.now) }
     ensures text { OnOk result (Appends (K.held sink.old) (K.held sink.new) (run_text (plain_history history.now))) }
     ensures read_back { OnOk result (AreReadBack (plain_history history.now)) }
     ensures part { OnErr result (WritesPart (K.held sink.old) (K.held sink.new)
         (run_text (plain_history history.now))) }
-    ensures cause { HasCauseOf JobFault.Write (K.faults sink.old) (K.faults sink.new) result }
-    ensures only { IfErr result (λ fault. (fault ≢ JobFault.Read) × (fault ≢ JobFault.TooMuch)) }
+    ensures cause { HasCauseOf PutFault.Write (K.faults sink.old) (K.faults sink.new) result }
 {
     put_entries(alloc, history, sink)?;
     close(alloc, history, sink)
@@ -111,22 +108,27 @@ fn run<R: Threads + Wait + Sync, C: Clock + Send, G: Gate>(
     Ok(history)
 }
 
-// Runs a site to its end, and writes its history.
-fn run_and_put<R: Threads + Wait + Sync, K: Sink, C: Clock + Send, G: Gate>(
+// Reads the site that the source says, runs it to its end, and writes its history.
+fn read_and_run<R: Threads + Wait + Sync, S: Source, K: Sink, C: Clock + Send, G: Gate>(
     rt: &R,
     alloc: Global,
-    site: Site,
     watchers: u16,
+    source: &mut S,
     sink: &mut K,
     clock: C,
     gate: &G,
-) -> Result<(), JobFault>
-    ensures puts { OnOk result (PutsRun (plain_site site) (K.held sink.old) (K.held sink.new)) }
-    ensures leaves { IfErr result (LeavesRun (plain_site site) (K.held sink.old) (K.held sink.new)) }
-    ensures cause { HasCauseOf JobFault.Write (K.faults sink.old) (K.faults sink.new) result }
+) -> Result<(), JobFault<JsonFault>>
+    ensures ends { Ends planted
+        (edge (S.left source.old) (S.faults source.old)) (edge (S.left source.new) (S.faults source.new))
+        (edge (K.held sink.old) (K.faults sink.old)) (edge (K.held sink.new) (K.faults sink.new)) result }
+    ensures writes { RunWrites (S.left source.old) (S.left source.new) (K.held sink.old) (K.held sink.new) result }
+    ensures unbegun { IfErr result (λ fault. fault ≢ JobFault.Write → fault ≢ JobFault.Memory
+        → sink.new ≡ sink.old) }
 {
+    let site = read_text(alloc, source)?;
     let history = run(rt, alloc, site, watchers, clock, gate)?;
-    put_run(alloc, &history, sink)
+    put_run(alloc, &history, sink)?;
+    Ok(())
 }
 
 /// Runs the site that the source says with simulated modules, until no actor of it has anything to do or the history is
@@ -145,14 +147,10 @@ pub fn live<R: Threads + Wait + Sync, S: Source, K: Sink, C: Clock + Send, G: Ga
     ensures ends { PlantEnds
         (edge (S.left source.old) (S.faults source.old)) (edge (S.left source.new) (S.faults source.new))
         (edge (K.held sink.old) (K.faults sink.old)) (edge (K.held sink.new) (K.faults sink.new)) result }
-    ensures unbegun { IsUnbegun result → sink.new ≡ sink.old }
-    ensures words { result ≢ Status.BadWords }
+    ensures unbegun { result ≢ Status.Good → result ≢ Status.WriteFault → result ≢ Status.OutOfMemory
+        → sink.new ≡ sink.old }
     ensures laws { Laws }
 {
     journals_are_sound();
-    match read_text(alloc, source) {
-        Ok(Ok(site)) => status_of(run_and_put(rt, alloc, site, task.watchers, sink, clock, gate)),
-        Ok(Err(JsonFault { kind, path })) => Status::BadSite { path, fault: kind },
-        Err(fault) => status_of(Err(fault)),
-    }
+    status_of(read_and_run(rt, alloc, task.watchers, source, sink, clock, gate))
 }

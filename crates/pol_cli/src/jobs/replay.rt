@@ -1,56 +1,78 @@
 //! The replay of a journal.
-ghost use Rattle.std.specs.Prelude.{◌≡◌, [], IsTrue, IfOk, OnOk};
+ghost use Rattle.std.specs.Prelude.{◌≡◌, ◌++◌, [], IsTrue, IfOk, OnOk};
 ghost use Rattle.pol_events.specs.Events.{plain_event};
 ghost use Rattle.pol_events.specs.Orderly.{is_orderly};
 ghost use Rattle.pol_history.specs.Answers.{answer_of};
 ghost use Rattle.pol_history.specs.Runs.{entry_of, recorded};
-ghost use Rattle.pol_record.specs.Texts.{answer_text};
+ghost use Rattle.pol_record.specs.Texts.{answer_text, fault_text};
 ghost use Rattle.pol_core.specs.Plants.{plant_history};
 ghost use Rattle.pol_cli.specs.Meanings.{IsOrderly, plain_meaning, reply_text, after_meaning};
 
-use crate::job_fault::JobFault;
 use crate::jobs::closing::close;
 use crate::jobs::meaning::{LineMeaning, read_meaning};
-use crate::line_job::LineJob;
 use pol_core::Plant;
-use pol_events::{Event, LineFault};
+use pol_events::{Answer, Event, LineFault};
 use pol_io::Sink;
+use pol_jobs::{InputLine, LineJob, PutFault, Stop};
 use pol_record::{put_answer_line, put_fault_line};
 use std::alloc::{AllocError, Global};
+use std::convert::Infallible;
 use std::mem;
 
-/// The line of the plant's answer to an event, in an empty buffer.
-fn answer_event(plant: &mut Plant, buffer: Vec<u8>, event: Event) -> Result<Vec<u8>, AllocError>
-    requires orderly { IsTrue (is_orderly (plain_event event)) }
-    requires empty { buffer.items ≡ [] }
-    ensures line { IfOk result (λ line.
-        line.items ≡ answer_text (answer_of (plant_history plant.old) (plain_event event))) }
+// Puts the line of an answer behind what a buffer holds.
+fn put_answer(alloc: Global, answer: &Answer, out: &mut Vec<u8>) -> Result<(), AllocError>
+    ensures { OnOk result (out.new.items ≡ out.old.items ++ answer_text answer.now) }
+{
+    let buffer = mem::replace(out, Vec::new(alloc));
+    *out = put_answer_line(buffer, answer)?;
+    Ok(())
+}
+
+// Puts the line of a fault behind what a buffer holds.
+fn put_fault(alloc: Global, fault: &LineFault, out: &mut Vec<u8>) -> Result<(), AllocError>
+    ensures { OnOk result (out.new.items ≡ out.old.items ++ fault_text fault.now) }
+{
+    let buffer = mem::replace(out, Vec::new(alloc));
+    *out = put_fault_line(alloc, buffer, fault)?;
+    Ok(())
+}
+
+// Puts the line of the plant's answer to an event behind what a buffer holds.
+fn answer_event(
+    alloc: Global,
+    plant: &mut Plant,
+    event: Event,
+    out: &mut Vec<u8>,
+) -> Result<(), AllocError>
+    requires { IsTrue (is_orderly (plain_event event)) }
+    ensures line { OnOk result (out.new.items
+        ≡ out.old.items ++ answer_text (answer_of (plant_history plant.old) (plain_event event))) }
     ensures history { OnOk result (plant_history plant.new
         ≡ recorded (entry_of (plant_history plant.old) (plain_event event)) (plant_history plant.old)) }
 {
     match plant.apply(event) {
-        Ok(answer) => put_answer_line(buffer, &answer),
+        Ok(answer) => put_answer(alloc, &answer, out),
         Err((_event, error)) => Err(error),
     }
 }
 
-/// The line that answers what a line says, in an empty buffer; nothing, where it says nothing.
+// Puts the line that answers what a line says behind what a buffer holds; nothing, where it says nothing.
 fn answer(
     alloc: Global,
     plant: &mut Plant,
-    buffer: Vec<u8>,
     meaning: LineMeaning,
-) -> Result<Vec<u8>, AllocError>
-    requires orderly { IsOrderly meaning }
-    requires empty { buffer.items ≡ [] }
-    ensures line { IfOk result (λ line. line.items ≡ reply_text (plant_history plant.old) (plain_meaning meaning)) }
+    out: &mut Vec<u8>,
+) -> Result<(), AllocError>
+    requires { IsOrderly meaning }
+    ensures line { OnOk result (out.new.items
+        ≡ out.old.items ++ reply_text (plant_history plant.old) (plain_meaning meaning)) }
     ensures history { OnOk result (
         plant_history plant.new ≡ after_meaning (plant_history plant.old) (plain_meaning meaning)) }
 {
     match meaning {
-        LineMeaning::Nothing => Ok(buffer),
-        LineMeaning::Fault(fault) => put_fault_line(alloc, buffer, &fault),
-        LineMeaning::Event(event) => answer_event(plant, buffer, event),
+        LineMeaning::Nothing => Ok(()),
+        LineMeaning::Fault(fault) => put_fault(alloc, &fault, out),
+        LineMeaning::Event(event) => answer_event(alloc, plant, event, out),
     }
 }
 
@@ -59,8 +81,6 @@ fn answer(
 pub struct Replay {
     alloc: Global,
     plant: Plant,
-    // The memory of the reply before, which the next one takes.
-    buffer: Vec<u8>,
 }
 
 impl Replay {
@@ -71,22 +91,13 @@ impl Replay {
         Replay {
             alloc,
             plant: Plant::new(alloc),
-            buffer: Vec::new(alloc),
         }
-    }
-
-    // An empty buffer: the one that was taken back, if there is one.
-    fn lend_buffer(&mut self) -> Vec<u8>
-        ensures empty { result.items ≡ [] }
-        ensures plant { plant_history self.new.plant ≡ plant_history self.old.plant }
-    {
-        let mut buffer = mem::replace(&mut self.buffer, Vec::new(self.alloc));
-        buffer.clear();
-        buffer
     }
 }
 
 impl LineJob for Replay {
+    type Refusal = Infallible;
+
     ghost use Rattle.pol_history.specs.Looking.{History};
     ghost use Rattle.pol_core.specs.Plants.{plant_history};
     ghost use Rattle.pol_cli.specs.Replay.{replay_work};
@@ -97,28 +108,18 @@ impl LineJob for Replay {
 
     ghost work = { replay_work };
 
-    fn reply(&mut self, line: &[u8]) -> Result<Vec<u8>, AllocError> {
+    fn reply(&mut self, line: InputLine<'_>, out: &mut Vec<u8>) -> Result<(), Stop<Infallible>> {
         let meaning = read_meaning(self.alloc, line)?;
-        let buffer = self.lend_buffer();
-        answer(self.alloc, &mut self.plant, buffer, meaning)
+        answer(self.alloc, &mut self.plant, meaning, out)?;
+        Ok(())
     }
 
-    #[tactic(auto, using(crate::proofs::Spoken::says_too_long))]
-    fn reply_too_long(&mut self) -> Result<Vec<u8>, AllocError> {
-        let buffer = self.lend_buffer();
-        answer(
-            self.alloc,
-            &mut self.plant,
-            buffer,
-            LineMeaning::Fault(LineFault::TooLong),
-        )
+    fn end(&mut self) -> Result<(), Stop<Infallible>> {
+        Ok(())
     }
 
-    fn take_back(&mut self, reply: Vec<u8>) {
-        self.buffer = reply;
-    }
-
-    fn close<K: Sink>(&mut self, sink: &mut K) -> Result<(), JobFault> {
+    #[tactic(auto, using(pol_jobs::proofs::Closing::closes_with, pol_jobs::proofs::Closing::closes_part))]
+    fn close<K: Sink>(&mut self, sink: &mut K) -> Result<(), PutFault> {
         close(self.alloc, self.plant.history(), sink)
     }
 }

@@ -1,21 +1,21 @@
 //! The text of a site: a site in its one line that isn't blank. It is read to its end, and nothing is replied.
-ghost use Rattle.std.specs.Prelude.{◌≡◌, ◌≢◌, ℕ, List, [], IfOk, IfErr, OnOk};
+ghost use Rattle.std.specs.Prelude.{◌≡◌, ◌≢◌, [], Ok, Err, Some, None, IfOk, IfErr, OnOk};
 ghost use Rattle.mtp_json.specs.ReadsAs.{seen};
-ghost use Rattle.pol_io.specs.Causes.{HasCauseOf};
+ghost use Rattle.pol_io.specs.Edge.{Edge};
 ghost use Rattle.pol_io.specs.Known.{Between};
 ghost use Rattle.pol_site.specs.PlainSite.{plain_site};
-ghost use Rattle.pol_cli.specs.Ends.{Fits, IsTooMuch, TakesTooMuch};
-ghost use Rattle.pol_cli.specs.LineWork.{IsShort, IsTooLong};
-ghost use Rattle.pol_cli.specs.SiteTexts.{Says, after_filled, line_says, none_yet, one, telling_of, told};
+ghost use Rattle.pol_jobs.specs.Ends.{Ends, edge};
+ghost use Rattle.pol_jobs.specs.LineWork.{AcceptsEnd};
+ghost use Rattle.pol_cli.specs.SiteRuns.{planted};
+ghost use Rattle.pol_cli.specs.SiteTexts.{Says, after_filled, line_says, one, site_work, telling_of, told};
 
-use crate::job_fault::JobFault;
 use crate::jobs::meaning::is_blank;
-use crate::line_job::LineJob;
-use crate::lines::reply_to_all;
 use mtp_json::{FaultKind, JsonFault, JsonRefusal, Path};
-use pol_io::{Lines, Sink, SinkFault, Source};
+use pol_io::{Sink, SinkFault, Source};
+use pol_jobs::{InputLine, JobFault, LineJob, PutFault, Stop, work};
 use pol_site::{Site, read_site};
 use std::alloc::{AllocError, Global};
+use std::mem;
 
 /// What the lines of a site text have told so far.
 #[derive(Drop)]
@@ -43,8 +43,7 @@ fn whole(alloc: Global, kind: FaultKind) -> JsonFault
 // What one line tells.
 #[tactic(auto, using(crate::proofs::SiteTexts::says_short))]
 fn telling_on(alloc: Global, line: &[u8]) -> Result<Telling, AllocError>
-    requires { IsShort line.now }
-    ensures { IfOk result (λ telling. telling_of telling ≡ one (line_says line.now)) }
+    ensures { IfOk result (λ telling. telling_of telling ≡ one (line_says (Some line.now))) }
 {
     match read_site(alloc, line) {
         Ok(site) => Ok(Telling::Site(site)),
@@ -56,8 +55,7 @@ fn telling_on(alloc: Global, line: &[u8]) -> Result<Telling, AllocError>
 impl Telling {
     // What was told, once one more line wasn't blank.
     fn after(&self, alloc: Global, line: &[u8]) -> Result<Telling, AllocError>
-        requires { IsShort line.now }
-        ensures { IfOk result (λ telling. telling_of telling ≡ after_filled (telling_of self.now) line.now) }
+        ensures { IfOk result (λ telling. telling_of telling ≡ after_filled (telling_of self.now) (Some line.now)) }
     {
         match self {
             Telling::Nothing => telling_on(alloc, line),
@@ -68,7 +66,7 @@ impl Telling {
     // The same, where that line was too long.
     #[tactic(auto, using(crate::proofs::SiteTexts::says_long))]
     fn after_long(&self, alloc: Global) -> Telling
-        ensures { (line : List ℕ) → IsTooLong line → telling_of result ≡ after_filled (telling_of self.now) line }
+        ensures { telling_of result ≡ after_filled (telling_of self.now) None }
     {
         match self {
             Telling::Nothing => Telling::Fault(whole(alloc, FaultKind::TooLong)),
@@ -96,7 +94,23 @@ struct SiteText {
     telling: Telling,
 }
 
+impl SiteText {
+    // The site that was told, by a text that says one.
+    #[tactic(auto, using(crate::proofs::SiteTexts::telling_site))]
+    fn into_site(self) -> Site
+        requires { AcceptsEnd site_work (telling_of self.telling) }
+        ensures { told (telling_of self.telling) ≡ Ok (plain_site result) }
+    {
+        match self.telling {
+            Telling::Site(site) => site,
+            _ => unreachable!(),
+        }
+    }
+}
+
 impl LineJob for SiteText {
+    type Refusal = JsonFault;
+
     ghost use Rattle.pol_cli.specs.SiteTexts.{Told, site_work, telling_of};
 
     ghost State = { Told };
@@ -106,22 +120,27 @@ impl LineJob for SiteText {
     ghost work = { site_work };
 
     #[tactic(auto, using(crate::proofs::SiteTexts::after_blank, crate::proofs::SiteTexts::after_some))]
-    fn reply(&mut self, line: &[u8]) -> Result<Vec<u8>, AllocError> {
-        if !is_blank(line) {
-            self.telling = self.telling.after(self.alloc, line)?;
+    fn reply(&mut self, line: InputLine<'_>, _out: &mut Vec<u8>) -> Result<(), Stop<JsonFault>> {
+        match line {
+            InputLine::Text(text) if is_blank(text) => {}
+            InputLine::Text(text) => self.telling = self.telling.after(self.alloc, text)?,
+            InputLine::TooLong => self.telling = self.telling.after_long(self.alloc),
         }
-        Ok(Vec::new(self.alloc))
+        Ok(())
     }
 
-    #[tactic(auto, using(crate::proofs::SiteTexts::after_too_long))]
-    fn reply_too_long(&mut self) -> Result<Vec<u8>, AllocError> {
-        self.telling = self.telling.after_long(self.alloc);
-        Ok(Vec::new(self.alloc))
+    #[tactic(auto, using(crate::proofs::SiteTexts::told_well, crate::proofs::SiteTexts::told_accepted))]
+    fn end(&mut self) -> Result<(), Stop<JsonFault>> {
+        match mem::replace(&mut self.telling, Telling::Nothing).told(self.alloc) {
+            Ok(site) => {
+                self.telling = Telling::Site(site);
+                Ok(())
+            }
+            Err(fault) => Err(Stop::Refused(fault)),
+        }
     }
 
-    fn take_back(&mut self, _reply: Vec<u8>) {}
-
-    fn close<K: Sink>(&mut self, _sink: &mut K) -> Result<(), JobFault> {
+    fn close<K: Sink>(&mut self, _sink: &mut K) -> Result<(), PutFault> {
         Ok(())
     }
 }
@@ -142,26 +161,20 @@ impl Sink for Nowhere {
     }
 }
 
-/// The site that the source says, which is read to its end, or the first fault of its text.
-#[tactic(auto, using(crate::proofs::SiteTexts::left_too_much))]
-pub fn read_text<S: Source>(
-    alloc: Global,
-    source: &mut S,
-) -> Result<Result<Site, JsonFault>, JobFault>
-    ensures says { IfOk result (λ said. Between (Says (seen plain_site said)) (S.left source.old) (S.left source.new)) }
-    ensures fits { OnOk result (Fits (S.left source.old)) }
-    ensures too_much { IfErr result (λ fault. fault ≡ JobFault.TooMuch → IsTooMuch (S.left source.old)) }
-    ensures taken { IfErr result (λ fault. fault ≡ JobFault.TooMuch
-        → Between TakesTooMuch (S.left source.old) (S.left source.new)) }
-    ensures cause { HasCauseOf JobFault.Read (S.faults source.old) (S.faults source.new) result }
-    ensures only { IfErr result (λ fault. fault ≢ JobFault.Write) }
+/// The site that the source says, which is read to its end. A text that says none is refused.
+pub fn read_text<S: Source>(alloc: Global, source: &mut S) -> Result<Site, JobFault<JsonFault>>
+    ensures says { IfOk result (λ site.
+        Between (Says (Ok (plain_site site))) (S.left source.old) (S.left source.new)) }
+    ensures well { OnOk result (S.faults source.new ≡ S.faults source.old) }
+    ensures ends { IfErr result (λ fault. (sink : Edge) → Ends planted
+        (edge (S.left source.old) (S.faults source.old)) (edge (S.left source.new) (S.faults source.new))
+        sink sink (Err fault)) }
+    ensures unwritten { IfErr result (λ fault. fault ≢ JobFault.Write) }
 {
-    let mut lines = Lines::new(alloc)?;
     let mut text = SiteText {
         alloc,
         telling: Telling::Nothing,
     };
-    reply_to_all(&mut lines, &mut text, source, &mut Nowhere)?;
-    let SiteText { telling, .. } = text;
-    Ok(telling.told(alloc))
+    work(alloc, &mut text, source, &mut Nowhere)?;
+    Ok(text.into_site())
 }

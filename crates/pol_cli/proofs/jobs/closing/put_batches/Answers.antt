@@ -3,7 +3,7 @@ use Rattle.std.specs.Prelude.{OnErr, OnOk}
 use Rattle.std.specs.Io.KnownBytes.{Appends}
 use Rattle.pol_events.specs.Events.{plain_history}
 use Rattle.pol_cli.specs.BatchLines.{gathered_lines}
-use Rattle.pol_cli.specs.Written.{WritesSome}
+use Rattle.pol_jobs.specs.Written.{WritesSome}
 use Rattle.pol_cli.proofs.BatchLines.{lines_of_all}
 use Rattle.pol_cli.proofs.jobs.closing.put_batches.Goals as goal
 

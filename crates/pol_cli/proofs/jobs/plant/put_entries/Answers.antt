@@ -4,7 +4,7 @@ use Rattle.std.proofs.lemmas.Result.{on_ok_weaker}
 use Rattle.std.specs.Io.KnownBytes.{Appends}
 use Rattle.pol_events.specs.Events.{plain_entry}
 use Rattle.pol_record.specs.Texts.{IsReadBack}
-use Rattle.pol_cli.specs.Written.{WritesSome}
+use Rattle.pol_jobs.specs.Written.{WritesSome}
 use Rattle.pol_cli.proofs.EntryLines.{all_turned, lines_of_entries}
 use Rattle.pol_cli.proofs.jobs.plant.put_entries.Goals as goal
 
