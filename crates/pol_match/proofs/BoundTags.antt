@@ -19,8 +19,7 @@ nobody = record {
   description = record {
     type_name = [];
     version_text = [];
-    version =
-        (0, 0, 0, [], []);
+    version = (0, 0, 0, [], []);
     services = [];
     variables = [];
   };

@@ -97,8 +97,7 @@ sat_before {before = before} {seen = seen} {more = more} {place = place} is each
     (λ sits. record {
       place = sits.place;
       outside = out_of seen more sits.place (seen_within is) sits.outside;
-      held =
-          sits.held;
+      held = sits.held;
     })
     (is.vacated.only who (record { place = each; outside = fails; held = held })))
     (cases_Bool (is_in more each))
@@ -215,8 +214,7 @@ seated rows before after seen set more row place is =
         record {
           place = sits.place;
           outside = out_of seen more sits.place (seen_within is) sits.outside;
-          held =
-              elsewhere sits.place apart ∙ sits.held;
+          held = elsewhere sits.place apart ∙ sits.held;
         }
 
 -- what a place must meet before it is vacated

@@ -114,8 +114,7 @@ none_from_closed rows holders seen set row place_of seating alone closed have th
         inr (record {
           place = place;
           outside = parts.1;
-          held =
-              (held_added rows holders seen set place closed parts.0 parts.1).0;
+          held = (held_added rows holders seen set place closed parts.0 parts.1).0;
         })
 
     in_all : (place : ℕ) → is_in set place ≡ true → is_in seen place ≡ false

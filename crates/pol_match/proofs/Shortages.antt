@@ -209,27 +209,25 @@ shortage chart candidates set crowded few =
     row_of role = set_of (map (fits_role chart role) candidates)
 
     kept : List ℕ → Bool
-    kept role = has_all set (set_of (map (fits_role chart role) candidates))
+    kept role = has_all set (row_of role)
 
-    roles_are : those_with (has_all set) (rows_for chart candidates) (role_names chart)
-        ≡ filter (λ role. has_all set (set_of (map (fits_role chart role) candidates))) (role_names chart)
-    roles_are = those_with-is (has_all set) (λ role. set_of (map (fits_role chart role) candidates)) (role_names chart)
+    roles_are : those_with (has_all set) (rows_for chart candidates) (role_names chart) ≡ filter kept (role_names chart)
+    roles_are = those_with-is (has_all set) row_of (role_names chart)
 
-    reached_at : (i : ℕ) → i < length candidates
-        → is_reached (rows_for chart candidates) set i ≡ list_any
-        (λ role. fits_role chart role (get_or candidates i nobody))
-        (filter (λ role. has_all set (set_of (map (fits_role chart role) candidates))) (role_names chart))
-    reached_at i low = reached-is set i (λ role. set_of (map (fits_role chart role) candidates))
-        (λ role. fits_role chart role (get_or candidates i nobody)) (role_names chart)
+    reached_at : (i : ℕ) → i < length candidates → is_reached (rows_for chart candidates) set i
+        ≡ list_any (λ role. fits_role chart role (get_or candidates i nobody)) (filter kept (role_names chart))
+    reached_at i low =
+        reached-is set i row_of (λ role. fits_role chart role (get_or candidates i nobody)) (role_names chart)
         (λ name. in_set_of (map (fits_role chart name) candidates) i
         ∙ get_or-map (fits_role chart name) candidates i nobody false low)
 
+    -- the candidate fits one of the roles that are kept
+    is_wanted : PlainCandidate → Bool
+    is_wanted candidate = list_any (λ role. fits_role chart role candidate) (filter kept (role_names chart))
+
     tags_are : those_at (is_reached (rows_for chart candidates) set) 0 (tags_in candidates)
-        ≡ tags_in (filter (λ candidate. list_any (λ role. fits_role chart role candidate)
-        (filter (λ role. has_all set (set_of (map (fits_role chart role) candidates))) (role_names chart))) candidates)
-    tags_are = those_at-is (is_reached (rows_for chart candidates) set)
-        (λ candidate. list_any (λ role. fits_role chart role candidate)
-        (filter (λ role. has_all set (set_of (map (fits_role chart role) candidates))) (role_names chart))) 0 candidates
+        ≡ tags_in (filter is_wanted candidates)
+    tags_are = those_at-is (is_reached (rows_for chart candidates) set) is_wanted 0 candidates
         (λ i low. ap (is_reached (rows_for chart candidates) set) (zero-add i) ∙ reached_at i low)
 
 -- the same, of what was told

@@ -11,8 +11,7 @@ seat-requires-clause-seating c =
       low = c.requires.row;
       seated = c.requires.seated;
       is_settled = c.requires.settled;
-      unseated =
-          c.unseat.ensures;
+      unseated = c.unseat.ensures;
     } in
     freed_seating freed
 
@@ -23,8 +22,7 @@ seat-requires-clause-alone c =
       low = c.requires.row;
       seated = c.requires.seated;
       is_settled = c.requires.settled;
-      unseated =
-          c.unseat.ensures;
+      unseated = c.unseat.ensures;
     } in
     freed_alone freed
 
@@ -35,8 +33,7 @@ unwrap-requires c =
       low = c.requires.row;
       seated = c.requires.seated;
       is_settled = c.requires.settled;
-      unseated =
-          c.unseat.ensures;
+      unseated = c.unseat.ensures;
     } in
     some_since c.seat.result
     (IsStuck c.args.rows.now c.unseat.new.holders c.seat.new.holders c.args.settled c.seat.new.seen c.args.row)
@@ -51,8 +48,7 @@ returns c =
       low = c.requires.row;
       seated = c.requires.seated;
       is_settled = c.requires.settled;
-      unseated =
-          c.unseat.ensures;
+      unseated = c.unseat.ensures;
     } in
     reseated freed c.seat.new.holders c.unwrap.result
     (MatchOption-at_some

@@ -4,7 +4,7 @@ use Rattle.mtp_codes.specs.Faults.{done_unless}
 use Rattle.pol_match.proofs.fit.does_cover.Goals as goal
 
 -- a call is ok where there is no fault to answer
-ok_unless : {F R : Type 0} (rule : F → R) (fault : Option F)
+ok_unless : {Fault Rule : Type 0} (rule : Fault → Rule) (fault : Option Fault)
     → is_ok (done_unless (option_map rule fault)) ≡ is_none fault
 ok_unless rule None = refl
 ok_unless rule (Some fault) = refl
