@@ -12,6 +12,8 @@ mod docked;
 #[cfg(test)]
 mod events;
 #[cfg(test)]
+mod finder;
+#[cfg(test)]
 mod given;
 #[cfg(test)]
 mod looking_back;

@@ -1,0 +1,24 @@
+use Rattle.pol_match.specs.Seats.{IsSeated, IsStuck}
+use Rattle.pol_match.proofs.Seatings.{none_where_stuck, crowded_where_stuck, one_more_seated, stuck_of, seated_of}
+use Rattle.pol_match.proofs.assignment.seat_all.Goals as goal
+
+pub returns-then-is_none : goal.returns-then-is_none
+returns-then-is_none c =
+    let stuck = stuck_of
+    (IsStuck c.args.rows.now c.loop-row.holders c.seat.new.holders 0 c.seat.new.seen c.loop-row.row)
+    (λ place. IsSeated c.args.rows.now c.loop-row.holders c.seat.new.holders 0 c.loop-row.row place)
+    c.seat.result c.seat.ensures c.if-is_none.ensures in (
+      crowded_where_stuck c.args.rows.now c.loop-row.holders c.seat.new.holders c.loop-row.row c.seat.new.seen
+          c.loop-row-test.true (λ each. (c.type_inv.rows each).fits) c.loop-row.invariant stuck,
+      none_where_stuck c.args.rows.now c.loop-row.holders c.seat.new.holders c.loop-row.row c.seat.new.seen
+          c.loop-row-test.true c.loop-row.invariant stuck,
+    )
+
+pub loop-row-preserved : goal.loop-row-preserved
+loop-row-preserved c =
+    let seated = seated_of
+    (IsStuck c.args.rows.now c.loop-row.holders c.seat.new.holders 0 c.seat.new.seen c.loop-row.row)
+    (λ place. IsSeated c.args.rows.now c.loop-row.holders c.seat.new.holders 0 c.loop-row.row place)
+    c.seat.result c.seat.ensures c.if-is_none.ensures in
+    one_more_seated c.args.rows.now c.loop-row.holders c.seat.new.holders c.loop-row.row seated.0 c.loop-row.invariant
+    seated.1

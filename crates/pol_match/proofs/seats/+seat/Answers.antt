@@ -1,0 +1,87 @@
+use Rattle.std.proofs.Common.{arith, true, ◌≡◌, ◌<◌, ◌≤◌, ℕ, length, List, Option, sym, subst}
+use Rattle.pol_match.specs.Places.{IsWithin}
+use Rattle.pol_match.specs.Seats.{fits, IsVacated}
+use Rattle.pol_match.proofs.Counting.{unseen, unseen_less}
+use Rattle.pol_match.proofs.Chains.{MayBeVacated, may_be_vacated, more_within, more_here, out_of, row_there, seated}
+use Rattle.pol_match.proofs.seats.+seat.Goals as goal
+
+pub seat-vacate-requires : goal.seat-vacate-requires
+seat-vacate-requires t c =
+    let next = c.in-Some.ensures.some in
+    let closed = c.loop-place.invariant.closed in
+    let before = sym c.loop-place.invariant.same in
+    let rows = c.args.rows.now in
+    let set = c.loop-place.seen in
+    let more = c.with.result in
+    let place = c.in-Some.place in
+    let old = c.args.seen.now in
+    let within : IsWithin old more = λ each there. more_within set more place c.with.ensures each
+    (closed.grown each there) in
+    let less : unseen more < unseen old = unseen_less old more place within next.below
+    (out_of old set place closed.grown next.new) (more_here set more place c.with.ensures) in
+    let may = subst (MayBeVacated rows more place) before (may_be_vacated rows c.args.holders.now old set more place
+    c.requires.seating closed next.new c.with.ensures) in (
+      omega (arith, less, c.decreases),
+      (
+        subst (λ (holders : List (Option ℕ)). (row place : ℕ) → fits rows row place ≡ true → place < length holders)
+            before c.requires.inside,
+        (
+          subst (λ (holders : List (Option ℕ)). length holders ≤ 64) before c.requires.few,
+          (
+            subst (λ (holders : List (Option ℕ)). place < length holders) before
+                (c.requires.inside c.args.row place next.here),
+            (may.0, may.1),
+          ),
+        ),
+      ),
+    )
+
+pub seat-returns-then-vacate : goal.seat-returns-then-vacate
+seat-returns-then-vacate t c =
+    seated c.args.rows.now c.args.holders.now c.vacate.new.holders c.args.seen.now c.loop-place.seen c.with.result
+    c.args.row c.in-Some.place
+    (record {
+      seating = c.requires.seating;
+      alone = c.requires.alone;
+      closed = c.loop-place.invariant.closed;
+      next = c.in-Some.ensures.some;
+      has_more = c.with.ensures;
+      low = omega (
+        arith,
+        c.requires.inside c.args.row c.in-Some.place c.in-Some.ensures.some.here,
+        c.vacate.auto.holders,
+        c.loop-place.auto.holders,
+      );
+      vacated = subst (λ (holders : List (Option ℕ)). IsVacated c.args.rows.now holders c.vacate.new.holders
+          c.with.result c.in-Some.place) c.loop-place.invariant.same c.if-vacate.ensures;
+    })
+
+pub seat-loop-place-smaller : goal.seat-loop-place-smaller
+seat-loop-place-smaller t c =
+    let next = c.in-Some.ensures.some in
+    let kept = c.if-vacate.ensures in
+    let set = c.loop-place.seen in
+    let more = c.with.result in
+    let place = c.in-Some.place in
+    unseen_less set c.vacate.new.seen place (λ each there. kept.closed.grown each
+    (more_within set more place c.with.ensures each there)) next.below next.new
+    (kept.closed.grown place (more_here set more place c.with.ensures))
+
+pub vacate-seat-requires : goal.vacate-seat-requires
+vacate-seat-requires t c = (
+  omega (arith, c.decreases),
+  (
+    c.requires.inside,
+    (
+      c.requires.few,
+      (
+        row_there c.args.rows.now c.in-Some.holder c.args.place
+            (c.requires.seating.fit c.args.place c.in-Some.holder c.in-Some.is),
+        (
+          c.requires.seating,
+          c.requires.alone c.in-Some.holder c.in-Some.is,
+        ),
+      ),
+    ),
+  ),
+)
