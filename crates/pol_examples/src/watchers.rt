@@ -44,7 +44,11 @@ fn each_watcher_that_is_asked_for_looks_a_thousand_times(rt: HostRuntime) -> Res
         let status = top(&rt, alloc, &words, &mut source, &mut sink, clock, &gate);
         assert_eq!(rt; status.number(), 0);
         assert_eq!(rt; gate.first.load(Ordering::SeqCst), watchers, "{line}");
-        assert_eq!(rt; gate.all.load(Ordering::SeqCst), watchers.saturating_mul(1_000), "{line}");
+        assert_eq!(rt;
+            gate.all.load(Ordering::SeqCst),
+            watchers.saturating_mul(1_000),
+            "{line}"
+        );
     }
     Ok(())
 }
