@@ -20,6 +20,9 @@ def main(journal, output):
     answers = [line for line in open(output, "rb").read().split(b"\n") if line]
     if len(answers) <= len(lines):
         sys.exit("history.py: this is not the whole output of that journal")
+    left_out = sum(not is_entry(answer) for answer in answers[:len(lines)])
+    if left_out:
+        print(f"history.py: {left_out} lines were no event, or too many, and aren't in the history", file=sys.stderr)
     for line, answer in zip(lines, answers):
         if is_entry(answer):
             sys.stdout.buffer.write(b'{"answer":%s,"event":%s}\n' % (answer, line.strip(b" \t\r")))

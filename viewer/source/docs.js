@@ -55,7 +55,7 @@ const docs = {
       "number": 9,
       "star": false,
       "holds": "the service reported a state since docking, the new one is another, and no edge leads there",
-      "remedy": "a report was lost or is wrong. Report the states that were passed, in their order (a report was lost). Where no batch runs a step on the module it may be unplugged and plugged, or an exchange begun and cancelled: it then begins unreported"
+      "remedy": "a report was lost or is wrong. Report the states that were passed, in their order (a report was lost). A module that no open batch holds or watches may also be unplugged and plugged; one on which no step runs and whose services were last reported at rest, exchanged or its exchange begun and cancelled: it then begins unreported"
     },
     NoVariable: {
       "number": 10,
@@ -263,7 +263,7 @@ const docs = {
     },
     Forbidden: {
       "for": "a mode, state or enabled bit: the reason is one of the four above, for a recipe",
-      "look": "the module isn't in Automatic and External, or doesn't enable the command; {by} names which"
+      "look": "{by} says why a recipe may not command now: ModeForbids, the module isn't in Automatic and External; NotEnabled, it doesn't enable the command; StateForbids, SelfCompletes as in the table below"
     },
     Unmet: {
       "for": "the step's finish condition",
