@@ -16,7 +16,7 @@ ghost use Rattle.pol_cli.specs.Tasks.{PlantEnds};
 use crate::jobs::closing::close;
 use crate::jobs::site_text::read_text;
 use crate::journal::journals_are_sound;
-use crate::status::{Status, status_of};
+use crate::status::{Status, status_of_site};
 use mtp_json::JsonFault;
 use pol_arguments::LiveTask;
 use pol_events::Entry;
@@ -152,5 +152,5 @@ pub fn live<R: Threads + Wait + Sync, S: Source, K: Sink, C: Clock + Send, G: Ga
     ensures laws { Laws }
 {
     journals_are_sound();
-    status_of(read_and_run(rt, alloc, task.watchers, source, sink, clock, gate))
+    status_of_site(read_and_run(rt, alloc, task.watchers, source, sink, clock, gate))
 }

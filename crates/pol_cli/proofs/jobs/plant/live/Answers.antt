@@ -4,7 +4,7 @@ use Rattle.pol_cli.proofs.jobs.plant.live.Goals as goal
 
 pub returns-clause-ends : goal.returns-clause-ends
 returns-clause-ends g c =
-    rw c.status_of.ensures (plant_ends
+    rw c.status_of_site.ensures (plant_ends
     (edge (g.S.Source.left c.args.source.now) (g.S.Source.faults c.args.source.now))
     (edge (g.S.Source.left c.read_and_run.new.source) (g.S.Source.faults c.read_and_run.new.source))
     (edge (g.K.Sink.held c.args.sink.now) (g.K.Sink.faults c.args.sink.now))
