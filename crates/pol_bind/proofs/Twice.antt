@@ -1,6 +1,7 @@
 -- A tag that is bound twice, whatever order the earlier roles have.
-use Rattle.std.proofs.Common.{◌≡◌, ℕ, Bool, true, false, List, [], ◌∷◌, ◌++◌, Option, Some, None, refl, ap, ◌∙◌}
+use Rattle.std.proofs.Common.{◌≡◌, ℕ, Bool, true, false, List, [], ◌∷◌, ◌++◌, Option, Some, None, refl, sym, ap, ◌∙◌}
 use Rattle.std.specs.Prelude.{◌||◌, filter_map}
+use Rattle.std.proofs.Math.Bool.{or_assoc, or-false}
 use Rattle.std.specs.List.{cons_option}
 use Rattle.std.specs.Option.{option_or}
 use Rattle.std.specs.Str.{bytes_eq}
@@ -11,16 +12,6 @@ use Rattle.pol_events.specs.BindRules.{is_bound_before, one_module_twice, twice}
 use Rattle.pol_events.specs.Bound.{bound_tag}
 use Rattle.pol_events.specs.declared.answer.Rule.TheVariants.{OneModuleTwice}
 use Rattle.pol_events.specs.declared.event.Bind.{Bind}
-
--- it is the same how two ors are grouped
-or_assoc : (one other last : Bool) → (one || (other || last)) ≡ ((one || other) || last)
-or_assoc true other last = refl
-or_assoc false other last = refl
-
--- or false is as before
-or_false : (one : Bool) → (one || false) ≡ one
-or_false true = refl
-or_false false = refl
 
 -- it is the same which of two comes first
 or_swap : (one other : Bool) → (one || (other || false)) ≡ (other || one)
@@ -44,7 +35,7 @@ before_append binds (first ∷ front) role tag = go (bound_tag binds first) (bef
     go None rest = rest
     go (Some other) rest =
         ap (λ later. bytes_eq other tag || later) rest
-        ∙ or_assoc (bytes_eq other tag) (is_bound_before binds front tag) (is_bound_before binds (role ∷ []) tag)
+        ∙ sym (or_assoc (bytes_eq other tag) (is_bound_before binds front tag) (is_bound_before binds (role ∷ []) tag))
 
 -- it is bound to one role
 before_one : (binds : List Bind) (earlier : List (List ℕ)) (role tag : List ℕ) →
@@ -55,7 +46,7 @@ before_one binds earlier role tag = go (bound_tag binds role)
     go : (found : Option (List ℕ)) →
         (is_bound_before binds earlier tag || is_among (cons_option found []) tag)
         ≡ is_among (cons_option found (filter_map (bound_tag binds) earlier)) tag
-    go None = or_false (is_bound_before binds earlier tag)
+    go None = or-false (is_bound_before binds earlier tag)
     go (Some other) = or_swap (is_bound_before binds earlier tag) (bytes_eq other tag)
 
 -- a tag is bound twice whatever order the earlier roles have

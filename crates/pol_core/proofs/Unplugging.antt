@@ -142,10 +142,11 @@ counted_less history entry tag row old new found present changes less counted =
 -- ---- the answer
 
 -- the rules after the first
-first_of_three : (a b c : Option Rule) → first_rule (a ∷ b ∷ c ∷ []) Done ≡ refuse a (refuse b (refuse c Done))
-first_of_three (Some x) b c = refl
-first_of_three None (Some x) c = refl
-first_of_three None None (Some x) = refl
+first_of_three : (first second third : Option Rule) →
+    first_rule (first ∷ second ∷ third ∷ []) Done ≡ refuse first (refuse second (refuse third Done))
+first_of_three (Some rule) second third = refl
+first_of_three None (Some rule) third = refl
+first_of_three None None (Some rule) = refl
 first_of_three None None None = refl
 
 -- the rule that the first of these watchers makes

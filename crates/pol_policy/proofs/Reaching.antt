@@ -1,6 +1,7 @@
 -- The loops over groups: to which each leads, and what is given to their members.
 use Rattle.std.proofs.Common.{ℕ, suc, ◌≡◌, ◌+◌, ◌-◌, ◌<◌, ◌≤◌, ◌||◌, ◌&&◌, Bool, true, false, List, [], ◌∷◌, ◌++◌, length, get_or, take, drop, refl, sym, ap, ◌∙◌, arith, ⊎_elim}
 use Rattle.std.specs.List.{list_any}
+use Rattle.std.proofs.Math.Bool.{or_assoc}
 use Rattle.std.proofs.Math.Seq.{drop-cons}
 use Rattle.std.proofs.lemmas.Bool.{cases_eq}
 use Rattle.std.proofs.lemmas.List.{append-nil, drop_all, take_all, get_or_append_left, get_or-append_right, get_or_default}
@@ -129,11 +130,6 @@ above_next groups sets index last from reach inside within first is leads absent
     (ap (λ g. list_any (λ each. leads_through is_next_group groups each target
     && name_has index each.group place) (take from groups)
     || (leads_through is_next_group groups g target && name_has index g.group place)) is)
-
--- which of three is so, in whatever order
-or_assoc : (x y z : Bool) → ((x || y) || z) ≡ (x || (y || z))
-or_assoc true y z = refl
-or_assoc false y z = refl
 
 -- the members of one more group
 pub member_next : (groups : List Group) (above : List PlaceSet) (index old new : NameIndex) (i : ℕ)

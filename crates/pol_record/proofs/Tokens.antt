@@ -65,13 +65,11 @@ pub end_line_text : end_text ≡ codes "{\"end\":true}\n"
 unfolding serde_json_on_literals under_key
 end_line_text = refl
 
--- six parts, each behind those before it
-six_parts : (a b s c w e : List Token) → ((((a ++ b) ++ s) ++ c) ++ w) ++ e ≡ a ++ (b ++ (s ++ (c ++ (w ++ e))))
-six_parts a b s c w e =
-    append_assoc (((a ++ b) ++ s) ++ c) w e
-    ∙ append_assoc ((a ++ b) ++ s) c (w ++ e)
-    ∙ append_assoc (a ++ b) s (c ++ (w ++ e))
-    ∙ append_assoc a b (s ++ (c ++ (w ++ e)))
+-- whatever stands before them, six parts may be grouped from either end
+grouped : (old front start course watch behind : List Token) →
+    ((((old ++ front) ++ start) ++ course) ++ watch) ++ behind
+    ≡ old ++ (front ++ (start ++ (course ++ (watch ++ behind))))
+grouped old front start course watch behind = simp append_assoc refl
 
 -- the tokens of a batch, by its parts
 parts_of_batch : (batch recipe : List ℕ) (held watched : List Bind) (log : List LogEntry)
@@ -94,7 +92,7 @@ pub batch_tokens : (old : List Token) (batch : List ℕ) (started : Started) (lo
     ∷ []
     ≡ old ++ data_tokens (batch_data batch started log outcome)
 batch_tokens old batch started log outcome =
-    six_parts old (token.begin_object ∷ []) (start_tokens batch started.binds.held)
+    grouped old (token.begin_object ∷ []) (start_tokens batch started.binds.held)
     (course_tokens log outcome started.recipe) (watch_tokens started.binds.watched) (token.end_object ∷ [])
     ∙ ap (λ tokens. old ++ tokens)
     (parts_of_batch batch started.recipe started.binds.held started.binds.watched log outcome)
