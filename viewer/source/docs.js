@@ -210,7 +210,7 @@ const docs = {
     AlreadyFrozen: {
       "number": 35,
       "star": false,
-      "holds": "the last accepted freeze, thaw or stop of the batch is a freeze",
+      "holds": "the last accepted freeze, thaw or stop of the batch is a freeze; and this freeze has no hold, or that one has it",
       "remedy": "nothing is to be done"
     },
     SelfCompletes: {
@@ -299,7 +299,8 @@ const docs = {
   },
   does: {
     freeze: "advance does nothing until a thaw or a stop. Nothing is sent; services go on.",
-    thaw: "the batch goes on where it was",
+    freezeHolding: "each advance sends Hold to one service of the batch; when none is left to be asked it waits. A batch that was frozen without hold is raised to this.",
+    thaw: "the batch goes on where it was; what was held is unheld first",
     abandon: "closed at once as Abandoned. No command is sent, so its services go on as they are; its modules are free.",
   },
   states: {

@@ -78,7 +78,8 @@ const german = {
     NotFrozen: ["das letzte angenommene Einfrieren, Auftauen oder Anhalten der Charge ist kein Einfrieren, oder es "
       + "gibt keines",
       "nichts ist zu tun"],
-    AlreadyFrozen: ["das letzte angenommene Einfrieren, Auftauen oder Anhalten der Charge ist ein Einfrieren",
+    AlreadyFrozen: ["das letzte angenommene Einfrieren, Auftauen oder Anhalten der Charge ist ein Einfrieren; und "
+      + "dieses hier ist ohne hold, oder jenes hat es",
       "nichts ist zu tun"],
     SelfCompletes: ["der Befehl ist Complete, und die laufende Prozedur endet von selbst",
       "die Prozedur endet von selbst; sie nimmt kein Complete"],
@@ -128,7 +129,9 @@ const german = {
   },
   does: {
     freeze: "advance tut nichts bis zu einem Auftauen oder Anhalten. Nichts wird gesandt; Dienste laufen weiter.",
-    thaw: "die Charge macht weiter, wo sie war",
+    freezeHolding: "jedes advance sendet Hold an einen Dienst der Charge; ist keiner mehr zu bitten, wartet es. Eine "
+      + "Charge, die ohne hold eingefroren war, wird dazu angehoben.",
+    thaw: "die Charge macht weiter, wo sie war; was angehalten war, wird vorher fortgesetzt",
     abandon: "sofort geschlossen als Abandoned. Kein Befehl wird gesandt, ihre Dienste bleiben also, wie sie sind; "
       + "ihre Module sind frei.",
   },

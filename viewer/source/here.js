@@ -19,7 +19,7 @@ const here = (() => {
       return [note("waitsFor", wait?.for), note("lookAt", wait?.look),
         forbid ? note("holdsWhere", `${answer.by}: ${forbid}`) : null];
     }
-    return [make("p", { class: "note" }, words.word("does", event?.ev) ?? "")];
+    return [make("p", { class: "note" }, words.word("does", event?.hold === true ? "freezeHolding" : event?.ev) ?? "")];
   }
   // An answer without more is said with the words of the event's row in the docs.
   function said(history, at, event, answer) {

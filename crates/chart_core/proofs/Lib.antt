@@ -16,3 +16,4 @@ pub mod Logs
 pub mod Few
 pub mod Lawful
 pub mod Ordered
+pub mod StepNumbers

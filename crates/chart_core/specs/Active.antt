@@ -6,7 +6,7 @@ use Rattle.chart_core.specs.Trees.{Placed, steps}
 use Rattle.chart_core.specs.Roles.{PlainChart}
 use Rattle.chart_core.specs.Entries.{Stage, begin, finish, reset, end, ChartEntry, of_step, of_node}
 use Rattle.chart_core.specs.declared.entry.LogEntry.{LogEntry}
-use Rattle.chart_core.specs.declared.entry.LogEntry.TheVariants.{Start, Finish, Reset, End, Chose, Turn, Leave, Stop, Broke, Left, StopAsked, Asked}
+use Rattle.chart_core.specs.declared.entry.LogEntry.TheVariants.{Start, Finish, Reset, End, Chose, Turn, Leave, Stop, Broke, Left, StopAsked, Hold, Unhold, Asked}
 
 -- where a step stands: not running (not started, ended, stopped or left), or what it had last
 pub data Phase : Type 0 where
@@ -25,7 +25,8 @@ abbrev pub last_of : {A B : Type 0} → (A → Option B) → List A → Option B
 last_of says [] = None
 last_of says (entry ∷ later) = or_earlier (last_of says later) (says entry)
 
--- Where the entry leaves the step with this name; nothing where it is no entry of it. A Broke is none of a step.
+-- Where the entry leaves the step with this name; nothing where it is no entry of it. A Broke, a Hold and an Unhold are
+-- none of a step.
 abbrev pub phase_by : List ℕ → LogEntry → Option Phase
 phase_by name (Start step tag service procedure) = when (same_name step name) started
 phase_by name (Finish step tag service) = when (same_name step name) finished
@@ -38,6 +39,8 @@ phase_by name (Stop step tag service) = when (same_name step name) idle
 phase_by name (Broke step state) = None
 phase_by name (Left step state) = when (same_name step name) idle
 phase_by name StopAsked = None
+phase_by name (Hold step tag service) = None
+phase_by name (Unhold step tag service) = None
 phase_by name (Asked tag service command) = None
 
 -- a step that no entry says anything of is not running

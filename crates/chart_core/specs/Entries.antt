@@ -4,7 +4,7 @@ use Rattle.mtp_codes.specs.declared.value.Reading.{Reading}
 use Rattle.mtp_codes.specs.Names.{same_name}
 use Rattle.chart_core.specs.Trees.{PlainStep}
 use Rattle.chart_core.specs.declared.entry.LogEntry.{LogEntry}
-use Rattle.chart_core.specs.declared.entry.LogEntry.TheVariants.{Start, Finish, Reset, End, Chose, Turn, Leave, Stop, Broke, Left, StopAsked, Asked}
+use Rattle.chart_core.specs.declared.entry.LogEntry.TheVariants.{Start, Finish, Reset, End, Chose, Turn, Leave, Stop, Broke, Left, StopAsked, Hold, Unhold, Asked}
 
 -- what an entry of a run does to its step
 pub data Stage : Type 0 where
@@ -38,6 +38,8 @@ chart_entry (Stop step tag service) = None
 chart_entry (Broke step state) = None
 chart_entry (Left step state) = None
 chart_entry StopAsked = None
+chart_entry (Hold step tag service) = None
+chart_entry (Unhold step tag service) = None
 chart_entry (Asked tag service command) = None
 
 -- the service that the entry carries, if any, is this one

@@ -20,3 +20,4 @@ pub mod Deciding
 pub mod Active
 pub mod Laws
 pub mod Order
+pub mod Numbers

@@ -5,10 +5,10 @@ ghost use Rattle.chart_core.specs.Entries.{chart_entry};
 use super::readings::Readings;
 use mtp_codes::{Command, Name, State};
 
-/// An entry of a batch's log: what the batch did. Start, Finish, Reset and Stop are commands to a service of the module
-/// `tag`. Chose, Turn and Leave are decisions of the node `node`, with the readings by which it decided. Broke and
-/// Left are a step's state as it was found, StopAsked is the operator's wish, and Asked is a command of the operator's
-/// desk. The first seven kinds are the entries of a run of the chart.
+/// An entry of a batch's log: what the batch did. Start, Finish, Reset, Stop, Hold and Unhold are commands to a service
+/// of the module `tag`. Chose, Turn and Leave are decisions of the node `node`, with the readings by which it decided.
+/// Broke and Left are a step's state as it was found, StopAsked is the operator's wish, and Asked is a command of the
+/// operator's desk. The first seven kinds are the entries of a run of the chart.
 #[derive(Clone, Copy, Debug, PartialEq, Eq)]
 pub enum LogEntry {
     Start {
@@ -57,6 +57,16 @@ pub enum LogEntry {
         state: State,
     },
     StopAsked,
+    Hold {
+        step: Name,
+        tag: Name,
+        service: Name,
+    },
+    Unhold {
+        step: Name,
+        tag: Name,
+        service: Name,
+    },
     Asked {
         tag: Name,
         service: Name,
@@ -75,6 +85,8 @@ impl LogEntry {
                 | LogEntry::Broke { .. }
                 | LogEntry::Left { .. }
                 | LogEntry::StopAsked
+                | LogEntry::Hold { .. }
+                | LogEntry::Unhold { .. }
                 | LogEntry::Asked { .. }
         )
     }

@@ -17,6 +17,7 @@ mod limits;
 mod marks;
 mod next;
 mod node;
+mod numbers;
 mod order;
 mod progress;
 mod readings;
@@ -41,6 +42,7 @@ pub use limits::{
 pub use marks::{chart_size, is_done, take_entry, untouched};
 pub use next::{Next, Outcome};
 pub use node::{Arm, Node, Step};
+pub use numbers::step_number;
 pub use order::{is_active, steps_in_order};
 pub use progress::{Change, Progress};
 pub use readings::Readings;

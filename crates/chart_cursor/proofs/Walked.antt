@@ -19,9 +19,12 @@ use Rattle.std.specs.Option.{option_or}
 use Rattle.chart_cursor.specs.declared.running.FirstRunning.{FirstRunning}
 use Rattle.chart_cursor.specs.declared.scanning.FirstReady.{FirstReady}
 use Rattle.chart_cursor.specs.Broken.{broken_node, first_broken_node}
-use Rattle.chart_cursor.specs.Looks.{look_ready, look_running, look_broken}
+use Rattle.chart_cursor.specs.Holding.{flag_at, is_unasked, hold_node, first_hold_node, unhold_node, first_unhold_node}
+use Rattle.chart_cursor.specs.Looks.{look_ready, look_running, look_broken, look_hold, look_unhold}
 use Rattle.chart_cursor.specs.Running.{is_wanted, running_node, first_running}
 use Rattle.chart_cursor.specs.declared.breaking.FirstBroken.{FirstBroken}
+use Rattle.chart_cursor.specs.declared.holding.FirstHold.{FirstHold}
+use Rattle.chart_cursor.specs.declared.holding.FirstUnhold.{FirstUnhold}
 
 -- ---- a part that is done has no open node
 
@@ -171,6 +174,31 @@ broken_found sights broken (spot ∷ others) =
     broken_found sights (look_broken sights broken spot) others
     ∙ or_assoc broken.found (broken_node (sights broken.seen.now) spot.node (phase_of spot.progress))
     (first_broken_node (sights broken.seen.now) others)
+
+-- what was to be held before a walk, and then the first to be held of the steps that it looks at
+pub hold_found :
+    {S : Type 0} (sights : S → Sights) (hold : FirstHold S) (each : List OpenNode)
+    → (fold (look_hold sights) hold each).found ≡ option_or hold.found
+    (first_hold_node (sights hold.seen.now) (is_unasked hold.from hold.asked.now) each)
+hold_found sights hold [] = sym (or_none hold.found)
+hold_found sights hold (spot ∷ others) =
+    let test = is_unasked hold.from hold.asked.now in
+    hold_found sights (look_hold sights hold spot) others
+    ∙ or_assoc hold.found (hold_node (sights hold.seen.now) test spot.number spot.node (phase_of spot.progress))
+    (first_hold_node (sights hold.seen.now) test others)
+
+-- what came first before a walk, and then what comes first of the steps that it looks at and that were held
+pub unhold_found :
+    {S : Type 0} (sights : S → Sights) (unhold : FirstUnhold S) (each : List OpenNode)
+    → (fold (look_unhold sights) unhold each).next ≡ first_next unhold.next
+    (first_unhold_node (sights unhold.seen.now) (flag_at unhold.held.now) each)
+unhold_found sights unhold [] = sym (first_next_whole unhold.next)
+unhold_found sights unhold (spot ∷ others) =
+    let test = flag_at unhold.held.now in
+    unhold_found sights (look_unhold sights unhold spot) others
+    ∙ first_next_assoc unhold.next
+    (unhold_node (sights unhold.seen.now) test spot.number spot.node (phase_of spot.progress))
+    (first_unhold_node (sights unhold.seen.now) test others)
 
 -- ---- a selection has no more arms than nodes
 

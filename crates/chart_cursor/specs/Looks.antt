@@ -5,8 +5,11 @@ use Rattle.chart_cursor.specs.OpenNodes.{OpenNode, phase_of, open_node_ready, fi
 use Rattle.chart_cursor.specs.declared.running.FirstRunning.{FirstRunning}
 use Rattle.chart_cursor.specs.declared.scanning.FirstReady.{FirstReady}
 use Rattle.chart_cursor.specs.Broken.{broken_node}
+use Rattle.chart_cursor.specs.Holding.{flag_at, is_unasked, hold_node, unhold_node}
 use Rattle.chart_cursor.specs.Running.{is_wanted, running_node}
 use Rattle.chart_cursor.specs.declared.breaking.FirstBroken.{FirstBroken}
+use Rattle.chart_cursor.specs.declared.holding.FirstHold.{FirstHold}
+use Rattle.chart_cursor.specs.declared.holding.FirstUnhold.{FirstUnhold}
 
 -- what comes next: the first entry; else the first obstacle
 abbrev pub look_ready : {S : Type 0} → (S → Sights) → FirstReady S → OpenNode → FirstReady S
@@ -29,4 +32,27 @@ look_broken sights broken spot =
     record {
       seen = broken.seen;
       found = option_or broken.found (broken_node (sights broken.seen.now) spot.node (phase_of spot.progress));
+    }
+
+-- the entry Hold of the first running step that wasn't asked yet and may be sent Hold
+abbrev pub look_hold : {S : Type 0} → (S → Sights) → FirstHold S → OpenNode → FirstHold S
+look_hold sights hold spot =
+    record {
+      seen = hold.seen;
+      from = hold.from;
+      asked = hold.asked;
+      found = option_or hold.found
+          (hold_node (sights hold.seen.now) (is_unasked hold.from hold.asked.now) spot.number spot.node
+          (phase_of spot.progress));
+    }
+
+-- what comes next of the running steps that were held: the first Unhold; else the first obstacle
+abbrev pub look_unhold : {S : Type 0} → (S → Sights) → FirstUnhold S → OpenNode → FirstUnhold S
+look_unhold sights unhold spot =
+    record {
+      seen = unhold.seen;
+      held = unhold.held;
+      next = first_next unhold.next
+          (unhold_node (sights unhold.seen.now) (flag_at unhold.held.now) spot.number spot.node
+          (phase_of spot.progress));
     }

@@ -1,5 +1,5 @@
 //! A cursor over a chart.
-ghost use Rattle.std.specs.Prelude.{◌≡◌, ◌++◌, ◌∷◌, [], List, IfOk, Some, None};
+ghost use Rattle.std.specs.Prelude.{◌≡◌, ◌++◌, ◌∷◌, [], List, map, IfOk, Some, None};
 ghost use Rattle.chart_core.specs.Active.{active_steps};
 ghost use Rattle.chart_core.specs.Charts.{plain_chart};
 ghost use Rattle.chart_core.specs.Valid.{IsValid};
@@ -12,10 +12,12 @@ ghost use Rattle.chart_core.specs.Trees.{plain_node};
 ghost use Rattle.chart_cursor.specs.OpenNodes.{open_nodes};
 ghost use Rattle.chart_cursor.specs.Next.{IsNext, ready_after, next_after};
 ghost use Rattle.chart_cursor.specs.Logs.{active};
-ghost use Rattle.chart_cursor.specs.NextEntry.{first_broken};
+ghost use Rattle.chart_cursor.specs.Holding.{flag_at, is_unasked, numbered, under_way};
+ghost use Rattle.chart_cursor.specs.NextEntry.{first_broken, first_hold, first_unhold};
 ghost use Rattle.chart_cursor.specs.Running.{is_wanted, first_placed, name_of, placed_of};
 
 use super::breaking::first_broken;
+use super::holding::{first_hold, first_unhold};
 use super::next::CursorNext;
 use super::running::{RunningStep, first_running, name_alone, placed_alone};
 use super::scanning::scan;
@@ -114,6 +116,27 @@ impl Cursor {
             → result ≡ first_broken (S.sights seen.now) (active (plain_chart self.now.chart) word) }
     {
         first_broken(&self.chart.root, 0, &self.marks, seen)
+    }
+
+    /// The entry Hold of the first active step that a recipe may send Hold, whose node is at least `from` and has no
+    /// flag in `asked`; None where there is none. Walks the chart's nodes once, and takes no memory.
+    pub fn first_hold<S: Seen>(&self, seen: &S, from: u32, asked: &[bool]) -> Option<LogEntry>
+        ensures { (word : List LogEntry) → StandsFor (plain_chart self.now.chart) self.now.marks word
+            → result ≡ first_hold (S.sights seen.now) (map (λ placed. placed.step)
+            (numbered (is_unasked from asked.now) (active_steps (plain_chart self.now.chart) word))) }
+    {
+        first_hold(&self.chart.root, 0, &self.marks, seen, from, asked)
+    }
+
+    /// What comes next of the active steps whose nodes have a flag in `held`, and whose services aren't over: the entry
+    /// Unhold of the first that may be unheld; where none may, the obstacle of the first; Whole where there is no such
+    /// step. Walks the chart's nodes once, and takes no memory.
+    pub fn first_unhold<S: Seen>(&self, seen: &S, held: &[bool]) -> CursorNext
+        ensures { (word : List LogEntry) → StandsFor (plain_chart self.now.chart) self.now.marks word
+            → result ≡ first_unhold (S.sights seen.now) (under_way (S.sights seen.now) (map (λ placed. placed.step)
+            (numbered (flag_at held.now) (active_steps (plain_chart self.now.chart) word)))) }
+    {
+        first_unhold(&self.chart.root, 0, &self.marks, seen, held)
     }
 
     /// The first active step whose node is at least `from`, with the node's number; None where there is no such active

@@ -15,6 +15,7 @@
 mod breaking;
 mod cursor;
 mod following;
+mod holding;
 mod laws;
 mod next;
 mod ready;
@@ -26,9 +27,11 @@ mod walking;
 
 pub use cursor::Cursor;
 pub use following::next_of_log;
+pub use holding::{hold_step, unhold_step};
 pub use laws::{
     next_commands_are_permitted, next_follows_the_chart, next_keeps_the_run, steps_are_of_the_chart,
 };
 pub use next::CursorNext;
 pub use running::RunningStep;
+pub use scanning::earlier;
 pub use sight::{ReadingSight, Seen, Sight};

@@ -9,7 +9,7 @@ fn only_the_words_of_a_job_give_a_task(rt: HostRuntime) -> Result<(), Fail> {
     let plant = |watchers: u16| Ok(Task::Live(LiveTask { watchers }));
     let audit = Ok(Task::Serial(SerialTask::Audit));
     let refused = Err(WordFault::Refused);
-    let cases: [(&str, Result<Task, WordFault>); 28] = [
+    let cases: [(&str, Result<Task, WordFault>); 35] = [
         ("pol --job replay", replay),
         ("pol --job=replay", replay),
         ("pol --job=demo --seed 0", demo(0)),
@@ -19,6 +19,11 @@ fn only_the_words_of_a_job_give_a_task(rt: HostRuntime) -> Result<(), Fail> {
         ("pol --watchers=16 --job plant", plant(16)),
         ("pol --job audit", audit),
         ("pol --job=audit", audit),
+        ("pol --job find", Ok(Task::Serial(SerialTask::Find))),
+        ("pol --job guard", Ok(Task::Serial(SerialTask::Guard))),
+        ("pol --job migrate", Ok(Task::Serial(SerialTask::Migrate))),
+        ("pol --job keep", Ok(Task::Keep)),
+        ("pol --job export", Ok(Task::Export)),
         ("pol", refused),
         ("pol replay", refused),
         ("pol --job", refused),
@@ -37,6 +42,8 @@ fn only_the_words_of_a_job_give_a_task(rt: HostRuntime) -> Result<(), Fail> {
         ("pol --job replay --watchers 0", refused),
         ("pol --job audit --seed 1", refused),
         ("pol --job audit --watchers 0", refused),
+        ("pol --job keep --seed 1", refused),
+        ("pol --job keep --watchers 0", refused),
         ("pol --help", refused),
     ];
     for (line, task) in cases {

@@ -396,9 +396,10 @@ fn a_whole_line_at_fault_and_the_last_line(rt: HostRuntime) -> Result<(), Fail> 
 #[test]
 fn lines_stand_one_behind_the_other_in_a_kept_buffer(rt: HostRuntime) -> Result<(), Fail> {
     let alloc = rt.alloc();
-    let buffer = put_answer_line(Vec::new(alloc), &Answer::Done)?;
-    let buffer = put_answer_line(buffer, &Answer::Ticket(3))?;
-    let buffer = put_fault_line(alloc, buffer, &LineFault::TooLong)?;
+    let mut buffer = Vec::new(alloc);
+    put_answer_line(alloc, &mut buffer, &Answer::Done)?;
+    put_answer_line(alloc, &mut buffer, &Answer::Ticket(3))?;
+    put_fault_line(alloc, &mut buffer, &LineFault::TooLong)?;
     let lines = br#"{"done":true}
 {"ticket":3}
 {"bad":"TooLong","path":""}

@@ -31,7 +31,6 @@ const QUICK: &str = r#"
 {"tag":"M1","ev":"exchange_begin","at":9} => {"at":9,"ev":"exchange_begin","tag":"M1"}
 {"ev":"unplug","at":2,"tag":"M1"} => {"at":2,"ev":"unplug","tag":"M1"}
 {"batch":"b1","ev":"advance","at":6} => {"at":6,"batch":"b1","ev":"advance"}
-{"ev":"freeze","at":6,"batch":"b1"} => {"at":6,"batch":"b1","ev":"freeze"}
 {"ev":"thaw","at":6,"batch":"b1"} => {"at":6,"batch":"b1","ev":"thaw"}
 {"ev":"stop","at":6,"batch":"b1"} => {"at":6,"batch":"b1","ev":"stop"}
 {"ev":"abandon","at":6,"batch":"b1"} => {"at":6,"batch":"b1","ev":"abandon"}
@@ -117,12 +116,14 @@ const SLOW: &str = r#"
 {"ev":"unplug","at":2,"tag":"\u004d1"} => {"at":2,"ev":"unplug","tag":"M1"}
 {"ev":"variable","at":3,"tag":"M1","name":"note","value":"a \"b\""} => {"at":3,"ev":"variable","name":"note","tag":"M1","value":"a \"b\""}
 {"ev":"start","at":5,"batch":"b1","recipe":"mix","bind":{"B":"M2","A":"M1"}} => {"at":5,"batch":"b1","bind":{"A":"M1","B":"M2"},"ev":"start","recipe":"mix"}
+{"ev":"freeze","at":6,"batch":"b1","hold":true} => {"at":6,"batch":"b1","ev":"freeze","hold":true}
 {"ev":"start","at":5,"batch":"b1","recipe":"mix","bind":{}} => {"at":5,"batch":"b1","bind":{},"ev":"start","recipe":"mix"}
 {"ev":"recipe","at":4,"recipe":"mix","roles":[{"role":"A","type":"Doser","version":"^1"}],"chart":{"until":{"const":true},"loop":{"step":"s1","role":"A","service":"dose","procedure":1,"settings":[]}}} => {"at":4,"chart":{"loop":{"procedure":1,"role":"A","service":"dose","settings":[],"step":"s1"},"until":{"const":true}},"ev":"recipe","recipe":"mix","roles":[{"role":"A","type":"Doser","version":"^1"}]}
 "#;
 
 /// Lines that say no event.
 const NONE: &str = r#"
+{"ev":"freeze","at":6,"batch":"b1"}
 {"ev":"unplug","at":2,"tag":"M1"}}
 {"ev":"unplug","at":2,"tag":"M1",}
 {"ev":"unplug","at":2,"tag":"M1"

@@ -1,8 +1,10 @@
 //! The program `pol`: a process orchestration layer for modular plants. All that it does stands in `pol_cli::run`.
 #![tactic(auto)]
 
+use pol_file::FileDisk;
 use std::process::ExitCode;
 
 fn main(rt: HostRuntime) -> ExitCode {
-    pol_cli::run(&rt)
+    let disk = FileDisk::new(&rt, "pol.journal", ".");
+    pol_cli::run(&rt, disk)
 }

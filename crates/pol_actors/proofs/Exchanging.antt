@@ -76,7 +76,7 @@ exchanger_other site older (exchange_end at tag ticket description) answer excha
     absurd (other (owner_exchanger site))
 exchanger_other site older (exchange_cancel at tag ticket) answer exchanger other allowed stands =
     absurd (other (owner_exchanger site))
-exchanger_other site older (freeze at batch) answer exchanger other allowed stands = absurd allowed
+exchanger_other site older (freeze at batch hold) answer exchanger other allowed stands = absurd allowed
 exchanger_other site older (thaw at batch) answer exchanger other allowed stands = absurd allowed
 exchanger_other site older (stop_batch at batch) answer exchanger other allowed stands = absurd allowed
 exchanger_other site older (abandon at batch) answer exchanger other allowed stands = absurd allowed

@@ -5,7 +5,7 @@ use Rattle.std.specs.Option.{option_or}
 use Rattle.std.specs.Str.{bytes_eq}
 use Rattle.std.proofs.lemmas.List.{length-map, length-reverse, length-take-le, map-append, reverse-append}
 use Rattle.chart_core.specs.declared.entry.LogEntry.{LogEntry}
-use Rattle.chart_core.specs.declared.entry.LogEntry.TheVariants.{Start, Finish, Reset, End, Chose, Turn, Leave, Stop, Broke, Left, StopAsked, Asked}
+use Rattle.chart_core.specs.declared.entry.LogEntry.TheVariants.{Start, Finish, Reset, End, Chose, Turn, Leave, Stop, Broke, Left, StopAsked, Hold, Unhold, Asked}
 use Rattle.chart_cursor.specs.Commands.{Sent, sent_by}
 use Rattle.pol_events.specs.Events.{PlainEntry, plain_entry, plain_history}
 use Rattle.pol_events.specs.declared.answer.Answer.{Answer}
@@ -67,6 +67,8 @@ order_of batch (Start step tag service procedure) = (refl, refl, refl, refl)
 order_of batch (Finish step tag service) = (refl, refl, refl, refl)
 order_of batch (Reset step tag service) = (refl, refl, refl, refl)
 order_of batch (Stop step tag service) = (refl, refl, refl, refl)
+order_of batch (Hold step tag service) = (refl, refl, refl, refl)
+order_of batch (Unhold step tag service) = (refl, refl, refl, refl)
 order_of batch (Asked tag service command) = (refl, refl, refl, refl)
 order_of batch (End step) = tt
 order_of batch (Chose node arm values) = tt

@@ -8,10 +8,10 @@ use Rattle.clap.specs.Simple.{on_top}
 use Rattle.clap.specs.declared.builder.action.ArgAction.TheVariants.{Set}
 use Rattle.pol_arguments.specs.declared.JobForm.{JobForm}
 use Rattle.pol_arguments.specs.declared.JobForm.TheVariants.{Alone, Seeded, Watched}
-use Rattle.pol_arguments.specs.declared.SerialTask.TheVariants.{Replay, Demo, Audit}
+use Rattle.pol_arguments.specs.declared.SerialTask.TheVariants.{Replay, Demo, Audit, Find, Guard, Migrate}
 use Rattle.pol_arguments.specs.declared.TheConstants.{MOST_WATCHERS}
 use Rattle.pol_arguments.specs.declared.Task.{Task}
-use Rattle.pol_arguments.specs.declared.Task.TheVariants.{Serial, Live}
+use Rattle.pol_arguments.specs.declared.Task.TheVariants.{Serial, Live, Keep, Export}
 
 -- an option that takes one value
 abbrev pub option_rule : Text → Rule
@@ -33,10 +33,15 @@ pol = with_rule (with_rule (with_rule
 -- the jobs by their words, and what each takes beside its name
 abbrev pub job_words : List (Text × JobForm)
 job_words =
-    (codes "replay", Alone Replay)
+    (codes "replay", Alone (Serial Replay))
     ∷ (codes "demo", Seeded)
-    ∷ (codes "audit", Alone Audit)
+    ∷ (codes "audit", Alone (Serial Audit))
+    ∷ (codes "find", Alone (Serial Find))
+    ∷ (codes "guard", Alone (Serial Guard))
+    ∷ (codes "migrate", Alone (Serial Migrate))
     ∷ (codes "plant", Watched)
+    ∷ (codes "keep", Alone Keep)
+    ∷ (codes "export", Alone Export)
     ∷ []
 
 -- the row of a word
@@ -71,7 +76,7 @@ IsCount count (Some text) = IsWatchers count text
 
 -- a job of this form, with these values of `--seed` and `--watchers`, is this task
 abbrev pub Gives : JobForm → Option Text → Option Text → Task → Type 0
-Gives (Alone job) None None task = task ≡ Serial job
+Gives (Alone job) None None task = task ≡ job
 Gives Seeded (Some text) None task = (seed : ℕ) × (task ≡ Serial (Demo seed)) × IsSeed seed text
 Gives Watched None watchers task = (count : ℕ) × (task ≡ Live (record { watchers = count })) × IsCount count watchers
 Gives _ _ _ task = ⊥

@@ -22,6 +22,12 @@ pub enum SerialTask {
     Demo(u32),
     /// `--job audit`: read what the plant prints, and say whether it is a true history.
     Audit,
+    /// `--job find`: answer a journal in silence, and say how each recipe could be bound then.
+    Find,
+    /// `--job guard`: answer each line of a journal whose desk lines name who asks, under a written policy.
+    Guard,
+    /// `--job migrate`: write a journal of version 1 as one of version 2.
+    Migrate,
 }
 
 /// `--job plant`: run the site of the input with simulated modules.
@@ -38,6 +44,10 @@ pub enum Task {
     Serial(SerialTask),
     /// A job that may wait.
     Live(LiveTask),
+    /// `--job keep`: answer each line of a journal on a plant that a disk keeps.
+    Keep,
+    /// `--job export`: write the events that the disk keeps as the lines of a journal.
+    Export,
 }
 
 /// How many watchers there may be.
@@ -128,7 +138,7 @@ fn count_of(text: Option<&str>) -> Option<u16>
 #[derive(Clone, Copy)]
 enum JobForm {
     // Nothing.
-    Alone(SerialTask),
+    Alone(Task),
     // A seed.
     Seeded,
     // A number of watchers.
@@ -140,10 +150,15 @@ fn form_of(word: Option<&str>) -> Option<JobForm>
     ensures { result ≡ option_and_then form_named (option_map (λ text. text.now) word.entry) }
 {
     match word? {
-        "replay" => Some(JobForm::Alone(SerialTask::Replay)),
+        "replay" => Some(JobForm::Alone(Task::Serial(SerialTask::Replay))),
         "demo" => Some(JobForm::Seeded),
-        "audit" => Some(JobForm::Alone(SerialTask::Audit)),
+        "audit" => Some(JobForm::Alone(Task::Serial(SerialTask::Audit))),
+        "find" => Some(JobForm::Alone(Task::Serial(SerialTask::Find))),
+        "guard" => Some(JobForm::Alone(Task::Serial(SerialTask::Guard))),
+        "migrate" => Some(JobForm::Alone(Task::Serial(SerialTask::Migrate))),
         "plant" => Some(JobForm::Watched),
+        "keep" => Some(JobForm::Alone(Task::Keep)),
+        "export" => Some(JobForm::Alone(Task::Export)),
         _ => None,
     }
 }
@@ -166,7 +181,7 @@ fn task_of(form: JobForm, seed: Option<&str>, watchers: Option<&str>) -> Option<
         (Gives form (option_map (λ text. text.now) seed.entry) (option_map (λ text. text.now) watchers.entry)) }
 {
     match (form, seed, watchers) {
-        (JobForm::Alone(task), None, None) => Some(Task::Serial(task)),
+        (JobForm::Alone(task), None, None) => Some(task),
         (JobForm::Seeded, Some(text), None) => {
             let seed = seed_of(text)?;
             Some(Task::Serial(SerialTask::Demo(seed)))

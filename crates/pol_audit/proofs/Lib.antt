@@ -1,6 +1,8 @@
 pub mod LookingBack
 pub mod Docked
 pub mod Logged
+pub mod AskedSince
+pub mod HeldSteps
 pub mod Seeing
 pub mod Steps
 pub mod Ruled

@@ -14,8 +14,10 @@ use Rattle.chart_core.specs.declared.node.Step.{Step}
 use Rattle.chart_core.specs.Valid.{IsValid, chart_fault}
 use Rattle.chart_core.specs.declared.entry.LogEntry.{LogEntry}
 use Rattle.chart_core.specs.declared.fault.ChartFault.{ChartFault}
-use Rattle.chart_cursor.specs.Sights.{or_role}
-use Rattle.chart_cursor.specs.Logs.{active}
+use Rattle.chart_cursor.specs.Sights.{Sights, or_role}
+use Rattle.chart_cursor.specs.Logs.{active, chart_entries, has_broken, was_stopped}
+use Rattle.chart_cursor.specs.Next.{next_after}
+use Rattle.chart_cursor.specs.NextEntry.{first_broken, first_unhold, owed, run_next, unless_whole, unfrozen_next}
 use Rattle.pol_events.specs.Events.{PlainEvent, recipe}
 use Rattle.pol_events.specs.Orderly.{is_orderly, is_valid}
 use Rattle.pol_history.specs.Looking.{History, recipes, is_accepted_recipe}
@@ -93,3 +95,10 @@ pub kept_first : (test : PlainStep → Bool) (steps : List (Bor Step)) (i : ℕ)
     → step ≡ get_or steps i step → test (plain_step step.now) ≡ true →
     plain_step step.now ∷ filter test (plans_seen (drop (suc i) steps)) ≡ filter test (plans_seen (drop i steps))
 kept_first test steps i step inside same passes = rw (drop-cons steps i step inside, ← same, passes) refl
+
+-- what a batch does next that isn't frozen, doesn't stop and doesn't break
+pub goes_on : (chart : PlainChart) (log : List LogEntry) (seen : Sights) (running : List PlainStep)
+    → running ≡ active chart log → has_broken log ≡ false → was_stopped log ≡ false → first_broken seen running ≡ None →
+    run_next (unless_whole (first_unhold seen (owed seen log running)) (next_after chart (chart_entries log) seen))
+    ≡ unfrozen_next chart log seen
+goes_on chart log seen running same broken stopped none = rw (broken, stopped, ← same, none) refl

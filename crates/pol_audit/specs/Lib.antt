@@ -1,5 +1,7 @@
 pub mod Dockings
 pub mod Starts
+pub mod Freezes
+pub mod HeldSteps
 pub mod Holding
 pub mod Judging
 pub mod Verdict

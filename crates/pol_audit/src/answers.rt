@@ -130,13 +130,13 @@ fn open_rule(history: &[Entry], batch: Name) -> Option<Rule>
     first_of(&[no_batch(history, batch), batch_closed(history, batch)])
 }
 
-fn freeze_rule(history: &[Entry], batch: Name) -> Option<Rule>
-    ensures { result ≡ first_of (rules (plain_history history.now) (freeze 0 batch)) }
+fn freeze_rule(history: &[Entry], batch: Name, hold: bool) -> Option<Rule>
+    ensures { result ≡ first_of (rules (plain_history history.now) (freeze 0 batch hold)) }
 {
     first_of(&[
         no_batch(history, batch),
         batch_closed(history, batch),
-        already_frozen(history, batch),
+        already_frozen(history, batch, hold),
     ])
 }
 
@@ -217,7 +217,7 @@ fn event_rule(alloc: Global, history: &[Entry], event: &Event) -> Result<Option<
         Event::Advance { batch, .. }
         | Event::StopBatch { batch, .. }
         | Event::Abandon { batch, .. } => Ok(open_rule(history, *batch)),
-        Event::Freeze { batch, .. } => Ok(freeze_rule(history, *batch)),
+        Event::Freeze { batch, hold, .. } => Ok(freeze_rule(history, *batch, *hold)),
         Event::Thaw { batch, .. } => Ok(thaw_rule(history, *batch)),
         Event::Plug { tag, .. } => plug_rule(alloc, history, *tag),
         Event::Unplug { tag, .. } => Ok(unplug_rule(history, *tag)),

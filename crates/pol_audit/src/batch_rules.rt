@@ -13,10 +13,10 @@ ghost use Rattle.pol_history.specs.Rules.{active_step, active_step_on, already_f
 ghost use Rattle.pol_audit.specs.Starts.{is_active_step, watchers_in};
 
 use crate::batches::{
-    chart_named, holder_of, is_frozen, log_of, outcome_of, recipe_count, start_count, start_of,
-    watcher_by,
+    chart_named, holder_of, log_of, outcome_of, recipe_count, start_count, start_of, watcher_by,
 };
 use crate::following::{chart_steps, is_active_step};
+use crate::freezes::{is_frozen, is_holding};
 use chart_core::{LogEntry, Step};
 use mtp_codes::{MOST_BATCHES, MOST_RECIPES, Name};
 use mtp_desc::Description;
@@ -75,11 +75,11 @@ pub fn batch_closed(history: &[Entry], batch: Name) -> Option<Rule>
     }
 }
 
-/// The batch is frozen.
-pub fn already_frozen(history: &[Entry], batch: Name) -> Option<Rule>
-    ensures { result ≡ already_frozen (past_of_batch batch (plain_history history.now)) }
+/// The batch is frozen, and either the freeze doesn't hold the services or they are held already.
+pub fn already_frozen(history: &[Entry], batch: Name, hold: bool) -> Option<Rule>
+    ensures { result ≡ already_frozen hold (past_of_batch batch (plain_history history.now)) }
 {
-    if is_frozen(history, batch) {
+    if is_frozen(history, batch) && (!hold || is_holding(history, batch)) {
         Some(Rule::AlreadyFrozen)
     } else {
         None

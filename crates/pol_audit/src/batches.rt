@@ -6,7 +6,7 @@ ghost use Rattle.chart_core.specs.Charts.{plain_chart};
 ghost use Rattle.pol_events.specs.Events.{plain_entry, plain_event, plain_history};
 ghost use Rattle.pol_events.specs.Bound.{tags_of};
 ghost use Rattle.pol_history.specs.Looking.{is_accepted_of_batch, is_accepted_recipe, past_of_batch, recipes, last_of};
-ghost use Rattle.pol_history.specs.Batches.{starting, start_by, charted, chart_named, closing, outcome_by, freezing, if_open, is_frozen_by, taken, log_by, takes, holder_of, is_start, watches};
+ghost use Rattle.pol_history.specs.Batches.{starting, start_by, charted, chart_named, closing, outcome_by, if_open, taken, log_by, takes, holder_of, is_start, watches};
 ghost use Rattle.pol_audit.specs.Starts.{started};
 
 use crate::entries::{is_of_batch, is_of_recipe};
@@ -117,33 +117,6 @@ pub fn outcome_of(history: &[Entry], batch: Name) -> Option<Outcome>
     history.iter().rev().find_map(|entry| {
         closing(&entry.answer).filter(|_| is_of_batch(entry, batch))
     })
-}
-
-fn freezing(event: &Event) -> Option<bool>
-    ensures { result ≡ freezing (plain_event event.now) }
-{
-    match event {
-        Event::Freeze { .. } => Some(true),
-        Event::Thaw { .. } => Some(false),
-        Event::StopBatch { .. } => Some(false),
-        _ => None,
-    }
-}
-
-// Whether the batch's last freeze, thaw or stop is a freeze.
-fn last_freezing(history: &[Entry], batch: Name) -> Option<bool>
-    ensures { result ≡ last_of (λ entry. freezing entry.event) (past_of_batch batch (plain_history history.now)) }
-{
-    history.iter().rev().find_map(|entry| {
-        freezing(&entry.event).filter(|_| is_of_batch(entry, batch))
-    })
-}
-
-/// Whether the batch is frozen.
-pub fn is_frozen(history: &[Entry], batch: Name) -> bool
-    ensures { result ≡ is_frozen_by (past_of_batch batch (plain_history history.now)) }
-{
-    last_freezing(history, batch).unwrap_or(false)
 }
 
 fn taken(answer: &Answer) -> Option<LogEntry>

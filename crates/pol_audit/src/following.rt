@@ -5,17 +5,22 @@ ghost use Rattle.chart_core.specs.Trees.{PlainStep, plain_step};
 ghost use Rattle.chart_core.specs.Order.{plans_seen};
 ghost use Rattle.chart_core.specs.declared.entry.LogEntry.{LogEntry};
 ghost use Rattle.chart_core.specs.Valid.{IsValid};
+ghost use Rattle.chart_cursor.specs.Freezing.{holding};
 ghost use Rattle.chart_cursor.specs.Logs.{has_broken, was_stopped, chart_entries, active};
-ghost use Rattle.chart_cursor.specs.NextEntry.{is_broken_state, broken_step, first_broken, stop_next, stop_step, run_next, next_by};
+ghost use Rattle.chart_cursor.specs.NextEntry.{is_broken_state, broken_step, first_broken, stop_next, stop_step, first_unhold, owed, run_next, unless_whole, unfrozen_next, next_by};
+ghost use Rattle.chart_cursor.specs.Next.{next_after};
 ghost use Rattle.pol_events.specs.Bound.{given, plain_allocation};
 ghost use Rattle.pol_events.specs.Events.{plain_history};
 ghost use Rattle.pol_history.specs.Looking.{past, past_of_batch};
-ghost use Rattle.pol_history.specs.Batches.{is_frozen_by, log_by};
+ghost use Rattle.pol_history.specs.Batches.{asked_by, freezing_by, log_by};
 ghost use Rattle.pol_history.specs.Following.{sights_by, next_of};
 ghost use Rattle.pol_history.specs.Runs.{IsOrderly};
+ghost use Rattle.pol_audit.specs.HeldSteps.{plain_sights};
 ghost use Rattle.pol_audit.specs.Starts.{is_active_step};
 
-use crate::batches::{Start, chart_named, is_frozen, log_of, start_of};
+use crate::batches::{Start, chart_named, log_of, start_of};
+use crate::freezes::{is_frozen, is_holding};
+use crate::held_steps::{first_hold, first_unhold};
 use crate::sights::Sights;
 use chart_core::{Chart, LogEntry, Step, Why, is_active, steps_in_order};
 use chart_cursor::{CursorNext, Seen, Sight, next_of_log};
@@ -90,7 +95,7 @@ fn stop_step(step: Name, service: Name, tag: Name, sight: Sight) -> Next
 fn stop_seen(seen: &Sights, step: &Step) -> Next
     ensures { (broken : Bool) (others : List PlainStep)
         → result ≡ stop_next
-        (sights_by (given (plain_allocation seen.now.binds)) (λ tag. past tag (plain_history seen.now.history.now)))
+        (plain_sights seen.now)
         broken (plain_step step.now ∷ others) }
 {
     let tag = seen.tag(step.role).unwrap_or(step.role);
@@ -105,7 +110,7 @@ fn stop_seen(seen: &Sights, step: &Step) -> Next
 // A batch that is stopped: its first active step, and when there is none it is closed.
 fn stop_next(seen: &Sights, broken: bool, steps: &[&Step], log: &[LogEntry]) -> Next
     ensures { result ≡ stop_next
-        (sights_by (given (plain_allocation seen.now.binds)) (λ tag. past tag (plain_history seen.now.history.now)))
+        (plain_sights seen.now)
         broken (filter (is_active_step log.now) (plans_seen steps.now)) }
 {
     for step in steps {
@@ -141,7 +146,7 @@ fn broken_step(step: &Step, sight: Sight) -> Option<LogEntry>
 // The entry Broke of the first active step whose service is stopped or aborted.
 fn first_broken(seen: &Sights, steps: &[&Step], log: &[LogEntry]) -> Option<LogEntry>
     ensures { result ≡ first_broken
-        (sights_by (given (plain_allocation seen.now.binds)) (λ tag. past tag (plain_history seen.now.history.now)))
+        (plain_sights seen.now)
         (filter (is_active_step log.now) (plans_seen steps.now)) }
 {
     for step in steps {
@@ -165,20 +170,39 @@ fn run_next(next: CursorNext) -> Next
     }
 }
 
-fn next_by(
+// What comes next of the steps that are owed an Unhold; where none is, in the run of the chart.
+fn unhold_or_run(
     alloc: Global,
     chart: &Chart,
-    frozen: bool,
+    steps: &[&Step],
+    log: &[LogEntry],
+    seen: &Sights,
+) -> Result<CursorNext, AllocError>
+    requires { IsValid (plain_chart chart.now) }
+    ensures { IfOk result (λ next. next ≡ unless_whole
+        (first_unhold (plain_sights seen.now)
+        (owed (plain_sights seen.now) log.now (filter (is_active_step log.now) (plans_seen steps.now))))
+        (next_after (plain_chart chart.now) (chart_entries log.now) (plain_sights seen.now))) }
+{
+    match first_unhold(seen, steps, log) {
+        CursorNext::Whole => {
+            let entries = chart_entries(alloc, log)?;
+            next_of_log(alloc, chart, &entries, seen)
+        }
+        next => Ok(next),
+    }
+}
+
+// What a batch does next that isn't frozen.
+fn unfrozen_next(
+    alloc: Global,
+    chart: &Chart,
     log: &[LogEntry],
     seen: &Sights,
 ) -> Result<Next, AllocError>
     requires { IsValid (plain_chart chart.now) }
-    ensures { IfOk result (λ next. next ≡ next_by (plain_chart chart.now) frozen log.now
-        (sights_by (given (plain_allocation seen.now.binds)) (λ tag. past tag (plain_history seen.now.history.now)))) }
+    ensures { IfOk result (λ next. next ≡ unfrozen_next (plain_chart chart.now) log.now (plain_sights seen.now)) }
 {
-    if frozen {
-        return Ok(Next::Waiting(Why::Frozen));
-    }
     let steps = chart_steps(alloc, chart)?;
     let broken = has_broken(log);
     if broken || was_stopped(log) {
@@ -187,8 +211,47 @@ fn next_by(
     if let Some(entry) = first_broken(seen, &steps, log) {
         return Ok(Next::Did(entry));
     }
-    let entries = chart_entries(alloc, log)?;
-    Ok(run_next(next_of_log(alloc, chart, &entries, seen)?))
+    Ok(run_next(unhold_or_run(alloc, chart, &steps, log, seen)?))
+}
+
+// What a frozen batch does next whose services are held.
+fn hold_next(
+    alloc: Global,
+    chart: &Chart,
+    batch: Name,
+    log: &[LogEntry],
+    seen: &Sights,
+) -> Result<Next, AllocError>
+    ensures { IfOk result (λ next. next ≡ next_by (plain_chart chart.now)
+        (holding (asked_by (past_of_batch batch (plain_history seen.now.history.now))))
+        log.now (plain_sights seen.now)) }
+{
+    let steps = chart_steps(alloc, chart)?;
+    match first_hold(seen, batch, &steps, log) {
+        Some(entry) => Ok(Next::Did(entry)),
+        None => Ok(Next::Waiting(Why::Frozen)),
+    }
+}
+
+// What a batch with this log does next.
+fn next_by(
+    alloc: Global,
+    chart: &Chart,
+    batch: Name,
+    log: &[LogEntry],
+    seen: &Sights,
+) -> Result<Next, AllocError>
+    requires { IsValid (plain_chart chart.now) }
+    ensures { IfOk result (λ next. next ≡ next_by (plain_chart chart.now)
+        (freezing_by (past_of_batch batch (plain_history seen.now.history.now))) log.now (plain_sights seen.now)) }
+{
+    if !is_frozen(seen.history, batch) {
+        return unfrozen_next(alloc, chart, log, seen);
+    }
+    if is_holding(seen.history, batch) {
+        return hold_next(alloc, chart, batch, log, seen);
+    }
+    Ok(Next::Waiting(Why::Frozen))
 }
 
 // The next entry of a batch with this start and this chart.
@@ -201,7 +264,7 @@ fn next_of_start(
 ) -> Result<Next, AllocError>
     requires { IsValid (plain_chart chart.now) }
     ensures { IfOk result (λ next. next ≡ next_by (plain_chart chart.now)
-        (is_frozen_by (past_of_batch batch (plain_history history.now)))
+        (freezing_by (past_of_batch batch (plain_history history.now)))
         (log_by (past_of_batch batch (plain_history history.now)))
         (sights_by (given (plain_allocation start.entry.binds)) (λ tag. past tag (plain_history history.now)))) }
 {
@@ -210,7 +273,7 @@ fn next_of_start(
         binds: start.binds,
     };
     let log = log_of(alloc, history, batch)?;
-    next_by(alloc, chart, is_frozen(history, batch), &log, &seen)
+    next_by(alloc, chart, batch, &log, &seen)
 }
 
 /// The next entry of the batch; None where it wasn't started.

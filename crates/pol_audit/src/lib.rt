@@ -23,6 +23,8 @@ mod batches;
 mod closing;
 mod entries;
 mod following;
+mod freezes;
+mod held_steps;
 mod judging;
 mod module_rules;
 mod modules;

@@ -1,5 +1,5 @@
 -- The first step of a role says whether there is one.
-use Rattle.std.proofs.Common.{◌≡◌, ℕ, Bool, true, false, cond, List, [], ◌∷◌, map, Option, Some, None, is_some, refl}
+use Rattle.std.proofs.Common.{◌≡◌, ℕ, Bool, true, false, cond, List, [], ◌∷◌, map, Some, is_some, refl}
 use Rattle.std.specs.Prelude.{◌||◌, find, option_map}
 use Rattle.chart_core.specs.Trees.{Placed}
 use Rattle.mtp_procs.specs.Covers.{name_of_first}

@@ -1,3 +1,6 @@
 pub mod Walks
 pub mod TestMisfits
 pub mod Roles
+pub mod Gathered
+pub mod Needs
+pub mod PlainNeeds

@@ -25,7 +25,7 @@ fn find_role(roles: &[Role], name: Name) -> Option<&Role>
     roles.iter().find(|role| role.role == name)
 }
 
-fn role_of(chart: &Chart, name: Name) -> Option<&Role>
+pub(crate) fn role_of(chart: &Chart, name: Name) -> Option<&Role>
     ensures { option_map (λ role. plain_role role.now) result ≡ role_named name (plain_chart chart.now) }
 {
     find_role(&chart.roles, name)
@@ -38,7 +38,7 @@ fn is_met(role: &Role, version: &Version) -> bool
     role.req.matches(version)
 }
 
-fn check_role(role: &Role, description: &Description) -> Result<(), CoverFault>
+pub(crate) fn check_role(role: &Role, description: &Description) -> Result<(), CoverFault>
     ensures { result ≡ done_unless (role_fault (plain_description description.now) (Some (plain_role role.now))) }
 {
     if role.type_name != description.type_name {

@@ -14,7 +14,7 @@ use mtp_desc::Description;
 use mtp_procs::{StepDemand, check_step};
 
 // Whether the module can't do what the step demands.
-fn is_refused(step: &Step, description: &Description) -> bool
+pub(crate) fn is_refused(step: &Step, description: &Description) -> bool
     ensures { result ≡ is_refused (plain_description description.now) (plain_step step.now) }
 {
     let demand = StepDemand {

@@ -27,7 +27,7 @@ fn can_be_compared(kind: ViewKind, value: Reading) -> bool
 }
 
 // Whether the module has no variable of this name that can be compared with the value.
-fn is_unfit(description: &Description, variable: Name, value: Reading) -> bool
+pub(crate) fn is_unfit(description: &Description, variable: Name, value: Reading) -> bool
     ensures { result ≡ is_variable_misfit value (variable_named variable (plain_description description.now)) }
 {
     match description.variable(variable) {

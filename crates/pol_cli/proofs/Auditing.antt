@@ -21,9 +21,10 @@ use Rattle.pol_safety.specs.Sound.{HistoriesAreSound, EntriesAreRight}
 use Rattle.pol_removal.specs.Removal.{RemovalOfEvents}
 use Rattle.pol_site.specs.Texts.{is_filled}
 use Rattle.pol_jobs.specs.LineWork.{after_all, line_met, met, output_by, replies}
-use Rattle.pol_cli.specs.Audits.{AuditTheorem, after_audited, audit_of, audit_work, audited, events_of, lines_read}
+use Rattle.pol_cli.specs.Audits.{AuditTheorem, after_audited, audit_of, audit_work, audited, events_of}
+use Rattle.pol_retold.specs.Inputs.{lines_read}
 use Rattle.pol_cli.proofs.Journals.{legal_before, orderly_before}
-use Rattle.pol_cli.proofs.Spoken.{met_filled}
+use Rattle.pol_cli.proofs.Filled.{met_filled}
 
 -- ---- one line
 

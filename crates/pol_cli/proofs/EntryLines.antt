@@ -1,75 +1,65 @@
 -- The lines of the entries of a history, one after another, and then what closes the output.
-use Rattle.std.proofs.Common.{ℕ, zero, suc, ◌+◌, ◌≡◌, ◌<◌, List, [], ◌∷◌, ◌++◌, length, true, arith, get_or, sym, ap, subst, ◌∙◌, append_assoc, length-append, map, take}
+use Rattle.std.proofs.Common.{ℕ, zero, suc, ◌+◌, ◌≡◌, ◌<◌, List, [], ◌∷◌, ◌++◌, length, arith, get_or, sym, ap, subst, ◌∙◌, append_assoc, length-append, map, take}
 use Rattle.std.proofs.lemmas.List.{reverse-append, reverse-reverse}
 use Rattle.std.proofs.lemmas.List.Folds.{flat_map-map}
 use Rattle.std.specs.Prelude.{Option, reverse}
 use Rattle.std.specs.List.{AllByRecursion, flat_map}
 use Rattle.std.specs.Io.KnownBytes.{Appends}
 use Rattle.pol_io.proofs.Known.{Appends_trans}
-use Rattle.pol_events.specs.Events.{plain_entry, plain_history}
-use Rattle.pol_events.specs.Orderly.{is_orderly}
+use Rattle.pol_events.specs.Events.{PlainEntry, plain_entry, plain_history}
 use Rattle.pol_events.specs.declared.event.Entry.{Entry}
 use Rattle.pol_history.specs.Looking.{History}
-use Rattle.pol_history.specs.Runs.{IsOrderly}
+use Rattle.pol_history.specs.Runs.{IsLegal}
 use Rattle.pol_record.specs.Lines.{closing_text}
-use Rattle.pol_record.specs.Texts.{IsReadBack, batches_text, end_text, entry_line_text}
-use Rattle.pol_cli.specs.SiteRuns.{AreReadBack, entries_text, entry_lines, run_text}
+use Rattle.pol_record.specs.Texts.{batches_text, end_text, entry_line_text}
+use Rattle.pol_retold.specs.Inputs.{run_text}
+use Rattle.pol_retold.proofs.Inputs.{inputs_good}
+use Rattle.pol_retold.proofs.Replayed.{replays_answer}
+use Rattle.pol_site.specs.Sites.{PlainSite}
+use Rattle.pol_cli.specs.SiteRuns.{AreReadBack, AreRetold, IsRunOf, IsToldWell, PutsRun, entries_text, entry_lines}
 use Rattle.pol_jobs.specs.Written.{WritesPart, WritesSome}
-use Rattle.pol_cli.proofs.BatchLines.{some_end}
+use Rattle.pol_replay.proofs.BatchLines.{some_end}
 
--- ---- orderly entries
+-- ---- what holds of each entry up to one
 
--- what holds of all of two lists holds of all of each
-all_parts : {A : Type 0} (P : A → Type 0) (xs ys : List A) → AllByRecursion P (xs ++ ys) →
-    AllByRecursion P xs × AllByRecursion P ys
-all_parts P [] ys all = (tt, all)
-all_parts P (x ∷ xs) ys all = let rest = all_parts P xs ys all.1 in ((all.0, rest.0), rest.1)
+module _ (P : PlainEntry → Type 0) where
+  -- it holds of each up to the next one too, where it holds of that one
+  next_too : (entries : List Entry) (place : ℕ) (entry : Entry) → place < length entries →
+      entry ≡ get_or entries place entry → AllByRecursion P (map plain_entry (take place entries)) →
+      P (plain_entry entry) → AllByRecursion P (map plain_entry (take (suc place) entries))
+  next_too [] place entry inside same before this = absurd (omega arith)
+  next_too (first ∷ entries) zero entry inside same before this = (subst (λ each. P (plain_entry each)) same this, tt)
+  next_too (first ∷ entries) (suc place) entry inside same before this =
+      (before.0, next_too entries place entry (omega arith) same before.1 this)
 
--- what holds of all in one order holds of all in the other
-all_reverse : {A : Type 0} (P : A → Type 0) (xs : List A) → AllByRecursion P (reverse xs) → AllByRecursion P xs
-all_reverse P [] all = tt
-all_reverse P (x ∷ xs) all =
-    let parts = all_parts P (reverse xs) (x ∷ []) (subst (AllByRecursion P) (reverse-append (x ∷ []) xs) all) in
-    (parts.1.0, all_reverse P xs parts.0)
+  -- the same, as a loop counts them
+  pub all_next : (entries : List Entry) (place : ℕ) (entry : Entry) → place < length entries →
+      entry ≡ get_or entries place entry → AllByRecursion P (map plain_entry (take place entries)) →
+      P (plain_entry entry) → AllByRecursion P (map plain_entry (take (place + 1) entries))
+  all_next entries place entry inside same before this =
+      let more : suc place ≡ place + 1 = omega arith in
+      subst (λ count. AllByRecursion P (map plain_entry (take count entries))) more
+      (next_too entries place entry inside same before this)
 
--- each entry of an orderly history is orderly
-each_orderly : (entries : List Entry) (i : ℕ) (default : Entry) → IsOrderly (map plain_entry entries) →
-    i < length entries →
-    is_orderly (plain_entry (get_or entries i default)).event ≡ true
-each_orderly [] i default orderly inside = absurd (omega arith)
-each_orderly (entry ∷ entries) zero default orderly inside = orderly.0
-each_orderly (entry ∷ entries) (suc i) default orderly inside =
-    each_orderly entries i default orderly.1 (omega arith)
+-- ---- what is written of a legal history tells it
 
--- so is the entry at a place, where the history of the entries is orderly
-pub entry_orderly : (entries : List Entry) (i : ℕ) (entry : Entry) → IsOrderly (plain_history entries) →
-    i < length entries →
-    entry ≡ get_or entries i entry → is_orderly (plain_entry entry).event ≡ true
-entry_orderly entries i entry orderly inside same =
-    subst (λ each. is_orderly (plain_entry each).event ≡ true) (sym same)
-    (each_orderly entries i entry
-    (all_reverse (λ each. is_orderly each.event ≡ true) (map plain_entry entries) orderly) inside)
+-- where each event is read back, and each entry is told by its line
+told_well : (history : History) → IsLegal history → AreReadBack history → AreRetold history → IsToldWell history
+told_well history legal read_back retold = record {
+  audited = λ few short. inputs_good history legal few retold short;
+  replayed = λ short. replays_answer history legal read_back short;
+}
 
--- ---- entries that are read back
-
--- of the entries up to this one, the next of them among them
-next_read_back : (entries : List Entry) (place : ℕ) (entry : Entry) → place < length entries →
-    entry ≡ get_or entries place entry → AreReadBack (map plain_entry (take place entries)) →
-    IsReadBack (plain_entry entry) → AreReadBack (map plain_entry (take (suc place) entries))
-next_read_back [] place entry inside same before this = absurd (omega arith)
-next_read_back (first ∷ entries) zero entry inside same before this =
-    (subst (λ each. IsReadBack (plain_entry each)) same this, tt)
-next_read_back (first ∷ entries) (suc place) entry inside same before this =
-    (before.0, next_read_back entries place entry (omega arith) same before.1 this)
-
--- the same, as a loop counts them
-pub read_back_next : (entries : List Entry) (place : ℕ) (entry : Entry) → place < length entries →
-    entry ≡ get_or entries place entry → AreReadBack (map plain_entry (take place entries)) →
-    IsReadBack (plain_entry entry) → AreReadBack (map plain_entry (take (place + 1) entries))
-read_back_next entries place entry inside same before this =
-    let more : suc place ≡ place + 1 = omega arith in
-    subst (λ count. AreReadBack (map plain_entry (take count entries))) more
-    (next_read_back entries place entry inside same before this)
+-- all that a run of the site leaves was written
+pub puts_run : (site : PlainSite) (held held' : Option (List ℕ)) (history : History) → IsRunOf site history →
+    Appends held held' (run_text history) → AreReadBack history → AreRetold history → PutsRun site held held'
+puts_run site held held' history is_run written read_back retold = record {
+  history = history;
+  is_run = is_run;
+  written = written;
+  read_back = read_back;
+  told = told_well history is_run.legal read_back retold;
+}
 
 -- what holds of all of two lists holds of all of the two one behind the other
 all_joined : {A : Type 0} (P : A → Type 0) (xs ys : List A) → AllByRecursion P xs → AllByRecursion P ys →

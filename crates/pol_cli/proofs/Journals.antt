@@ -10,7 +10,7 @@ use Rattle.pol_safety.specs.Sound.{HistoriesAreSound, EntriesAreRight}
 use Rattle.pol_removal.proofs.Reading.{events_orderly}
 use Rattle.pol_removal.specs.Removal.{RemovalOfLines}
 use Rattle.pol_cli.specs.Journal.{Was, JournalTheorem}
-use Rattle.pol_cli.proofs.BatchLines.{some_end}
+use Rattle.pol_replay.proofs.BatchLines.{some_end}
 
 -- a history that was earlier is legal too
 pub legal_before : (later history : History) → IsLegal (later ++ history) → IsLegal history

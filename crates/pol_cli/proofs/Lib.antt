@@ -1,10 +1,9 @@
-pub mod Spoken
+pub mod Filled
 pub mod Ending
-pub mod BatchLines
-pub mod Replaying
 pub mod Journals
 pub mod SiteTexts
 pub mod EntryLines
 pub mod PlantEnding
 pub mod Auditing
 pub mod Told
+pub mod Keeping

@@ -18,8 +18,9 @@ use Rattle.pol_jobs.proofs.Written.{nothing_written}
 use Rattle.pol_site.specs.Sites.{PlainSite}
 use Rattle.pol_cli.specs.SiteRuns.{PutsPart, PutsRun, RunWrites, planted}
 use Rattle.pol_cli.specs.SiteTexts.{Says, none_yet, site_work}
-use Rattle.pol_cli.specs.Statuses.{bad_site, status_of}
+use Rattle.pol_cli.specs.Statuses.{refused_as, status_of}
 use Rattle.pol_cli.specs.Tasks.{PlantEnds}
+use Rattle.pol_cli.specs.declared.status.Wanted.TheVariants.{Site}
 use Rattle.pol_cli.specs.declared.status.Status.TheVariants as status
 use Rattle.pol_cli.proofs.SiteTexts.{text_told}
 
@@ -78,7 +79,8 @@ module _ (held nowhere nowhere' : Option (List ℕ)) where
 
 -- where the text wasn't read, or says no site, nothing was written
 pub unread_ends : (source source' sink : Edge) (fault : JobFault JsonFault) →
-    Ends reading source source' (edge None 0) (edge None 0) (Err fault) → Ends planted source source' sink sink (Err fault)
+    Ends reading source source' (edge None 0) (edge None 0) (Err fault) →
+    Ends planted source source' sink sink (Err fault)
 unread_ends source source' sink Read ends =
     (between_weaker _ _ source.bytes source'.bytes (taken_so sink.bytes None None) ends.0, ends.1, refl)
 unread_ends source source' sink Write ends = absurd (not_nowhere ends.2)
@@ -164,7 +166,7 @@ module _ (site : PlainSite) (source source' : Edge) (says : Between (Says (Ok si
 pub plant_ends : (source source' sink sink' : Edge) (result : Result (Unit {0}) (JobFault JsonFault)) →
     Ends planted source source' sink sink' result →
     RunWrites source.bytes source'.bytes sink.bytes sink'.bytes result →
-    PlantEnds source source' sink sink' (status_of bad_site result)
+    PlantEnds source source' sink sink' (status_of (refused_as Site) result)
 plant_ends source source' sink sink' result ends writes = record {
   job = record {
     result = result;
@@ -177,8 +179,8 @@ plant_ends source source' sink sink' result ends writes = record {
 
 -- where the status tells neither an end nor a fault of the sink nor want of memory, the result tells none either
 pub unbegun_by_status : (P : Type 0) (result : Result (Unit {0}) (JobFault JsonFault)) →
-    IfErr result (λ fault. fault ≢ Write → fault ≢ Memory → P) → status_of bad_site result ≢ status.Good →
-    status_of bad_site result ≢ status.WriteFault → status_of bad_site result ≢ status.OutOfMemory → P
+    IfErr result (λ fault. fault ≢ Write → fault ≢ Memory → P) → status_of (refused_as Site) result ≢ status.Good →
+    status_of (refused_as Site) result ≢ status.WriteFault → status_of (refused_as Site) result ≢ status.OutOfMemory → P
 unbegun_by_status P (Ok done) unbegun good write memory = absurd (good refl)
 unbegun_by_status P (Err Read) unbegun good write memory = unbegun (λ is. cc) (λ is. cc)
 unbegun_by_status P (Err Write) unbegun good write memory = absurd (write refl)

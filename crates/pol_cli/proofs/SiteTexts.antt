@@ -18,7 +18,7 @@ use Rattle.pol_site.specs.declared.site.Site.{Site}
 use Rattle.pol_cli.specs.declared.jobs.site_text.Telling.{Telling}
 use Rattle.pol_cli.specs.declared.jobs.site_text.Telling.TheVariants as telling
 use Rattle.pol_cli.specs.SiteTexts.{Says, Told, telling_of, none_yet, one, more, after_line, after_filled, line_says, told, site_work}
-use Rattle.pol_cli.proofs.Spoken.{met_filled}
+use Rattle.pol_cli.proofs.Filled.{met_filled}
 
 -- ---- one line
 

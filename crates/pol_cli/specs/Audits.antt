@@ -12,15 +12,11 @@ use Rattle.pol_audit.specs.Truth.{spelled}
 use Rattle.pol_audit.specs.Verdict.{verdict_of}
 use Rattle.pol_safety.specs.Sound.{IsRight, IsSound}
 use Rattle.pol_removal.specs.Removal.{entries_without}
-use Rattle.pol_site.specs.Texts.{filled_lines}
-use Rattle.pol_jobs.specs.LineWork.{Line, LineWork, Output, met, texts_of, work_of}
-use Rattle.pol_cli.specs.Meanings.{is_some_line}
+use Rattle.pol_jobs.specs.LineWork.{Line, LineWork, Output, texts_of, work_of}
+use Rattle.pol_retold.specs.Inputs.{lines_read}
+use Rattle.pol_replay.specs.Meanings.{is_some_line}
 
 -- ---- its output
-
--- the lines of an input that aren't blank, as they are met
-abbrev pub lines_read : List ℕ → List Line
-lines_read bytes = map met (filled_lines bytes)
 
 -- the verdict over an input
 abbrev pub audit_of : List ℕ → Verdict

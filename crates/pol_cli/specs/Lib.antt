@@ -1,9 +1,7 @@
 pub mod Journal
 pub mod Statuses
-pub mod Meanings
-pub mod Replay
 pub mod Tasks
-pub mod BatchLines
 pub mod SiteTexts
 pub mod SiteRuns
 pub mod Audits
+pub mod Keeping

@@ -1,5 +1,5 @@
 -- What the job plant writes: the site that the input says, the history that a run of it leaves, and its text.
-use Rattle.std.specs.Prelude.{ℕ, ◌≡◌, ◌++◌, ◌⊎◌, List, [], reverse, Option, Result, Ok, Err}
+use Rattle.std.specs.Prelude.{ℕ, ◌≡◌, ◌≤◌, ◌++◌, ◌⊎◌, List, [], length, reverse, Option, Result, Ok, Err}
 use Rattle.std.specs.List.{AllByRecursion, flat_map}
 use Rattle.std.specs.Io.KnownBytes.{Appends, Keeps}
 use Rattle.mtp_json.specs.declared.fault.JsonFault.{JsonFault}
@@ -8,8 +8,12 @@ use Rattle.pol_events.specs.Events.{PlainEntry, plain_entry}
 use Rattle.pol_events.specs.declared.event.Entry.{Entry}
 use Rattle.pol_history.specs.Looking.{History}
 use Rattle.pol_history.specs.Runs.{IsLegal, IsOrderly}
-use Rattle.pol_record.specs.Lines.{closing_text}
+use Rattle.pol_record.specs.Lines.{closing_text, output_of}
 use Rattle.pol_record.specs.Texts.{IsReadBack, entry_line_text}
+use Rattle.pol_audit.specs.declared.judging.TheConstants.{MOST_JUDGED}
+use Rattle.pol_retold.specs.Inputs.{IsShortLine, lines_read, run_text}
+use Rattle.pol_retold.specs.Replayed.{IsShortEvent, answers_text, journal_of}
+use Rattle.pol_retold.specs.Retold.{AreGood, IsRetold, run_lines}
 use Rattle.pol_site.specs.Commanded.{IsCommanded}
 use Rattle.pol_site.specs.Following.{FollowsSite}
 use Rattle.pol_site.specs.Settled.{IsSettled}
@@ -40,20 +44,31 @@ entry_lines entries = flat_map (λ entry. entry_line_text (plain_entry entry)) e
 abbrev pub entries_text : History → List ℕ
 entries_text history = flat_map entry_line_text (reverse history)
 
--- all that is written of a run: the line of each entry, the line of each batch, and the end line
-abbrev pub run_text : History → List ℕ
-run_text history = entries_text history ++ closing_text history
-
 -- each of these entries' events is read back from what is written of it
 abbrev pub AreReadBack : List PlainEntry → Type 0
 AreReadBack entries = AllByRecursion IsReadBack entries
 
--- all that a run of the site is to write was written, and the events of its entries are read back from it
+-- and each entry from its line
+abbrev pub AreRetold : List PlainEntry → Type 0
+AreRetold entries = AllByRecursion IsRetold entries
+
+-- What is written of the history tells it: of at most 20,000 entries, where no line is too long, none of an entry and
+-- none of a batch, the audit finds it good; and a replay of its events, where none is too long for a line, gives its
+-- answers, its batch lines and the end line.
+pub record IsToldWell (history : History) : Type 0 where
+  pub audited : length history ≤ MOST_JUDGED → AllByRecursion IsShortLine (run_lines history)
+      → AreGood history (lines_read (run_text history))
+  pub replayed : AllByRecursion IsShortEvent history
+      → output_of (journal_of history) ≡ answers_text history ++ closing_text history
+
+-- all that a run of the site is to write was written, the events of its entries are read back from it, and it tells
+-- the history
 pub record PutsRun (site : PlainSite) (held held' : Option (List ℕ)) : Type 0 where
   pub history : History
   pub is_run : IsRunOf site history
   pub written : Appends held held' (run_text history)
   pub read_back : AreReadBack history
+  pub told : IsToldWell history
 
 -- a proper front part of it was
 pub record PutsPart (site : PlainSite) (held held' : Option (List ℕ)) : Type 0 where

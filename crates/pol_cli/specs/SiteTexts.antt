@@ -8,7 +8,7 @@ use Rattle.pol_site.specs.Sites.{PlainSite}
 use Rattle.pol_site.specs.Texts.{site_of, site_on}
 use Rattle.pol_jobs.specs.Ends.{IsRead}
 use Rattle.pol_jobs.specs.LineWork.{Line, LineWork}
-use Rattle.pol_cli.specs.Meanings.{is_some_line}
+use Rattle.pol_replay.specs.Meanings.{is_some_line}
 use Rattle.pol_cli.specs.declared.jobs.site_text.Telling.{Telling}
 use Rattle.pol_cli.specs.declared.jobs.site_text.Telling.TheVariants.{Nothing, Site, Fault, More}
 

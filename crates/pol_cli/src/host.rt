@@ -1,6 +1,7 @@
-//! The program over a runtime: its words, its source, its sink, its clock and its exit status.
+//! The program over a runtime and a disk: its words, its source, its sink, its clock and its exit status.
 use crate::program::{end, top};
 use crate::status::Status;
+use pol_disk::Disk;
 use pol_io::{ReaderSource, SystemClock, WriterSink};
 use pol_live::OpenGate;
 use std::env;
@@ -30,9 +31,10 @@ fn unread(error: &io::Error) -> Status {
     }
 }
 
-// Does what the words ask for, with the runtime's input, output and clock.
-fn do_asked<R: Env + Input + Print + Clock + AllocGlobal + Threads + Wait + Sync>(
+// Does what the words ask for, with the runtime's input, output and clock, and with this disk.
+fn do_asked<R: Env + Input + Print + Clock + AllocGlobal + Threads + Wait + Sync, D: Disk + Drop>(
     rt: &R,
+    disk: D,
 ) -> Status {
     let words = match words(rt) {
         Ok(words) => words,
@@ -44,7 +46,7 @@ fn do_asked<R: Env + Input + Print + Clock + AllocGlobal + Threads + Wait + Sync
     let mut source = ReaderSource::new(rt.reader());
     let mut sink = WriterSink::new(out);
     let clock = SystemClock::new(rt);
-    let status = top(
+    let (status, _disk) = top(
         rt,
         rt.alloc(),
         &words,
@@ -52,6 +54,7 @@ fn do_asked<R: Env + Input + Print + Clock + AllocGlobal + Threads + Wait + Sync
         &mut sink,
         clock,
         &OpenGate,
+        disk,
     );
     end(status, &mut sink)
 }
@@ -70,13 +73,13 @@ fn say<R: Eprint + AllocGlobal>(rt: &R, status: &Status) {
     };
 }
 
-/// The program: it does what its words ask for (`top`), hands on what it wrote (`end`), says on standard error how it
-/// ended where not all is good, and ends with the status's number.
-pub fn run<R>(rt: &R) -> ExitCode
+/// The program: it does what its words ask for (`top`), keeps a plant on this disk where they ask for that, hands on
+/// what it wrote (`end`), says on standard error how it ended where not all is good, and ends with the status's number.
+pub fn run<R, D: Disk + Drop>(rt: &R, disk: D) -> ExitCode
 where
     R: Env + Input + Print + Eprint + Clock + AllocGlobal + Threads + Wait + Sync,
 {
-    let status = do_asked(rt);
+    let status = do_asked(rt, disk);
     say(rt, &status);
     ExitCode::from(status.number())
 }

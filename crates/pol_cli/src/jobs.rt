@@ -1,52 +1,72 @@
 //! The jobs.
 ghost use Rattle.std.specs.Prelude.{◌≡◌, ℕ, List};
-ghost use Rattle.pol_arguments.specs.declared.Task.TheVariants.{Serial};
 ghost use Rattle.pol_jobs.specs.Ends.{edge};
+ghost use Rattle.pol_find.specs.Starts.{BindingsStart};
+ghost use Rattle.pol_guard.specs.Laws.{GuardTheorem};
+ghost use Rattle.pol_migration.specs.Migration.{MigrationKeepsOutputs};
 ghost use Rattle.pol_cli.specs.Audits.{AuditTheorem};
 ghost use Rattle.pol_cli.specs.Journal.{JournalTheorem, Laws};
-ghost use Rattle.pol_cli.specs.Tasks.{TaskEnds};
+ghost use Rattle.pol_cli.specs.Tasks.{SerialEnds};
 
 mod auditing;
-mod closing;
 mod demo;
-mod meaning;
+mod exporting;
+mod keeping;
 mod plant;
-mod replay;
 mod site_text;
 
 use crate::journal::{audits_are_sound, journals_are_sound};
-use crate::status::{Status, status_of};
+use crate::status::{Status, Wanted, status_of, status_wanting};
 use auditing::Auditing;
 use demo::demonstrate;
+pub use exporting::export;
+pub use keeping::keep;
 pub use plant::live;
 use pol_arguments::SerialTask;
+use pol_find::{Finding, bindings_start};
+use pol_guard::{Guarding, guards_are_sound};
 use pol_io::{Sink, Source};
 use pol_jobs::work;
-use replay::Replay;
+use pol_migration::{Migrating, migration_keeps_outputs};
+use pol_replay::Replay;
 use std::alloc::Global;
 
 /// Does the task. A replay answers each line of the source, and then writes the line of each batch and the end line. A
 /// demo answers a journal of its own, and writes how many answers there were; the source isn't read. An audit reads
-/// what the plant prints, and writes whether it is a true history. It waits for nobody and always returns.
+/// what the plant prints, and writes whether it is a true history. A finder answers the journal in silence, and writes for
+/// each recipe how it could be bound then. A guard answers a journal under the policy in its first line. A migration
+/// writes a journal of version 1 as one of version 2. It waits for nobody and always returns.
 pub fn serve<S: Source, K: Sink>(
     alloc: Global,
     task: &SerialTask,
     source: &mut S,
     sink: &mut K,
 ) -> Status
-    ensures ends { TaskEnds (Serial task.now)
+    ensures ends { SerialEnds task.now
         (edge (S.left source.old) (S.faults source.old)) (edge (S.left source.new) (S.faults source.new))
         (edge (K.held sink.old) (K.faults sink.old)) (edge (K.held sink.new) (K.faults sink.new)) result }
     ensures unread { (seed : ℕ) → task.now ≡ SerialTask.Demo seed → source.new ≡ source.old }
     ensures theorem { (bytes : List ℕ) → JournalTheorem bytes }
     ensures laws { Laws }
     ensures audits { (bytes : List ℕ) → AuditTheorem bytes }
+    ensures guards { (bytes : List ℕ) → GuardTheorem bytes }
+    ensures migrations { MigrationKeepsOutputs }
+    ensures bindings { BindingsStart }
 {
     journals_are_sound();
     audits_are_sound();
+    guards_are_sound();
+    migration_keeps_outputs();
+    bindings_start();
     match task {
         SerialTask::Replay => status_of(work(alloc, &mut Replay::new(alloc), source, sink)),
         SerialTask::Demo(seed) => status_of(demonstrate(alloc, *seed, sink)),
         SerialTask::Audit => status_of(work(alloc, &mut Auditing::new(alloc), source, sink)),
+        SerialTask::Find => status_of(work(alloc, &mut Finding::new(alloc), source, sink)),
+        SerialTask::Guard => status_wanting(
+            Wanted::Policy,
+            work(alloc, &mut Guarding::new(alloc), source, sink),
+        ),
+        SerialTask::Migrate => status_of(work(alloc, &mut Migrating::new(alloc), source, sink)),
     }
 }

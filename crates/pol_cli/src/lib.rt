@@ -12,6 +12,6 @@ mod program;
 mod status;
 
 pub use host::run;
-pub use jobs::{live, serve};
+pub use jobs::{export, keep, live, serve};
 pub use program::{end, top};
 pub use status::Status;

@@ -48,12 +48,17 @@ abandon_answered history at batch run rows freed runs after seats counted mirror
             started = keeps.started;
             charted = keeps.charted;
             follows = record {
-              marks = keeps.follows.marks;
-              broke = keeps.follows.broke;
-              stopped = keeps.follows.stopped;
-              active = keeps.follows.active;
+              proceeds = record {
+                marks = keeps.follows.proceeds.marks;
+                broke = keeps.follows.proceeds.broke;
+                stopped = keeps.follows.proceeds.stopped;
+                active = keeps.follows.proceeds.active;
+              };
+              held = keeps.follows.held;
             };
+            asks = keeps.asks;
             frozen_is = keeps.frozen_is;
+            holding_is = keeps.holding_is;
             outcome_is = refl;
           }) mirror);
     }

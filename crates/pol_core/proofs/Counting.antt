@@ -1,15 +1,21 @@
 -- How many modules there are.
 use Rattle.std.proofs.Common.{◌≡◌, ℕ, ◌+◌, Bool, true, false, cond, not, List, [], ◌∷◌, length, Option, Some, None, is_some, refl, ap, sym, ◌∙◌, arith}
 use Rattle.std.specs.Prelude.{◌||◌}
+use Rattle.std.specs.Map.{keys_of}
 use Rattle.std.specs.Option.{option_map}
+use Rattle.std.specs.Set.{is_member}
 use Rattle.std.specs.Str.{bytes_eq}
+use Rattle.std.proofs.lemmas.Cmp.{nat_list_eq_equiv}
+use Rattle.std.proofs.lemmas.Map.Made.{is_some-lookup}
 use Rattle.mtp_codes.specs.Names.{is_among}
 use Rattle.chart_core.specs.declared.next.Outcome.{Outcome}
 use Rattle.pol_events.specs.Events.{PlainEntry}
 use Rattle.pol_history.specs.Looking.{History}
 use Rattle.pol_history.specs.Modules.{tags_without, present_tags}
 use Rattle.pol_slots.specs.declared.slot.Slot.{Slot}
+use Rattle.pol_table.specs.ByteOrder.{in_byte_order}
 use Rattle.pol_table.specs.Rows.{Row, Rows, look, with_part}
+use Rattle.pol_table.proofs.ByteOrder.{same_order}
 use Rattle.pol_table.proofs.Changed.{look_changed, length_changed}
 use Rattle.pol_core.specs.Batches.{freed_if}
 use Rattle.pol_core.specs.Seats.{IsCounted}
@@ -105,3 +111,18 @@ counted_same history entry rows same counted =
       once = rw same counted.once;
       count = counted.count ∙ ap length (sym same);
     }
+
+-- the tags of the table in byte order are those that are there
+pub counted_order : (history : History) (rows : Rows Slot) → IsCounted rows history →
+    in_byte_order (keys_of rows) ≡ in_byte_order (present_tags history)
+counted_order history rows counted =
+    same_order (keys_of rows) (present_tags history)
+    (λ tag. sym (is_some-lookup (bytes_eq tag) rows)
+    ∙ sym (counted.members tag)
+    ∙ turned (present_tags history) tag)
+  where
+    turned : (tags : List (List ℕ)) (tag : List ℕ) → is_among tags tag ≡ is_member bytes_eq tags tag
+    turned [] tag = refl
+    turned (first ∷ tags) tag =
+        ap (λ same. same || is_among tags tag) (nat_list_eq_equiv.symm first tag)
+        ∙ ap (λ later. bytes_eq tag first || later) (turned tags tag)

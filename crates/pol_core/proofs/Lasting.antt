@@ -1,6 +1,6 @@
 -- An event of a batch that is refused, or after which its run goes on.
 use Rattle.std.proofs.Common.{◌≡◌, ℕ, Bool, true, false, cond, List, [], ◌∷◌, ◌++◌, Option, Some, None, is_some, refl, ap, sym, ◌∙◌, subst}
-use Rattle.std.specs.Prelude.{◌||◌, not, if◌then◌else◌, unwrap_or}
+use Rattle.std.specs.Prelude.{◌&&◌, ◌||◌, not, if◌then◌else◌, unwrap_or, Result, Ok, Err, OnOk, OnErr, ⊤}
 use Rattle.std.specs.Map.{lookup}
 use Rattle.std.specs.Option.{option_or}
 use Rattle.std.specs.Str.{bytes_eq}
@@ -15,7 +15,7 @@ use Rattle.pol_events.specs.declared.answer.Answer.TheVariants.{Done, Did, Refus
 use Rattle.pol_events.specs.declared.answer.Rule.{Rule}
 use Rattle.pol_events.specs.declared.answer.Rule.TheVariants.{BatchClosed, AlreadyFrozen, NotFrozen}
 use Rattle.pol_history.specs.Answers.{first_rule, rules, otherwise, answer_of, is_full}
-use Rattle.pol_history.specs.Batches.{starting, start_by, closing, outcome_by, outcome_of, freezing, is_frozen_by, log_by}
+use Rattle.pol_history.specs.Batches.{starting, start_by, closing, outcome_by, outcome_of, freezing, holds, is_frozen_by, is_holding_by, asked_by, log_by}
 use Rattle.pol_history.specs.Looking.{History, of_batch, subject, is_accepted, past_of_batch, recipes, last_of}
 use Rattle.pol_history.specs.Modules.{present_tags}
 use Rattle.pol_history.specs.Refused.{ChangesNothing}
@@ -27,9 +27,11 @@ use Rattle.pol_history.proofs.Pasts.{log_grows}
 use Rattle.pol_history.proofs.Refused.{refused_nothing}
 use Rattle.pol_slots.specs.declared.slot.Slot.{Slot}
 use Rattle.pol_table.specs.Rows.{Rows, look}
-use Rattle.pol_runs.specs.Logs.{Follows}
+use Rattle.pol_runs.specs.Freezes.{is_frozen, is_holding, frozen_as}
+use Rattle.pol_runs.specs.Logs.{Asks, Follows}
+use Rattle.pol_runs.specs.declared.freeze.Freeze.TheVariants.{Thawed}
 use Rattle.pol_runs.specs.Runs.{PlainRun}
-use Rattle.pol_core.specs.Batches.{RunKeeps, IsRun, RunsMirror, ChangesRun, Stops, StopsOne, IsOpenRun, not_open, freed_if, AnswersBatch}
+use Rattle.pol_core.specs.Batches.{RunKeeps, IsRun, RunsMirror, ChangesRun, Freezes, FreezesOne, Stops, StopsOne, IsOpenRun, not_open, freed_if, AnswersBatch}
 use Rattle.pol_core.specs.Seats.{SeatsMirror, IsCounted, done_or_refused}
 use Rattle.pol_core.proofs.Closing.{seats_freed}
 use Rattle.pol_core.proofs.Counting.{counted_same}
@@ -174,13 +176,95 @@ runs_replaced history batch after old new changes keeps mirror other =
 
 -- ---- a freeze begins or ends
 
--- the run with this freeze keeps a past that says so
-frozen_keeps : (batch : List ℕ) (run : PlainRun) (past recipes after : History) (to : Bool) →
-    start_by after ≡ start_by past → log_by after ≡ log_by past →
-    outcome_by after ≡ outcome_by past → to ≡ is_frozen_by after → RunKeeps batch run past recipes →
-    RunKeeps batch (record run { frozen = to }) after recipes
-frozen_keeps batch run past recipes after to starts logs outcomes frozen keeps =
+-- the run was frozen, and keeps the past that ends in the freeze
+frozen_keeps : (batch : List ℕ) (at : ℕ) (hold : Bool) (run after : PlainRun) (past recipes : History) →
+    Freezes hold run after → RunKeeps batch run past recipes →
+    RunKeeps batch after (paired (freeze at batch hold) Done ∷ past) recipes
+frozen_keeps batch at hold run after past recipes freezes keeps =
+    record {
+      batch_is = freezes.same_batch.batch ∙ keeps.batch_is;
+      recipe = keeps.recipe;
+      binds = keeps.binds;
+      binds_are = freezes.same_batch.binds ∙ keeps.binds_are;
+      started = keeps.started;
+      charted = keeps.charted ∙ ap (λ chart. Some (plain_chart chart)) (sym freezes.same_batch.chart);
+      follows = freezes.log (log_by past) keeps.follows;
+      asks = freezes.asked;
+      frozen_is = ap is_frozen freezes.freeze_is ∙ frozen hold;
+      holding_is = ap is_holding freezes.freeze_is ∙ held hold;
+      outcome_is = freezes.outcome_is ∙ keeps.outcome_is;
+    }
+  where
+    frozen : (hold : Bool) → is_frozen (frozen_as hold) ≡ true
+    frozen true = refl
+    frozen false = refl
+
+    held : (hold : Bool) → is_holding (frozen_as hold) ≡ hold
+    held true = refl
+    held false = refl
+
+-- a batch is frozen
+pub freeze_answered : (history : History) (at : ℕ) (batch : List ℕ) (hold : Bool) (run : PlainRun)
+    (modules : Rows Slot) (runs new : List (List ℕ × PlainRun)) (result : Result ⊤ Rule) →
+    is_full history ≡ false → IsOpenRun batch run runs →
+    result ≡ done_unless (when (is_frozen run.freeze && (not hold || is_holding run.freeze)) AlreadyFrozen) →
+    OnOk result (FreezesOne batch hold run runs new) → OnErr result (ChangesRun batch run runs new) →
+    SeatsMirror modules history → IsCounted modules history → RunsMirror runs history →
+    AnswersBatch history (freeze at batch hold) (done_or_refused result) modules new
+freeze_answered history at batch hold run modules runs new result room open' answer changes stays seats counted
+    batches =
+    go result (is_frozen run.freeze && (not hold || is_holding run.freeze)) refl answer changes stays
+  where
+    past' : History
+    past' = past_of_batch batch history
+
+    keeps : RunKeeps batch run (past_of_batch batch history) (recipes history)
+    keeps = run_keeps history batch runs run batches open'.found
+
+    same : answer_of history (freeze at batch hold)
+        ≡ first_rule (when (is_frozen run.freeze && (not hold || is_holding run.freeze)) AlreadyFrozen ∷ []) Done
+    same =
+        open_answer history (freeze at batch hold) batch (already_frozen hold (past_of_batch batch history) ∷ [])
+        run runs refl room batches open'
+        ∙ ap (λ frozen. first_rule (when (frozen && (not hold || is_holding_by (past_of_batch batch history)))
+        AlreadyFrozen ∷ []) Done) (sym keeps.frozen_is)
+        ∙ ap (λ held. first_rule (when (is_frozen run.freeze && (not hold || held)) AlreadyFrozen ∷ []) Done)
+        (sym keeps.holding_is)
+
+    go : (result : Result ⊤ Rule) (refuses : Bool) →
+        is_frozen run.freeze && (not hold || is_holding run.freeze) ≡ refuses →
+        result ≡ done_unless (when (is_frozen run.freeze && (not hold || is_holding run.freeze)) AlreadyFrozen) →
+        OnOk result (FreezesOne batch hold run runs new) → OnErr result (ChangesRun batch run runs new) →
+        AnswersBatch history (freeze at batch hold) (done_or_refused result) modules new
+    go (Ok done) true is answer changes stays =
+        let clash : Ok done ≡ done_unless (when true AlreadyFrozen) = answer
+        ∙ ap (λ refuses. done_unless (when refuses AlreadyFrozen)) is in cc
+    go (Err rule) false is answer changes stays =
+        let clash : Err rule ≡ done_unless (when false AlreadyFrozen) = answer
+        ∙ ap (λ refuses. done_unless (when refuses AlreadyFrozen)) is in cc
+    go (Err rule) true is answer changes stays =
+        let one : Err rule ≡ done_unless (when true AlreadyFrozen) = answer
+        ∙ ap (λ refuses. done_unless (when refuses AlreadyFrozen)) is in
+        let rule_is : AlreadyFrozen ≡ rule = cc in
+        batch_refused history (freeze at batch hold) (Refused rule) modules new
+        (ap Refused (sym rule_is)
+        ∙ sym (same ∙ ap (λ refuses. first_rule (when refuses AlreadyFrozen ∷ []) Done) is)) refl seats counted
+        (runs_replaced history batch run runs new stays keeps batches)
+    go (Ok done) false is answer changes stays =
+        batch_stays history (freeze at batch hold) batch Done changes.after modules runs new refl refl refl
+        (sym (same ∙ ap (λ refuses. first_rule (when refuses AlreadyFrozen ∷ []) Done) is)) refl refl
+        (open_outcome history batch run runs batches open') changes.runs
+        (frozen_keeps batch at hold run changes.after past' (recipes history) changes.freezes keeps) seats counted
+        batches
+
+-- the run that is thawed keeps a past that says so
+thawed_keeps : (batch : List ℕ) (run : PlainRun) (past recipes after : History) →
+    start_by after ≡ start_by past → log_by after ≡ log_by past → asked_by after ≡ asked_by past →
+    outcome_by after ≡ outcome_by past → false ≡ is_frozen_by after → RunKeeps batch run past recipes →
+    RunKeeps batch (record run { freeze = Thawed }) after recipes
+thawed_keeps batch run past recipes after starts logs asked outcomes frozen keeps =
     let follows : Follows run (log_by after) = subst (Follows run) (sym logs) keeps.follows in
+    let asks : Asks run (asked_by after) = subst (Asks run) (sym asked) keeps.asks in
     record {
       batch_is = keeps.batch_is;
       recipe = keeps.recipe;
@@ -189,76 +273,62 @@ frozen_keeps batch run past recipes after to starts logs outcomes frozen keeps =
       started = starts ∙ keeps.started;
       charted = keeps.charted;
       follows = record {
-        marks = follows.marks;
-        broke = follows.broke;
-        stopped = follows.stopped;
-        active = follows.active;
+        proceeds = record {
+          marks = follows.proceeds.marks;
+          broke = follows.proceeds.broke;
+          stopped = follows.proceeds.stopped;
+          active = follows.proceeds.active;
+        };
+        held = follows.held;
       };
+      asks = asks;
       frozen_is = frozen;
+      holding_is =
+          ap (λ frozen. frozen && unwrap_or (last_of (λ (entry : PlainEntry). holds entry.event) after) false) frozen;
       outcome_is = keeps.outcome_is ∙ sym outcomes;
     }
-
--- an event that begins or ends a freeze is refused where that is so already, and else done
-freeze_set : (history : History) (event : PlainEvent) (batch : List ℕ) (to refuses : Bool) (rule : Rule)
-    (run : PlainRun) (modules : Rows Slot)
-    (runs new : List (List ℕ × PlainRun)) → subject event ≡ of_batch batch → starting event ≡ None →
-    freezing event ≡ Some to →
-    present_tags (entry_of history event ∷ history) ≡ present_tags history →
-    answer_of history event ≡ first_rule (when refuses rule ∷ []) Done →
-    (refuses ≡ true → to ≡ run.frozen) → IsOpenRun batch run runs →
-    ChangesRun batch (record run { frozen = to }) runs new →
-    SeatsMirror modules history → IsCounted modules history → RunsMirror runs history →
-    AnswersBatch history event (done_or_refused (done_unless (when refuses rule))) modules new
-freeze_set history event batch to true rule run modules runs new is unstarted freezes present
-    same already open' changes seats counted batches =
-    let keeps = run_keeps history batch runs run batches open'.found in
-    batch_refused history event (Refused rule) modules new (sym same) refl seats counted
-    (runs_replaced history batch (record run { frozen = to }) runs new changes
-    (frozen_keeps batch run (past_of_batch batch history) (recipes history)
-    (past_of_batch batch history) to refl refl refl (already refl ∙ keeps.frozen_is) keeps) batches)
-freeze_set history event batch to false rule run modules runs new is unstarted freezes present
-    same already open' changes seats counted batches =
-    let keeps = run_keeps history batch runs run batches open'.found in
-    let past' = past_of_batch batch history in
-    batch_stays history event batch Done (record run { frozen = to }) modules runs new is unstarted present
-    (sym same) refl refl
-    (open_outcome history batch run runs batches open') changes
-    (frozen_keeps batch run past' (recipes history) (paired event Done ∷ past') to
-    (ap (λ starts. option_or starts (start_by past')) unstarted) refl refl
-    (ap (λ frozen. unwrap_or (option_or frozen (last_of (λ (entry : PlainEntry). freezing entry.event) past')) false)
-    (sym freezes)) keeps) seats counted batches
-
--- a batch is frozen
-pub freeze_answered : (history : History) (at : ℕ) (batch : List ℕ) (run : PlainRun) (modules : Rows Slot)
-    (runs new : List (List ℕ × PlainRun)) →
-    is_full history ≡ false → IsOpenRun batch run runs → ChangesRun batch (record run { frozen = true }) runs new →
-    SeatsMirror modules history → IsCounted modules history → RunsMirror runs history →
-    AnswersBatch history (freeze at batch) (done_or_refused (done_unless (when run.frozen AlreadyFrozen))) modules new
-freeze_answered history at batch run modules runs new room open' changes seats counted batches =
-    let keeps = run_keeps history batch runs run batches open'.found in
-    freeze_set history (freeze at batch) batch true run.frozen AlreadyFrozen run modules runs new refl refl refl refl
-    (open_answer history (freeze at batch) batch (already_frozen (past_of_batch batch history) ∷ [])
-    run runs refl room batches open'
-    ∙ ap (λ frozen. first_rule (when frozen AlreadyFrozen ∷ []) Done) (sym keeps.frozen_is))
-    sym open' changes seats counted batches
 
 -- a frozen batch goes on
 pub thaw_answered : (history : History) (at : ℕ) (batch : List ℕ) (run : PlainRun) (modules : Rows Slot)
     (runs new : List (List ℕ × PlainRun)) →
-    is_full history ≡ false → IsOpenRun batch run runs → ChangesRun batch (record run { frozen = false }) runs new →
+    is_full history ≡ false → IsOpenRun batch run runs → ChangesRun batch (record run { freeze = Thawed }) runs new →
     SeatsMirror modules history → IsCounted modules history → RunsMirror runs history →
-    AnswersBatch history (thaw at batch) (done_or_refused (done_unless (when (not run.frozen) NotFrozen))) modules new
+    AnswersBatch history (thaw at batch) (done_or_refused (done_unless (when (not (is_frozen run.freeze)) NotFrozen)))
+    modules new
 thaw_answered history at batch run modules runs new room open' changes seats counted batches =
-    let keeps = run_keeps history batch runs run batches open'.found in
-    freeze_set history (thaw at batch) batch false (not run.frozen) NotFrozen run modules runs new refl refl refl refl
-    (open_answer history (thaw at batch) batch (not_frozen (past_of_batch batch history) ∷ [])
-    run runs refl room batches open'
-    ∙ ap (λ frozen. first_rule (when (not frozen) NotFrozen ∷ []) Done) (sym keeps.frozen_is))
-    (already run.frozen) open' changes seats counted batches
+    go (is_frozen run.freeze) refl
   where
-    already : (frozen : Bool) → not frozen ≡ true → false ≡ frozen
-    already false is = refl
-    already true is = cc
+    past' : History
+    past' = past_of_batch batch history
+
+    keeps : RunKeeps batch run (past_of_batch batch history) (recipes history)
+    keeps = run_keeps history batch runs run batches open'.found
+
+    same : answer_of history (thaw at batch) ≡ first_rule (when (not (is_frozen run.freeze)) NotFrozen ∷ []) Done
+    same =
+        open_answer history (thaw at batch) batch (not_frozen (past_of_batch batch history) ∷ [])
+        run runs refl room batches open'
+        ∙ ap (λ frozen. first_rule (when (not frozen) NotFrozen ∷ []) Done) (sym keeps.frozen_is)
+
+    go : (frozen : Bool) → is_frozen run.freeze ≡ frozen →
+        AnswersBatch history (thaw at batch)
+        (done_or_refused (done_unless (when (not (is_frozen run.freeze)) NotFrozen))) modules new
+    go true is =
+        subst (λ (frozen : Bool). AnswersBatch history (thaw at batch)
+        (done_or_refused (done_unless (when (not frozen) NotFrozen))) modules new) (sym is)
+        (batch_stays history (thaw at batch) batch Done (record run { freeze = Thawed }) modules runs new refl refl refl
+        (sym (same ∙ ap (λ frozen. first_rule (when (not frozen) NotFrozen ∷ []) Done) is)) refl refl
+        (open_outcome history batch run runs batches open') changes
+        (thawed_keeps batch run past' (recipes history) (paired (thaw at batch) Done ∷ past') refl refl refl refl refl
+        keeps) seats counted batches)
+    go false is =
+        subst (λ (frozen : Bool). AnswersBatch history (thaw at batch)
+        (done_or_refused (done_unless (when (not frozen) NotFrozen))) modules new) (sym is)
+        (batch_refused history (thaw at batch) (Refused NotFrozen) modules new
+        (sym (same ∙ ap (λ frozen. first_rule (when (not frozen) NotFrozen ∷ []) Done) is)) refl seats counted
+        (runs_replaced history batch (record run { freeze = Thawed }) runs new changes
+        (thawed_keeps batch run past' (recipes history) past' refl refl refl refl (sym is ∙ keeps.frozen_is) keeps)
+        batches))
 
 -- ---- a stop
 
@@ -281,7 +351,9 @@ stopped_keeps batch at is_new run after past recipes stops keeps =
       started = keeps.started;
       charted = keeps.charted ∙ ap (λ chart. Some (plain_chart chart)) (sym stops.same_batch.chart);
       follows = follows is_new (stops.log (log_by past) keeps.follows);
-      frozen_is = stops.frozen_is;
+      asks = asks is_new;
+      frozen_is = ap is_frozen stops.freeze_is;
+      holding_is = ap is_holding stops.freeze_is;
       outcome_is = stops.outcome_is ∙ keeps.outcome_is ∙ unclosed is_new;
     }
   where
@@ -289,6 +361,11 @@ stopped_keeps batch at is_new run after past recipes stops keeps =
         Follows after (log_by (paired (stop_batch at batch) (if is_new then Did StopAsked else Done) ∷ past))
     follows true follows' = subst (Follows after) (sym (log_grows past (stop_batch at batch) StopAsked)) follows'
     follows false follows' = follows'
+
+    asks : (is_new : Bool) →
+        Asks after (asked_by (paired (stop_batch at batch) (if is_new then Did StopAsked else Done) ∷ past))
+    asks true = stops.asked (asked_by past) keeps.asks
+    asks false = stops.asked (asked_by past) keeps.asks
 
     unclosed : (is_new : Bool) → outcome_by past ≡ outcome_by
         (paired (stop_batch at batch) (if is_new then Did StopAsked else Done) ∷ past)
@@ -307,7 +384,7 @@ stop_answered history at batch is_new run modules runs new room open' stops seat
     batch_stays history (stop_batch at batch) batch (if is_new then Did StopAsked else Done)
     stops.after modules runs new refl refl refl
     (stop_told is_new (has_broken (log_by past') || was_stopped (log_by past'))
-    (stops.stops.asked (log_by past') keeps.follows)
+    (stops.stops.was (log_by past') keeps.follows)
     ∙ sym (open_answer history (stop_batch at batch) batch [] run runs refl room batches open'))
     (accepted is_new) (unclosed is_new) (open_outcome history batch run runs batches open') stops.runs
     (stopped_keeps batch at is_new run stops.after past' (recipes history) stops.stops keeps) seats counted batches

@@ -213,6 +213,8 @@ module _ {Z : Type 0} where
             started = keeps.started;
             charted = takes'.names keeps.recipe (plain_chart kept.chart) keeps.charted;
             follows = keeps.follows;
+            asks = keeps.asks;
             frozen_is = keeps.frozen_is;
+            holding_is = keeps.holding_is;
             outcome_is = keeps.outcome_is;
           }

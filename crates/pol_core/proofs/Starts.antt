@@ -22,6 +22,7 @@ use Rattle.pol_table.specs.Reasons.{missing_reason, busy_reason}
 use Rattle.pol_table.specs.Rows as tables
 use Rattle.pol_table.specs.Rows.{Row, Rows, look, held_by, watched_among}
 use Rattle.pol_table.specs.declared.faults.HoldFault.{HoldFault}
+use Rattle.pol_runs.specs.Freezes.{is_frozen, is_holding}
 use Rattle.pol_runs.specs.Runs.{PlainRun}
 use Rattle.pol_core.specs.Batches.{RunKeeps, RunsMirror}
 use Rattle.pol_core.specs.Seats.{users_of, IsSeated, SeatsMirror}
@@ -153,7 +154,9 @@ runs_started history at batch name chart binds old new runs after fresh charted 
       started = refl;
       charted = charted ∙ ap Some (sym begins.is_new.chart_is);
       follows = begins.is_new.follows;
-      frozen_is = begins.is_new.frozen_is;
+      asks = begins.is_new.asks;
+      frozen_is = ap is_frozen begins.is_new.freeze_is;
+      holding_is = ap is_holding begins.is_new.freeze_is;
       outcome_is = begins.is_new.outcome_is;
     })) mirror
 

@@ -6,6 +6,8 @@ use Rattle.std.specs.Option.{option_or, option_map}
 use Rattle.std.specs.Str.{bytes_eq}
 use Rattle.mtp_codes.specs.Faults.{when}
 use Rattle.chart_core.specs.Charts.{plain_chart}
+use Rattle.chart_core.specs.declared.entry.LogEntry.{LogEntry}
+use Rattle.chart_core.specs.declared.entry.LogEntry.TheVariants.{Hold}
 use Rattle.chart_core.specs.declared.next.Next.{Next}
 use Rattle.chart_core.specs.declared.next.Next.TheVariants as next
 use Rattle.chart_cursor.specs.NextEntry.{next_by}
@@ -13,7 +15,7 @@ use Rattle.pol_events.specs.Bound.{given}
 use Rattle.pol_events.specs.Events.{PlainEntry, advance}
 use Rattle.pol_events.specs.declared.answer.Rule.TheVariants.{BatchClosed}
 use Rattle.pol_history.specs.Answers.{advanced, first_rule, answer_of, is_full}
-use Rattle.pol_history.specs.Batches.{Started, closing, outcome_by, is_frozen_by, log_by}
+use Rattle.pol_history.specs.Batches.{Started, closing, outcome_by, is_frozen_by, is_holding_by, asked_by, frozen_so, freezing_by, log_by}
 use Rattle.pol_history.specs.Following.{sights_by, next_of_started, next_of}
 use Rattle.pol_history.specs.Looking.{History, of_batch, subject, is_accepted, past, past_of_batch, recipes}
 use Rattle.pol_history.specs.Rules.{no_batch, batch_closed}
@@ -23,7 +25,11 @@ use Rattle.pol_history.proofs.Names.{same_true}
 use Rattle.pol_history.proofs.Pasts.{log_grows, batch_recipes_same, batch_past_apart, batch_past_own}
 use Rattle.pol_slots.specs.declared.slot.Slot.{Slot}
 use Rattle.pol_table.specs.Rows.{Rows, look}
-use Rattle.pol_runs.specs.Logs.{Follows, closing_in, log_after}
+use Rattle.chart_cursor.specs.Freezing.{Freezing}
+use Rattle.pol_runs.specs.Freezes.{is_frozen, is_holding, freezing}
+use Rattle.pol_runs.specs.Logs.{Asks, Follows, asked_after, closing_in, log_after}
+use Rattle.pol_runs.specs.declared.freeze.Freeze.{Freeze}
+use Rattle.pol_runs.specs.declared.freeze.Freeze.TheVariants.{Thawed, Waiting, Holding}
 use Rattle.pol_runs.specs.Runs.{PlainRun}
 use Rattle.pol_core.specs.Batches.{RunKeeps, IsRun, RunsMirror, ComesNext, Settles, SettlesOne, IsOpenRun, AnswersBatch, freed_if}
 use Rattle.pol_core.specs.Seats.{SeatsMirror, IsCounted}
@@ -39,6 +45,21 @@ pub run_keeps : (history : History) (batch : List ℕ) (runs : List (List ℕ ×
 run_keeps history batch runs run mirror found =
     subst (λ found. IsRun batch found (past_of_batch batch history) (recipes history)) found (mirror batch)
 
+-- how a run is frozen, with the steps that were asked to hold since
+frozen_told : (freeze : Freeze) (asked : List (List ℕ)) →
+    freezing freeze asked ≡ frozen_so (is_frozen freeze) (is_holding freeze) asked
+frozen_told Thawed asked = refl
+frozen_told Waiting asked = refl
+frozen_told Holding asked = refl
+
+-- it is how the batch is frozen by its past
+freezing_is : (batch : List ℕ) (run : PlainRun) (past recipes : History) → RunKeeps batch run past recipes →
+    freezing run.freeze (asked_by past) ≡ freezing_by past
+freezing_is batch run past recipes keeps =
+    frozen_told run.freeze (asked_by past)
+    ∙ ap (λ frozen. frozen_so frozen (is_holding run.freeze) (asked_by past)) keeps.frozen_is
+    ∙ ap (λ held. frozen_so (is_frozen_by past) held (asked_by past)) keeps.holding_is
+
 -- what comes next is the defined next entry
 pub next_of_is : (history : History) (batch : List ℕ) (rows : Rows Slot) (run : PlainRun) (next : Next) →
     SeatsMirror rows history →
@@ -46,19 +67,19 @@ pub next_of_is : (history : History) (batch : List ℕ) (rows : Rows Slot) (run 
     ComesNext (table_sights rows run.binds) next run → next_of history batch ≡ Some next
 next_of_is history batch rows run next mirror keeps comes =
     let past' = past_of_batch batch history in
-    let same : next ≡ next_by (plain_chart run.chart) (is_frozen_by past') (log_by past')
+    let same : next ≡ next_by (plain_chart run.chart) (freezing_by past') (log_by past')
     (sights_by (given keeps.binds) (λ tag. past tag history))
-    = comes (log_by past') keeps.follows
-    ∙ ap (λ seen. next_by (plain_chart run.chart) run.frozen (log_by past') seen)
+    = comes (log_by past') (asked_by past') keeps.follows keeps.asks
+    ∙ ap (λ seen. next_by (plain_chart run.chart) (freezing run.freeze (asked_by past')) (log_by past') seen)
     (sights_same rows history run.binds mirror)
-    ∙ ap (λ frozen. next_by (plain_chart run.chart) frozen (log_by past')
+    ∙ ap (λ (freezing : Freezing). next_by (plain_chart run.chart) freezing (log_by past')
     (sights_by run.binds (λ tag. past tag history)))
-    keeps.frozen_is
-    ∙ ap (λ binds. next_by (plain_chart run.chart) (is_frozen_by past') (log_by past')
+    (freezing_is batch run past' (recipes history) keeps)
+    ∙ ap (λ binds. next_by (plain_chart run.chart) (freezing_by past') (log_by past')
     (sights_by binds (λ tag. past tag history)))
     keeps.binds_are in
     ap begins keeps.started
-    ∙ ap (option_map (λ chart. next_by chart (is_frozen_by past') (log_by past')
+    ∙ ap (option_map (λ chart. next_by chart (freezing_by past') (log_by past')
     (sights_by (given keeps.binds) (λ tag. past tag history)))) keeps.charted
     ∙ ap Some (sym same)
   where
@@ -88,6 +109,19 @@ log_is past at batch (next.Did entry) = log_grows past (advance at batch) entry
 log_is past at batch (next.Waiting obstacle) = refl
 log_is past at batch (next.Closed outcome) = refl
 
+-- the steps that were asked to hold, after the answer
+asked_is : (past : History) (at : ℕ) (batch : List ℕ) (next : Next) →
+    asked_by (paired (advance at batch) (advanced (Some next)) ∷ past) ≡ asked_after next (asked_by past)
+asked_is past at batch (next.Did entry) = go entry
+  where
+    go : (entry : LogEntry) →
+        asked_by (paired (advance at batch) (advanced (Some (next.Did entry))) ∷ past)
+        ≡ asked_after (next.Did entry) (asked_by past)
+    go (Hold step tag service) = refl
+    go _ = refl
+asked_is past at batch (next.Waiting obstacle) = refl
+asked_is past at batch (next.Closed outcome) = refl
+
 -- the outcome with which the answer closes the batch
 closing_is : (next : Next) → closing (advanced (Some next)) ≡ closing_in next
 closing_is (next.Did entry) = refl
@@ -113,7 +147,9 @@ settled_keeps past recipes at batch run after next settles keeps =
       started = keeps.started;
       charted = keeps.charted ∙ ap (λ chart. Some (plain_chart chart)) (sym settles.same_batch.chart);
       follows = subst (Follows after) (sym (log_is past at batch next)) (settles.log (log_by past) keeps.follows);
-      frozen_is = settles.frozen_is ∙ keeps.frozen_is;
+      asks = subst (Asks after) (sym (asked_is past at batch next)) (settles.asked (asked_by past) keeps.asks);
+      frozen_is = ap is_frozen settles.freeze_is ∙ keeps.frozen_is;
+      holding_is = ap is_holding settles.freeze_is ∙ keeps.holding_is;
       outcome_is = settles.outcome_is ∙ ap (option_or (closing_in next)) keeps.outcome_is
           ∙ ap (λ closes. option_or closes (outcome_by past)) (sym (closing_is next));
     }

@@ -9,7 +9,7 @@ use Rattle.pol_events.specs.declared.answer.Answer.{Answer}
 use Rattle.pol_events.specs.declared.answer.Rule.{Rule}
 use Rattle.pol_history.specs.Answers.{answer_of}
 use Rattle.pol_history.specs.Looking.{History, of_module, subject, is_accepted, past}
-use Rattle.pol_history.specs.Modules.{present_tags}
+use Rattle.pol_history.specs.Modules.{absent, docking_by, present_tags}
 use Rattle.pol_history.specs.Runs.{entry_of}
 use Rattle.pol_history.proofs.Names.{same_true}
 use Rattle.pol_history.proofs.Pasts.{past_own}
@@ -48,6 +48,18 @@ seated_slot history tag rows slot mirror is =
     let taken : IsTaken tag has.row (past tag history) (users_of history tag)
     = subst (λ found. IsSeated tag found (past tag history) (users_of history tag)) has.found (mirror tag) in
     subst (λ slot. SlotKeeps tag slot (past tag history)) has.part_is taken.slot_keeps
+
+-- a tag without a part has no row
+no_row : {T : Type 0} (found : Option (Row T)) → option_map (λ row. row.part) found ≡ None → found ≡ None
+no_row None none = refl
+no_row (Some row) none = cc
+
+-- a tag without a slot is absent
+pub absent_without : (history : History) (tag : List ℕ) (rows : Rows Slot) → SeatsMirror rows history →
+    part_of tag rows ≡ None → docking_by (past tag history) ≡ absent
+absent_without history tag rows mirror none =
+    (subst (λ found. IsSeated tag found (past tag history) (users_of history tag)) (no_row (look tag rows) none)
+    (mirror tag)).is_absent
 
 -- a slot in the place of another, after an event of its module
 pub slot_changes : (history : History) (event : PlainEvent) (tag : List ℕ) (rows : Rows Slot) (old new : Slot) →

@@ -1,5 +1,5 @@
 -- What the runs keep of a history: for each batch what looking back gives.
-use Rattle.std.specs.Prelude.{ℕ, ◌≡◌, Bool, false, not, ◌||◌, List, [], ◌∷◌, ◌++◌, Option, Some, None, is_some, if◌then◌else◌}
+use Rattle.std.specs.Prelude.{ℕ, ◌≡◌, Bool, not, ◌||◌, List, [], ◌∷◌, ◌++◌, Option, Some, None, is_some, if◌then◌else◌}
 use Rattle.std.specs.Map.{lookup}
 use Rattle.std.specs.Option.{option_or, option_map}
 use Rattle.std.specs.Str.{bytes_eq}
@@ -18,12 +18,14 @@ use Rattle.pol_events.specs.declared.answer.Answer.{Answer}
 use Rattle.pol_events.specs.declared.answer.Rule.{Rule}
 use Rattle.pol_events.specs.declared.answer.Rule.TheVariants.{NoBatch, BatchClosed}
 use Rattle.pol_history.specs.Answers.{answer_of}
-use Rattle.pol_history.specs.Batches.{start_by, chart_named, outcome_by, is_frozen_by, log_by}
+use Rattle.pol_history.specs.Batches.{start_by, chart_named, outcome_by, is_frozen_by, is_holding_by, asked_by, log_by}
 use Rattle.pol_history.specs.Looking.{History, past_of_batch, recipes}
 use Rattle.pol_history.specs.Runs.{entry_of}
 use Rattle.pol_slots.specs.declared.slot.Slot.{Slot}
 use Rattle.pol_table.specs.Rows.{Row, Rows, freed_from}
-use Rattle.pol_runs.specs.Logs.{Follows, closing_in, log_after}
+use Rattle.pol_runs.specs.Freezes.{is_frozen, is_holding, frozen_as, freezing}
+use Rattle.pol_runs.specs.Logs.{Asks, Follows, asked_after, closing_in, log_after}
+use Rattle.pol_runs.specs.declared.freeze.Freeze.TheVariants.{Thawed}
 use Rattle.pol_runs.specs.Runs.{PlainRun, SameBatch}
 use Rattle.pol_core.specs.Seats.{SeatsMirror, IsCounted}
 
@@ -36,7 +38,9 @@ pub record RunKeeps (batch : List ℕ) (run : PlainRun) (past recipes : History)
   pub started : start_by past ≡ Some (record { recipe = recipe; binds = binds })
   pub charted : chart_named recipe recipes ≡ Some (plain_chart run.chart)
   pub follows : Follows run (log_by past)
-  pub frozen_is : run.frozen ≡ is_frozen_by past
+  pub asks : Asks run (asked_by past)
+  pub frozen_is : is_frozen run.freeze ≡ is_frozen_by past
+  pub holding_is : is_holding run.freeze ≡ is_holding_by past
   pub outcome_is : run.outcome ≡ outcome_by past
 
 -- a batch without a run has no past
@@ -63,8 +67,9 @@ ChangesRun batch after old new =
 -- the run has done what comes next
 pub record Settles (next : Next) (old new : PlainRun) : Type 0 where
   pub log : (log : List LogEntry) → Follows old log → Follows new (log_after next log)
+  pub asked : (asked : List (List ℕ)) → Asks old asked → Asks new (asked_after next asked)
   pub same_batch : SameBatch old new
-  pub frozen_is : new.frozen ≡ old.frozen
+  pub freeze_is : new.freeze ≡ old.freeze
   pub outcome_is : new.outcome ≡ option_or (closing_in next) old.outcome
 
 -- the run of this batch has done so, and no other run has changed
@@ -74,12 +79,28 @@ pub record SettlesOne (batch : List ℕ) (next : Next) (run : PlainRun)
   pub settles : Settles next run after
   pub runs : ChangesRun batch after old new
 
+-- the run was frozen so
+pub record Freezes (hold : Bool) (old new : PlainRun) : Type 0 where
+  pub log : (log : List LogEntry) → Follows old log → Follows new log
+  pub asked : Asks new []
+  pub same_batch : SameBatch old new
+  pub freeze_is : new.freeze ≡ frozen_as hold
+  pub outcome_is : new.outcome ≡ old.outcome
+
+-- so is the run of this batch, and no other run has changed
+pub record FreezesOne (batch : List ℕ) (hold : Bool) (run : PlainRun)
+    (old new : List (List ℕ × PlainRun)) : Type 0 where
+  pub after : PlainRun
+  pub freezes : Freezes hold run after
+  pub runs : ChangesRun batch after old new
+
 -- the run was to be stopped, which was new or not, and isn't frozen any more
 pub record Stops (is_new : Bool) (old new : PlainRun) : Type 0 where
-  pub asked : (log : List LogEntry) → Follows old log → is_new ≡ not (has_broken log || was_stopped log)
+  pub was : (log : List LogEntry) → Follows old log → is_new ≡ not (has_broken log || was_stopped log)
   pub log : (log : List LogEntry) → Follows old log → Follows new (if is_new then log ++ StopAsked ∷ [] else log)
+  pub asked : (asked : List (List ℕ)) → Asks old asked → Asks new asked
   pub same_batch : SameBatch old new
-  pub frozen_is : new.frozen ≡ false
+  pub freeze_is : new.freeze ≡ Thawed
   pub outcome_is : new.outcome ≡ old.outcome
 
 -- so is the run of this batch, and no other run has changed
@@ -91,8 +112,8 @@ pub record StopsOne (batch : List ℕ) (is_new : Bool) (run : PlainRun)
 
 -- it is what comes next, whatever log the run stands for
 abbrev pub ComesNext : Sights → Next → PlainRun → Type 0
-ComesNext seen next run = (log : List LogEntry) → Follows run log
-    → next ≡ next_by (plain_chart run.chart) run.frozen log seen
+ComesNext seen next run = (log : List LogEntry) (asked : List (List ℕ)) → Follows run log → Asks run asked
+    → next ≡ next_by (plain_chart run.chart) (freezing run.freeze asked) log seen
 
 -- the rule that an event of a batch meets first: it has no run, or its run is closed
 abbrev pub not_open : Option PlainRun → Option Rule

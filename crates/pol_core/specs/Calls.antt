@@ -8,12 +8,15 @@ use Rattle.mtp_codes.specs.declared.limits.TheConstants.{LONGEST_HISTORY}
 use Rattle.chart_core.specs.Roles.{PlainChart}
 use Rattle.chart_core.specs.Trees.{steps}
 use Rattle.chart_core.specs.declared.next.Next.{Next}
+use Rattle.chart_cursor.specs.declared.sight.Sight.{Sight}
+use Rattle.chart_cursor.specs.declared.sight.Sight.TheVariants.{Away}
+use Rattle.mtp_modes.specs.declared.view.ServiceView.{ServiceView}
 use Rattle.pol_events.specs.declared.answer.Answer.{Answer}
 use Rattle.pol_events.specs.declared.answer.Answer.TheVariants.{Refused}
 use Rattle.pol_events.specs.declared.answer.Rule.{Rule}
 use Rattle.pol_events.specs.declared.answer.Rule.TheVariants.{HistoryFull}
 use Rattle.pol_history.specs.Batches.{outcome_of, chart_of}
-use Rattle.pol_history.specs.Following.{next_of}
+use Rattle.pol_history.specs.Following.{next_of, sight_in}
 use Rattle.pol_history.specs.Looking.{History}
 use Rattle.pol_history.specs.Modules as modules
 use Rattle.pol_core.specs.declared.docking.Docking.{Docking}
@@ -46,3 +49,9 @@ abbrev pub plain_docking : Docking → modules.Docking
 plain_docking docking.Absent = modules.absent
 plain_docking (docking.Docked count) = modules.docked count
 plain_docking (docking.Away ticket) = modules.away ticket
+
+-- what is seen of a service that has this view, where its module is docked so; Away, where it isn't docked
+abbrev pub module_sight : modules.Docking → Option ServiceView → Sight
+module_sight modules.absent view = Away
+module_sight (modules.away ticket) view = Away
+module_sight (modules.docked count) view = sight_in (modules.docked count) view

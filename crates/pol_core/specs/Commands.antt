@@ -5,7 +5,7 @@ use Rattle.mtp_codes.specs.declared.command.Command.{Command}
 use Rattle.mtp_codes.specs.declared.command.Command.TheVariants as command
 use Rattle.mtp_codes.specs.declared.mode.Speaker.TheVariants.{Recipe, Operator}
 use Rattle.chart_core.specs.declared.entry.LogEntry.{LogEntry}
-use Rattle.chart_core.specs.declared.entry.LogEntry.TheVariants.{Start, Finish, Reset, Stop, Asked}
+use Rattle.chart_core.specs.declared.entry.LogEntry.TheVariants.{Start, Finish, Reset, Stop, Hold, Unhold, Asked}
 use Rattle.pol_events.specs.Events.{PlainEvent, PlainEntry, advance}
 use Rattle.pol_events.specs.declared.answer.Answer.{Answer}
 use Rattle.pol_events.specs.declared.answer.Answer.TheVariants.{Did}
@@ -35,6 +35,8 @@ entry_command batch (Start step tag service procedure) =
 entry_command batch (Finish step tag service) = Some (tag, by_recipe batch step service command.Complete 0)
 entry_command batch (Reset step tag service) = Some (tag, by_recipe batch step service command.Reset 0)
 entry_command batch (Stop step tag service) = Some (tag, by_recipe batch step service command.Stop 0)
+entry_command batch (Hold step tag service) = Some (tag, by_recipe batch step service command.Hold 0)
+entry_command batch (Unhold step tag service) = Some (tag, by_recipe batch step service command.Unhold 0)
 entry_command batch (Asked tag service command) = Some (tag, by_operator batch service command)
 entry_command batch _ = None
 

@@ -11,7 +11,8 @@ use Rattle.pol_events.specs.declared.event.Bind.{Bind}
 use Rattle.pol_slots.specs.declared.slot.Slot.{Slot}
 use Rattle.pol_table.specs.Answers.{holding}
 use Rattle.pol_table.specs.Rows.{Row, Rows, look, held_by}
-use Rattle.pol_runs.specs.Logs.{Follows}
+use Rattle.pol_runs.specs.Logs.{Asks, Follows}
+use Rattle.pol_runs.specs.declared.freeze.Freeze.TheVariants.{Thawed}
 use Rattle.pol_runs.specs.Runs.{PlainRun}
 
 -- a run that has just begun
@@ -19,9 +20,10 @@ pub record IsNew (batch : List ℕ) (chart : PlainChart) (binds : List Bind) (ru
   pub batch_is : run.batch ≡ batch
   pub chart_is : plain_chart run.chart ≡ chart
   pub binds_are : run.binds ≡ binds
-  pub frozen_is : run.frozen ≡ false
+  pub freeze_is : run.freeze ≡ Thawed
   pub outcome_is : run.outcome ≡ None
   pub follows : Follows run []
+  pub asks : Asks run []
 
 -- the batch holds all of these tags
 pub record Holds (tags : List (List ℕ)) (batch : List ℕ) (old new : Rows Slot) : Type 0 where

@@ -84,7 +84,7 @@ pub fn answer_event(
             start(alloc, modules, runs, recipes, *batch, *name, binds)
         }
         Event::Advance { batch, .. } => Ok(advance(modules, runs, *batch)),
-        Event::Freeze { batch, .. } => Ok(freeze(runs, *batch)),
+        Event::Freeze { batch, hold, .. } => Ok(freeze(runs, *batch, *hold)),
         Event::Thaw { batch, .. } => Ok(thaw(runs, *batch)),
         Event::StopBatch { batch, .. } => Ok(stop(runs, *batch)),
         Event::Abandon { batch, .. } => Ok(abandon(modules, runs, *batch)),

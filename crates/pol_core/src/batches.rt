@@ -1,5 +1,5 @@
 //! What events of a batch are answered, and what they change in the tables.
-ghost use Rattle.std.specs.Prelude.{◌≡◌, ℕ, ◌∷◌, List, Some, IfOk, IfErr, false, true, not, length, option_copied};
+ghost use Rattle.std.specs.Prelude.{false, ◌≡◌, ℕ, ◌∷◌, List, Some, IfOk, IfErr, OnOk, OnErr, ◌&&◌, ◌||◌, not, length, option_copied};
 ghost use Rattle.std.specs.Map.{lookup};
 ghost use Rattle.std.specs.Str.{bytes_eq};
 ghost use Rattle.mtp_codes.specs.Faults.{done_unless, when};
@@ -11,9 +11,11 @@ ghost use Rattle.pol_history.specs.Answers.{advanced, is_full};
 ghost use Rattle.pol_history.specs.Looking.{History};
 ghost use Rattle.pol_slots.specs.declared.slot.Slot.{Slot as slot_type};
 ghost use Rattle.pol_table.specs.Rows.{Rows, look};
+ghost use Rattle.pol_runs.specs.Freezes.{is_frozen, is_holding};
 ghost use Rattle.pol_runs.specs.Logs.{closing_in};
+ghost use Rattle.pol_runs.specs.declared.freeze.Freeze.TheVariants.{Thawed};
 ghost use Rattle.pol_runs.specs.Runs.{PlainRun};
-ghost use Rattle.pol_core.specs.Batches.{AnswersBatch, ChangesRun, ComesNext, IsOpenRun, RunsMirror, SettlesOne, StopsOne, freed_if, not_open};
+ghost use Rattle.pol_core.specs.Batches.{AnswersBatch, ChangesRun, ComesNext, FreezesOne, IsOpenRun, RunsMirror, SettlesOne, StopsOne, freed_if, not_open};
 ghost use Rattle.pol_core.specs.Calls.{open_next, settings_of};
 ghost use Rattle.pol_core.specs.Seats.{IsCounted, SeatsMirror, done_or_refused};
 ghost use Rattle.pol_core.specs.Seen.{table_sights};
@@ -127,32 +129,35 @@ pub fn advance(modules: &mut Table<Slot>, runs: &mut IndexMap<Name, Run>, batch:
     advanced(&next)
 }
 
-// Freezes the run of a batch.
-fn freeze_run(runs: &mut IndexMap<Name, Run>, batch: Name) -> Result<(), Rule>
+// Freezes the run of a batch, and where `hold` is true lets its services be held.
+fn freeze_run(runs: &mut IndexMap<Name, Run>, batch: Name, hold: bool) -> Result<(), Rule>
     requires { (run : PlainRun) × (lookup (bytes_eq batch) runs.old.entries ≡ Some run) }
     ensures count { length runs.new.entries ≡ length runs.old.entries }
     ensures answer { (run : PlainRun) → lookup (bytes_eq batch) runs.old.entries ≡ Some run
-        → result ≡ done_unless (when run.frozen AlreadyFrozen) }
-    ensures changed { (run : PlainRun) → lookup (bytes_eq batch) runs.old.entries ≡ Some run
-        → ChangesRun batch (record run { frozen = true }) runs.old.entries runs.new.entries }
+        → result
+        ≡ done_unless (when (is_frozen run.freeze && (not hold || is_holding run.freeze)) AlreadyFrozen) }
+    ensures frozen { OnOk result ((run : PlainRun) → lookup (bytes_eq batch) runs.old.entries ≡ Some run
+        → FreezesOne batch hold run runs.old.entries runs.new.entries) }
+    ensures unchanged { OnErr result ((run : PlainRun) → lookup (bytes_eq batch) runs.old.entries ≡ Some run
+        → ChangesRun batch run runs.old.entries runs.new.entries) }
 {
     match runs.get_mut(&batch) {
-        Some(run) => run.freeze(),
+        Some(run) => run.freeze(hold),
         None => unreachable!(),
     }
 }
 
-/// A batch waits until it is thawed.
-pub fn freeze(runs: &mut IndexMap<Name, Run>, batch: Name) -> Answer
+/// A batch waits until it is thawed, and where `hold` is true its services are held meanwhile.
+pub fn freeze(runs: &mut IndexMap<Name, Run>, batch: Name, hold: bool) -> Answer
     ensures count { length runs.new.entries ≡ length runs.old.entries }
     ensures answered { (history : History) (at : ℕ) (modules : Rows slot_type) → SeatsMirror modules history
         → IsCounted modules history → RunsMirror runs.old.entries history → is_full history ≡ false
-        → AnswersBatch history (freeze at batch) result modules runs.new.entries }
+        → AnswersBatch history (freeze at batch hold) result modules runs.new.entries }
 {
     if let Err(rule) = open_run(runs, batch) {
         return Answer::Refused(rule);
     }
-    done_or_refused(freeze_run(runs, batch))
+    done_or_refused(freeze_run(runs, batch, hold))
 }
 
 // Ends the freeze of the run of a batch.
@@ -160,9 +165,9 @@ fn thaw_run(runs: &mut IndexMap<Name, Run>, batch: Name) -> Result<(), Rule>
     requires { (run : PlainRun) × (lookup (bytes_eq batch) runs.old.entries ≡ Some run) }
     ensures count { length runs.new.entries ≡ length runs.old.entries }
     ensures answer { (run : PlainRun) → lookup (bytes_eq batch) runs.old.entries ≡ Some run
-        → result ≡ done_unless (when (not run.frozen) NotFrozen) }
+        → result ≡ done_unless (when (not (is_frozen run.freeze)) NotFrozen) }
     ensures changed { (run : PlainRun) → lookup (bytes_eq batch) runs.old.entries ≡ Some run
-        → ChangesRun batch (record run { frozen = false }) runs.old.entries runs.new.entries }
+        → ChangesRun batch (record run { freeze = Thawed }) runs.old.entries runs.new.entries }
 {
     match runs.get_mut(&batch) {
         Some(run) => run.thaw(),

@@ -82,6 +82,12 @@ fn entry_command(batch: Option<Name>, entry: &LogEntry) -> Option<(Name, Sent)>
         LogEntry::Stop { step, tag, service } => {
             Some((tag, by_recipe(batch, step, service, Command::Stop, 0)))
         }
+        LogEntry::Hold { step, tag, service } => {
+            Some((tag, by_recipe(batch, step, service, Command::Hold, 0)))
+        }
+        LogEntry::Unhold { step, tag, service } => {
+            Some((tag, by_recipe(batch, step, service, Command::Unhold, 0)))
+        }
         LogEntry::Asked {
             tag,
             service,

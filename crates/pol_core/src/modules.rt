@@ -1,23 +1,25 @@
 //! What events of a module are answered, and what they change in the table of modules.
-ghost use Rattle.std.specs.Prelude.{◌≡◌, ℕ, IfOk, OnErr, false};
+ghost use Rattle.std.specs.Prelude.{◌≡◌, ◌≢◌, ℕ, Some, IfOk, IfNone, IfSome, OnErr, false, slice_get};
 ghost use Rattle.mtp_desc.specs.PlainDescription.{plain_description};
 ghost use Rattle.pol_events.specs.Events.{plug, unplug, report, variable, desk};
 ghost use Rattle.pol_history.specs.Answers.{is_full};
 ghost use Rattle.pol_history.specs.Batches.{holder_of};
 ghost use Rattle.pol_history.specs.Looking.{History};
-ghost use Rattle.pol_history.specs.Modules.{docking_of};
-ghost use Rattle.pol_core.specs.Calls.{plain_docking};
+ghost use Rattle.pol_history.specs.Modules.{absent, description_of, docking_of, present_tags, view_of};
+ghost use Rattle.pol_core.specs.Calls.{module_sight, plain_docking};
 ghost use Rattle.pol_core.specs.Exchanges.{HaveBegunFew};
 ghost use Rattle.pol_core.specs.Seats.{AnswersModule, IsCounted, SeatsMirror, asked_answer, done_or_refused, slot_asked};
+ghost use Rattle.pol_table.specs.ByteOrder.{in_byte_order};
 
 use crate::docking::Docking;
 use chart_core::LogEntry;
+use chart_cursor::Sight;
 use mtp_assembly::ServiceControl;
 use mtp_codes::{Command, MOST_MODULES, Name, Value};
 use mtp_desc::Description;
 use pol_events::{Answer, Rule};
 use pol_slots::Slot;
-use pol_table::Table;
+use pol_table::{DockFault, Table};
 use std::alloc::{AllocError, Global};
 use std::sync::Arc;
 
@@ -52,7 +54,10 @@ pub fn plug(
     let slot = Slot::new(alloc, description.clone()?, tag)?;
     match modules.dock(tag, slot) {
         Ok(()) => Ok(Answer::Done),
-        Err((_slot, _fault)) => Err(AllocError),
+        Err((_slot, DockFault::Memory)) => Err(AllocError),
+        // The tag and the room were asked before.
+        Err((_slot, DockFault::TagTaken)) => unreachable!(),
+        Err((_slot, DockFault::PlantFull)) => unreachable!(),
     }
 }
 
@@ -139,6 +144,40 @@ pub fn docking(modules: &Table<Slot>, tag: Name) -> Docking
     match slot.ticket() {
         Some(ticket) => Docking::Away(ticket),
         None => Docking::Docked(slot.begins() + 1),
+    }
+}
+
+/// The tag at this place, from 0, among those that are docked or away, in byte order.
+pub fn tag_at(modules: &Table<Slot>, place: u32) -> Option<Name>
+    ensures { (history : History) → IsCounted modules.now history
+        → result ≡ slice_get (in_byte_order (present_tags history)) place }
+{
+    modules.tag_at(place)
+}
+
+/// The description of the module, docked or away; None exactly where no module has the tag.
+pub fn description(modules: &Table<Slot>, tag: Name) -> Option<&Arc<Description>>
+    ensures known { IfSome result (λ description. (history : History) → SeatsMirror modules.now history
+        → description_of history tag ≡ Some (plain_description description.now.value)) }
+    ensures there { IfSome result (λ _. (history : History) → SeatsMirror modules.now history
+        → docking_of history tag ≢ absent) }
+    ensures none { IfNone result ((history : History) → SeatsMirror modules.now history
+        → docking_of history tag ≡ absent) }
+{
+    match modules.get(tag) {
+        None => None,
+        Some(slot) => Some(slot.description()),
+    }
+}
+
+/// What is seen of a service of the module: Away where the tag isn't docked.
+pub fn view(modules: &Table<Slot>, tag: Name, service: Name) -> Sight
+    ensures { (history : History) → SeatsMirror modules.now history
+        → result ≡ module_sight (docking_of history tag) (view_of history tag service) }
+{
+    match modules.get(tag) {
+        None => Sight::Away,
+        Some(slot) => slot.view(service),
     }
 }
 

@@ -1,14 +1,16 @@
 //! The plant, seen as its entries and the room for more.
-ghost use Rattle.std.specs.Prelude.{◌≡◌, ℕ, ◌<◌, ◌≤◌, ◌+◌, ◌++◌, ◌∷◌, [], drop, length, map, option_copied, IfOk, IfErr, IsOk, IsTrue, OnOk, OnErr, vec_len, vec_capacity};
+ghost use Rattle.std.specs.Prelude.{◌≡◌, ◌≢◌, ℕ, ◌<◌, ◌≤◌, ◌+◌, ◌++◌, ◌∷◌, [], drop, length, map, option_copied, slice_get, Some, IfNone, IfSome, IfOk, IfErr, IsOk, IsTrue, OnOk, OnErr, vec_len, vec_capacity};
+ghost use Rattle.mtp_desc.specs.PlainDescription.{plain_description};
 ghost use Rattle.pol_events.specs.Events.{plain_entry, plain_event, plain_history, exchange_begin, start};
 ghost use Rattle.pol_events.specs.Orderly.{is_orderly};
 ghost use Rattle.pol_history.specs.Answers.{answer_of};
 ghost use Rattle.pol_history.specs.Batches.{holder_of};
-ghost use Rattle.pol_history.specs.Modules.{docking_of};
+ghost use Rattle.pol_history.specs.Modules.{absent, description_of, docking_of, present_tags, view_of};
 ghost use Rattle.pol_history.specs.Runs.{entry_of, recorded, IsLegal, IsOrderly};
-ghost use Rattle.pol_core.specs.Calls.{open_next, plain_docking, refusal, settings_of, refused_first};
+ghost use Rattle.pol_core.specs.Calls.{module_sight, open_next, plain_docking, refusal, settings_of, refused_first};
 ghost use Rattle.pol_core.specs.Commands.{next_sent};
 ghost use Rattle.pol_core.specs.Plants.{is_spared, plant_history};
+ghost use Rattle.pol_table.specs.ByteOrder.{in_byte_order};
 
 use crate::answering::answer_event;
 use crate::commands::{self, Sent};
@@ -17,8 +19,10 @@ use crate::exchanges::begin_rule;
 use crate::starting::start_rule;
 use crate::{batches, modules};
 use chart_core::{Chart, Next};
+use chart_cursor::Sight;
 use indexmap::IndexMap;
 use mtp_codes::{LONGEST_HISTORY, Name, Setting};
+use mtp_desc::Description;
 use pol_events::{Allocation, Answer, Bind, Entry, Event, Rule};
 use pol_runs::Run;
 use pol_slots::Slot;
@@ -212,12 +216,38 @@ impl Plant {
         batches::settings(&self.runs, batch, step)
     }
 
+    /// The tag at this place, from 0, among those that are docked or away, in byte order; None from their number on.
+    /// Takes no memory; compares each tag with each.
+    pub fn tag_at(&self, place: u32) -> Option<Name>
+        ensures { result ≡ slice_get (in_byte_order (present_tags (plant_history self.now))) place }
+    {
+        modules::tag_at(&self.modules, place)
+    }
+
     /// Whether the tag is docked: if so, how often it was since the last plug, that plug included; or away, with its
     /// ticket.
     pub fn docking(&self, tag: Name) -> Docking
         ensures { plain_docking result ≡ docking_of (plant_history self.now) tag }
     {
         modules::docking(&self.modules, tag)
+    }
+
+    /// The description of the module, docked or away; None exactly where no module has the tag.
+    pub fn description(&self, tag: Name) -> Option<&Arc<Description>>
+        ensures known { IfSome result (λ description.
+            description_of (plant_history self.now) tag ≡ Some (plain_description description.now.value)) }
+        ensures there { IfSome result (λ _. docking_of (plant_history self.now) tag ≢ absent) }
+        ensures none { IfNone result (docking_of (plant_history self.now) tag ≡ absent) }
+    {
+        modules::description(&self.modules, tag)
+    }
+
+    /// What is seen of a service of the module: Away where the tag isn't docked.
+    pub fn view(&self, tag: Name, service: Name) -> Sight
+        ensures { result ≡ module_sight (docking_of (plant_history self.now) tag)
+            (view_of (plant_history self.now) tag service) }
+    {
+        modules::view(&self.modules, tag, service)
     }
 
     /// The batch that holds the module: that of the last accepted start that binds it, where that batch isn't closed.

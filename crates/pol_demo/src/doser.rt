@@ -1,6 +1,8 @@
 //! The module that a demo journal docks, and the recipe of its batches.
-ghost use Rattle.std.specs.Prelude.{◌≡◌, IfOk, IsTrue};
+ghost use Rattle.semver.specs.Parse.{memory_error};
+ghost use Rattle.std.specs.Prelude.{◌≡◌, IfErr, IfOk, IsTrue, codes};
 ghost use Rattle.chart_core.specs.Charts.{plain_chart};
+ghost use Rattle.chart_core.specs.Requirements.{IsReadTo};
 ghost use Rattle.chart_core.specs.Roles.{plain_role};
 ghost use Rattle.chart_core.specs.Trees.{plain_step};
 ghost use Rattle.mtp_assembly.specs.Plain.{plain_param, plain_variable};
@@ -82,10 +84,18 @@ pub fn doser(alloc: Global) -> Result<Description, AllocError>
     })
 }
 
+// The requirement of the first major version. Its text is one, so only memory can be wanting.
+fn requirement(alloc: Global) -> Result<VersionReq, semver::Error>
+    ensures read { IfOk result (IsReadTo (codes "^1")) }
+    ensures wanting { IfErr result (λ error. error ≡ memory_error) }
+{
+    VersionReq::parse(alloc, "^1")
+}
+
 fn role(alloc: Global) -> Result<Role, AllocError>
     ensures { IfOk result (λ role. plain_role role ≡ doser_role) }
 {
-    let Ok(req) = VersionReq::parse(alloc, "^1") else {
+    let Ok(req) = requirement(alloc) else {
         return Err(AllocError);
     };
     Ok(Role {

@@ -34,7 +34,8 @@ use Rattle.pol_record.specs.Texts.{entry_data, obstacle_fields, refusal_fields}
 use Rattle.pol_entries.specs.Answers.{closed_fields, has}
 use Rattle.pol_entries.specs.Candidates.{entry_named, obstacle_named, outcome_named, rule_numbered}
 use Rattle.pol_entries.specs.Found.{each_reading, few_readings, forbid_words, found_or, lookup_in, number_at, reading_of, text_at, up_to}
-use Rattle.pol_entries.specs.Ranges.{are_in_range, is_reading_in_range, is_start_in_range}
+use Rattle.pol_events.specs.FieldRanges.{are_in_range, is_reading_in_range}
+use Rattle.pol_record.specs.Ranges.{is_start_in_range}
 use Rattle.mtp_json.specs.Leaf.{meaning_of}
 
 -- ---- single values
@@ -223,6 +224,19 @@ rule_again (WatchedStep role) held =
     let first = and_parts (is_name role) true held in
     (refl, rw (name_again role first.0) refl)
 
+-- three names with whatever stands behind them in a row
+three_names : (step tag service : List ℕ) → (rest : Bool) →
+    ((is_name step && (is_name tag && (is_name service && true))) && rest) ≡ true →
+    (found_or (codes "-") (name (string step)) ≡ step)
+    × ((found_or (codes "-") (name (string tag)) ≡ tag)
+    × (found_or (codes "-") (name (string service)) ≡ service))
+three_names step tag service rest held =
+    let both = and_parts (is_name step && (is_name tag && (is_name service && true))) rest held in
+    let first = and_parts (is_name step) (is_name tag && (is_name service && true)) both.0 in
+    let second = and_parts (is_name tag) (is_name service && true) first.1 in
+    let third = and_parts (is_name service) true second.1 in
+    (name_again step first.0, (name_again tag second.0, name_again service third.0))
+
 -- the name in the object of a log entry and its keys tell the entry
 pub entry_again : (each : LogEntry) → (are_in_range (entry_row each).fields && is_start_in_range each) ≡ true →
     entry_named (text_at (codes "do") (entry_data each)) (lookup_in (entry_data each)) ≡ Some each
@@ -243,19 +257,13 @@ entry_again (entry.Start step tag service procedure) held =
           both.1,
     ) refl
 entry_again (entry.Finish step tag service) held =
-    let both = and_parts (is_name step && (is_name tag && (is_name service && true)))
-    (is_start_in_range (entry.Finish step tag service)) held in
-    let first = and_parts (is_name step) (is_name tag && (is_name service && true)) both.0 in
-    let second = and_parts (is_name tag) (is_name service && true) first.1 in
-    let third = and_parts (is_name service) true second.1 in
-    rw (name_again step first.0, name_again tag second.0, name_again service third.0) refl
+    let names = three_names step tag service (is_start_in_range (entry.Finish step tag service)) held in
+    let others = names.1 in
+    rw (names.0, others.0, others.1) refl
 entry_again (entry.Reset step tag service) held =
-    let both = and_parts (is_name step && (is_name tag && (is_name service && true)))
-    (is_start_in_range (entry.Reset step tag service)) held in
-    let first = and_parts (is_name step) (is_name tag && (is_name service && true)) both.0 in
-    let second = and_parts (is_name tag) (is_name service && true) first.1 in
-    let third = and_parts (is_name service) true second.1 in
-    rw (name_again step first.0, name_again tag second.0, name_again service third.0) refl
+    let names = three_names step tag service (is_start_in_range (entry.Reset step tag service)) held in
+    let others = names.1 in
+    rw (names.0, others.0, others.1) refl
 entry_again (entry.End step) held =
     let both = and_parts (is_name step && true) (is_start_in_range (entry.End step)) held in
     let first = and_parts (is_name step) true both.0 in
@@ -282,12 +290,9 @@ entry_again (entry.Leave node values) held =
     let second = and_parts (are_held_readings values) true first.1 in
     rw (number_again node first.0, readings_again values second.0) refl
 entry_again (entry.Stop step tag service) held =
-    let both = and_parts (is_name step && (is_name tag && (is_name service && true)))
-    (is_start_in_range (entry.Stop step tag service)) held in
-    let first = and_parts (is_name step) (is_name tag && (is_name service && true)) both.0 in
-    let second = and_parts (is_name tag) (is_name service && true) first.1 in
-    let third = and_parts (is_name service) true second.1 in
-    rw (name_again step first.0, name_again tag second.0, name_again service third.0) refl
+    let names = three_names step tag service (is_start_in_range (entry.Stop step tag service)) held in
+    let others = names.1 in
+    rw (names.0, others.0, others.1) refl
 entry_again (entry.Broke step state) held =
     let both = and_parts (is_name step && (is_between 0 greatest_u32 (state_number state) && true))
     (is_start_in_range (entry.Broke step state)) held in
@@ -299,6 +304,14 @@ entry_again (entry.Left step state) held =
     let first = and_parts (is_name step) (is_between 0 greatest_u32 (state_number state) && true) both.0 in
     rw (name_again step first.0, state_again state) refl
 entry_again entry.StopAsked held = refl
+entry_again (entry.Hold step tag service) held =
+    let names = three_names step tag service (is_start_in_range (entry.Hold step tag service)) held in
+    let others = names.1 in
+    rw (names.0, others.0, others.1) refl
+entry_again (entry.Unhold step tag service) held =
+    let names = three_names step tag service (is_start_in_range (entry.Unhold step tag service)) held in
+    let others = names.1 in
+    rw (names.0, others.0, others.1) refl
 entry_again (entry.Asked tag service command) held =
     let both =
     and_parts (is_name tag && (is_name service && (is_between 0 greatest_u32 (command_number command) && true)))

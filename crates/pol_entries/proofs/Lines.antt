@@ -1,46 +1,22 @@
 -- The entry of a line, by the event in it.
-use Rattle.std.proofs.Common.{◌≡◌, ◌≤◌, ℕ, List, Bool, true, false, Option, Some, None, Ok, Err, Result, refl, sym, ap, ◌∙◌, subst, arith, if◌then◌else◌, codes, Ordering, Less, Equal, Greater}
-use Rattle.std.specs.Str.{IsUtf8, is_utf8}
-use Rattle.std.specs.Prelude.{max}
-use Rattle.std.specs.Ordering.{match_ordering, nat_cmp}
-use Rattle.std.specs.Cmp.Lexicographic.{slice_cmp}
-use Rattle.serde_json.specs.Data.{Data, null, boolean, number, string, array, object, Members, no_members, member, depth, members_depth}
-use Rattle.serde_json.specs.Find.{get, get_member}
-use Rattle.serde_json.proofs.Nesting.{depth-read}
+use Rattle.std.proofs.Common.{◌≡◌, ℕ, List, Option, Some, None, Ok, Err, Result, refl, sym, ap, ◌∙◌, codes}
+use Rattle.serde_json.specs.Data.{Data}
 use Rattle.chart_core.specs.declared.fault.ChartFault.{ChartFault}
-use Rattle.mtp_json.specs.Form.{nested, required, nothing_but, object_here, present}
+use Rattle.mtp_json.specs.Form.{nested, nothing_but, object_here}
 use Rattle.mtp_json.specs.ReadsAs.{ReadsUnder}
-use Rattle.mtp_json.specs.Leaf.{anything}
-use Rattle.mtp_json.specs.ReadResult.{ReadResult, here, under}
-use Rattle.mtp_json.specs.declared.fault.FaultKind.TheVariants.{NotJson}
+use Rattle.mtp_json.specs.ReadResult.{ReadResult, under}
 use Rattle.mtp_json.specs.declared.fault.JsonFault.{JsonFault}
 use Rattle.mtp_json.specs.declared.fault.JsonRefusal.{JsonRefusal}
 use Rattle.mtp_json.specs.declared.fault.JsonRefusal.TheVariants.{Fault, Memory}
 use Rattle.mtp_json.specs.declared.path.PathPart.TheVariants.{Key}
 use Rattle.pol_events.specs.Events.{PlainEvent, plain_event}
-use Rattle.pol_events.specs.declared.fault.LineFault.TheVariants.{Json, Chart}
+use Rattle.pol_events.specs.declared.fault.LineFault.TheVariants.{Json, Chart, TooLong}
 use Rattle.pol_events.specs.declared.answer.Answer.{Answer}
 use Rattle.pol_entries.specs.Answers.{answer_form}
 use Rattle.pol_entries.specs.Entries.{ReadsAs, Sound, entry_form}
-use Rattle.serde_json.specs.Read.{max_depth, read}
-use Rattle.mtp_json.specs.Parse.{json_of, or_not_json}
-use Rattle.mtp_json.proofs.Utf8.{utf8_is}
 use Rattle.pol_events.specs.Forms.{event_in}
-use Rattle.pol_events.specs.Lines.{Tells, event_of, fault_within, of_line, unless_faulty}
+use Rattle.pol_events.specs.Lines.{fault_within, of_line, unless_faulty}
 use Rattle.pol_events.specs.declared.event.Event.{Event}
-use Rattle.pol_events.specs.declared.fault.LineRefusal.{LineRefusal}
-
--- a text of a value says the event that the value says
-event_is : (text : List ℕ) (value : Data) → IsUtf8 text → read text ≡ Some value
-    → event_of text ≡ of_line (event_in value)
-unfolding event_of json_of
-event_is text value utf8 is = rw (utf8_is text utf8, is) refl
-
--- what tells the event of a text tells the event that the value of the text says
-pub event_told : (result : Result Event LineRefusal) (text : List ℕ) (value : Data) → IsUtf8 text
-    → read text ≡ Some value
-    → Tells result (event_of text) → Tells result (of_line (event_in value))
-event_told result text value utf8 is tells = subst (Tells result) (event_is text value utf8 is) tells
 
 -- ---- what a line says, by what was read of it
 
@@ -79,6 +55,15 @@ line_json (Ok own) fault is = go (fault_within own) is
     go None is = absurd cc
     go (Some other) is = absurd cc
 
+-- no line that was read is told as too long
+pub line_short : (said : ReadResult PlainEvent) → of_line said ≡ Err TooLong → ⊥
+line_short (Err other) is = absurd cc
+line_short (Ok own) is = go (fault_within own) is
+  where
+    go : (found : Option ChartFault) → unless_faulty own found ≡ Err TooLong → ⊥
+    go None is = absurd cc
+    go (Some other) is = absurd cc
+
 -- ---- below a key
 
 -- what was read below a key
@@ -97,53 +82,6 @@ given_below key (Ok own) (Err (Fault fault)) said gives below = absurd below
 given_below key (Err Memory) (Err (Fault fault)) said gives below = absurd cc
 given_below key (Err (Fault inner)) (Err (Fault fault)) said gives below =
     rw gives (ap (λ fault. Err fault) (sym below))
-
--- ---- how deep values nest
-
--- a value that was read of bytes nests at most 127 deep
-pub shallow : (line : List ℕ) (value : Data) → here (json_of line) ≡ Ok value → depth value ≤ max_depth
-unfolding json_of
-shallow line value is = go (is_utf8 line) is
-  where
-    by : (found : Option Data) → read line ≡ found → here (or_not_json found) ≡ Ok value → depth value ≤ max_depth
-    by None found is = absurd cc
-    by (Some own) found is = let same : own ≡ value = cc in
-        depth-read line value (found ∙ ap (λ value. Some value) same)
-
-    go : (utf8 : Bool) → here (if utf8 then or_not_json (read line) else Err NotJson) ≡ Ok value
-        → depth value ≤ max_depth
-    go true is = by (read line) refl is
-    go false is = absurd cc
-
--- what stands under a key of some members nests no deeper than they do
-member_below : (key : List ℕ) (members : Members) (inner : Data) → get_member key members ≡ Some inner
-    → depth inner ≤ members_depth members
-member_below key no_members inner is = absurd cc
-member_below key (member other value rest) inner is = go (slice_cmp nat_cmp key other) is (member_below key rest inner)
-  where
-    go : (order : Ordering) → match_ordering order (get_member key rest) (Some value) (get_member key rest) ≡ Some inner
-        → (get_member key rest ≡ Some inner → depth inner ≤ members_depth rest)
-        → depth inner ≤ max (depth value) (members_depth rest)
-    go Less is further = omega (arith, further is)
-    go Equal is further = let same : value ≡ inner = cc in rw (← same) (omega arith)
-    go Greater is further = omega (arith, further is)
-
--- what stands in an object nests less deep
-pub inner_below : (key : List ℕ) (value inner : Data) → required key anything value ≡ Ok inner → depth value ≤ max_depth
-    → depth inner ≤ max_depth
-inner_below key value inner is few = go value (found (get key value) is) few
-  where
-    found : (there : Option Data) → under key (here (present anything there)) ≡ Ok inner → there ≡ Some inner
-    found None is = absurd cc
-    found (Some own) is = cc
-
-    go : (value : Data) → get key value ≡ Some inner → depth value ≤ max_depth → depth inner ≤ max_depth
-    go (object members) is few = let below = member_below key members inner is in omega (arith, below, few)
-    go null is few = absurd cc
-    go (boolean b) is few = absurd cc
-    go (number n) is few = absurd cc
-    go (string s) is few = absurd cc
-    go (array s) is few = absurd cc
 
 -- ---- the parts of an entry
 

@@ -176,6 +176,8 @@ entry_told (entry.Stop step tag service) = refl
 entry_told (entry.Broke step state) = rw (state_told state) refl
 entry_told (entry.Left step state) = rw (state_told state) refl
 entry_told entry.StopAsked = refl
+entry_told (entry.Hold step tag service) = refl
+entry_told (entry.Unhold step tag service) = refl
 entry_told (entry.Asked tag service command) = rw (command_told command) refl
 
 -- the obstacle of its fields

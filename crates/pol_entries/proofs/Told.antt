@@ -21,7 +21,7 @@ use Rattle.pol_entries.specs.Answers.{IsNoAnswer, ReadsAnswer, answer_form, or_u
 use Rattle.pol_entries.specs.Compared.{is_object, is_there, same_bit}
 use Rattle.pol_entries.specs.Candidates.{entry_named, obstacle_named, outcome_named, rule_numbered}
 use Rattle.pol_entries.specs.Found.{lookup_in, number_at, text_at}
-use Rattle.pol_entries.specs.Ranges.{is_in_range}
+use Rattle.pol_record.specs.Ranges.{is_in_range}
 use Rattle.pol_entries.proofs.Again.{entry_again, number_again, obstacle_again, outcome_again, rule_again}
 use Rattle.pol_entries.proofs.Compared.{object_is, object_same}
 

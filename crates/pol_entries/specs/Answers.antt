@@ -18,7 +18,7 @@ use Rattle.pol_record.specs.Texts.{answer_data, entry_fields, obstacle_fields, o
 use Rattle.pol_entries.specs.Candidates.{entry_named, obstacle_named, outcome_named, rule_numbered}
 use Rattle.pol_entries.specs.Compared.{is_object, is_there, same_bit}
 use Rattle.pol_entries.specs.Found.{lookup_in, number_at, text_at}
-use Rattle.pol_entries.specs.Ranges.{is_in_range}
+use Rattle.pol_record.specs.Ranges.{is_in_range}
 
 -- what an object may tell, if the object is the one of its fields
 abbrev pub checked : {A : Type 0} → (A → List PlainField) → Data → Option A → Option A

@@ -79,6 +79,8 @@ every_entry told =
     ∷ entry.Broke (told.name (codes "step")) (told.state (codes "state"))
     ∷ entry.Left (told.name (codes "step")) (told.state (codes "state"))
     ∷ entry.StopAsked
+    ∷ entry.Hold (told.name (codes "step")) (told.name (codes "tag")) (told.name (codes "service"))
+    ∷ entry.Unhold (told.name (codes "step")) (told.name (codes "tag")) (told.name (codes "service"))
     ∷ entry.Asked (told.name (codes "tag")) (told.name (codes "service")) (told.command (codes "command"))
     ∷ []
 

@@ -1,6 +1,5 @@
 pub mod Found
 pub mod Compared
-pub mod Ranges
 pub mod Candidates
 pub mod Answers
 pub mod Entries

@@ -196,6 +196,16 @@ pub fn entry_named(name: &str, value: &Value) -> Option<LogEntry>
             state: state_at(value, "state"),
         },
         "stop_asked" => LogEntry::StopAsked,
+        "hold" => LogEntry::Hold {
+            step: step_in(value),
+            tag: tag_in(value),
+            service: service_in(value),
+        },
+        "unhold" => LogEntry::Unhold {
+            step: step_in(value),
+            tag: tag_in(value),
+            service: service_in(value),
+        },
         "asked" => LogEntry::Asked {
             tag: tag_in(value),
             service: service_in(value),

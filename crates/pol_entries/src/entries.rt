@@ -1,55 +1,36 @@
 //! Reading the lines of a history.
-ghost use Rattle.std.specs.Prelude.{◌≡◌, ◌≤◌, IfOk, IsTrue, codes};
-ghost use Rattle.serde_json.specs.Data.{depth};
-ghost use Rattle.serde_json.specs.Read.{max_depth};
+ghost use Rattle.std.specs.Prelude.{◌≡◌, IfOk, IsTrue, codes};
 ghost use Rattle.serde_json.specs.View.{view};
 ghost use Rattle.mtp_json.specs.Form.{nested};
 ghost use Rattle.mtp_json.specs.ReadsAs.{ReadsAs as GivesJson};
 ghost use Rattle.pol_events.specs.Events.{plain_entry, plain_event};
 ghost use Rattle.pol_events.specs.Forms.{event_in};
-ghost use Rattle.pol_events.specs.Lines as event_lines;
 ghost use Rattle.pol_events.specs.Orderly.{is_orderly};
 ghost use Rattle.pol_entries.specs.Entries.{ReadsAs, Tells, entry_form, entry_of, read_of};
 
 use crate::answers::AnswerJson;
 use chart_core::ChartFault;
 use mtp_json::{JsonRefusal, form_at, nothing_but, object_here, parse, under, value_at};
-use pol_events::{Answer, Entry, Event, LineFault, LineRefusal, read_event};
+use pol_events::{Answer, Entry, Event, LineFault, LineRefusal, event_from};
 use serde_json::Value;
 use std::alloc::Global;
 
-#[tactic(auto, using(crate::proofs::Lines::event_told))]
-fn told_event(alloc: Global, value: &Value) -> Result<Event, LineRefusal>
-    requires { depth (view value.now) ≤ max_depth }
-    ensures tells { event_lines.Tells result (event_lines.of_line (event_in (view value.now))) }
-    ensures orderly { IfOk result (λ event. IsTrue (is_orderly (plain_event event))) }
-{
-    match value.to_vec(alloc) {
-        Ok(text) => read_event(alloc, &text),
-        Err(_) => Err(LineRefusal::Memory),
-    }
-}
-
-#[tactic(auto, using(crate::proofs::Lines::line_ok, crate::proofs::Lines::line_chart, crate::proofs::Lines::line_json))]
+#[tactic(auto, using(crate::proofs::Lines::line_ok, crate::proofs::Lines::line_chart, crate::proofs::Lines::line_json, crate::proofs::Lines::line_short))]
 fn event_here(alloc: Global, value: &Value) -> Result<Result<Event, ChartFault>, JsonRefusal>
-    requires { depth (view value.now) ≤ max_depth }
     ensures gives { ReadsAs plain_event (λ event. event) result (event_in (view value.now)) }
     ensures orderly { IfOk result (λ asked. IfOk asked (λ event. IsTrue (is_orderly (plain_event event)))) }
 {
-    match told_event(alloc, value) {
+    match event_from(alloc, value) {
         Ok(event) => Ok(Ok(event)),
         Err(LineRefusal::Fault(LineFault::Chart(fault))) => Ok(Err(fault)),
         Err(LineRefusal::Fault(LineFault::Json(fault))) => Err(JsonRefusal::Fault(fault)),
-        // `read_event` never answers TooLong.
-        Err(LineRefusal::Memory | LineRefusal::Fault(LineFault::TooLong)) => Err(
-            JsonRefusal::Memory,
-        ),
+        Err(LineRefusal::Fault(LineFault::TooLong)) => unreachable!(),
+        Err(LineRefusal::Memory) => Err(JsonRefusal::Memory),
     }
 }
 
-#[tactic(auto, using(crate::proofs::Lines::given_below, crate::proofs::Lines::inner_below))]
+#[tactic(auto, using(crate::proofs::Lines::given_below))]
 fn event_at(alloc: Global, value: &Value) -> Result<Result<Event, ChartFault>, JsonRefusal>
-    requires { depth (view value.now) ≤ max_depth }
     ensures gives { ReadsAs plain_event (λ event. event) result (nested (codes "event") event_in (view value.now)) }
     ensures orderly { IfOk result (λ asked. IfOk asked (λ event. IsTrue (is_orderly (plain_event event)))) }
 {
@@ -59,7 +40,6 @@ fn event_at(alloc: Global, value: &Value) -> Result<Result<Event, ChartFault>, J
 
 #[tactic(auto, unfolding(crate::specs::Entries::entry_form))]
 fn read_asked(alloc: Global, value: &Value) -> Result<Result<Entry, ChartFault>, JsonRefusal>
-    requires { depth (view value.now) ≤ max_depth }
     ensures gives { ReadsAs plain_entry (λ entry. entry.event) result (entry_form (view value.now)) }
     ensures orderly { IfOk result (λ asked. IfOk asked (λ entry. IsTrue (is_orderly (plain_event entry.event)))) }
 {
@@ -73,7 +53,6 @@ fn read_asked(alloc: Global, value: &Value) -> Result<Result<Entry, ChartFault>,
     }
 }
 
-#[tactic(auto, using(crate::proofs::Lines::shallow))]
 fn read_line(alloc: Global, line: &[u8]) -> Result<Result<Entry, ChartFault>, JsonRefusal>
     ensures gives { ReadsAs plain_entry (λ entry. entry.event) result (read_of line.now) }
     ensures orderly { IfOk result (λ asked. IfOk asked (λ entry. IsTrue (is_orderly (plain_event entry.event)))) }

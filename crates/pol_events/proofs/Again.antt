@@ -1,5 +1,5 @@
 -- What is written of an event is read back.
-use Rattle.std.proofs.Common.{◌≡◌, ◌&&◌, ℕ, suc, List, [], ◌∷◌, length, Option, Ok, Some, None, true, false, true≢false, refl, sym, ap}
+use Rattle.std.proofs.Common.{◌≡◌, ◌&&◌, ℕ, suc, Bool, List, [], ◌∷◌, length, Option, Ok, Some, None, true, false, true≢false, refl, sym, ap}
 use Rattle.std.proofs.lemmas.Bool.{and_parts}
 use Rattle.std.specs.List.{list_all}
 use Rattle.std.specs.Prelude.{codes, is_none, nat_le, ⊤}
@@ -42,13 +42,13 @@ use Rattle.pol_events.specs.declared.event.Event.{Event}
 use Rattle.pol_events.specs.declared.event.Event.TheVariants.{Plug, Unplug, Report, Variable, Recipe, Start, Advance, Freeze, Thaw, StopBatch, Abandon, Desk, ExchangeBegin, ExchangeEnd, ExchangeCancel}
 use Rattle.pol_events.specs.Binds.{are_texts, each_bind, binds_of}
 use Rattle.pol_events.specs.Events.{PlainEvent, plug, unplug, report, variable, recipe, start, advance, freeze, thaw, stop_batch, abandon, desk, exchange_begin, exchange_end, exchange_cancel, plain_event}
-use Rattle.pol_events.specs.Forms.{control_in, event_in, plug_in, tag_in, report_in, variable_in, desk_in, exchange_end_in, exchange_cancel_in, recipe_in, start_in, batch_in}
+use Rattle.pol_events.specs.Forms.{control_in, event_in, plug_in, tag_in, report_in, variable_in, desk_in, exchange_end_in, exchange_cancel_in, recipe_in, start_in, freeze_in, batch_in}
 use Rattle.pol_events.specs.Bound.{PlainAllocation, shares_a_role}
 use Rattle.pol_events.specs.Ranges.{is_stamped, is_in_range, is_bind_in_range, is_allocation_in_range, is_control_in_range}
 use Rattle.pol_events.specs.Lines.{event_of, fault_within}
 use Rattle.pol_events.specs.Orderly.{is_orderly, is_valid, rise}
 use Rattle.pol_events.specs.Words.{mode_words, origin_words}
-use Rattle.pol_events.specs.Written.{whole, mode_word, origin_word, bind_members, written_binds, written_plug, written_tag, written_report, written_variable, written_desk, written_exchange_end, written_exchange_cancel, written_recipe, start_with, written_start, written_batch, written_event}
+use Rattle.pol_events.specs.Written.{whole, mode_word, origin_word, bind_members, written_binds, written_plug, written_tag, written_report, written_variable, written_desk, written_exchange_end, written_exchange_cancel, written_recipe, start_with, written_start, written_freeze, written_batch, written_event}
 use Rattle.pol_events.proofs.Rising.{by_role_rising}
 use Rattle.pol_events.proofs.Given.{allocation_parts}
 
@@ -252,6 +252,13 @@ start_again at batch named binds held orderly =
     (stamped.0, stamped.1, bound.0, binds_again binds.held ordered.0 ranged.0)
     (λ _. binds_again binds.watched ordered.1 ranged.1) ordered.2
 
+-- a written freeze is read back
+pub freeze_again : (at : ℕ) (batch : List ℕ) (hold : Bool) → is_stamped at batch ≡ true
+    → event_in (written_freeze at batch hold) ≡ Ok (freeze at batch hold)
+unfolding event_in freeze_in written_freeze
+freeze_again at batch hold held = let stamped = and_parts (is_between 0 greatest_u64 at) (is_name batch) held in
+    rw (stamped.0, stamped.1) refl
+
 -- a written event that names a batch alone is read back by its form
 batch_again : (word : List ℕ) (event : ℕ → List ℕ → PlainEvent) (at : ℕ) (batch : List ℕ) → is_stamped at batch ≡ true
     → batch_in event (written_batch word at batch) ≡ Ok (event at batch)
@@ -284,7 +291,7 @@ event_again (Recipe at name chart) held orderly = recipe_again at name (plain_ch
 event_again (Start at batch name bind watch) held orderly =
     start_again at batch name (record { held = bind.items; watched = watch.items }) held orderly
 event_again (Advance at batch) held orderly = batch_again (codes "advance") advance at batch held
-event_again (Freeze at batch) held orderly = batch_again (codes "freeze") freeze at batch held
+event_again (Freeze at batch hold) held orderly = freeze_again at batch hold held
 event_again (Thaw at batch) held orderly = batch_again (codes "thaw") thaw at batch held
 event_again (StopBatch at batch) held orderly = batch_again (codes "stop") stop_batch at batch held
 event_again (Abandon at batch) held orderly = batch_again (codes "abandon") abandon at batch held

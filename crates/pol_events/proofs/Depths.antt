@@ -1,5 +1,5 @@
 -- What is written of an event nests no deeper than its form, and has no float.
-use Rattle.std.proofs.Common.{◌≡◌, ◌≤◌, List, [], ◌∷◌, true, false, refl, arith}
+use Rattle.std.proofs.Common.{◌≡◌, ◌≤◌, ◌<◌, List, [], ◌∷◌, true, false, refl, arith}
 use Rattle.serde_json.specs.Data.{depth, members_depth}
 use Rattle.serde_json.specs.Read.{max_depth}
 use Rattle.serde_json.specs.Written.{has_float, members_have_float}
@@ -15,7 +15,7 @@ use Rattle.pol_events.specs.declared.event.Event.{Event}
 use Rattle.pol_events.specs.declared.event.Event.TheVariants.{Plug, Variable, Recipe, Start, ExchangeEnd}
 use Rattle.pol_events.specs.Events.{PlainEvent, plug, variable, recipe, start, exchange_end, plain_event}
 use Rattle.pol_events.specs.Orderly.{is_orderly}
-use Rattle.pol_events.specs.Written.{bind_members, written_binds, written_event, written_plug, written_tag, written_report, written_variable, written_desk, written_exchange_end, written_exchange_cancel, written_recipe, watch_member, start_with, written_batch}
+use Rattle.pol_events.specs.Written.{bind_members, written_binds, written_event, written_plug, written_tag, written_report, written_variable, written_desk, written_exchange_end, written_exchange_cancel, written_recipe, watch_member, start_with, written_freeze, written_batch}
 use Rattle.pol_events.proofs.Again.{faultless}
 
 members_depth_is : (binds : List Bind) → members_depth (bind_members binds) ≤ 0
@@ -44,11 +44,11 @@ watch_whole : (binds : List Bind) → members_have_float (watch_member binds) �
 watch_whole [] = refl
 watch_whole (bind ∷ binds) = rw (binds_whole (bind ∷ binds)) refl
 
--- a written event nests no deeper than reading goes
+-- a written event nests less deep than reading goes
 pub event_depth : (event : Event) → is_orderly (plain_event event) ≡ true
-    → depth (written_event (plain_event event)) ≤ max_depth
+    → depth (written_event (plain_event event)) < max_depth
 unfolding written_plug written_tag written_report written_variable written_desk written_exchange_end
-    written_exchange_cancel written_recipe start_with written_batch
+    written_exchange_cancel written_recipe start_with written_freeze written_batch
 event_depth (Plug at tag desc) orderly = omega (arith, description_depth (plain_description desc.value))
 event_depth (Variable at tag name value) orderly = omega (arith, scalar_depth value)
 event_depth (Recipe at name chart) orderly =
@@ -67,7 +67,7 @@ event_depth _ orderly = omega arith
 -- a written event has no float, so its compact text is exact
 pub event_whole : (event : PlainEvent) → has_float (written_event event) ≡ false
 unfolding written_plug written_tag written_report written_variable written_desk written_exchange_end
-    written_exchange_cancel written_recipe start_with written_batch
+    written_exchange_cancel written_recipe start_with written_freeze written_batch
 event_whole (plug at tag description) = rw (description_whole description) refl
 event_whole (variable at tag name value) = rw (scalar_whole value) refl
 event_whole (recipe at name chart) = rw (roles_whole chart.roles, tree_whole chart.root) refl

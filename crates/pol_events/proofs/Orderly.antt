@@ -23,7 +23,7 @@ use Rattle.pol_events.specs.Binds.{allocation_from, binds_of, binds_or_none}
 use Rattle.pol_events.specs.Bound.{PlainAllocation, shares_a_role}
 use Rattle.pol_events.specs.declared.event.Bind.{Bind}
 use Rattle.pol_events.specs.Events.{PlainEvent, plain_event, recipe}
-use Rattle.pol_events.specs.Forms.{plug_in, tag_in, report_in, variable_in, desk_in, exchange_end_in, exchange_cancel_in, recipe_in, start_in, batch_in, event_by, event_in}
+use Rattle.pol_events.specs.Forms.{plug_in, tag_in, report_in, variable_in, desk_in, exchange_end_in, exchange_cancel_in, recipe_in, start_in, freeze_in, batch_in, event_by, event_in}
 use Rattle.pol_events.specs.Lines.{Tells, read_of, fault_within, unless_faulty, of_line, event_of}
 use Rattle.pol_events.specs.Orderly.{is_allocation, is_orderly, is_valid}
 use Rattle.pol_events.proofs.Members.{AreOrderly, binds_orderly}
@@ -100,8 +100,8 @@ recipe_orderly value =
     (λ _. made_orderly at named roles root sized formed)))))
 
 -- an event of any kind is orderly, unless its chart has a fault
-kind_orderly : (value : Data) (kind : EventKind) → IfOk (event_by value kind) IsOrderly
-unfolding plug_in tag_in report_in variable_in desk_in exchange_end_in exchange_cancel_in batch_in
+pub kind_orderly : (value : Data) (kind : EventKind) → IfOk (event_by value kind) IsOrderly
+unfolding plug_in tag_in report_in variable_in desk_in exchange_end_in exchange_cancel_in freeze_in batch_in
 kind_orderly value Plug = search (rules, any_before)
 kind_orderly value Unplug = search (rules, any_before)
 kind_orderly value Report = search (rules, any_before)
@@ -140,6 +140,12 @@ said_orderly (Err fault) event orderly is = absurd cc
 pub line_orderly : (line : List ℕ) (event : PlainEvent) → event_of line ≡ Ok event → is_orderly event ≡ true
 unfolding event_of
 line_orderly line event is = said_orderly (read_of line) event (read_orderly line) is
+
+-- what was told of a value is orderly
+pub from_orderly : (value : Data) (result : Result Event LineRefusal) → Tells result (of_line (event_in value))
+    → IfOk result (λ event. IsTrue (is_orderly (plain_event event)))
+from_orderly value (Ok event) tells = said_orderly (event_in value) (plain_event event) (value_orderly value) tells
+from_orderly value (Err refusal) tells = tt
 
 -- what was told of a line is orderly
 pub told_orderly : (line : List ℕ) (result : Result Event LineRefusal) → Tells result (event_of line)

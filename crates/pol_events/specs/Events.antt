@@ -1,5 +1,5 @@
 -- Events and entries as plain data.
-use Rattle.std.specs.Prelude.{ℕ, List, map, reverse}
+use Rattle.std.specs.Prelude.{ℕ, Bool, List, map, reverse}
 use Rattle.mtp_codes.specs.declared.command.Command.{Command}
 use Rattle.mtp_codes.specs.declared.value.Value.{Value}
 use Rattle.mtp_assembly.specs.declared.control.ServiceControl.{ServiceControl}
@@ -22,7 +22,7 @@ pub data PlainEvent : Type 0 where
   recipe : (at : ℕ) (recipe : List ℕ) (chart : PlainChart) → PlainEvent
   start : (at : ℕ) (batch recipe : List ℕ) (binds : PlainAllocation) → PlainEvent
   advance : (at : ℕ) (batch : List ℕ) → PlainEvent
-  freeze : (at : ℕ) (batch : List ℕ) → PlainEvent
+  freeze : (at : ℕ) (batch : List ℕ) (hold : Bool) → PlainEvent
   thaw : (at : ℕ) (batch : List ℕ) → PlainEvent
   stop_batch : (at : ℕ) (batch : List ℕ) → PlainEvent
   abandon : (at : ℕ) (batch : List ℕ) → PlainEvent
@@ -46,7 +46,7 @@ plain_event (Recipe at name chart) = recipe at name (plain_chart chart.value)
 plain_event (Start at batch name bind watch) =
     start at batch name (record { held = bind.items; watched = watch.items })
 plain_event (Advance at batch) = advance at batch
-plain_event (Freeze at batch) = freeze at batch
+plain_event (Freeze at batch hold) = freeze at batch hold
 plain_event (Thaw at batch) = thaw at batch
 plain_event (StopBatch at batch) = stop_batch at batch
 plain_event (Abandon at batch) = abandon at batch

@@ -5,7 +5,7 @@ use Rattle.mtp_codes.specs.Codes.{command_codes, state_codes}
 use Rattle.mtp_codes.specs.Numbers.{greatest_u32, greatest_u64}
 use Rattle.mtp_assembly.specs.declared.control.ServiceControl.{ServiceControl}
 use Rattle.mtp_json.specs.Form.{required, nested, object_here, nothing_but}
-use Rattle.mtp_json.specs.Leaf.{code, count, name, scalar, word}
+use Rattle.mtp_json.specs.Leaf.{code, count, name, scalar, truth, word}
 use Rattle.mtp_json.specs.ReadResult.{ReadResult, ◌>>=◌}
 use Rattle.mtp_desc.specs.Form.{description_of}
 use Rattle.chart_json.specs.Form.{chart_from, roles_of, tree_of}
@@ -128,6 +128,15 @@ batch_in event value =
     nothing_but (codes "ev at batch") value >>= λ _.
     Ok (event at batch)
 
+-- a batch is frozen
+unfoldable pub freeze_in : Data → ReadResult PlainEvent
+freeze_in value =
+    required (codes "at") (count 0 greatest_u64) value >>= λ at.
+    required (codes "batch") name value >>= λ batch.
+    required (codes "hold") truth value >>= λ hold.
+    nothing_but (codes "ev at batch hold") value >>= λ _.
+    Ok (freeze at batch hold)
+
 -- ---- all kinds
 
 -- an event of this kind
@@ -139,7 +148,7 @@ event_by value Variable = variable_in value
 event_by value Recipe = recipe_in value
 event_by value Start = start_in value
 event_by value Advance = batch_in advance value
-event_by value Freeze = batch_in freeze value
+event_by value Freeze = freeze_in value
 event_by value Thaw = batch_in thaw value
 event_by value Stop = batch_in stop_batch value
 event_by value Abandon = batch_in abandon value

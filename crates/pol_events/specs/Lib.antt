@@ -3,6 +3,7 @@ pub mod Subjects
 pub mod Views
 pub mod Accepted
 pub mod Fields
+pub mod FieldRanges
 pub mod RuleTable
 pub mod Refusals
 pub mod Orderly
@@ -13,5 +14,7 @@ pub mod Bound
 pub mod BindRules
 pub mod Forms
 pub mod Lines
+pub mod Version1
 pub mod Ranges
 pub mod Written
+pub mod Guarded

@@ -1,6 +1,6 @@
 -- The written form of an event: one object with every key of its form.
-use Rattle.std.specs.Prelude.{ℕ, List, [], ◌∷◌, codes}
-use Rattle.serde_json.specs.Data.{Data, number, unsigned, string, object, Members, member, no_members}
+use Rattle.std.specs.Prelude.{ℕ, Bool, List, [], ◌∷◌, codes}
+use Rattle.serde_json.specs.Data.{Data, boolean, number, unsigned, string, object, Members, member, no_members}
 use Rattle.mtp_codes.specs.Codes.{command_number, state_number}
 use Rattle.mtp_codes.specs.declared.command.Command.{Command}
 use Rattle.mtp_codes.specs.declared.mode.Mode.{Mode}
@@ -142,6 +142,14 @@ written_batch word at batch = object
     (member (codes "batch") (string batch)
     (member (codes "ev") (string word) no_members)))
 
+-- a batch is frozen
+unfoldable pub written_freeze : ℕ → List ℕ → Bool → Data
+written_freeze at batch hold = object
+    (member (codes "at") (whole at)
+    (member (codes "batch") (string batch)
+    (member (codes "ev") (string (codes "freeze"))
+    (member (codes "hold") (boolean hold) no_members))))
+
 -- ---- all kinds
 
 -- an event
@@ -153,7 +161,7 @@ written_event (variable at tag name value) = written_variable at tag name (scala
 written_event (recipe at name chart) = written_recipe at name (written_roles chart.roles) (written_tree chart.root)
 written_event (start at batch name binds) = written_start at batch name binds
 written_event (advance at batch) = written_batch (codes "advance") at batch
-written_event (freeze at batch) = written_batch (codes "freeze") at batch
+written_event (freeze at batch hold) = written_freeze at batch hold
 written_event (thaw at batch) = written_batch (codes "thaw") at batch
 written_event (stop_batch at batch) = written_batch (codes "stop") at batch
 written_event (abandon at batch) = written_batch (codes "abandon") at batch

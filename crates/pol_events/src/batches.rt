@@ -3,15 +3,18 @@ ghost use Rattle.std.specs.Prelude.{◌≡◌};
 ghost use Rattle.serde_json.specs.View.{view};
 ghost use Rattle.mtp_json.specs.ReadsAs.{ReadsAs};
 ghost use Rattle.pol_events.specs.Events.{plain_event};
-ghost use Rattle.pol_events.specs.Forms.{batch_in, start_in};
+ghost use Rattle.pol_events.specs.Forms.{batch_in, freeze_in, start_in};
 ghost use Rattle.pol_events.specs.Kinds.{batch_event};
+ghost use Rattle.pol_events.specs.Version1.{freeze_of_version_1};
 
 use crate::binds::{BindsJson, binds_or_none};
 use crate::bound::shares_a_role;
 use crate::event::Event;
 use crate::kind::BatchKind;
 use mtp_codes::Name;
-use mtp_json::{FaultKind, JsonRefusal, form_at, name_at, nothing_but, refused_under, u64_at};
+use mtp_json::{
+    FaultKind, JsonRefusal, form_at, name_at, nothing_but, refused_under, truth_at, u64_at,
+};
 use serde_json::Value;
 use std::alloc::Global;
 
@@ -41,12 +44,38 @@ pub fn read_start(alloc: Global, value: &Value) -> Result<Event, JsonRefusal>
     })
 }
 
+/// A freeze by its form in version 1, which has no `hold`.
+#[tactic(auto, unfolding(crate::specs::Forms::batch_in))]
+pub fn read_freeze_of_version_1(alloc: Global, value: &Value) -> Result<Event, JsonRefusal>
+    ensures { ReadsAs plain_event result (batch_in freeze_of_version_1 (view value.now)) }
+{
+    let at = u64_at(alloc, value, "at")?;
+    let batch = name_at(alloc, value, "batch")?;
+    nothing_but(alloc, value, "ev at batch")?;
+    Ok(Event::Freeze {
+        at,
+        batch,
+        hold: false,
+    })
+}
+
+/// A freeze by its form.
+#[tactic(auto, unfolding(crate::specs::Forms::freeze_in))]
+pub fn read_freeze(alloc: Global, value: &Value) -> Result<Event, JsonRefusal>
+    ensures { ReadsAs plain_event result (freeze_in (view value.now)) }
+{
+    let at = u64_at(alloc, value, "at")?;
+    let batch = name_at(alloc, value, "batch")?;
+    let hold = truth_at(alloc, value, "hold")?;
+    nothing_but(alloc, value, "ev at batch hold")?;
+    Ok(Event::Freeze { at, batch, hold })
+}
+
 fn of_batch(kind: BatchKind, at: u64, batch: Name) -> Event
     ensures { plain_event result ≡ batch_event kind at batch }
 {
     match kind {
         BatchKind::Advance => Event::Advance { at, batch },
-        BatchKind::Freeze => Event::Freeze { at, batch },
         BatchKind::Thaw => Event::Thaw { at, batch },
         BatchKind::Stop => Event::StopBatch { at, batch },
         BatchKind::Abandon => Event::Abandon { at, batch },

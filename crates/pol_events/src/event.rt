@@ -63,10 +63,11 @@ pub enum Event {
         at: u64,
         batch: Name,
     },
-    /// A batch is to wait until it is thawed.
+    /// A batch is to wait until it is thawed, and where `hold` is true its running services are to be held.
     Freeze {
         at: u64,
         batch: Name,
+        hold: bool,
     },
     /// A frozen batch is to go on.
     Thaw {

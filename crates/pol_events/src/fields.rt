@@ -1,7 +1,9 @@
 //! Fields: keys and values of which the text of a rule, a log entry or an obstacle is made.
-ghost use Rattle.std.specs.Prelude.{◌≡◌, ◌+◌, ◌<◌, ◌≤◌, ◌++◌, ◌∷◌, [], length, map};
-ghost use Rattle.std.specs.List.{position, position_or_len};
+ghost use Rattle.std.specs.Prelude.{◌≡◌, ◌+◌, ◌<◌, ◌≤◌, ◌++◌, ◌∷◌, [], length, map, true};
+ghost use Rattle.std.specs.List.{list_all, position, position_or_len};
 ghost use Rattle.mtp_codes.specs.Codes.{command_number, state_number};
+ghost use Rattle.mtp_codes.specs.Names.{is_name};
+ghost use Rattle.pol_events.specs.FieldRanges.{is_reading_in_range};
 ghost use Rattle.pol_events.specs.declared.fields.TheConstants.{MOST_FIELDS};
 ghost use Rattle.pol_events.specs.Fields.{plain_field, fields_of, in_order, placed, stands_before, number_field, readings_field, text_field};
 
@@ -61,6 +63,23 @@ fn place_of(fields: &[Field<'_>], key: &str) -> usize
     first_greater(fields, key).unwrap_or(fields.len())
 }
 
+fn read_one(reading: Reading)
+    ensures { is_reading_in_range reading ≡ true }
+{
+    match reading {
+        Reading::Whole(_) | Reading::Bit(_) => {}
+    }
+}
+
+// A whole number has 64 bits once it was read.
+fn read_each(readings: &[Reading])
+    ensures { list_all is_reading_in_range readings.now ≡ true }
+{
+    for reading in readings {
+        read_one(*reading);
+    }
+}
+
 impl<'a> Fields<'a> {
     /// No field.
     pub fn none() -> Fields<'a>
@@ -97,6 +116,7 @@ impl<'a> Fields<'a> {
         requires { length (fields_of self) < MOST_FIELDS }
         ensures fields { fields_of result ≡ fields_of self.entry ++ text_field key.now name.now ∷ [] }
         ensures count { length (fields_of result) ≡ length (fields_of self.entry) + 1 }
+        ensures named { is_name name.now ≡ true }
     {
         self.text(key, name.as_str())
     }
@@ -119,12 +139,14 @@ impl<'a> Fields<'a> {
         self.number(key, state.code())
     }
 
-    /// With readings behind them.
+    /// With readings behind them. It reads each, so that their width is known.
     pub fn readings(self, key: &'static str, readings: &'a [Reading]) -> Fields<'a>
         requires { length (fields_of self) < MOST_FIELDS }
         ensures fields { fields_of result ≡ fields_of self.entry ++ readings_field key.now readings.now ∷ [] }
         ensures count { length (fields_of result) ≡ length (fields_of self.entry) + 1 }
+        ensures held { list_all is_reading_in_range readings.now ≡ true }
     {
+        read_each(readings);
         self.with(key, FieldValue::Readings(readings))
     }
 

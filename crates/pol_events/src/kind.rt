@@ -34,7 +34,6 @@ pub enum TagKind {
 #[derive(Clone, Copy)]
 pub enum BatchKind {
     Advance,
-    Freeze,
     Thaw,
     Stop,
     Abandon,

@@ -1,13 +1,14 @@
 //! Reading the lines of a journal.
 ghost use Rattle.std.specs.Prelude.{◌≡◌, IfOk, IsTrue};
 ghost use Rattle.serde_json.specs.View.{view};
+ghost use Rattle.mtp_json.specs.ReadResult.{ReadResult};
 ghost use Rattle.mtp_json.specs.ReadsAs.{ReadsAs};
-ghost use Rattle.pol_events.specs.Events.{plain_event};
+ghost use Rattle.pol_events.specs.Events.{PlainEvent, plain_event};
 ghost use Rattle.pol_events.specs.Forms.{event_by, event_in};
-ghost use Rattle.pol_events.specs.Lines.{Tells, event_of, fault_within, read_of};
+ghost use Rattle.pol_events.specs.Lines.{Tells, event_of, fault_within, of_line, read_of};
 ghost use Rattle.pol_events.specs.Orderly.{is_orderly};
 
-use crate::batches::{read_of_batch, read_start};
+use crate::batches::{read_freeze, read_of_batch, read_start};
 use crate::event::Event;
 use crate::fault::{LineFault, LineRefusal};
 use crate::kind::{BatchKind, EventKind, KindWords, TagKind};
@@ -21,7 +22,7 @@ use mtp_json::{JsonRefusal, object_here, parse, word_at};
 use serde_json::Value;
 use std::alloc::Global;
 
-fn read_kind(alloc: Global, value: &Value, kind: EventKind) -> Result<Event, JsonRefusal>
+pub(crate) fn read_kind(alloc: Global, value: &Value, kind: EventKind) -> Result<Event, JsonRefusal>
     ensures { ReadsAs plain_event result (event_by (view value.now) kind) }
 {
     match kind {
@@ -32,7 +33,7 @@ fn read_kind(alloc: Global, value: &Value, kind: EventKind) -> Result<Event, Jso
         EventKind::Recipe => read_recipe(alloc, value),
         EventKind::Start => read_start(alloc, value),
         EventKind::Advance => read_of_batch(alloc, value, BatchKind::Advance),
-        EventKind::Freeze => read_of_batch(alloc, value, BatchKind::Freeze),
+        EventKind::Freeze => read_freeze(alloc, value),
         EventKind::Thaw => read_of_batch(alloc, value, BatchKind::Thaw),
         EventKind::Stop => read_of_batch(alloc, value, BatchKind::Stop),
         EventKind::Abandon => read_of_batch(alloc, value, BatchKind::Abandon),
@@ -59,7 +60,7 @@ fn read_line(alloc: Global, line: &[u8]) -> Result<Event, JsonRefusal>
     read_value(alloc, &value)
 }
 
-fn chart_fault(event: &Event) -> Option<ChartFault>
+pub(crate) fn chart_fault(event: &Event) -> Option<ChartFault>
     ensures { result ≡ fault_within (plain_event event.now) }
 {
     match event {
@@ -68,11 +69,11 @@ fn chart_fault(event: &Event) -> Option<ChartFault>
     }
 }
 
-#[tactic(auto, unfolding(crate::specs::Lines::event_of))]
-fn read_valid(alloc: Global, line: &[u8]) -> Result<Event, LineRefusal>
-    ensures { Tells result (event_of line.now) }
+// What was read of an event, unless it is a recipe whose chart has a fault.
+pub(crate) fn unless_faulty(read: Result<Event, JsonRefusal>) -> Result<Event, LineRefusal>
+    ensures { (said : ReadResult PlainEvent) → ReadsAs plain_event read said → Tells result (of_line said) }
 {
-    match read_line(alloc, line) {
+    match read {
         Ok(event) => match chart_fault(&event) {
             None => Ok(event),
             Some(fault) => Err(LineRefusal::Fault(LineFault::Chart(fault))),
@@ -80,6 +81,28 @@ fn read_valid(alloc: Global, line: &[u8]) -> Result<Event, LineRefusal>
         Err(JsonRefusal::Fault(fault)) => Err(LineRefusal::Fault(LineFault::Json(fault))),
         Err(JsonRefusal::Memory) => Err(LineRefusal::Memory),
     }
+}
+
+fn told_from(alloc: Global, value: &Value) -> Result<Event, LineRefusal>
+    ensures { Tells result (of_line (event_in (view value.now))) }
+{
+    unless_faulty(read_value(alloc, value))
+}
+
+/// The event that the JSON value of a line says; else its first fault in reading order, with its path; else, where it
+/// makes a recipe known, the fault of its chart. It never answers `TooLong`.
+pub fn event_from(alloc: Global, value: &Value) -> Result<Event, LineRefusal>
+    ensures tells { Tells result (of_line (event_in (view value.now))) }
+    ensures orderly { IfOk result (λ event. IsTrue (is_orderly (plain_event event))) }
+{
+    told_from(alloc, value)
+}
+
+#[tactic(auto, unfolding(crate::specs::Lines::event_of))]
+fn read_valid(alloc: Global, line: &[u8]) -> Result<Event, LineRefusal>
+    ensures { Tells result (event_of line.now) }
+{
+    unless_faulty(read_line(alloc, line))
 }
 
 /// The event that a line of a journal says; else the line's first fault in reading order, with its path; else, where

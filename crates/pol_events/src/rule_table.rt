@@ -1,5 +1,6 @@
 //! The table of the rules: the number, the name and the fields of each.
-ghost use Rattle.std.specs.Prelude.{◌≡◌, ◌≤◌, length};
+ghost use Rattle.std.specs.Prelude.{◌≡◌, ◌≤◌, length, true};
+ghost use Rattle.pol_events.specs.FieldRanges.{are_in_range};
 ghost use Rattle.pol_events.specs.Fields.{fields_of};
 ghost use Rattle.pol_events.specs.RuleTable.{row, plain_row, rule_row};
 
@@ -32,6 +33,7 @@ impl Rule {
     pub fn row(&self) -> RuleRow<'_>
         ensures row { plain_row result ≡ rule_row self.now }
         ensures few { length (rule_row self.now).fields ≤ 3 }
+        ensures held { are_in_range (rule_row self.now).fields ≡ true }
     {
         let none = Fields::none();
         match self {

@@ -14,7 +14,7 @@ ghost use Rattle.pol_events.specs.Written.{written_event};
 
 use crate::bound::Allocation;
 use crate::event::Event;
-use crate::written_batches::{write_of_batch, write_start};
+use crate::written_batches::{write_freeze, write_of_batch, write_start};
 use crate::written_modules::{
     write_desk, write_exchange_cancel, write_exchange_end, write_of_tag, write_plug, write_report,
     write_variable,
@@ -61,7 +61,7 @@ fn write_event(alloc: Global, event: &Event) -> Result<Value, AllocError>
             },
         ),
         Event::Advance { at, batch } => write_of_batch(alloc, "advance", *at, *batch),
-        Event::Freeze { at, batch } => write_of_batch(alloc, "freeze", *at, *batch),
+        Event::Freeze { at, batch, hold } => write_freeze(alloc, *at, *batch, *hold),
         Event::Thaw { at, batch } => write_of_batch(alloc, "thaw", *at, *batch),
         Event::StopBatch { at, batch } => write_of_batch(alloc, "stop", *at, *batch),
         Event::Abandon { at, batch } => write_of_batch(alloc, "abandon", *at, *batch),

@@ -7,7 +7,7 @@ ghost use Rattle.pol_events.specs.Events.{start};
 ghost use Rattle.pol_events.specs.Ranges.{is_in_range, is_stamped};
 ghost use Rattle.pol_events.specs.Orderly.{rise};
 ghost use Rattle.pol_events.specs.Bound.{plain_allocation};
-ghost use Rattle.pol_events.specs.Written.{start_with, written_batch, written_start};
+ghost use Rattle.pol_events.specs.Written.{start_with, written_batch, written_freeze, written_start};
 
 use crate::bound::Allocation;
 use crate::written_binds::write_binds;
@@ -68,6 +68,16 @@ pub fn write_start(
     }
     let watch = write_binds(alloc, binds.watched)?;
     watching_object(alloc, at, batch, recipe, bind, watch)
+}
+
+/// A freeze with every key of its form.
+#[tactic(auto, unfolding(crate::specs::Written::written_freeze))]
+pub fn write_freeze(alloc: Global, at: u64, batch: Name, hold: bool) -> Result<Value, AllocError>
+    ensures value { IfOk result (λ value. view value ≡ written_freeze at batch hold) }
+    ensures held { is_stamped at batch ≡ true }
+{
+    let batch = batch.as_str();
+    json!(in alloc; {"at": at, "batch": batch, "ev": "freeze", "hold": hold})
 }
 
 /// An event, by its word, that names a batch and nothing more.

@@ -1,6 +1,6 @@
 //! Histories that the job audit is given: true ones, and what is told of the others.
 use super::plants::{SITE, entry_in, run_site};
-use super::runs::{Journal, run};
+use super::runs::{Journal, run, run_each};
 use std::alloc::{AllocError, Global};
 use std::test::Fail;
 
@@ -68,18 +68,7 @@ const HISTORIES: [Journal; 9] = [
 
 #[test]
 fn the_verdict_tells_the_first_thing_that_is_wrong(rt: HostRuntime) -> Result<(), Fail> {
-    for history in HISTORIES {
-        let (status, same) = run(
-            &rt,
-            rt.alloc(),
-            "pol --job audit",
-            history.input,
-            history.output,
-        )?;
-        assert_eq!(rt; status, 0, "{}", history.title);
-        assert!(rt; same, "{}", history.title);
-    }
-    Ok(())
+    run_each(&rt, rt.alloc(), "pol --job audit", &HISTORIES)
 }
 
 // How many of the lines are entries.

@@ -119,6 +119,47 @@ pub const DOSING_AND_MIXING: Journal = Journal {
 "#,
 };
 
+/// A journal that freezes a batch, and stops one.
+pub const FROZEN_AND_STOPPED_LINES: &str =
+    r#"{"at":1,"desc":{"services":[{"name":"dose","procedures":[{"default":true,"number":1,"params":[{"kind":"DIntServParam","max":5000,"min":0,"name":"amount"}],"self_completing":true}]}],"type":"Doser","variables":[{"kind":"AnaView","name":"level"}],"version":"1.0.0"},"ev":"plug","tag":"M"}
+{"CommandEn":4,"Mode":"Automatic","ProcedureCur":0,"Src":"External","StateCur":16,"at":2,"ev":"report","service":"dose","tag":"M"}
+{"at":3,"chart":{"procedure":1,"role":"A","service":"dose","settings":[{"name":"amount","value":1500}],"step":"s1"},"ev":"recipe","recipe":"one","roles":[{"role":"A","type":"Doser","version":"^1"}]}
+{"at":4,"batch":"b","bind":{"A":"M"},"ev":"start","recipe":"one"}
+{"at":5,"batch":"b","ev":"freeze","hold":false}
+{"at":6,"batch":"b","ev":"advance"}
+{"at":7,"batch":"b","ev":"freeze","hold":false}
+{"at":8,"batch":"b","ev":"thaw"}
+{"at":9,"batch":"b","ev":"thaw"}
+{"at":10,"batch":"b","ev":"advance"}
+{"at":11,"batch":"b","ev":"stop"}
+{"CommandEn":8,"Mode":"Automatic","ProcedureCur":0,"Src":"External","StateCur":8,"at":12,"ev":"report","service":"dose","tag":"M"}
+{"at":13,"batch":"b","ev":"advance"}
+{"at":14,"batch":"b","ev":"advance"}
+"#;
+
+/// A batch that is frozen, thawed and stopped.
+const FROZEN_AND_STOPPED: Journal = Journal {
+    title: "a frozen batch waits and a stopped one closes",
+    input: FROZEN_AND_STOPPED_LINES,
+    output: r#"{"done":true}
+{"done":true}
+{"done":true}
+{"done":true}
+{"done":true}
+{"wait":"Frozen"}
+{"refused":35,"rule":"AlreadyFrozen"}
+{"done":true}
+{"refused":34,"rule":"NotFrozen"}
+{"did":{"do":"start","procedure":1,"service":"dose","step":"s1","tag":"M"}}
+{"did":{"do":"stop_asked"}}
+{"done":true}
+{"did":{"do":"stop","service":"dose","step":"s1","tag":"M"}}
+{"closed":"Stopped"}
+{"batch":"b","bind":{"A":"M"},"log":[{"do":"start","procedure":1,"service":"dose","step":"s1","tag":"M"},{"do":"stop_asked"},{"do":"stop","service":"dose","step":"s1","tag":"M"}],"outcome":"Stopped","recipe":"one"}
+{"end":true}
+"#,
+};
+
 const BATCHES: [Journal; 8] = [
     DOSING_AND_MIXING,
     Journal {
@@ -302,41 +343,7 @@ const BATCHES: [Journal; 8] = [
 {"end":true}
 "#,
     },
-    Journal {
-        title: "a frozen batch waits and a stopped one closes",
-        input: r#"{"at":1,"desc":{"services":[{"name":"dose","procedures":[{"default":true,"number":1,"params":[{"kind":"DIntServParam","max":5000,"min":0,"name":"amount"}],"self_completing":true}]}],"type":"Doser","variables":[{"kind":"AnaView","name":"level"}],"version":"1.0.0"},"ev":"plug","tag":"M"}
-{"CommandEn":4,"Mode":"Automatic","ProcedureCur":0,"Src":"External","StateCur":16,"at":2,"ev":"report","service":"dose","tag":"M"}
-{"at":3,"chart":{"procedure":1,"role":"A","service":"dose","settings":[{"name":"amount","value":1500}],"step":"s1"},"ev":"recipe","recipe":"one","roles":[{"role":"A","type":"Doser","version":"^1"}]}
-{"at":4,"batch":"b","bind":{"A":"M"},"ev":"start","recipe":"one"}
-{"at":5,"batch":"b","ev":"freeze"}
-{"at":6,"batch":"b","ev":"advance"}
-{"at":7,"batch":"b","ev":"freeze"}
-{"at":8,"batch":"b","ev":"thaw"}
-{"at":9,"batch":"b","ev":"thaw"}
-{"at":10,"batch":"b","ev":"advance"}
-{"at":11,"batch":"b","ev":"stop"}
-{"CommandEn":8,"Mode":"Automatic","ProcedureCur":0,"Src":"External","StateCur":8,"at":12,"ev":"report","service":"dose","tag":"M"}
-{"at":13,"batch":"b","ev":"advance"}
-{"at":14,"batch":"b","ev":"advance"}
-"#,
-        output: r#"{"done":true}
-{"done":true}
-{"done":true}
-{"done":true}
-{"done":true}
-{"wait":"Frozen"}
-{"refused":35,"rule":"AlreadyFrozen"}
-{"done":true}
-{"refused":34,"rule":"NotFrozen"}
-{"did":{"do":"start","procedure":1,"service":"dose","step":"s1","tag":"M"}}
-{"did":{"do":"stop_asked"}}
-{"done":true}
-{"did":{"do":"stop","service":"dose","step":"s1","tag":"M"}}
-{"closed":"Stopped"}
-{"batch":"b","bind":{"A":"M"},"log":[{"do":"start","procedure":1,"service":"dose","step":"s1","tag":"M"},{"do":"stop_asked"},{"do":"stop","service":"dose","step":"s1","tag":"M"}],"outcome":"Stopped","recipe":"one"}
-{"end":true}
-"#,
-    },
+    FROZEN_AND_STOPPED,
 ];
 
 #[test]

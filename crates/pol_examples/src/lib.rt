@@ -1,22 +1,12 @@
-//! Worked examples across crates, most of them journals on `pol_cli::top`: tests alone.
+//! Worked runs of the program's jobs, on `pol_cli::top`: tests alone.
 #![tactic(auto)]
 
 #[cfg(test)]
 mod audits;
 #[cfg(test)]
-mod batch_runs;
-#[cfg(test)]
 mod batches;
 #[cfg(test)]
-mod chart_logs;
-#[cfg(test)]
 mod commands;
-#[cfg(test)]
-mod covering;
-#[cfg(test)]
-mod cursors;
-#[cfg(test)]
-mod demands;
 #[cfg(test)]
 mod edges;
 #[cfg(test)]
@@ -24,7 +14,13 @@ mod exchanges;
 #[cfg(test)]
 mod faults;
 #[cfg(test)]
-mod given;
+mod finding;
+#[cfg(test)]
+mod guarding;
+#[cfg(test)]
+mod holding;
+#[cfg(test)]
+mod keeping;
 #[cfg(test)]
 mod limits;
 #[cfg(test)]
@@ -43,8 +39,6 @@ mod runs;
 mod serving;
 #[cfg(test)]
 mod sites;
-#[cfg(test)]
-mod slots;
 #[cfg(test)]
 mod stamps;
 #[cfg(test)]

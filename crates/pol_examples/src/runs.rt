@@ -1,6 +1,7 @@
 //! Running the program's jobs over memory.
 use super::looking_back::output_of;
 use pol_cli::{Status, top};
+use pol_disk::MemoryDisk;
 use pol_io::{MemoryClock, MemorySink, MemorySource, Sink, Source, SureSink, SureSource};
 use pol_live::OpenGate;
 use std::alloc::{AllocError, Global};
@@ -26,6 +27,11 @@ pub fn words_of(alloc: Global, line: &str) -> Result<Vec<String>, AllocError> {
     Ok(words)
 }
 
+/// A disk without a byte, of which no call fails.
+pub fn empty_disk(alloc: Global) -> Result<MemoryDisk, AllocError> {
+    MemoryDisk::new(alloc, b"", u32::MAX, u32::MAX)
+}
+
 /// How the program's job ends, with a clock that stands still and a gate that lets everybody pass.
 pub fn end_of<R: Threads + Wait + Sync, S: Source, K: Sink>(
     rt: &R,
@@ -35,7 +41,11 @@ pub fn end_of<R: Threads + Wait + Sync, S: Source, K: Sink>(
     sink: &mut K,
 ) -> Status {
     let clock = MemoryClock::new(Vec::new(alloc));
-    top(rt, alloc, words, source, sink, clock, &OpenGate)
+    let Ok(disk) = empty_disk(alloc) else {
+        return Status::OutOfMemory;
+    };
+    let (status, _disk) = top(rt, alloc, words, source, sink, clock, &OpenGate, disk);
+    status
 }
 
 /// The number of the status of a run, and whether this is its output.
@@ -51,6 +61,21 @@ pub fn run<R: Threads + Wait + Sync>(
     let mut sink = SureSink::new(alloc);
     let status = end_of(rt, alloc, &words, &mut source, &mut sink);
     Ok((status.number(), sink.bytes() == output.as_bytes()))
+}
+
+/// Gives each journal to the job of these words: it ends with status 0, and its input gives its output.
+pub fn run_each<R: Abort + Threads + Wait + Sync>(
+    rt: &R,
+    alloc: Global,
+    line: &str,
+    journals: &[Journal],
+) -> Result<(), Fail> {
+    for journal in journals.iter() {
+        let (status, same) = run(rt, alloc, line, journal.input, journal.output)?;
+        assert_eq!(rt; status, 0, "{}", journal.title);
+        assert!(rt; same, "{}", journal.title);
+    }
+    Ok(())
 }
 
 /// Whether the replay of a journal begins with this output.

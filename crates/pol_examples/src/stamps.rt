@@ -2,7 +2,7 @@
 ghost use Rattle.std.specs.Prelude.{◌<◌};
 
 use super::plants::{SITE, entry_in};
-use super::runs::words_of;
+use super::runs::{empty_disk, words_of};
 use pol_cli::top;
 use pol_io::{Clock, SureSink, SureSource};
 use pol_live::Gate;
@@ -122,7 +122,17 @@ fn two_actors_meet_at_the_gate_and_the_stamps_of_each_actor_rise(
         last: 0,
         calls: 0,
     };
-    let status = top(&rt, alloc, &words, &mut source, &mut sink, clock, &gate);
+    let disk = empty_disk(alloc)?;
+    let (status, _disk) = top(
+        &rt,
+        alloc,
+        &words,
+        &mut source,
+        &mut sink,
+        clock,
+        &gate,
+        disk,
+    );
     assert_eq!(rt; status.number(), 0);
     assert_eq!(rt; gate.met.load(Ordering::SeqCst), 2);
     let output = str::from_utf8(sink.bytes()).ok().ok_or("not UTF-8")?;

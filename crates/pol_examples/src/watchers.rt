@@ -1,6 +1,6 @@
 //! The job plant has as many watchers as its words ask for.
 use super::plants::SITE;
-use super::runs::words_of;
+use super::runs::{empty_disk, words_of};
 use pol_cli::top;
 use pol_io::{MemoryClock, SureSink, SureSource};
 use pol_live::Gate;
@@ -41,7 +41,17 @@ fn each_watcher_that_is_asked_for_looks_a_thousand_times(rt: HostRuntime) -> Res
             first: AtomicU64::new(0),
             all: AtomicU64::new(0),
         };
-        let status = top(&rt, alloc, &words, &mut source, &mut sink, clock, &gate);
+        let disk = empty_disk(alloc)?;
+        let (status, _disk) = top(
+            &rt,
+            alloc,
+            &words,
+            &mut source,
+            &mut sink,
+            clock,
+            &gate,
+            disk,
+        );
         assert_eq!(rt; status.number(), 0);
         assert_eq!(rt; gate.first.load(Ordering::SeqCst), watchers, "{line}");
         assert_eq!(rt;

@@ -13,6 +13,8 @@ fn bad_words_are_a_status_and_read_nothing(rt: HostRuntime) -> Result<(), Fail> 
         "pol --job plant --watchers 17",
         "pol --job plant --seed 1",
         "pol --job replay --watchers 0",
+        "pol --job guard --seed 1",
+        "pol --job find --watchers 1",
         "pol replay",
         "pol --help",
     ];

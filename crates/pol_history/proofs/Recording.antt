@@ -296,7 +296,7 @@ rules_record history (recipe at name chart) = (when_records _ RecipeKnown refl, 
 rules_record history (start at batch name binds) = start_records history batch binds
     (chart_named name (recipes history))
 rules_record history (advance at batch) = (when_records _ NoBatch refl, (when_records _ BatchClosed refl, tt))
-rules_record history (freeze at batch) =
+rules_record history (freeze at batch hold) =
     (when_records _ NoBatch refl, (when_records _ BatchClosed refl, (when_records _ AlreadyFrozen refl, tt)))
 rules_record history (thaw at batch) =
     (when_records _ NoBatch refl, (when_records _ BatchClosed refl, (when_records _ NotFrozen refl, tt)))

@@ -59,10 +59,10 @@ rules history (start at batch name binds) =
     start_rules history batch binds (chart_named name (recipes history))
 rules history (advance at batch) =
     no_batch (start_by (past_of_batch batch history)) ∷ batch_closed (past_of_batch batch history) ∷ []
-rules history (freeze at batch) =
+rules history (freeze at batch hold) =
     no_batch (start_by (past_of_batch batch history))
     ∷ batch_closed (past_of_batch batch history)
-    ∷ already_frozen (past_of_batch batch history)
+    ∷ already_frozen hold (past_of_batch batch history)
     ∷ []
 rules history (thaw at batch) =
     no_batch (start_by (past_of_batch batch history))

@@ -4,13 +4,15 @@ use Rattle.std.specs.Str.{bytes_eq}
 use Rattle.mtp_codes.specs.Names.{is_among}
 use Rattle.chart_core.specs.Roles.{PlainChart}
 use Rattle.chart_core.specs.declared.entry.LogEntry.{LogEntry}
+use Rattle.chart_core.specs.declared.entry.LogEntry.TheVariants.{Hold}
 use Rattle.chart_core.specs.declared.next.Outcome.{Outcome}
+use Rattle.chart_cursor.specs.Freezing.{Freezing, thawed, waiting, holding}
 use Rattle.pol_events.specs.Events.{PlainEvent, recipe, start, freeze, thaw, stop_batch, PlainEntry}
 use Rattle.pol_events.specs.declared.event.Bind.{Bind}
 use Rattle.pol_events.specs.declared.answer.Answer.{Answer}
 use Rattle.pol_events.specs.declared.answer.Answer.TheVariants.{Did, Closed}
-use Rattle.pol_events.specs.Bound.{PlainAllocation, given, tags_of}
-use Rattle.pol_history.specs.Looking.{History, past_of_batch, recipes, last_of, is_accepted}
+use Rattle.pol_events.specs.Bound.{tags_of, PlainAllocation, given}
+use Rattle.pol_history.specs.Looking.{History, past_of_batch, recipes, last_of, after_last, is_accepted}
 
 -- what a batch was started with: its recipe, and which module plays each role, held or watched
 pub record Started : Type 0 where
@@ -67,7 +69,7 @@ outcome_of history batch = outcome_by (past_of_batch batch history)
 
 -- whether an event freezes its batch or ends its freeze
 abbrev pub freezing : PlainEvent → Option Bool
-freezing (freeze at batch) = Some true
+freezing (freeze at batch hold) = Some true
 freezing (thaw at batch) = Some false
 freezing (stop_batch at batch) = Some false
 freezing _ = None
@@ -79,6 +81,43 @@ is_frozen_by past = unwrap_or (last_of (λ entry. freezing entry.event) past) fa
 -- the batch is frozen
 abbrev pub is_frozen : History → List ℕ → Bool
 is_frozen history batch = is_frozen_by (past_of_batch batch history)
+
+-- whether a freeze holds the services
+abbrev pub holds : PlainEvent → Option Bool
+holds (freeze at batch hold) = Some hold
+holds _ = None
+
+-- the batch is frozen and its services are held, by its past: its last freeze has `hold`
+abbrev pub is_holding_by : History → Bool
+is_holding_by past = is_frozen_by past && unwrap_or (last_of (λ entry. holds entry.event) past) false
+
+-- the event is a freeze
+abbrev pub is_freeze : PlainEvent → Bool
+is_freeze (freeze at batch hold) = true
+is_freeze _ = false
+
+-- the step that an answer says was asked to hold
+abbrev pub held_step : Answer → Option (List ℕ)
+held_step (Did (Hold step tag service)) = Some step
+held_step _ = None
+
+-- the steps that were asked to hold since the batch's last freeze, by its past, the last one first
+abbrev pub asked_by : History → List (List ℕ)
+asked_by past = filter_map (λ entry. held_step entry.answer) (after_last (λ entry. is_freeze entry.event) past)
+
+-- how a batch is frozen, by whether it is frozen, whether its services are held, and which steps were asked
+abbrev pub frozen_so : Bool → Bool → List (List ℕ) → Freezing
+frozen_so false held asked = thawed
+frozen_so true false asked = waiting
+frozen_so true true asked = holding asked
+
+-- how the batch is frozen, by its past
+abbrev pub freezing_by : History → Freezing
+freezing_by past = frozen_so (is_frozen_by past) (is_holding_by past) (asked_by past)
+
+-- how the batch is frozen
+abbrev pub freezing_of : History → List ℕ → Freezing
+freezing_of history batch = freezing_by (past_of_batch batch history)
 
 -- the entry that an answer says was taken
 abbrev pub taken : Answer → Option LogEntry

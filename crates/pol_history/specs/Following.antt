@@ -13,7 +13,7 @@ use Rattle.pol_events.specs.declared.event.Bind.{Bind}
 use Rattle.pol_events.specs.Bound.{bound_tag, given}
 use Rattle.pol_history.specs.Looking.{History, past, past_of_batch, recipes}
 use Rattle.pol_history.specs.Modules.{Docking, absent, docked, away, docking_by, view_by, value_by}
-use Rattle.pol_history.specs.Batches.{Started, start_of, chart_by, is_frozen_by, log_by}
+use Rattle.pol_history.specs.Batches.{Started, start_of, chart_by, freezing_by, log_by}
 
 -- ---- what a batch sees of its modules
 
@@ -53,7 +53,7 @@ sights_by binds pasts =
 -- the next entry of a batch with this start, if its recipe is there, by its past and the pasts of the modules
 abbrev pub next_of_started : History → History → (List ℕ → History) → Started → Option Next
 next_of_started recipes past pasts started =
-    option_map (λ chart. next_by chart (is_frozen_by past) (log_by past) (sights_by (given started.binds) pasts))
+    option_map (λ chart. next_by chart (freezing_by past) (log_by past) (sights_by (given started.binds) pasts))
     (chart_by recipes (Some started))
 
 -- the next entry of the batch, if it was started

@@ -1,5 +1,5 @@
 -- The rules that can refuse an event.
-use Rattle.std.specs.Prelude.{ℕ, not, nat_le, List, [], ◌∷◌, length, map, filter, Option, Some, None, is_some, is_none, option_and_then, option_map}
+use Rattle.std.specs.Prelude.{ℕ, Bool, not, ◌&&◌, ◌||◌, nat_le, List, [], ◌∷◌, length, map, filter, Option, Some, None, is_some, is_none, option_and_then, option_map}
 use Rattle.std.specs.Option.{option_or}
 pub use Rattle.std.specs.Option.{option_and_then as by_description, option_and_then as by_view, option_and_then as by_holder}
 use Rattle.mtp_codes.specs.Names.{same_name}
@@ -20,7 +20,7 @@ use Rattle.pol_events.specs.declared.event.Bind.{Bind}
 use Rattle.pol_events.specs.Bound.{bound_tag, bound_role, given, step_on}
 use Rattle.pol_history.specs.Looking.{History, past, past_of_batch, recipes}
 use Rattle.pol_history.specs.Modules.{Docking, absent, docked, away, docking_by, description_by, control_by, view_by, present_tags, ticket_of}
-use Rattle.pol_history.specs.Batches.{Started, start_by, chart_named, chart_by, outcome_by, is_frozen_by, log_by, holder_of, watchers_of, is_start}
+use Rattle.pol_history.specs.Batches.{Started, start_by, chart_named, chart_by, outcome_by, is_frozen_by, is_holding_by, log_by, holder_of, is_start, watchers_of}
 
 -- ---- whether a tag is docked
 
@@ -92,9 +92,9 @@ no_batch started = when (is_none started) NoBatch
 abbrev pub batch_closed : History → Option Rule
 batch_closed past = when (is_some (outcome_by past)) BatchClosed
 
--- the batch is frozen
-abbrev pub already_frozen : History → Option Rule
-already_frozen past = when (is_frozen_by past) AlreadyFrozen
+-- the batch is frozen, and either the freeze doesn't hold the services or they are held already
+abbrev pub already_frozen : Bool → History → Option Rule
+already_frozen hold past = when (is_frozen_by past && (not hold || is_holding_by past)) AlreadyFrozen
 
 -- the batch is not frozen
 abbrev pub not_frozen : History → Option Rule

@@ -1,6 +1,7 @@
 -- A line that was read and met.
-use Rattle.std.proofs.Common.{◌≡◌, ◌≤◌, ◌<◌, ◌++◌, ℕ, List, [], Bor, Some, None, refl, sym, ◌∙◌, ap, subst, length, Bool, true, false, if◌then◌else◌}
+use Rattle.std.proofs.Common.{◌≡◌, ◌≤◌, ◌<◌, ◌++◌, ℕ, List, [], ◌∷◌, Bor, Some, None, refl, sym, ◌∙◌, ap, subst, length, Bool, true, false, if◌then◌else◌}
 use Rattle.std.specs.Prelude.{nat_lt, Result, Ok, Err, OnOk, IfErr}
+use Rattle.std.specs.Result.{is_ok}
 use Rattle.std.proofs.lemmas.Bool.{le-leb, lt-leb, ltb-false, ltb-true}
 use Rattle.pol_io.specs.LinesState.{Answers, Reads, ahead}
 use Rattle.pol_io.specs.declared.limits.TheConstants.{LONGEST_LINE}
@@ -36,8 +37,8 @@ behind_nothing : {E : Type 0} (result : Result (Unit {0}) E) (out old reply : Li
 behind_nothing (Ok done) out old reply empty is = is ∙ ap (λ old. old ++ reply) empty
 behind_nothing (Err stop) out old reply empty is = tt
 
-module _ {State Reason : Type 0} (work : LineWork State Reason) (before now : Moment State)
-    (made : Result (Unit {0}) (Stop Reason)) (old out : List ℕ) (empty : old ≡ []) where
+module _ {State Reason : Type 0} (work : LineWork State Reason) (Did : List Line → Bool → Type 0)
+    (before now : Moment State) (made : Result (Unit {0}) (Stop Reason)) (old out : List ℕ) (empty : old ≡ []) where
   -- a line that was met so
   met_as : (text : List ℕ) (one : Line) → met text ≡ one →
       OnOk made (out ≡ old ++ work.reply before.state one) → OnOk made (now.state ≡ work.after before.state one) →
@@ -57,16 +58,20 @@ module _ {State Reason : Type 0} (work : LineWork State Reason) (before now : Mo
       OnOk made (out ≡ old ++ work.reply before.state (Some text.now)) →
       OnOk made (now.state ≡ work.after before.state (Some text.now)) →
       OnOk made (Accepts work before.state (Some text.now)) →
-      IfErr made (RefusedFor (work.Refuses before.state (Some text.now))) → IsNext work before now (Some made) out
-  text_next text reads said after accepted refused = record {
+      IfErr made (RefusedFor (work.Refuses before.state (Some text.now))) →
+      Did (Some text.now ∷ []) (is_ok made) → IsNext work Did before now (Some made) out
+  text_next text reads said after accepted refused did = record {
+    next = Some text.now;
     replies = between_weaker (Answers (line.Text text) now.lines.ended)
-        (Replies work before.state now.state now.lines.ended (Some made) out)
+        (Replies work before.state now.state now.lines.ended (Some made) out (Some text.now))
         (ahead before.lines before.left) (ahead now.lines now.left)
         (λ bytes rest first. (
           text.now,
           first,
           met_as text.now (Some text.now) (met_short text.now reads.in_limit) said after accepted refused,
+          sym (met_short text.now reads.in_limit),
         )) reads.answers;
+    did = did;
     gives = reads.gives;
     moves = record {
       counted = reads.counted;
@@ -82,16 +87,20 @@ module _ {State Reason : Type 0} (work : LineWork State Reason) (before now : Mo
   pub long_next : Reads before.left now.left before.lines now.lines line.TooLong →
       OnOk made (out ≡ old ++ work.reply before.state None) →
       OnOk made (now.state ≡ work.after before.state None) → OnOk made (Accepts work before.state None) →
-      IfErr made (RefusedFor (work.Refuses before.state None)) → IsNext work before now (Some made) out
-  long_next reads said after accepted refused = record {
+      IfErr made (RefusedFor (work.Refuses before.state None)) → Did (None ∷ []) (is_ok made) →
+      IsNext work Did before now (Some made) out
+  long_next reads said after accepted refused did = record {
+    next = None;
     replies = between_weaker (Answers line.TooLong now.lines.ended)
-        (Replies work before.state now.state now.lines.ended (Some made) out)
+        (Replies work before.state now.state now.lines.ended (Some made) out None)
         (ahead before.lines before.left) (ahead now.lines now.left)
         (λ bytes rest told. (
           told.0,
           told.1,
           met_as told.0 None (met_long told.0 told.2) said after accepted refused,
+          sym (met_long told.0 told.2),
         )) reads.answers;
+    did = did;
     gives = reads.gives;
     moves = record {
       counted = reads.counted;

@@ -4,3 +4,4 @@ pub mod Faults
 pub mod Written
 pub mod Ends
 pub mod Moments
+pub mod Deeds

@@ -1,11 +1,12 @@
 -- How far a job over lines has come, and what it has written when it stops.
-use Rattle.std.specs.Prelude.{ℕ, ◌≡◌, ◌<◌, ◌≤◌, List, [], Bool, false, IsTrue, Option, Some, None, Result, IfErr, IfNone, OnOk, OnSome}
+use Rattle.std.specs.Prelude.{ℕ, ◌≡◌, ◌<◌, ◌≤◌, List, [], ◌∷◌, map, Bool, true, false, IsTrue, Option, Some, None, Result, IfErr, IfNone, OnOk, OnSome}
+use Rattle.std.specs.Result.{is_ok}
 use Rattle.std.specs.Io.KnownBytes.{Appends, IsAtEnd}
 use Rattle.pol_io.specs.Known.{Between, Counts}
 use Rattle.pol_io.specs.LinesState.{LinesState, ahead, given}
 use Rattle.pol_io.specs.Pieces.{pieces, IsFirstLine, IsDone}
 use Rattle.pol_io.specs.declared.limits.TheConstants.{LONGEST_INPUT}
-use Rattle.pol_jobs.specs.LineWork.{Line, LineWork, Output, Accepts, AcceptsLines, met, replies, after_all, output_by}
+use Rattle.pol_jobs.specs.LineWork.{Line, LineWork, Output, Accepts, AcceptsLines, line_met, met, replies, after_all, output_by}
 use Rattle.pol_jobs.specs.Ends.{IsRead, WritesTaken, WritesTakenAndMore, LeavesPart, IsRefused}
 use Rattle.pol_jobs.specs.Faults.{RefusedFor}
 use Rattle.pol_jobs.specs.declared.fault.JobFault.{JobFault}
@@ -47,7 +48,21 @@ pub record Served {State Reason : Type 0} (work : LineWork State Reason) (first 
   pub appended : Appends held held' (replies work first.state (pieces done))
   pub accepted : AcceptsLines (output_by work first.state) done
 
--- the same, where the source tells its bytes
+-- the lines are those
+pub record ServedLines {State Reason : Type 0} (work : LineWork State Reason) (lines : List Line)
+    (first now : Moment State) (held held' : Option (List ℕ)) (bytes rest : List ℕ) : Type 0 where
+  pub served : Served work first now held held' bytes rest
+  pub lines_are : lines ≡ map line_met (pieces served.done)
+
+-- the lines before the rest were replied to since the first moment, and this is what else the job did meanwhile; which
+-- lines they are is known where the source tells its bytes
+pub record HasServed {State Reason : Type 0} (work : LineWork State Reason) (Did : List Line → Bool → Type 0)
+    (first now : Moment State) (held held' : Option (List ℕ)) : Type 0 where
+  pub lines : List Line
+  pub did : Did lines true
+  pub served : Between (ServedLines work lines first now held held') first.left (ahead now.lines now.left)
+
+-- the lines before the rest were replied to since the first moment, where the source tells its bytes
 abbrev pub IsServed : {State Reason : Type 0} → LineWork State Reason → Moment State → Moment State → Option (List ℕ)
     → Option (List ℕ) → Type 0
 IsServed work first now held held' = Between (Served work first now held held') first.left (ahead now.lines now.left)
@@ -68,18 +83,26 @@ pub record Met {State Reason : Type 0} (work : LineWork State Reason) (before no
   pub accepted : OnOk made (Accepts work before line)
   pub refused : IfErr made (RefusedFor (work.Refuses before line))
 
--- the next line was met; or the end
+-- the next line was met, and it is this one; or the end
 abbrev pub Replies : {State Reason : Type 0} → LineWork State Reason → State → State → Bool
-    → Option (Result (Unit {0}) (Stop Reason)) → List ℕ → List ℕ → List ℕ → Type 0
-Replies work before now ended None reply text rest = (text ≡ []) × (rest ≡ []) × (now ≡ before)
-Replies work before now ended (Some made) reply text rest =
-    (line : List ℕ) × IsFirstLine ended line text rest × Met work before now made reply (met line)
+    → Option (Result (Unit {0}) (Stop Reason)) → List ℕ → Line → List ℕ → List ℕ → Type 0
+Replies work before now ended None reply next text rest = (text ≡ []) × (rest ≡ []) × (now ≡ before)
+Replies work before now ended (Some made) reply next text rest =
+    (line : List ℕ) × IsFirstLine ended line text rest × Met work before now made reply (met line) × (next ≡ met line)
+
+-- what else the job did with the next line, or at the end
+abbrev pub DidNext : {Reason : Type 0} → (List Line → Bool → Type 0) → Option (Result (Unit {0}) (Stop Reason)) → Line
+    → Type 0
+DidNext Did None next = Did [] true
+DidNext Did (Some made) next = Did (next ∷ []) (is_ok made)
 
 -- one more line is read and replied to, or the end is seen
-pub record IsNext {State Reason : Type 0} (work : LineWork State Reason) (before now : Moment State)
-    (made : Option (Result (Unit {0}) (Stop Reason))) (reply : List ℕ) : Type 0 where
-  pub replies : Between (Replies work before.state now.state now.lines.ended made reply)
+pub record IsNext {State Reason : Type 0} (work : LineWork State Reason) (Did : List Line → Bool → Type 0)
+    (before now : Moment State) (made : Option (Result (Unit {0}) (Stop Reason))) (reply : List ℕ) : Type 0 where
+  pub next : Line
+  pub replies : Between (Replies work before.state now.state now.lines.ended made reply next)
       (ahead before.lines before.left) (ahead now.lines now.left)
+  pub did : DidNext Did made next
   pub gives : OnSome made (given before.lines < given now.lines)
   pub moves : Moves before now
   pub ended : IfNone made (IsTrue now.lines.ended)

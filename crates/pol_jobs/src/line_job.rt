@@ -1,9 +1,10 @@
 //! A job that does something with each line of its input.
-ghost use Rattle.std.specs.Prelude.{◌≡◌, ◌++◌, List, IfErr, OnOk, OnErr};
+ghost use Rattle.std.specs.Prelude.{◌≡◌, ◌++◌, ◌∷◌, [], List, Bool, true, IfErr, OnOk, OnErr};
+ghost use Rattle.std.specs.Result.{is_ok};
 ghost use Rattle.pol_io.specs.Causes.{HasCauseOf};
 ghost use Rattle.pol_jobs.specs.Faults.{RefusedFor};
 ghost use Rattle.pol_jobs.specs.InputLines.{plain_line};
-ghost use Rattle.pol_jobs.specs.LineWork.{LineWork, Accepts, AcceptsEnd};
+ghost use Rattle.pol_jobs.specs.LineWork.{Line, LineWork, Accepts, AcceptsEnd};
 ghost use Rattle.pol_jobs.specs.Written.{Closes, ClosesPart};
 
 use crate::output::PutFault;
@@ -34,24 +35,38 @@ pub trait LineJob {
     /// What it does with each line, and at the end.
     ghost work: { LineWork State Self.Refusal };
 
+    /// What else such a job did, from one state of it to another, while it met these lines; whether it replied to the
+    /// last of them too, or stopped there.
+    ghost Did: { Self → Self → List Line → Bool → Type 0 };
+
     /// Puts what it replies to a line behind what a buffer holds: an output line, or nothing.
     fn reply(&mut self, line: InputLine<'_>, out: &mut Vec<u8>) -> Result<(), Stop<Self::Refusal>>
         ensures text { OnOk result
             (out.new.items ≡ out.old.items ++ work.reply (state self.old) (plain_line line.entry)) }
         ensures after { OnOk result (state self.new ≡ work.after (state self.old) (plain_line line.entry)) }
         ensures accepted { OnOk result (Accepts work (state self.old) (plain_line line.entry)) }
-        ensures refused { IfErr result (RefusedFor (work.Refuses (state self.old) (plain_line line.entry))) };
+        ensures refused { IfErr result (RefusedFor (work.Refuses (state self.old) (plain_line line.entry))) }
+        ensures did { Did self.old self.new (plain_line line.entry ∷ []) (is_ok result) };
 
     /// Sees the end of the input, which it may refuse as a whole.
     fn end(&mut self) -> Result<(), Stop<Self::Refusal>>
         ensures kept { OnOk result (state self.new ≡ state self.old) }
         ensures accepted { OnOk result (AcceptsEnd work (state self.old)) }
-        ensures refused { IfErr result (RefusedFor (work.RefusesEnd (state self.old))) };
+        ensures refused { IfErr result (RefusedFor (work.RefusesEnd (state self.old))) }
+        ensures did { Did self.old self.new [] true };
 
     /// Writes what closes the output.
     fn close<K: Sink>(&mut self, sink: &mut K) -> Result<(), PutFault>
         ensures kept { OnOk result (state self.new ≡ state self.old) }
         ensures text { OnOk result (Closes (work.Closing (state self.old)) (K.held sink.old) (K.held sink.new)) }
         ensures part { OnErr result (ClosesPart (work.Closing (state self.old)) (K.held sink.old) (K.held sink.new)) }
-        ensures cause { HasCauseOf PutFault.Write (K.faults sink.old) (K.faults sink.new) result };
+        ensures cause { HasCauseOf PutFault.Write (K.faults sink.old) (K.faults sink.new) result }
+        ensures did { Did self.old self.new [] true };
+
+    /// Before it meets a line, it did nothing.
+    ghost did_nothing: { (job : Self) → Did job job [] true };
+
+    /// What it did with some lines, and then with more of them, it did with all.
+    ghost did_more: { (first job next : Self) (lines more : List Line) (whole : Bool)
+        → Did first job lines true → Did job next more whole → Did first next (lines ++ more) whole };
 }

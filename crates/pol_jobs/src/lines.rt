@@ -1,10 +1,11 @@
 //! Doing a job line by line.
-ghost use Rattle.std.specs.Prelude.{◌≡◌, ◌≢◌, [], false, IsTrue, IfOk, IfErr, OnOk, OnErr};
+ghost use Rattle.std.specs.Prelude.{◌≡◌, ◌≢◌, [], false, true, IsTrue, IfOk, IfErr, OnOk, OnErr};
 ghost use Rattle.std.specs.Io.KnownBytes.{Appends};
 ghost use Rattle.pol_io.specs.Causes.{HasCauseOf};
 ghost use Rattle.pol_io.specs.Faults.{Stops};
 ghost use Rattle.pol_io.specs.Known.{Between};
 ghost use Rattle.pol_io.specs.LinesState.{ahead};
+ghost use Rattle.pol_jobs.specs.Deeds.{DidAll, DidSome};
 ghost use Rattle.pol_jobs.specs.Ends.{Completes, Ends, IsTooMuch, Writes, edge};
 ghost use Rattle.pol_jobs.specs.LineWork.{AcceptsEnd, KnowsAfter, output_by};
 ghost use Rattle.pol_jobs.specs.Moments.{moment, IsFresh, IsNext, Leaves, Replied};
@@ -26,12 +27,13 @@ fn next_reply<S: Source, J: LineJob>(
 ) -> Result<Option<Result<(), Stop<J::Refusal>>>, IoFault>
     requires sound { IsTrue lines.old.sound }
     requires empty { out.old.items ≡ [] }
-    ensures next { IfOk result (λ made. IsNext J.work
+    ensures next { IfOk result (λ made. IsNext J.work (J.Did job.old job.new)
         (moment (J.state job.old) lines.old (S.left source.old))
         (moment (J.state job.new) lines.new (S.left source.new)) made out.new.items) }
     ensures fault { IfErr result (λ fault.
         Stops lines.old.taken (ahead lines.old (S.left source.old)) (S.left source.old) (S.left source.new) fault) }
     ensures open_end { OnErr result (lines.old.ended ≡ false) }
+    ensures did { OnErr result (J.Did job.old job.new [] true) }
     ensures cause { HasCauseOf IoFault.Read (S.faults source.old) (S.faults source.new) result }
 {
     match lines.next_line(source) {
@@ -72,6 +74,9 @@ fn reply_to_all<S: Source, K: Sink, J: LineJob>(
     ensures leaves { IfErr result (λ fault. Between
         (Leaves (output_by J.work (J.state job.old)) (K.held sink.old) (K.held sink.new) fault)
         (S.left source.old) (S.left source.new)) }
+    ensures did_all { OnOk result (DidAll (J.Did job.old job.new) (S.left source.old)) }
+    ensures did_some { OnErr result (DidSome J.work (J.state job.old) (J.Did job.old job.new)
+        (K.held sink.old) (K.held sink.new) (S.left source.old)) }
     ensures too_much { IfErr result (λ fault. fault ≡ JobFault.TooMuch → IsTooMuch (S.left source.old)) }
     ensures read_cause { HasCauseOf JobFault.Read (S.faults source.old) (S.faults source.new) result }
     ensures write_cause { HasCauseOf JobFault.Write (K.faults sink.old) (K.faults sink.new) result }
@@ -98,6 +103,9 @@ fn reply_and_close<S: Source, K: Sink, J: LineJob>(
     ensures leaves { IfErr result (λ fault. Between
         (Leaves (output_by J.work (J.state job.old)) (K.held sink.old) (K.held sink.new) fault)
         (S.left source.old) (S.left source.new)) }
+    ensures did_all { OnOk result (DidAll (J.Did job.old job.new) (S.left source.old)) }
+    ensures did_some { OnErr result (DidSome J.work (J.state job.old) (J.Did job.old job.new)
+        (K.held sink.old) (K.held sink.new) (S.left source.old)) }
     ensures after { OnOk result (Between (KnowsAfter J.work (J.state job.old) (J.state job.new))
         (S.left source.old) (S.left source.new)) }
     ensures accepted { OnOk result (AcceptsEnd J.work (J.state job.new)) }
@@ -114,6 +122,8 @@ fn reply_and_close<S: Source, K: Sink, J: LineJob>(
 
 /// Does the job: replies to each line of the source, and then closes the output. How it ends is one row for each
 /// result; and where nothing fails, an input that fits is done or refused as it should be, unless there was no memory.
+/// What else the job did, it did with all lines of the input, or with the first ones, of which it may have stopped at the
+/// last.
 #[tactic(auto, using(crate::proofs::Ending::work_ends))]
 pub fn work<S: Source, K: Sink, J: LineJob>(
     alloc: Global,
@@ -130,6 +140,9 @@ pub fn work<S: Source, K: Sink, J: LineJob>(
     ensures after { OnOk result (Between (KnowsAfter J.work (J.state job.old) (J.state job.new))
         (S.left source.old) (S.left source.new)) }
     ensures accepted { OnOk result (AcceptsEnd J.work (J.state job.new)) }
+    ensures did_all { OnOk result (DidAll (J.Did job.old job.new) (S.left source.old)) }
+    ensures did_some { OnErr result (DidSome J.work (J.state job.old) (J.Did job.old job.new)
+        (K.held sink.old) (K.held sink.new) (S.left source.old)) }
 {
     reply_and_close(alloc, job, source, sink)
 }

@@ -40,7 +40,8 @@ pub fn put<K: Sink>(sink: &mut K, line: &[u8]) -> Result<(), PutFault>
     }
 }
 
-/// Writes the one text that closes an output, where there was memory for it: how a job closes that closes with one text.
+/// Writes the one text that closes an output, where there was memory for it: how a job closes that closes with one
+/// text.
 #[tactic(auto, using(crate::proofs::Closing::closed, crate::proofs::Closing::closed_part, crate::proofs::Closing::unclosed))]
 pub fn close_with<K: Sink>(sink: &mut K, text: Result<Vec<u8>, AllocError>) -> Result<(), PutFault>
     ensures text { (closing : List ℕ) → IfOk text (λ text. text.items ≡ closing)

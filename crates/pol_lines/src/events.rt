@@ -230,10 +230,6 @@ pub fn read_members(members: &[Member]) -> Option<Event>
             let (at, batch) = read_of_batch(members)?;
             Some(Event::Advance { at, batch })
         }
-        EventKind::Freeze => {
-            let (at, batch) = read_of_batch(members)?;
-            Some(Event::Freeze { at, batch })
-        }
         EventKind::Thaw => {
             let (at, batch) = read_of_batch(members)?;
             Some(Event::Thaw { at, batch })

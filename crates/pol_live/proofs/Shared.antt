@@ -28,6 +28,7 @@ use Rattle.pol_live.specs.contracts.live.LivePlant as live
 use Rattle.pol_live.specs.contracts.live.Under as under
 use Rattle.pol_live.specs.contracts.locked.LockedPlant as locked
 use Rattle.pol_live.specs.contracts.locked.LockedPlant.TheInside as locked_inside
+use Rattle.pol_live.specs.contracts.notes.Notes as notes
 use Rattle.pol_live.specs.contracts.seat.ActorSeat as seat
 use Rattle.pol_live.specs.contracts.seat.ActorSeat.TheInside as seat_inside
 use Rattle.pol_live.specs.contracts.turned.Placed as placed
@@ -52,6 +53,13 @@ orders_send = search (sendable, heap.crosses) depth 20
 
 module _ (J C : RattleType) (job : jobs.Ghosts J.Denot) (ledger : ledgers.Ghosts J.Denot)
     (clock : clocks.Ghosts C.Denot) where
+  -- when its actors rested may go to another thread
+  notes_send : IsSend (notes.the_row J job ledger)
+  notes_send =
+      declared_send (notes.the_type J job ledger)
+      (search (sendable, heap.crosses) depth 20, (search (sendable, heap.crosses) depth 20, tt))
+
+  -- so may the plant with its actors
   cast_send : IsSend J → IsSend C → IsSend (cast.the_row J C job ledger clock)
   cast_send j c =
       view_send _ _ _ _ _
@@ -73,10 +81,7 @@ module _ (J C : RattleType) (job : jobs.Ghosts J.Denot) (ledger : ledgers.Ghosts
                       orders_send,
                       (
                         search (sendable, heap.crosses) depth 20,
-                        (
-                          search (sendable, heap.crosses) depth 20,
-                          (search (sendable, heap.crosses) depth 20, tt),
-                        ),
+                        (as_row_send (row_field _) notes_send, tt),
                       ),
                     ),
                   ),

@@ -12,6 +12,7 @@ ghost use Rattle.pol_live.specs.Turns.{IsAsBefore, Turns, history_of};
 
 use crate::actor_kind::{ActorKind, actor_kind, actors_of};
 use crate::job::Job;
+use crate::notes::Notes;
 use crate::turned::Turned;
 use mtp_codes::LONGEST_HISTORY;
 use pol_actors::{Desk, Exchanger, Stage, Unit};
@@ -20,7 +21,7 @@ use pol_events::Entry;
 use pol_io::Clock;
 use pol_site::Site;
 use std::alloc::{AllocError, Global};
-use std::marker::{Model, PhantomData};
+use std::marker::Model;
 use std::sync::Arc;
 
 /// A plant with its site and its clock, and where each actor of the site stands.
@@ -35,9 +36,7 @@ pub(crate) struct Cast<J: Job, C: Clock> {
     pub(crate) stages: Vec<Stage>,
     pub(crate) desk: Desk,
     pub(crate) by: Vec<u32>,
-    // For each actor the length of the history at which it rested last.
-    pub(crate) noted: Vec<Option<usize>>,
-    pub(crate) of: PhantomData<J>,
+    pub(crate) notes: Notes<J>,
 }
 
 impl<J: Job, C: Clock> Model for Cast<J, C> {
@@ -104,7 +103,7 @@ impl<J: Job, C: Clock> Cast<J, C> {
     {
         let units = first_units(alloc, site.modules.len())?;
         let stages = first_stages(alloc, site.batches.len())?;
-        let noted = vec![in alloc; None; actors_of(&site) as usize]?;
+        let notes = Notes::blank(alloc, actors_of(&site))?;
         Ok(Cast {
             alloc,
             site,
@@ -115,8 +114,7 @@ impl<J: Job, C: Clock> Cast<J, C> {
             stages,
             desk: Desk { ordered: 0 },
             by: Vec::new(alloc),
-            noted,
-            of: PhantomData,
+            notes,
         })
     }
 
@@ -149,17 +147,16 @@ impl<J: Job, C: Clock> Cast<J, C> {
     }
 
     /// Whether the actor rested at the history's length.
-    pub(crate) fn rests(&self, actor: u32) -> bool {
-        match self.noted.get(actor as usize) {
-            Some(noted) => *noted == Some(self.plant.history().len()),
-            None => true,
-        }
+    pub(crate) fn rests(&self, actor: u32) -> bool
+        requires actor { actor < length (actors J.site) }
+    {
+        self.notes.rested(actor, self.plant.history().len())
     }
 
     /// Whether no actor has a turn to make, as far as the notes tell.
     pub(crate) fn is_over(&self) -> bool {
         let length = self.plant.history().len();
-        length >= LONGEST_HISTORY || self.noted.iter().all(|noted| *noted == Some(length))
+        length >= LONGEST_HISTORY || self.notes.all_rested(length)
     }
 
     // Whether the history is full.
@@ -171,12 +168,11 @@ impl<J: Job, C: Clock> Cast<J, C> {
 
     // Notes that the actor rested at the history's length.
     fn note(&mut self, actor: u32)
+        requires actor { actor < length (actors J.site) }
         ensures { self.new ≡ self.old }
     {
         let length = self.plant.history().len();
-        if let Some(noted) = self.noted.get_mut(actor as usize) {
-            *noted = Some(length);
-        }
+        self.notes.note(actor, length);
     }
 
     // One turn of an actor, where the history has room.

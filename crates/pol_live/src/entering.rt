@@ -42,8 +42,8 @@ fn stamped(mut event: Event, now: u64) -> Event
 ///
 /// # Errors
 ///
-/// Where there is no memory. Then neither the history nor the list of actors changed; and the clock wasn't asked, unless
-/// the event is one that takes memory.
+/// Where there is no memory. Then neither the history nor the list of actors changed; and the clock wasn't asked,
+/// unless the event is one that takes memory.
 pub(crate) fn enter<C: Clock>(
     plant: &mut Plant,
     by: &mut Vec<u32>,

@@ -15,6 +15,7 @@ mod gate;
 mod job;
 mod live;
 mod locked;
+mod notes;
 mod rounds;
 mod run;
 mod seat;

@@ -1,5 +1,5 @@
 //! A plant that threads share.
-ghost use Rattle.std.specs.Prelude.{◌≡◌, length, IfErr, IfOk, OnErr};
+ghost use Rattle.std.specs.Prelude.{◌≡◌, ◌<◌, length, IfErr, IfOk, OnErr};
 ghost use Rattle.pol_site.specs.Actors.{actors};
 ghost use Rattle.pol_site.specs.PlainSite.{plain_site};
 ghost use Rattle.pol_live.specs.Parts.{AreOwnParts, IsRun, IsStray, made_in_all};
@@ -152,7 +152,9 @@ impl<J: Job, C: Clock + Send> LivePlant<J, C> {
     }
 
     /// Waits until the history grows after the actor rested, or the run is over. True where it is over.
-    pub(crate) fn rest<R: Wait>(&self, rt: &R, actor: u32) -> bool {
+    pub(crate) fn rest<R: Wait>(&self, rt: &R, actor: u32) -> bool
+        requires actor { actor < length (actors J.site) }
+    {
         let under = self.under.lock(rt);
         if under.is_over() {
             self.grown.notify_all();

@@ -82,7 +82,9 @@ impl<J: Job, C: Clock> LockedPlant<J, C> {
     }
 
     /// Whether the actor rested at the history's length.
-    pub(crate) fn rests(&self, actor: u32) -> bool {
+    pub(crate) fn rests(&self, actor: u32) -> bool
+        requires actor { actor < length (actors J.site) }
+    {
         self.cast.rests(actor)
     }
 
@@ -91,8 +93,8 @@ impl<J: Job, C: Clock> LockedPlant<J, C> {
         self.cast.is_over()
     }
 
-    /// Whatever turns were taken, the history is legal and orderly, follows the site, has a command for each change, and
-    /// it is told who made each entry.
+    /// Whatever turns were taken, the history is legal and orderly, follows the site, has a command for each change,
+    /// and it is told who made each entry.
     pub fn is_of_a_run(&self)
         ensures { IsRun J.site self.now.entries self.now.by }
     {

@@ -5,11 +5,16 @@ ghost use Rattle.std.specs.List.{All};
 ghost use Rattle.mtp_codes.specs.declared.limits.TheConstants.{MOST_MODULES};
 ghost use Rattle.chart_core.specs.Charts.{plain_chart};
 ghost use Rattle.chart_core.specs.Order.{plans_seen};
+ghost use Rattle.chart_core.specs.Trees.{plain_node};
+ghost use Rattle.mtp_procs.specs.Tests.{tests_in};
+ghost use Rattle.pol_bind.specs.Gathered.{plain_tests};
+ghost use Rattle.pol_bind.specs.PlainNeeds.{plain_needs};
 ghost use Rattle.pol_bind.specs.Roles.{names_in};
 ghost use Rattle.pol_events.specs.Bound.{tags_of};
 ghost use Rattle.pol_match.specs.Places.{has_all, places_of};
 ghost use Rattle.pol_match.specs.Fits.{is_reached, row_for, rows_for, steps_of, those_at, those_with};
 ghost use Rattle.pol_match.specs.Candidates.{plain_candidates};
+ghost use Rattle.pol_match.specs.Needed.{row_by};
 ghost use Rattle.pol_match.specs.Bindings.{AreInOrder, tags_in};
 ghost use Rattle.pol_match.specs.Assignments.{HaveNone, IsCrowded, IsLeastAssignment};
 ghost use Rattle.pol_match.specs.Findings.{IsFinding};
@@ -21,38 +26,59 @@ use crate::fit::fits;
 use crate::places::{has, has_all, with_if};
 use chart_core::{Chart, Role, Step, steps_in_order};
 use mtp_codes::Name;
+use pol_bind::{Needs, Test, needs_of, tests_in_order};
 use pol_events::Bind;
 use std::alloc::{AllocError, Global};
 
-// The places of the candidates that fit the role.
-fn row_of(chart: &Chart, steps: &[&Step], role: Name, candidates: &[Candidate]) -> u64
-    requires steps { plans_seen steps.now ≡ steps_of (plain_chart chart.now) }
-    requires few { length candidates.now ≤ MOST_MODULES }
-    ensures { result ≡ row_for (plain_chart chart.now) (plain_candidates candidates.now) role }
+// The places of the candidates that fit a role that needs this.
+fn row_of(needs: &Needs<'_>, candidates: &[Candidate]) -> u64
+    requires { length candidates.now ≤ MOST_MODULES }
+    ensures { result ≡ row_by (plain_needs needs.now) (plain_candidates candidates.now) }
 {
     let mut row = 0;
     for (place, candidate) in candidates.iter().enumerate() {
-        row = with_if(row, place, fits(chart, steps, role, candidate));
+        row = with_if(row, place, fits(needs, candidate));
     }
     row
 }
 
-// For each of these roles the places of the candidates that fit it.
-fn rows_of(
+// The places of the candidates that fit the role.
+fn row_of_role<'a>(
     alloc: Global,
-    chart: &Chart,
-    steps: &[&Step],
+    chart: &'a Chart,
+    steps: &[&'a Step],
+    tests: &[Test],
+    role: Name,
+    candidates: &[Candidate],
+) -> Result<u64, AllocError>
+    requires steps { plans_seen steps.now ≡ steps_of (plain_chart chart.now) }
+    requires tests { plain_tests tests.now ≡ tests_in (plain_node chart.now.root) }
+    requires few { length candidates.now ≤ MOST_MODULES }
+    ensures { IfOk result (λ row. row ≡ row_for (plain_chart chart.now) (plain_candidates candidates.now) role) }
+{
+    let needs = needs_of(alloc, chart, steps, tests, role)?;
+    Ok(row_of(&needs, candidates))
+}
+
+// For each of these roles the places of the candidates that fit it.
+fn rows_of<'a>(
+    alloc: Global,
+    chart: &'a Chart,
+    steps: &[&'a Step],
+    tests: &[Test],
     roles: &[Role],
     candidates: &[Candidate],
 ) -> Result<Vec<u64>, AllocError>
     requires steps { plans_seen steps.now ≡ steps_of (plain_chart chart.now) }
+    requires tests { plain_tests tests.now ≡ tests_in (plain_node chart.now.root) }
     requires few { length candidates.now ≤ MOST_MODULES }
     ensures { IfOk result (λ rows. rows.items
         ≡ map (row_for (plain_chart chart.now) (plain_candidates candidates.now)) (names_in roles.now)) }
 {
     let mut rows = Vec::new(alloc);
     for role in roles {
-        rows.push(row_of(chart, steps, role.role, candidates))?;
+        let row = row_of_role(alloc, chart, steps, tests, role.role, candidates)?;
+        rows.push(row)?;
     }
     Ok(rows)
 }
@@ -176,12 +202,12 @@ fn shortage_within(
 ///
 /// Binding exactly where each role can have a candidate of its own that fits it; it is then the least by the tags in
 /// the order of the roles. Else Short, with roles that fit only these fewer candidates. A candidate fits a role where
-/// its description covers it and each service of the role's steps is idle. The cover of each pair is asked once; the
-/// rest takes at most two searches along chains for each role.
+/// its description covers it and each service of the role's steps is idle. What a role needs is gathered once, and each
+/// candidate is asked once for it; the rest takes at most two searches along chains for each role.
 ///
 /// # Errors
 ///
-/// AllocError where memory is wanting for a few numbers for each role, step and candidate.
+/// AllocError where memory is wanting for a few numbers for each role, step, test and candidate.
 pub fn find_binding(
     alloc: Global,
     chart: &Chart,
@@ -192,7 +218,8 @@ pub fn find_binding(
     ensures { IfOk result (λ found. IsFinding (plain_chart chart.now) (plain_candidates candidates.now) found) }
 {
     let steps = steps_in_order(alloc, chart)?;
-    let rows = rows_of(alloc, chart, &steps, &chart.roles, candidates)?;
+    let tests = tests_in_order(alloc, &chart.root)?;
+    let rows = rows_of(alloc, chart, &steps, &tests, &chart.roles, candidates)?;
     match assign(alloc, &rows, candidates.len())? {
         Outcome::Assigned(places) => binding_at(alloc, chart, candidates, &places),
         Outcome::Crowded(set) => shortage_within(alloc, chart, candidates, &rows, set),

@@ -3,3 +3,4 @@ pub mod Known
 pub mod Written
 pub mod Appending
 pub mod Pieces
+mod Exact

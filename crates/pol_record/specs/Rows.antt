@@ -4,7 +4,7 @@ use Rattle.mtp_codes.specs.Codes.{command_number, state_number}
 use Rattle.mtp_codes.specs.declared.mode.Forbid.{Forbid}
 use Rattle.mtp_codes.specs.declared.mode.Forbid.TheVariants as forbid
 use Rattle.chart_core.specs.declared.entry.LogEntry.{LogEntry}
-use Rattle.chart_core.specs.declared.entry.LogEntry.TheVariants.{Start, Finish, Reset, End, Chose, Turn, Leave, Stop, Broke, Left, StopAsked, Asked}
+use Rattle.chart_core.specs.declared.entry.LogEntry.TheVariants.{Start, Finish, Reset, End, Chose, Turn, Leave, Stop, Broke, Left, StopAsked, Hold, Unhold, Asked}
 use Rattle.chart_core.specs.declared.why.Why.{Why}
 use Rattle.chart_core.specs.declared.why.Why.TheVariants as why
 use Rattle.pol_events.specs.Fields.{PlainField, fields_of, number_field, readings_field, text_field}
@@ -60,6 +60,8 @@ entry_row (Broke step state) =
 entry_row (Left step state) =
     row (codes "left") (text_field (codes "step") step ∷ number_field (codes "state") (state_number state) ∷ [])
 entry_row StopAsked = row (codes "stop_asked") []
+entry_row (Hold step tag service) = command_row (codes "hold") step tag service
+entry_row (Unhold step tag service) = command_row (codes "unhold") step tag service
 entry_row (Asked tag service command) =
     row (codes "asked")
     (text_field (codes "tag") tag

@@ -1,6 +1,7 @@
 //! Output lines: a JSON object in compact text, and a line feed.
-ghost use Rattle.std.specs.Prelude.{◌≡◌, ◌∷◌, ◌++◌, [], IfOk};
+ghost use Rattle.std.specs.Prelude.{◌≡◌, ◌∷◌, ◌++◌, [], IfOk, OnOk, true};
 ghost use Rattle.json.specs.Print.{print};
+ghost use Rattle.pol_record.specs.Ranges.{is_in_range};
 ghost use Rattle.pol_record.specs.Texts.{answer_text, end_text, fault_text};
 
 use crate::answers::write_answer;
@@ -8,6 +9,7 @@ use crate::faults::write_fault;
 use json::Writer;
 use pol_events::{Answer, LineFault};
 use std::alloc::{AllocError, Global};
+use std::mem;
 
 // The line of the answer to most events, and the last line of every output.
 const DONE_LINE: &[u8] = b"{\"done\":true}\n";
@@ -23,49 +25,53 @@ pub fn ended_line(writer: Writer) -> Result<Vec<u8>, AllocError>
     Ok(line)
 }
 
-/// The buffer with the line of an answer behind what it holds. No memory where the buffer has room for the line; the
-/// buffer is lost where there is none.
+/// Puts the line of an answer behind what a buffer holds. It takes no memory where the buffer has room for the line;
+/// where there is none, what the buffer held is lost.
 #[tactic(auto, using(crate::proofs::Tokens::line_of_tokens, crate::proofs::Tokens::done_text))]
-pub fn put_answer_line(buffer: Vec<u8>, answer: &Answer) -> Result<Vec<u8>, AllocError>
-    ensures { IfOk result (λ line. line.items ≡ buffer.items ++ answer_text answer.now) }
+pub fn put_answer_line(alloc: Global, out: &mut Vec<u8>, answer: &Answer) -> Result<(), AllocError>
+    ensures line { OnOk result (out.new.items ≡ out.old.items ++ answer_text answer.now) }
+    ensures held { OnOk result (is_in_range answer.now ≡ true) }
 {
     if let Answer::Done = answer {
-        let mut line = buffer;
-        line.extend_from_slice(DONE_LINE)?;
-        return Ok(line);
+        out.extend_from_slice(DONE_LINE)?;
+        return Ok(());
     }
-    let mut writer = Writer::new(buffer);
+    let mut writer = Writer::new(mem::replace(out, Vec::new(alloc)));
     write_answer(&mut writer, answer)?;
-    ended_line(writer)
+    *out = ended_line(writer)?;
+    Ok(())
 }
 
-/// The buffer with the line of a fault behind what it holds: its kind, and the text of the path to it (empty for the
-/// whole line); or what is wrong with a chart, and the number of its node.
+/// Puts the line of a fault behind what a buffer holds: its kind, and the text of the path to it (empty for the whole
+/// line); or what is wrong with a chart, and the number of its node. Where there is no memory, what the buffer held is
+/// lost.
 #[tactic(auto, using(crate::proofs::Tokens::line_of_tokens))]
-pub fn put_fault_line(
-    alloc: Global,
-    buffer: Vec<u8>,
-    fault: &LineFault,
-) -> Result<Vec<u8>, AllocError>
-    ensures { IfOk result (λ line. line.items ≡ buffer.items ++ fault_text fault.now) }
+pub fn put_fault_line(alloc: Global, out: &mut Vec<u8>, fault: &LineFault) -> Result<(), AllocError>
+    ensures { OnOk result (out.new.items ≡ out.old.items ++ fault_text fault.now) }
 {
-    let mut writer = Writer::new(buffer);
+    let mut writer = Writer::new(mem::replace(out, Vec::new(alloc)));
     write_fault(alloc, &mut writer, fault)?;
-    ended_line(writer)
+    *out = ended_line(writer)?;
+    Ok(())
 }
 
 /// The line of an answer.
 pub fn answer_line(alloc: Global, answer: &Answer) -> Result<Vec<u8>, AllocError>
-    ensures { IfOk result (λ line. line.items ≡ answer_text answer.now) }
+    ensures line { IfOk result (λ line. line.items ≡ answer_text answer.now) }
+    ensures held { OnOk result (is_in_range answer.now ≡ true) }
 {
-    put_answer_line(Vec::new(alloc), answer)
+    let mut line = Vec::new(alloc);
+    put_answer_line(alloc, &mut line, answer)?;
+    Ok(line)
 }
 
 /// The line of a fault.
 pub fn fault_line(alloc: Global, fault: &LineFault) -> Result<Vec<u8>, AllocError>
     ensures { IfOk result (λ line. line.items ≡ fault_text fault.now) }
 {
-    put_fault_line(alloc, Vec::new(alloc), fault)
+    let mut line = Vec::new(alloc);
+    put_fault_line(alloc, &mut line, fault)?;
+    Ok(line)
 }
 
 /// The last line of every output.

@@ -1,7 +1,9 @@
 //! The tables of log entries and of obstacles: the name and the fields of each.
-ghost use Rattle.std.specs.Prelude.{◌≡◌, ◌<◌, ◌≤◌, length};
+ghost use Rattle.std.specs.Prelude.{◌≡◌, ◌<◌, ◌≤◌, length, true};
+ghost use Rattle.pol_events.specs.FieldRanges.{are_in_range};
 ghost use Rattle.pol_events.specs.Fields.{fields_of};
 ghost use Rattle.pol_events.specs.declared.fields.TheConstants.{MOST_FIELDS};
+ghost use Rattle.pol_record.specs.Ranges.{is_start_in_range};
 ghost use Rattle.pol_record.specs.Rows.{command_row, entry_row, forbid_name, named_fields, obstacle_row, row, plain_row};
 
 use chart_core::{LogEntry, Why};
@@ -34,7 +36,8 @@ fn named<'a>(name: &'static str, fields: Fields<'a>) -> Row<'a>
 }
 
 fn command_row<'a>(name: &'static str, step: &'a Name, tag: &'a Name, service: &'a Name) -> Row<'a>
-    ensures { plain_row result ≡ command_row name.now step.now tag.now service.now }
+    ensures row { plain_row result ≡ command_row name.now step.now tag.now service.now }
+    ensures held { are_in_range (command_row name.now step.now tag.now service.now).fields ≡ true }
 {
     let fields = Fields::none()
         .name("step", step)
@@ -47,6 +50,8 @@ fn command_row<'a>(name: &'static str, step: &'a Name, tag: &'a Name, service: &
 pub fn entry_row(entry: &LogEntry) -> Row<'_>
     ensures row { plain_row result ≡ entry_row entry.now }
     ensures few { length (entry_row entry.now).fields ≤ 4 }
+    ensures held { are_in_range (entry_row entry.now).fields ≡ true }
+    ensures start { is_start_in_range entry.now ≡ true }
 {
     let none = Fields::none();
     match entry {
@@ -85,6 +90,8 @@ pub fn entry_row(entry: &LogEntry) -> Row<'_>
             named("left", none.name("step", step).state("state", *state))
         }
         LogEntry::StopAsked => named("stop_asked", none),
+        LogEntry::Hold { step, tag, service } => command_row("hold", step, tag, service),
+        LogEntry::Unhold { step, tag, service } => command_row("unhold", step, tag, service),
         LogEntry::Asked {
             tag,
             service,
@@ -111,6 +118,7 @@ fn forbid_name(forbid: Forbid) -> &'static str
 pub fn obstacle_row(obstacle: &Why) -> Row<'_>
     ensures row { plain_row result ≡ obstacle_row obstacle.now }
     ensures few { length (obstacle_row obstacle.now).fields ≤ 4 }
+    ensures held { are_in_range (obstacle_row obstacle.now).fields ≡ true }
 {
     let none = Fields::none();
     match obstacle {

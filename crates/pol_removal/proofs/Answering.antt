@@ -21,7 +21,7 @@ use Rattle.pol_events.specs.declared.answer.Answer.TheVariants.{Ticket}
 use Rattle.pol_events.specs.Bound.{PlainAllocation, bound_tag, bound_role, given, tags_of, step_on}
 use Rattle.pol_history.specs.Looking.{History, subject, past, past_of_batch, recipes}
 use Rattle.pol_history.specs.Modules.{next_ticket, present_tags}
-use Rattle.pol_history.specs.Batches.{Started, start_by, start_of, chart_named, chart_by, is_frozen_by, log_by, holder_of, watchers_of, is_start}
+use Rattle.pol_history.specs.Batches.{Started, start_by, start_of, chart_named, chart_by, freezing_by, log_by, holder_of, is_start, watchers_of}
 use Rattle.pol_history.specs.Following.{service_sight, variable_sight, sights_by, next_of_started, next_of}
 use Rattle.pol_history.specs.Rules.{plant_full, batches_full, module_rules, module_rule, modules_unfit, busy_role, busy, active_step_on, active_step, uncovered_by, uncovered_in, held_back, watched}
 use Rattle.pol_history.specs.Answers.{start_rules, rules, advanced, stopped, otherwise, is_full, answer_of}
@@ -186,7 +186,7 @@ module _ (tags bound : List (List ℕ)) (whole less : History) (alike : Alike ta
       go None is = refl
       go (Some started) is =
           ap (λ seen. option_map
-          (λ chart. next_by chart (is_frozen_by (past_of_batch batch whole))
+          (λ chart. next_by chart (freezing_by (past_of_batch batch whole))
           (log_by (past_of_batch batch whole)) seen) (chart_by (recipes whole) (Some started)))
           (sights_same (given started.binds) (alike.apart batch started out is))
 
@@ -205,7 +205,8 @@ module _ (tags bound : List (List ℕ)) (whole less : History) (alike : Alike ta
   rules_fall (start at batch name binds) out apart = rw alike.same_recipes
       (start_falls batch binds out apart (chart_named name (recipes whole)))
   rules_fall (advance at batch) out apart = rw (alike.batch_pasts batch out) (all_same (rules whole (advance at batch)))
-  rules_fall (freeze at batch) out apart = rw (alike.batch_pasts batch out) (all_same (rules whole (freeze at batch)))
+  rules_fall (freeze at batch hold) out apart =
+      rw (alike.batch_pasts batch out) (all_same (rules whole (freeze at batch hold)))
   rules_fall (thaw at batch) out apart = rw (alike.batch_pasts batch out) (all_same (rules whole (thaw at batch)))
   rules_fall (stop_batch at batch) out apart = rw (alike.batch_pasts batch out)
       (all_same (rules whole (stop_batch at batch)))

@@ -24,8 +24,9 @@ use Rattle.pol_record.specs.Objects.{members_in}
 use Rattle.pol_record.specs.Rows.{entry_row, obstacle_row}
 use Rattle.pol_record.specs.Texts.{answer_data, entry_data, entry_fields, obstacle_fields, refusal_fields, outcome_name, under_key}
 use Rattle.pol_entries.specs.Answers.{closed_fields, ticket_fields}
-use Rattle.pol_entries.specs.Ranges.{are_in_range, is_in_range, is_start_in_range, is_value_in_range}
-use Rattle.pol_retold.specs.Exact.{AnswersAreExact}
+use Rattle.pol_events.specs.FieldRanges.{are_in_range, is_value_in_range}
+use Rattle.pol_record.specs.Ranges.{is_in_range, is_start_in_range}
+use Rattle.pol_retold.specs.Told.{AnswersAreExact}
 use Rattle.pol_retold.proofs.Exact.{IsSound, sound_exact}
 use Rattle.pol_retold.proofs.Fields.{AreInRange, fields_depth, fields_sound, put_fields}
 

@@ -20,7 +20,7 @@ use Rattle.serde_json.specs.Written.{compact_text, items_outline, members_outlin
 use Rattle.serde_json.proofs.OnLiterals.{serde_json_on_literals}
 use Rattle.serde_json.proofs.Texts.{print-outline}
 use Rattle.pol_record.specs.Texts.{entry_object}
-use Rattle.pol_retold.specs.Exact.{IsExact}
+use Rattle.pol_record.specs.Exact.{IsExact}
 
 -- ---- a value and its outline
 

@@ -25,7 +25,7 @@ use Rattle.mtp_codes.specs.declared.value.Reading.TheVariants.{Whole, Bit}
 use Rattle.chart_core.specs.declared.limits.TheConstants.{MOST_READS}
 use Rattle.pol_events.specs.Fields.{PlainField, PlainFieldValue, in_order, number, placed, readings, stands_before, text}
 use Rattle.pol_record.specs.Objects.{fields_data, members_in, reading_data, value_data}
-use Rattle.pol_entries.specs.Ranges.{is_reading_in_range, is_value_in_range}
+use Rattle.pol_events.specs.FieldRanges.{is_reading_in_range, is_value_in_range}
 use Rattle.pol_retold.proofs.Exact.{IsSound}
 
 -- ---- numbers
@@ -60,7 +60,9 @@ negative_number n few =
 negative_sound : (n : ℕ) → n < 2 ^ 63 → IsSound (number_data (negative (negsuc n)))
 negative_sound n few =
     record {
-      utf8 = IsUtf8-append (45 ∷ []) (decimal (suc n)) (IsUtf8-are_ascii (45 ∷ []) refl) (decimal_utf8 (suc n) (omega arith));
+      utf8 =
+          IsUtf8-append (45 ∷ []) (decimal (suc n)) (IsUtf8-are_ascii (45 ∷ []) refl)
+          (decimal_utf8 (suc n) (omega arith));
       numbers = negative_number n few;
       again = ap (option_map number_data) (number_of-negative n few);
     }
@@ -154,7 +156,8 @@ fields_utf8 later (field ∷ fields) held =
     (fields_utf8 true fields held.1))))
 
 -- the numbers of fields in range are numbers
-fields_numbers : (fields : List PlainField) → AreInRange fields → MembersHaveNumbers (members_outline (members_in fields))
+fields_numbers : (fields : List PlainField) → AreInRange fields →
+    MembersHaveNumbers (members_outline (members_in fields))
 fields_numbers [] held = tt
 fields_numbers (field ∷ fields) held =
     let both = and_parts (is_name field.key) (is_value_in_range field.value) held.0 in
@@ -200,7 +203,8 @@ pub fields_sound : (fields : List PlainField) → AreInRange fields
 fields_sound fields held rising =
     let ordered = in_order_range fields held in
     record {
-      utf8 = IsUtf8-append (123 ∷ []) _ (IsUtf8-are_ascii (123 ∷ []) refl) (fields_utf8 false (in_order fields) ordered);
+      utf8 =
+          IsUtf8-append (123 ∷ []) _ (IsUtf8-are_ascii (123 ∷ []) refl) (fields_utf8 false (in_order fields) ordered);
       numbers = fields_numbers (in_order fields) ordered;
       again = rw (fields_again (in_order fields) no_members ordered, rising) refl;
     }

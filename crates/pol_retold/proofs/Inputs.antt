@@ -18,8 +18,10 @@ use Rattle.pol_history.specs.Looking.{History, is_accepted, is_accepted_of_batch
 use Rattle.pol_record.specs.Texts.{answer_data, batch_data, batch_object, batch_text, end_data, end_text, entry_line_text, entry_object, under_key}
 use Rattle.pol_audit.specs.Verdict.{closing_lines}
 use Rattle.pol_audit.proofs.Orderly.{all_turned}
+use Rattle.pol_jobs.specs.LineWork.{met}
+use Rattle.pol_jobs.proofs.Meeting.{met_by_length}
 use Rattle.pol_site.specs.Texts.{is_filled}
-use Rattle.pol_retold.specs.Inputs.{InputsAreGood, IsShortLine, line_read, lines_read, run_text}
+use Rattle.pol_retold.specs.Inputs.{InputsAreGood, IsShortLine, lines_read, run_text}
 use Rattle.pol_retold.specs.Retold.{AreGood, entry_text, run_lines, short_lines, with_feed}
 use Rattle.pol_retold.proofs.Feeds.{text_no_feed}
 use Rattle.pol_retold.proofs.Good.{plants_good}
@@ -39,7 +41,8 @@ still_started entry history batch was = go (is_accepted_of_batch batch entry)
     by None = was
     by (Some started) = refl
 
-    go : (its : Bool) → is_some (start_by (if its then entry ∷ past_of_batch batch history else past_of_batch batch history))
+    go : (its : Bool) →
+        is_some (start_by (if its then entry ∷ past_of_batch batch history else past_of_batch batch history))
         ≡ true
     go true = by (starting entry.event)
     go false = was
@@ -170,9 +173,14 @@ first_read : (text rest : List ℕ) → has_no_feed text ≡ true → list_all i
     → length text ≤ LONGEST_LINE → lines_read (with_feed text ++ rest) ≡ Some text ∷ lines_read rest
 first_read text rest none filled short =
     ap lines_read (append_assoc text (10 ∷ []) rest)
-    ∙ ap (λ found. map line_read (filter is_filled (map line_of found))) (pieces_feed text rest none)
-    ∙ ap (λ line. map line_read (filter is_filled (line ∷ map line_of (pieces rest)))) (sym (line_of_feed text none))
-    ∙ rw (le-ltb LONGEST_LINE (length text) short, filled, le-ltb LONGEST_LINE (length text) short) refl
+    ∙ ap (λ found. map met (filter is_filled (map line_of found))) (pieces_feed text rest none)
+    ∙ ap (λ line. map met (filter is_filled (line ∷ map line_of (pieces rest)))) (sym (line_of_feed text none))
+    ∙ rw (
+      le-ltb LONGEST_LINE (length text) short,
+      filled,
+      met_by_length text,
+      le-ltb LONGEST_LINE (length text) short,
+    ) refl
 
 -- short lines are read as their texts
 all_read : (lines : List (List ℕ)) → AllByRecursion IsLine lines → AllByRecursion IsShortLine lines → AreRead lines

@@ -63,7 +63,8 @@ read_other keys (json.member key inner further) members found other is =
     go (of_json inner) is
     (λ value. read_other keys further (put key value members) found (put_other keys key value members other))
   where
-    go : (value : Option Data) → option_and_then (λ value. of_members further (put key value members)) value ≡ Some found
+    go : (value : Option Data) →
+        option_and_then (λ value. of_members further (put key value members)) value ≡ Some found
         → ((value : Data) → of_members further (put key value members) ≡ Some found → all_listed keys found ≡ false)
         → all_listed keys found ≡ false
     go None is later = absurd cc
@@ -134,7 +135,8 @@ form_other : (value : Data) → HasOther entry_keys value → result_ok (of_line
 unfolding entry_form
 form_other value has =
     rw has.is
-    (by (nested (codes "answer") answer_form (object has.members)) (nested (codes "event") event_in (object has.members)))
+    (by (nested (codes "answer") answer_form (object has.members))
+    (nested (codes "event") event_in (object has.members)))
   where
     refused : nothing_but entry_keys (object has.members) ≡ here (Err Unknown)
     refused = rw has.other refl
@@ -159,7 +161,8 @@ not_entry key text other begins = go (is_utf8 text)
     by None is = refl
     by (Some value) is = form_other value (reads_other entry_keys key text value other begins is)
 
-    go : (utf8 : Bool) → result_ok (of_line (here (if utf8 then or_not_json (read text) else Err NotJson) >>= entry_form))
+    go : (utf8 : Bool) →
+        result_ok (of_line (here (if utf8 then or_not_json (read text) else Err NotJson) >>= entry_form))
         ≡ None
     go true = by (read text) refl
     go false = refl

@@ -5,8 +5,7 @@ mod Good
 mod Exact
 mod Fields
 mod Answers
-mod Entries
+pub mod Entries
 mod Feeds
-mod Replayed
-mod Inputs
-mod Events
+pub mod Replayed
+pub mod Inputs

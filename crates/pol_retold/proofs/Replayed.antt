@@ -8,7 +8,7 @@ use Rattle.pol_io.specs.declared.limits.TheConstants.{LONGEST_LINE}
 use Rattle.pol_io.proofs.Pieces.{line_of_feed, pieces_feed}
 use Rattle.pol_events.specs.Events.{PlainEntry, PlainEvent, unplug}
 use Rattle.pol_events.specs.Lines.{is_blank_byte}
-use Rattle.pol_events.specs.Written.{written_batch, written_desk, written_event, written_exchange_cancel, written_exchange_end, written_plug, written_recipe, written_report, start_with, written_tag, written_variable}
+use Rattle.pol_events.specs.Written.{written_batch, written_desk, written_event, written_exchange_cancel, written_exchange_end, written_plug, written_recipe, written_report, start_with, written_tag, written_variable, written_freeze}
 use Rattle.pol_events.specs.declared.answer.Answer.{Answer}
 use Rattle.pol_history.specs.Looking.{History}
 use Rattle.pol_history.specs.Runs.{IsLegal, entry_of, history_after, recorded, recorded_all, run_after}
@@ -52,7 +52,7 @@ runs_again history (entry ∷ later) legal =
 -- an event's text begins with a brace
 first_byte : (event : PlainEvent) → list_all is_blank_byte (compact_text (written_event event)) ≡ false
 unfolding written_plug written_tag written_report written_variable written_desk written_exchange_end
-    written_exchange_cancel written_recipe start_with written_batch
+    written_exchange_cancel written_recipe start_with written_batch written_freeze
 first_byte (unplug at tag) = refl
 first_byte _ = refl
 

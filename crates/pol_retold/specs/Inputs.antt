@@ -1,25 +1,21 @@
 -- The bytes that are written of a history, and the lines that an audit reads of an input.
-use Rattle.std.specs.Prelude.{◌≤◌, ℕ, suc, List, ◌++◌, length, map, reverse, None, Some, if◌then◌else◌}
+use Rattle.std.specs.Prelude.{◌≤◌, ℕ, suc, List, ◌++◌, length, map, reverse}
 use Rattle.std.specs.List.{AllByRecursion, flat_map}
 use Rattle.pol_io.specs.declared.limits.TheConstants.{LONGEST_LINE}
 use Rattle.pol_history.specs.Looking.{History}
 use Rattle.pol_history.specs.Runs.{IsLegal}
 use Rattle.pol_record.specs.Lines.{closing_text}
 use Rattle.pol_record.specs.Texts.{entry_line_text}
-use Rattle.pol_audit.specs.Verdict.{Line}
 use Rattle.pol_audit.specs.declared.judging.TheConstants.{MOST_JUDGED}
-use Rattle.pol_site.specs.Texts.{filled_lines, is_long}
+use Rattle.pol_jobs.specs.LineWork.{Line, met}
+use Rattle.pol_site.specs.Texts.{filled_lines}
 use Rattle.pol_retold.specs.Retold.{AreGood, IsRetold, run_lines}
 
 -- ---- what is read
 
--- a line that isn't blank, as it is read: one that is too long is told as such
-abbrev pub line_read : List ℕ → Line
-line_read line = if is_long line then None else Some line
-
--- the lines of an input that aren't blank
+-- the lines of an input that aren't blank, as a job meets them
 abbrev pub lines_read : List ℕ → List Line
-lines_read bytes = map line_read (filled_lines bytes)
+lines_read bytes = map met (filled_lines bytes)
 
 -- ---- what is written
 

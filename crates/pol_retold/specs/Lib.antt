@@ -1,4 +1,4 @@
 pub mod Retold
 pub mod Inputs
 pub mod Replayed
-pub mod Exact
+pub mod Told

@@ -5,16 +5,10 @@
 //! It knows nothing of how a history came about, nor of who writes it.
 #![tactic(auto)]
 
-ghost use Rattle.std.specs.Prelude.{IfOk, IsTrue};
-ghost use Rattle.pol_events.specs.Events.{plain_event};
-ghost use Rattle.pol_events.specs.Orderly.{is_orderly};
-ghost use Rattle.pol_retold.specs.Exact.{AnswersAreExact, AnswersAreRetold, EntriesAreRetold, IsWritten};
 ghost use Rattle.pol_retold.specs.Inputs.{InputsAreGood};
 ghost use Rattle.pol_retold.specs.Replayed.{ReplaysAnswer};
 ghost use Rattle.pol_retold.specs.Retold.{PlantsAreGood};
-
-use pol_events::{Event, event_value};
-use std::alloc::{AllocError, Global};
+ghost use Rattle.pol_retold.specs.Told.{AnswersAreExact, AnswersAreRetold, EntriesAreRetold};
 
 /// The lines that are written of a legal history of at most 20,000 entries say its entries, and the verdict over them
 /// is good.
@@ -47,16 +41,3 @@ pub fn answers_are_retold()
 pub fn entries_are_retold()
     ensures { EntriesAreRetold }
 {}
-
-/// The text of an event, without a line feed. The event has to be one that a line can say.
-///
-/// # Errors
-///
-/// Where there is no memory.
-pub fn event_text(alloc: Global, event: &Event) -> Result<Vec<u8>, AllocError>
-    requires { IsTrue (is_orderly (plain_event event.now)) }
-    ensures { IfOk result (λ _. IsWritten (plain_event event.now)) }
-{
-    let value = event_value(alloc, event)?;
-    value.to_vec(alloc)
-}

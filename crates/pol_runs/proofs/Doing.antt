@@ -19,14 +19,17 @@ use Rattle.chart_core.specs.declared.chart.Chart.{Chart}
 use Rattle.chart_core.specs.declared.entry.LogEntry.{LogEntry}
 use Rattle.chart_core.specs.declared.entry.LogEntry.TheVariants.{Stop, Broke, Left, StopAsked}
 use Rattle.chart_core.specs.declared.next.Next.{Next}
-use Rattle.chart_core.specs.declared.next.Next.TheVariants.{Did}
+use Rattle.chart_core.specs.declared.next.Next.TheVariants.{Did, Waiting}
 use Rattle.chart_core.specs.declared.progress.Progress.{Progress}
 use Rattle.chart_core.proofs.Few.{few_nodes}
 use Rattle.chart_core.proofs.Logs.{stands_is_partial}
 use Rattle.chart_core.proofs.Validity.{steps_rise}
 use Rattle.chart_cursor.specs.Logs.{chart_entries, active, is_broke, has_broken, was_stopped}
 use Rattle.chart_cursor.specs.Next.{next_after}
-use Rattle.chart_cursor.specs.NextEntry.{stop_step, stop_next, is_broken_state, broken_step, first_broken, run_next, broke_or, next_by}
+use Rattle.chart_cursor.specs.NextEntry.{stop_step, stop_next, is_broken_state, broken_step, first_broken, first_hold, unasked, owed, first_unhold, unless_whole, run_next, did_or, unfrozen_next, next_by}
+use Rattle.chart_cursor.specs.Freezing.{Freezing, thawed, waiting, holding}
+use Rattle.chart_core.specs.declared.why.Why.TheVariants.{Frozen}
+use Rattle.chart_cursor.proofs.HoldSources.{hold_from, unhold_from}
 use Rattle.chart_cursor.specs.Running.{is_wanted, running_step, first_placed}
 use Rattle.chart_cursor.specs.Sights.{Sights, tag_of}
 use Rattle.chart_cursor.specs.declared.next.CursorNext.{CursorNext}
@@ -36,12 +39,17 @@ use Rattle.chart_cursor.specs.declared.sight.Sight.{Sight}
 use Rattle.chart_cursor.specs.declared.sight.Sight.TheVariants as sight
 use Rattle.chart_cursor.proofs.Commanding.{next_of_run}
 use Rattle.chart_cursor.proofs.Keeping.{keeps_the_run}
-use Rattle.pol_runs.specs.Logs.{Follows}
+use Rattle.pol_runs.specs.Freezes.{freezing}
+use Rattle.pol_runs.specs.Holds.{PlainHolds, AreHeld, Moves, is_hold}
+use Rattle.pol_runs.specs.Logs.{Follows, Proceeds}
+use Rattle.pol_runs.specs.declared.freeze.Freeze.TheVariants.{Thawed}
 use Rattle.pol_runs.specs.Runs.{PlainRun, from_of, is_breaking, is_stopping}
 use Rattle.pol_runs.specs.Stopping.{behind}
 use Rattle.pol_runs.specs.declared.course.Course.{Course}
 use Rattle.pol_runs.specs.declared.course.Course.TheVariants.{Running, Breaking, Stopping}
-use Rattle.pol_runs.proofs.Growing.{first_found, rise_member, Leaves, by_leaving, by_run, by_turn}
+use Rattle.chart_core.proofs.StepNumbers.{rise_member}
+use Rattle.pol_runs.proofs.Grown.{held_pushed, held_moves, hold_quiet}
+use Rattle.pol_runs.proofs.Growing.{first_found, Leaves, by_leaving, by_run, by_silence, by_turn}
 use Rattle.pol_runs.proofs.Nexts.{first_active}
 use Rattle.pol_runs.proofs.Wanted.{first_step, wanted_first}
 
@@ -62,18 +70,32 @@ found_small chart word from found valid is =
 
 -- ---- what an entry that comes next is
 
--- what comes next, where the batch isn't frozen
-abbrev unfrozen : PlainChart → List LogEntry → Sights → Bool → Next
-unfrozen chart log seen halts =
-    cond halts (stop_next seen (has_broken log) (active chart log))
-    (broke_or (first_broken seen (active chart log)) (run_next (next_after chart (chart_entries log) seen)))
+-- a batch does a Hold only where it is frozen
+hold_said : (seen : Sights) (each : List PlainStep) (found : Option LogEntry) (entry : LogEntry) (waits : Next) →
+    first_hold seen each ≡ found → is_hold entry ≡ false → (Did entry ≡ waits → ⊥) → Did entry ≡ did_or found waits → ⊥
+hold_said seen each None entry waits found other never is = never is
+hold_said seen each (Some first) entry waits found other never is =
+    let hold = hold_from seen each first found in
+    let same : first ≡ entry = cc in
+    let clash : true ≡ false = sym (ap is_hold hold.is) ∙ ap is_hold same ∙ other in cc
 
--- a batch that does an entry isn't frozen
-thawed_said : (chart : PlainChart) (frozen : Bool) (log : List LogEntry) (seen : Sights) (entry : LogEntry) →
-    Did entry ≡ next_by chart frozen log seen →
-    Did entry ≡ unfrozen chart log seen (has_broken log || was_stopped log)
-thawed_said chart true log seen entry is = cc
-thawed_said chart false log seen entry is = is
+-- a batch that does another entry isn't frozen
+thawed_said : (chart : PlainChart) (freezing : Freezing) (log : List LogEntry) (seen : Sights) (entry : LogEntry) →
+    is_hold entry ≡ false → Did entry ≡ next_by chart freezing log seen →
+    Did entry ≡ unfrozen_next chart log seen
+thawed_said chart thawed log seen entry other is = is
+thawed_said chart waiting log seen entry other is = cc
+thawed_said chart (holding asked) log seen entry other is =
+    absurd (hold_said seen (unasked asked (active chart log)) (first_hold seen (unasked asked (active chart log))) entry
+    (Waiting Frozen) refl other (λ same. cc) is)
+
+-- what an unfrozen batch does next, by whether it is stopped
+abbrev halted : PlainChart → List LogEntry → Sights → Bool → Next
+halted chart log seen halts =
+    cond halts (stop_next seen (has_broken log) (active chart log))
+    (did_or (first_broken seen (active chart log))
+    (run_next (unless_whole (first_unhold seen (owed seen log (active chart log)))
+    (next_after chart (chart_entries log) seen))))
 
 run_said : (next : CursorNext) (entry : LogEntry) → Did entry ≡ run_next next → next ≡ Entry entry
 run_said (Entry other) entry is = let same : other ≡ entry = cc in ap Entry same
@@ -104,24 +126,37 @@ first_is seen (step ∷ each) entry is =
     go None found is rest = rest is
     go (Some other) found is rest = broken_is step (seen.view step.role step.service) entry (found ∙ is)
 
-broke_said : (seen : Sights) (each : List PlainStep) (found : Option LogEntry) (next : CursorNext) (entry : LogEntry) →
-    first_broken seen each ≡ found → is_broke entry ≡ false → Did entry ≡ broke_or found (run_next next) →
+-- an entry that is no Unhold comes next in the chart's run
+unhold_said : (seen : Sights) (each : List PlainStep) (found next : CursorNext) (entry : LogEntry) →
+    first_unhold seen each ≡ found → is_hold entry ≡ false → Did entry ≡ run_next (unless_whole found next) →
     next ≡ Entry entry
-broke_said seen each None next entry found quiet is = run_said next entry is
+unhold_said seen each (Entry first) next entry found other is =
+    let unhold = unhold_from seen each first found in
+    let same : first ≡ entry = cc in
+    let clash : true ≡ false = sym (ap is_hold unhold.is) ∙ ap is_hold same ∙ other in cc
+unhold_said seen each (Wait obstacle) next entry found other is = cc
+unhold_said seen each Whole next entry found other is = run_said next entry is
+
+-- an entry that isn't that the batch broke, is what comes where no step broke
+broke_said : (seen : Sights) (each : List PlainStep) (found : Option LogEntry) (next : Next) (entry : LogEntry) →
+    first_broken seen each ≡ found → is_broke entry ≡ false → Did entry ≡ did_or found next → Did entry ≡ next
+broke_said seen each None next entry found quiet is = is
 broke_said seen each (Some other) next entry found quiet is =
     let same : other ≡ entry = cc in
     let clash : true ≡ false = sym (first_is seen each entry (found ∙ ap Some same)) ∙ quiet in cc
 
--- in a batch that runs on, it is the entry that comes next in the chart's run, where it isn't Broke
-pub said_in_run : (chart : PlainChart) (frozen : Bool) (log : List LogEntry) (seen : Sights) (entry : LogEntry) →
-    has_broken log ≡ false → was_stopped log ≡ false → is_broke entry ≡ false →
-    Did entry ≡ next_by chart frozen log seen →
+-- in a batch that runs on, it is the entry that comes next in the chart's run, where it isn't Broke, Hold or Unhold
+pub said_in_run : (chart : PlainChart) (freezing : Freezing) (log : List LogEntry) (seen : Sights) (entry : LogEntry) →
+    has_broken log ≡ false → was_stopped log ≡ false → is_hold entry ≡ false → is_broke entry ≡ false →
+    Did entry ≡ next_by chart freezing log seen →
     next_after chart (chart_entries log) seen ≡ Entry entry
-said_in_run chart frozen log seen entry broke stopped quiet is =
+said_in_run chart freezing log seen entry broke stopped other quiet is =
     let halts : has_broken log || was_stopped log ≡ false = ap (λ broke. broke || was_stopped log) broke ∙ stopped in
-    broke_said seen (active chart log) (first_broken seen (active chart log))
-    (next_after chart (chart_entries log) seen) entry refl quiet
-    (thawed_said chart frozen log seen entry is ∙ ap (unfrozen chart log seen) halts)
+    let owed_steps = owed seen log (active chart log) in
+    unhold_said seen owed_steps (first_unhold seen owed_steps)
+    (next_after chart (chart_entries log) seen) entry refl other
+    (broke_said seen (active chart log) (first_broken seen (active chart log)) _ entry refl quiet
+    (thawed_said chart freezing log seen entry other is ∙ ap (halted chart log seen) halts))
 
 -- in a batch that is stopped it stops or leaves the first active step
 pub record IsLeft (found : Option RunningStep) (entry : LogEntry) : Type 0 where
@@ -158,18 +193,20 @@ first_said seen broken (placed ∷ each) entry is =
       leaves = stop_said step.name step.service (tag_of seen step.role) (seen.view step.role step.service) entry is;
     }
 
-pub said_in_stop : (chart : PlainChart) (frozen : Bool) (log : List LogEntry) (seen : Sights) (entry : LogEntry) →
-    has_broken log || was_stopped log ≡ true → Did entry ≡ next_by chart frozen log seen →
+-- where a batch broke or was stopped, the entry that comes leaves its first active step, unless a hold comes before
+pub said_in_stop : (chart : PlainChart) (freezing : Freezing) (log : List LogEntry) (seen : Sights) (entry : LogEntry) →
+    has_broken log || was_stopped log ≡ true → is_hold entry ≡ false → Did entry ≡ next_by chart freezing log seen →
     IsLeft (first_step (active_steps chart log)) entry
-said_in_stop chart frozen log seen entry halts is =
+said_in_stop chart freezing log seen entry halts other is =
     first_said seen (has_broken log) (active_steps chart log) entry
-    (thawed_said chart frozen log seen entry is ∙ ap (unfrozen chart log seen) halts)
+    (thawed_said chart freezing log seen entry other is ∙ ap (halted chart log seen) halts)
 
 -- ---- the entry is done
 
 -- it is what comes next after the log
-abbrev pub ComesAfter : PlainRun → Sights → LogEntry → List LogEntry → Type 0
-ComesAfter run seen entry log = Did entry ≡ next_by (plain_chart run.chart) run.frozen log seen
+abbrev pub ComesAfter : PlainRun → Sights → LogEntry → List LogEntry → List (List ℕ) → Type 0
+ComesAfter run seen entry log asked =
+    Did entry ≡ next_by (plain_chart run.chart) (freezing run.freeze asked) log seen
 
 -- an entry that isn't Broke
 abbrev pub IsNoBroke : LogEntry → Type 0
@@ -179,87 +216,133 @@ not_broke : (entry : LogEntry) → IsNoBroke entry → is_broke entry ≡ false
 not_broke (Broke step state) other = absurd (other step state refl)
 not_broke _ other = refl
 
--- the entry that comes next in the chart's run goes on with a partial run
-goes_on : (run : PlainRun) (log : List LogEntry) (seen : Sights) (entry : LogEntry) → IsValid (plain_chart run.chart) →
-    run.course ≡ Running → is_broke entry ≡ false → Follows run log → ComesAfter run seen entry log →
-    (is_some (chart_entry entry) ≡ true) × IsPartial (plain_chart run.chart) (chart_entries log ++ entry ∷ [])
-goes_on run log seen entry valid is quiet follows said =
-    let next =
-    said_in_run (plain_chart run.chart) run.frozen log seen entry (follows.broke ∙ ap is_breaking is)
-    (follows.stopped ∙ ap is_stopping is) quiet said in
-    let partial = stands_is_partial (plain_chart run.chart) run.marks (chart_entries log) valid follows.marks in (
-      next_of_run (plain_chart run.chart) (chart_entries log) seen entry next,
-      keeps_the_run (plain_chart run.chart) (chart_entries log) seen entry valid partial next,
-    )
+module _ (run : PlainRun) (log : List LogEntry) (asked : List (List ℕ)) (seen : Sights) (entry : LogEntry)
+    (valid : IsValid (plain_chart run.chart)) (proceeds : Proceeds run log)
+    (said : ComesAfter run seen entry log asked) (other : is_hold entry ≡ false) where
+  -- the entry that comes next in the chart's run goes on with a partial run
+  goes_on : run.course ≡ Running → is_broke entry ≡ false →
+      (is_some (chart_entry entry) ≡ true) × IsPartial (plain_chart run.chart) (chart_entries log ++ entry ∷ [])
+  goes_on is quiet =
+      let next =
+      said_in_run (plain_chart run.chart) (freezing run.freeze asked) log seen entry
+      (proceeds.broke ∙ ap is_breaking is) (proceeds.stopped ∙ ap is_stopping is) other quiet said in
+      let partial = stands_is_partial (plain_chart run.chart) run.marks (chart_entries log) valid proceeds.marks in (
+        next_of_run (plain_chart run.chart) (chart_entries log) seen entry next,
+        keeps_the_run (plain_chart run.chart) (chart_entries log) seen entry valid partial next,
+      )
 
-pub may_go : (run : PlainRun) (log : List LogEntry) (seen : Sights) (entry : LogEntry)
-    → IsValid (plain_chart run.chart) →
-    run.course ≡ Running → IsNoBroke entry → Follows run log → ComesAfter run seen entry log →
-    IsPartial (plain_chart run.chart) (chart_entries log ++ entry ∷ [])
-may_go run log seen entry valid is other follows said =
-    (goes_on run log seen entry valid is (not_broke entry other) follows said).1
+  pub may_go : run.course ≡ Running → IsNoBroke entry →
+      IsPartial (plain_chart run.chart) (chart_entries log ++ entry ∷ [])
+  may_go is no_broke = (goes_on is (not_broke entry no_broke)).1
 
--- the chart's run goes on
-pub by_going : (run : PlainRun) (log : List LogEntry) (seen : Sights) (entry : LogEntry) (chart : Chart)
-    (marks : List Progress) →
-    IsValid (plain_chart run.chart) → run.course ≡ Running → IsNoBroke entry → chart ≡ run.chart →
-    ((word : List LogEntry) → StandsFor (plain_chart run.chart) run.marks word →
-    StandsFor (plain_chart chart) marks (word ++ entry ∷ [])) →
-    Follows run log → ComesAfter run seen entry log →
-    Follows (record run { chart = chart; marks = marks }) (log ++ entry ∷ [])
-by_going run log seen entry chart marks valid is other same takes follows said =
-    subst (λ chart. Follows (record run { chart = chart; marks = marks }) (log ++ entry ∷ [])) (sym same)
-    (by_run run log entry marks is (goes_on run log seen entry valid is (not_broke entry other) follows said).0 follows
-    (subst (λ chart. StandsFor (plain_chart chart) marks (chart_entries log ++ entry ∷ [])) same
-    (takes (chart_entries log) follows.marks)))
+  -- the chart's run goes on
+  by_going : (chart : Chart) (marks : List Progress) → run.course ≡ Running → IsNoBroke entry →
+      chart ≡ run.chart → ((word : List LogEntry) → StandsFor (plain_chart run.chart) run.marks word →
+      StandsFor (plain_chart chart) marks (word ++ entry ∷ [])) →
+      Proceeds (record run { chart = chart; marks = marks }) (log ++ entry ∷ [])
+  by_going chart marks is no_broke same takes =
+      subst (λ chart. Proceeds (record run { chart = chart; marks = marks }) (log ++ entry ∷ [])) (sym same)
+      (by_run run log entry marks is (goes_on is (not_broke entry no_broke)).0 proceeds
+      (subst (λ chart. StandsFor (plain_chart chart) marks (chart_entries log ++ entry ∷ [])) same
+      (takes (chart_entries log) proceeds.marks)))
+
+  -- a batch that is stopped goes on being stopped
+  by_stop : (course : Course) → is_breaking run.course || is_stopping run.course ≡ true →
+      is_breaking course ≡ is_breaking run.course → is_stopping course ≡ is_stopping run.course →
+      from_of course ≡ behind (from_of run.course) (first_placed (is_wanted (from_of run.course) None)
+      (active_steps (plain_chart run.chart) (chart_entries log))) →
+      Proceeds (record run { course = course }) (log ++ entry ∷ [])
+  by_stop course halts breaks asks from =
+      let stops : has_broken log || was_stopped log ≡ true = rw (proceeds.broke, proceeds.stopped) halts in
+      let left = said_in_stop (plain_chart run.chart) (freezing run.freeze asked) log seen entry stops other said in
+      by_leaving run log entry left.step course valid left.is left.leaves breaks asks
+      (from ∙ ap (behind (from_of run.course)) (first_active run log proceeds ∙ left.is)) proceeds
 
 -- the batch breaks
-pub by_breaking : (run : PlainRun) (log : List LogEntry) (entry : LogEntry) (step : List ℕ) (state : State) →
-    run.course ≡ Running → entry ≡ Broke step state → Follows run log →
-    Follows (record run { course = Breaking 0 }) (log ++ entry ∷ [])
-by_breaking run log entry step state is same follows =
-    subst (λ entry. Follows (record run { course = Breaking 0 }) (log ++ entry ∷ [])) (sym same)
-    (by_turn run log (Broke step state) (Breaking 0) is refl (λ name. refl) refl refl refl follows)
+by_breaking : (run : PlainRun) (log : List LogEntry) (entry : LogEntry) (step : List ℕ) (state : State) →
+    run.course ≡ Running → entry ≡ Broke step state → Proceeds run log →
+    Proceeds (record run { course = Breaking 0 }) (log ++ entry ∷ [])
+by_breaking run log entry step state is same proceeds =
+    subst (λ entry. Proceeds (record run { course = Breaking 0 }) (log ++ entry ∷ [])) (sym same)
+    (by_turn run log (Broke step state) (Breaking 0) is refl (λ name. refl) refl refl refl proceeds)
 
 -- it is to be stopped
-pub by_asking : (run : PlainRun) (log : List LogEntry) (frozen : Bool) → run.course ≡ Running → Follows run log →
-    Follows (record run { frozen = frozen; course = Stopping 0 }) (log ++ StopAsked ∷ [])
-by_asking run log frozen is follows =
-    let grown = by_turn run log StopAsked (Stopping 0) is refl (λ name. refl) refl refl refl follows in
-    record { marks = grown.marks; broke = grown.broke; stopped = grown.stopped; active = grown.active }
+pub by_asking : (run : PlainRun) (log : List LogEntry) → run.course ≡ Running → Follows run log →
+    Follows (record run { freeze = Thawed; course = Stopping 0 }) (log ++ StopAsked ∷ [])
+by_asking run log is follows =
+    let grown = by_turn run log StopAsked (Stopping 0) is refl (λ name. refl) refl refl refl follows.proceeds in
+    record {
+      proceeds = record { marks = grown.marks; broke = grown.broke; stopped = grown.stopped; active = grown.active };
+      held = λ placed inside. held_pushed log StopAsked placed.step.name ∙ follows.held placed inside;
+    }
 
--- the number behind the first active step of the course, by the entries of the chart's run
-abbrev pub behind_first : PlainRun → List LogEntry → Course → ℕ
-behind_first run log course =
-    behind (from_of course)
-    (first_placed (is_wanted (from_of course) None) (active_steps (plain_chart run.chart) (chart_entries log)))
+-- ---- the flags move with the entry
 
--- a batch that is stopped goes on being stopped
-pub by_stop : (run : PlainRun) (log : List LogEntry) (seen : Sights) (entry : LogEntry) (course : Course) →
-    IsValid (plain_chart run.chart) →
-    is_breaking run.course || is_stopping run.course ≡ true → is_breaking course ≡ is_breaking run.course →
-    is_stopping course ≡ is_stopping run.course → from_of course ≡ behind_first run log run.course →
-    Follows run log → ComesAfter run seen entry log → Follows (record run { course = course }) (log ++ entry ∷ [])
-by_stop run log seen entry course valid halts breaks asked from follows said =
-    let stops : has_broken log || was_stopped log ≡ true = rw (follows.broke, follows.stopped) halts in
-    let left = said_in_stop (plain_chart run.chart) run.frozen log seen entry stops said in
-    by_leaving run log entry left.step course valid left.is left.leaves breaks asked
-    (from ∙ ap (behind (from_of run.course)) (first_active run log follows ∙ left.is)) follows
+-- a run that has come so far stands for the log, with flags that tell which steps were held
+with_holds : (run : PlainRun) (log : List LogEntry) (holds : PlainHolds) → Proceeds run log →
+    AreHeld (plain_chart run.chart) holds log → Follows (record run { holds = holds }) log
+with_holds run log holds proceeds held =
+    record {
+      proceeds = record {
+        marks = proceeds.marks;
+        broke = proceeds.broke;
+        stopped = proceeds.stopped;
+        active = proceeds.active;
+      };
+      held = held;
+    }
 
--- so does one that broke
-pub by_breaking_stop : (run : PlainRun) (log : List LogEntry) (seen : Sights) (entry : LogEntry) (from after : ℕ) →
-    IsValid (plain_chart run.chart) → run.course ≡ Breaking from → after ≡ behind_first run log (Breaking from) →
-    Follows run log →
-    ComesAfter run seen entry log → Follows (record run { course = Breaking after }) (log ++ entry ∷ [])
-by_breaking_stop run log seen entry from after valid is found follows said =
-    by_stop run log seen entry (Breaking after) valid (ap (λ course. is_breaking course || is_stopping course) is)
-    (ap is_breaking (sym is)) (ap is_stopping (sym is)) (found ∙ ap (behind_first run log) (sym is)) follows said
+module _ (run : PlainRun) (log : List LogEntry) (entry : LogEntry) (holds : PlainHolds)
+    (moves : Moves (plain_chart run.chart) entry run.holds holds) (follows : Follows run log) where
+  held_after : AreHeld (plain_chart run.chart) holds (log ++ entry ∷ [])
+  held_after = held_moves (plain_chart run.chart) log entry run.holds holds moves follows.held
 
--- and one that was to be stopped
-pub by_stopping_stop : (run : PlainRun) (log : List LogEntry) (seen : Sights) (entry : LogEntry) (from after : ℕ) →
-    IsValid (plain_chart run.chart) → run.course ≡ Stopping from → after ≡ behind_first run log (Stopping from) →
-    Follows run log →
-    ComesAfter run seen entry log → Follows (record run { course = Stopping after }) (log ++ entry ∷ [])
-by_stopping_stop run log seen entry from after valid is found follows said =
-    by_stop run log seen entry (Stopping after) valid (ap (λ course. is_breaking course || is_stopping course) is)
-    (ap is_breaking (sym is)) (ap is_stopping (sym is)) (found ∙ ap (behind_first run log) (sym is)) follows said
+  -- a step is held or unheld
+  pub holds_on : is_hold entry ≡ true → Follows (record run { holds = holds }) (log ++ entry ∷ [])
+  holds_on is =
+      let quiet = hold_quiet entry is in
+      with_holds run (log ++ entry ∷ []) holds
+      (by_silence run log entry quiet.0 quiet.1 quiet.2 quiet.3 follows.proceeds) held_after
+
+  -- the batch breaks
+  pub breaks_off : (step : List ℕ) (state : State) → run.course ≡ Running → entry ≡ Broke step state →
+      Follows (record run { holds = holds; course = Breaking 0 }) (log ++ entry ∷ [])
+  breaks_off step state is same =
+      with_holds (record run { course = Breaking 0 }) (log ++ entry ∷ []) holds
+      (by_breaking run log entry step state is same follows.proceeds) held_after
+
+  -- the chart's run goes on, or a step is stopped or left
+  module _ (asked : List (List ℕ)) (seen : Sights) (valid : IsValid (plain_chart run.chart))
+      (said : ComesAfter run seen entry log asked) (other : is_hold entry ≡ false) where
+    pub goes_further : (chart : Chart) (marks : List Progress) → run.course ≡ Running → IsNoBroke entry →
+        chart ≡ run.chart → ((word : List LogEntry) → StandsFor (plain_chart run.chart) run.marks word →
+        StandsFor (plain_chart chart) marks (word ++ entry ∷ [])) →
+        Follows (record run { chart = chart; marks = marks; holds = holds }) (log ++ entry ∷ [])
+    goes_further chart marks is no_broke same takes =
+        with_holds (record run { chart = chart; marks = marks }) (log ++ entry ∷ []) holds
+        (by_going run log asked seen entry valid follows.proceeds said other chart marks is no_broke same takes)
+        (subst (λ chart. AreHeld (plain_chart chart) holds (log ++ entry ∷ [])) (sym same) held_after)
+
+    pub breaks_on : (from after : ℕ) → run.course ≡ Breaking from →
+        after ≡ behind from (first_placed (is_wanted from None)
+        (active_steps (plain_chart run.chart) (chart_entries log))) →
+        Follows (record run { holds = holds; course = Breaking after }) (log ++ entry ∷ [])
+    breaks_on from after is found =
+        with_holds (record run { course = Breaking after }) (log ++ entry ∷ []) holds
+        (by_stop run log asked seen entry valid follows.proceeds said other (Breaking after)
+        (ap (λ course. is_breaking course || is_stopping course) is) (ap is_breaking (sym is))
+        (ap is_stopping (sym is))
+        (found ∙ ap (λ course. behind (from_of course) (first_placed (is_wanted (from_of course) None)
+        (active_steps (plain_chart run.chart) (chart_entries log)))) (sym is))) held_after
+
+    pub stops_on : (from after : ℕ) → run.course ≡ Stopping from →
+        after ≡ behind from (first_placed (is_wanted from None)
+        (active_steps (plain_chart run.chart) (chart_entries log))) →
+        Follows (record run { holds = holds; course = Stopping after }) (log ++ entry ∷ [])
+    stops_on from after is found =
+        with_holds (record run { course = Stopping after }) (log ++ entry ∷ []) holds
+        (by_stop run log asked seen entry valid follows.proceeds said other (Stopping after)
+        (ap (λ course. is_breaking course || is_stopping course) is) (ap is_breaking (sym is))
+        (ap is_stopping (sym is))
+        (found ∙ ap (λ course. behind (from_of course) (first_placed (is_wanted (from_of course) None)
+        (active_steps (plain_chart run.chart) (chart_entries log)))) (sym is))) held_after

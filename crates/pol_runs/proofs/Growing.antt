@@ -17,12 +17,13 @@ use Rattle.chart_core.specs.Valid.{IsValid}
 use Rattle.chart_core.specs.declared.entry.LogEntry.{LogEntry}
 use Rattle.chart_core.specs.declared.progress.Progress.{Progress}
 use Rattle.chart_core.proofs.Lawful.{member_cases, names_tell_steps}
+use Rattle.chart_core.proofs.StepNumbers.{rise_member}
 use Rattle.chart_core.proofs.Validity.{Rise, steps_rise}
 use Rattle.chart_cursor.specs.Logs.{chart_entries, is_broke, is_stop_asked}
 use Rattle.chart_cursor.specs.Running.{running_step}
 use Rattle.chart_cursor.specs.declared.running.RunningStep.{RunningStep}
 use Rattle.pol_events.proofs.Lists.{member_first, member_later}
-use Rattle.pol_runs.specs.Logs.{Follows}
+use Rattle.pol_runs.specs.Logs.{Proceeds}
 use Rattle.pol_runs.specs.Runs.{PlainRun, from_of, is_breaking, is_stopping}
 use Rattle.pol_runs.specs.declared.course.Course.{Course}
 use Rattle.pol_runs.specs.declared.course.Course.TheVariants.{Running}
@@ -34,14 +35,14 @@ use Rattle.pol_runs.proofs.Wanted.{first_step, from_zero}
 
 -- the run whose marks stand for the entries with this one stands for the log with it
 pub by_run : (run : PlainRun) (log : List LogEntry) (entry : LogEntry) (marks : List Progress) → run.course ≡ Running →
-    is_some (chart_entry entry) ≡ true → Follows run log →
+    is_some (chart_entry entry) ≡ true → Proceeds run log →
     StandsFor (plain_chart run.chart) marks (chart_entries log ++ entry ∷ []) →
-    Follows (record run { marks = marks }) (log ++ entry ∷ [])
-by_run run log entry marks is of_run follows stands =
+    Proceeds (record run { marks = marks }) (log ++ entry ∷ [])
+by_run run log entry marks is of_run proceeds stands =
     record {
       marks = subst (StandsFor (plain_chart run.chart) marks) (sym (run_grows log entry of_run)) stands;
-      broke = any_silent is_broke log entry (run_quiet entry of_run).0 ∙ follows.broke;
-      stopped = any_silent is_stop_asked log entry (run_quiet entry of_run).1 ∙ follows.stopped;
+      broke = any_silent is_broke log entry (run_quiet entry of_run).0 ∙ proceeds.broke;
+      stopped = any_silent is_stop_asked log entry (run_quiet entry of_run).1 ∙ proceeds.stopped;
       active = active;
     }
   where
@@ -51,7 +52,7 @@ by_run run log entry marks is of_run follows stands =
     same : (placed : Placed) → Contains (steps (plain_chart run.chart).root 0) placed →
         is_active log placed ≡ is_active (chart_entries log) placed
     same placed inside =
-        follows.active placed inside ∙ ap (λ late. late && is_active (chart_entries log) placed) (late placed)
+        proceeds.active placed inside ∙ ap (λ late. late && is_active (chart_entries log) placed) (late placed)
 
     active : (placed : Placed) → Contains (steps (plain_chart run.chart).root 0) placed →
         is_active (log ++ entry ∷ []) placed
@@ -68,38 +69,44 @@ by_run run log entry marks is of_run follows stands =
 -- an entry of no step turns the course of a batch that runs on, and leaves the active steps
 pub by_turn : (run : PlainRun) (log : List LogEntry) (entry : LogEntry) (course : Course) → run.course ≡ Running →
     is_some (chart_entry entry) ≡ false → ((name : List ℕ) → phase_by name entry ≡ None) → from_of course ≡ 0 →
-    is_broke entry ≡ is_breaking course → is_stop_asked entry ≡ is_stopping course → Follows run log →
-    Follows (record run { course = course }) (log ++ entry ∷ [])
-by_turn run log entry course is other quiet from broke stopped follows =
+    is_broke entry ≡ is_breaking course → is_stop_asked entry ≡ is_stopping course → Proceeds run log →
+    Proceeds (record run { course = course }) (log ++ entry ∷ [])
+by_turn run log entry course is other quiet from broke stopped proceeds =
     record {
-      marks = subst (StandsFor (plain_chart run.chart) run.marks) (sym (run_stays log entry other)) follows.marks;
+      marks = subst (StandsFor (plain_chart run.chart) run.marks) (sym (run_stays log entry other)) proceeds.marks;
       broke = any_pushed is_broke log entry
-          ∙ ap (λ before. before || is_broke entry) (follows.broke ∙ ap is_breaking is) ∙ broke;
+          ∙ ap (λ before. before || is_broke entry) (proceeds.broke ∙ ap is_breaking is) ∙ broke;
       stopped = any_pushed is_stop_asked log entry
-          ∙ ap (λ before. before || is_stop_asked entry) (follows.stopped ∙ ap is_stopping is) ∙ stopped;
+          ∙ ap (λ before. before || is_stop_asked entry) (proceeds.stopped ∙ ap is_stopping is) ∙ stopped;
       active = λ placed inside.
           active_pushed log entry placed
           ∙ ap (λ said. active_by said (is_active log placed)) (quiet placed.step.name)
-          ∙ follows.active placed inside
+          ∙ proceeds.active placed inside
           ∙ ap (λ from. nat_le from placed.number && is_active (chart_entries log) placed) (ap from_of is ∙ sym from)
           ∙ ap (λ word. nat_le (from_of course) placed.number && is_active word placed)
           (sym (run_stays log entry other));
     }
 
--- ---- a step is stopped or left
+-- ---- a step is held or unheld
 
--- a member of steps whose numbers rise has a number among theirs
-pub rise_member : (low high : ℕ) (each : List Placed) (placed : Placed) → Rise low high each → Contains each placed →
-    (low ≤ placed.number) × (placed.number < high)
-rise_member low high [] placed rise (k, l, e) = absurd (omega arith)
-rise_member low high (first ∷ each) placed (at_least, below, rise) inside =
-    elim (member_cases first placed each inside) [
-      | inl same ↦ (
-        subst (λ placed. low ≤ placed.number) same at_least,
-        subst (λ placed. placed.number < high) same below,
-      )
-      | inr later ↦ let r = rise_member (first.number + 1) high each placed rise later in (omega arith, r.1)
-    ]
+-- an entry that says nothing of the run, of the course or of a step's phase leaves all as it was
+pub by_silence : (run : PlainRun) (log : List LogEntry) (entry : LogEntry) →
+    is_some (chart_entry entry) ≡ false → ((name : List ℕ) → phase_by name entry ≡ None) →
+    is_broke entry ≡ false → is_stop_asked entry ≡ false → Proceeds run log → Proceeds run (log ++ entry ∷ [])
+by_silence run log entry other quiet broke stopped proceeds =
+    record {
+      marks = subst (StandsFor (plain_chart run.chart) run.marks) (sym (run_stays log entry other)) proceeds.marks;
+      broke = any_silent is_broke log entry broke ∙ proceeds.broke;
+      stopped = any_silent is_stop_asked log entry stopped ∙ proceeds.stopped;
+      active = λ placed inside.
+          active_pushed log entry placed
+          ∙ ap (λ said. active_by said (is_active log placed)) (quiet placed.step.name)
+          ∙ proceeds.active placed inside
+          ∙ ap (λ word. nat_le (from_of run.course) placed.number && is_active word placed)
+          (sym (run_stays log entry other));
+    }
+
+-- ---- a step is stopped or left
 
 -- the first of these steps that passes the test: the others that pass stand behind it
 pub record IsFirst (test : Placed → Bool) (each : List Placed) (found : RunningStep) : Type 0 where
@@ -168,13 +175,13 @@ pub by_leaving : (run : PlainRun) (log : List LogEntry) (entry : LogEntry) (foun
     IsValid (plain_chart run.chart) → first_step (active_steps (plain_chart run.chart) log) ≡ Some found
     → Leaves entry found.name →
     is_breaking course ≡ is_breaking run.course → is_stopping course ≡ is_stopping run.course →
-    from_of course ≡ found.number + 1 → Follows run log → Follows (record run { course = course }) (log ++ entry ∷ [])
-by_leaving run log entry found course valid first leaves broke stopped from follows =
+    from_of course ≡ found.number + 1 → Proceeds run log → Proceeds (record run { course = course }) (log ++ entry ∷ [])
+by_leaving run log entry found course valid first leaves broke stopped from proceeds =
     record {
       marks = subst (StandsFor (plain_chart run.chart) run.marks) (sym (run_stays log entry leaves.other))
-          follows.marks;
-      broke = any_silent is_broke log entry leaves.broke ∙ follows.broke ∙ sym broke;
-      stopped = any_silent is_stop_asked log entry leaves.stopped ∙ follows.stopped ∙ sym stopped;
+          proceeds.marks;
+      broke = any_silent is_broke log entry leaves.broke ∙ proceeds.broke ∙ sym broke;
+      stopped = any_silent is_stop_asked log entry leaves.stopped ∙ proceeds.stopped ∙ sym stopped;
       active = λ placed inside.
           active_pushed log entry placed
           ∙ ap (λ said. active_by said (is_active log placed)) (leaves.says placed.step.name)
@@ -201,7 +208,7 @@ by_leaving run log entry found course valid first leaves broke stopped from foll
 
     low : from_of run.course ≤ found.number
     low =
-        let both = sym (follows.active is.placed is.inside) ∙ is.passes in
+        let both = sym (proceeds.active is.placed is.inside) ∙ is.passes in
         let parts = and_parts (high is.placed) (runs is.placed) both in
         let here = leb-true (from_of run.course) is.placed.number parts.0 in
         rw number here
@@ -227,7 +234,8 @@ by_leaving run log entry found course valid first leaves broke stopped from foll
                   let clash : true ≡ false = sym ((bytes_eq-Decides found.name placed.step.name).1 equal) ∙ same in cc)
               | inr behind ↦ (
                   let late : found.number + 1 ≤ placed.number = let at = number in omega arith in
-                  let active = (and_parts (high placed) (runs placed) (sym (follows.active placed inside) ∙ lives)).1 in
+                  let active =
+                  (and_parts (high placed) (runs placed) (sym (proceeds.active placed inside) ∙ lives)).1 in
                   let high = le-leb (found.number + 1) placed.number late in
                   lives ∙ sym (ap (λ high. high && runs placed) high ∙ active))
             ]
@@ -240,7 +248,7 @@ by_leaving run log entry found course valid first leaves broke stopped from foll
                 let early =
                 leb-false (from_of run.course) placed.number
                 (sym (and-true (high placed)) ∙ ap (λ active. high placed && active) (sym active)
-                ∙ sym (follows.active placed inside) ∙ lives) in
+                ∙ sym (proceeds.active placed inside) ∙ lives) in
                 let least = low in
                 let before : placed.number < found.number + 1 = omega arith in
                 ap (λ late. late && runs placed) (lt-leb (found.number + 1) placed.number before)

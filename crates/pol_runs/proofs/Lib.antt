@@ -3,3 +3,4 @@ pub mod Nexts
 pub mod Grown
 pub mod Growing
 pub mod Doing
+pub mod Flags

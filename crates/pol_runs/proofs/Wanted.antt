@@ -1,9 +1,9 @@
 -- The first active step from a number on, and the first active step of a role.
-use Rattle.std.proofs.Common.{◌≡◌, ℕ, ◌≤◌, Bool, true, false, cond, List, [], ◌∷◌, Option, Some, None, refl, ap, sym, ◌∙◌, arith}
+use Rattle.std.proofs.Common.{◌≡◌, ℕ, ◌≤◌, Bool, true, false, cond, List, [], ◌∷◌, map, Option, Some, None, refl, ap, sym, ◌∙◌, arith}
 use Rattle.std.specs.Prelude.{◌&&◌, nat_le, filter}
 use Rattle.std.specs.List.{Contains}
 use Rattle.std.proofs.lemmas.Bool.{le-leb}
-use Rattle.chart_core.specs.Trees.{Placed}
+use Rattle.chart_core.specs.Trees.{Placed, PlainStep}
 use Rattle.chart_cursor.specs.Running.{has_role, is_wanted, first_placed, running_step}
 use Rattle.chart_cursor.specs.declared.running.RunningStep.{RunningStep}
 use Rattle.pol_events.proofs.Lists.{member_first, member_later}
@@ -29,6 +29,37 @@ filter_same one other (x ∷ xs) same =
     ap (λ kept. cond kept (x ∷ filter one xs) (filter one xs)) (same x (member_first x xs))
     ∙ ap (λ rest. cond (other x) (x ∷ rest) rest)
     (filter_same one other xs (λ y inside. same y (member_later x y xs inside)))
+
+-- of what one test keeps, what another keeps is what both keep
+pub filter_twice : {X : Type 0} (one other : X → Bool) (xs : List X) →
+    filter other (filter one xs) ≡ filter (λ x. one x && other x) xs
+filter_twice one other [] = refl
+filter_twice {X} one other (x ∷ xs) = go (one x) (filter_twice one other xs)
+  where
+    go : (kept : Bool) → filter other (filter one xs) ≡ filter (λ x. one x && other x) xs →
+        filter other (cond kept (x ∷ filter one xs) (filter one xs))
+        ≡ cond (kept && other x) (x ∷ filter (λ x. one x && other x) xs) (filter (λ x. one x && other x) xs)
+    go true rest = ap (λ rest. cond (other x) (x ∷ rest) rest) rest
+    go false rest = rest
+
+-- the steps that are kept by what tells of each step what the test tells of it with its number
+pub mapped_filter : (test : Placed → Bool) (says : PlainStep → Bool) (each : List Placed) →
+    ((placed : Placed) → Contains each placed → test placed ≡ says placed.step) →
+    map (λ placed. placed.step) (filter test each) ≡ filter says (map (λ placed. placed.step) each)
+mapped_filter test says [] same = refl
+mapped_filter test says (placed ∷ each) same =
+    ap (λ kept. map (λ (placed : Placed). placed.step) (cond kept (placed ∷ filter test each) (filter test each)))
+    (same placed (member_first placed each))
+    ∙ go (says placed.step)
+    (mapped_filter test says each (λ other inside. same other (member_later placed other each inside)))
+  where
+    go : (kept : Bool) →
+        map (λ placed. placed.step) (filter test each) ≡ filter says (map (λ placed. placed.step) each) →
+        map (λ (placed : Placed). placed.step) (cond kept (placed ∷ filter test each) (filter test each))
+        ≡ cond kept (placed.step ∷ filter says (map (λ placed. placed.step) each))
+        (filter says (map (λ placed. placed.step) each))
+    go true rest = ap (λ rest. placed.step ∷ rest) rest
+    go false rest = rest
 
 -- the first wanted one, from a number on, of those that pass a test is the first wanted one of those that pass both
 pub wanted_late : (from : ℕ) (role : Option (List ℕ)) (test : Placed → Bool) (each : List Placed) →

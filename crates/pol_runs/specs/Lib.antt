@@ -1,3 +1,5 @@
+pub mod Holds
+pub mod Freezes
 pub mod Runs
 pub mod Logs
 pub mod Stopping

@@ -4,16 +4,20 @@ use Rattle.chart_core.specs.declared.chart.Chart.{Chart}
 use Rattle.chart_core.specs.declared.next.Outcome.{Outcome}
 use Rattle.chart_core.specs.declared.progress.Progress.{Progress}
 use Rattle.pol_events.specs.declared.event.Bind.{Bind}
+use Rattle.pol_runs.specs.Holds.{PlainHolds}
+use Rattle.pol_runs.specs.declared.freeze.Freeze.{Freeze}
 use Rattle.pol_runs.specs.declared.course.Course.{Course}
 use Rattle.pol_runs.specs.declared.course.Course.TheVariants.{Running, Breaking, Stopping}
 
--- a batch with its chart, its binds, how far each node has come, and whether it is frozen, stopped or closed
+-- a batch with its chart, its binds, how far each node has come, which steps were held, and whether it is frozen,
+-- stopped or closed
 pub record PlainRun : Type 0 where
   pub batch : List ℕ
   pub chart : Chart
   pub binds : List Bind
   pub marks : List Progress
-  pub frozen : Bool
+  pub holds : PlainHolds
+  pub freeze : Freeze
   pub course : Course
   pub outcome : Option Outcome
 

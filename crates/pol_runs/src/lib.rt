@@ -1,4 +1,5 @@
-//! One batch: its chart, its binds, how far it has come, and whether it is frozen, stopped or closed.
+//! One batch: its chart, its binds, how far it has come, which steps were held, and whether it is frozen, stopped or
+//! closed.
 //!
 //! It knows nothing of modules, of other batches or of a history: what is seen of modules comes through
 //! `chart_cursor::Seen`. A run keeps no log. It stands for logs by a relation (`Follows` in `specs/Logs.antt`), and
@@ -8,9 +9,13 @@
 #![tactic(auto)]
 
 mod course;
+mod freeze;
+mod holds;
 mod next;
 mod run;
 
 pub use course::Course;
+pub use freeze::Freeze;
+pub use holds::Holds;
 pub use next::stop_step;
 pub use run::Run;

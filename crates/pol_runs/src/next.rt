@@ -1,13 +1,16 @@
 //! What a batch does next, by its cursor.
-ghost use Rattle.std.specs.Prelude.{◌≡◌, ℕ, List, None};
+ghost use Rattle.std.specs.Prelude.{◌≡◌, List, map, None};
 ghost use Rattle.chart_core.specs.Active.{active_steps};
 ghost use Rattle.chart_core.specs.Charts.{plain_chart};
 ghost use Rattle.chart_core.specs.Valid.{IsValid};
 ghost use Rattle.chart_core.specs.Standing.{StandsFor};
 ghost use Rattle.chart_core.specs.declared.entry.LogEntry.{LogEntry};
+ghost use Rattle.chart_core.specs.declared.next.Next.TheVariants.{Waiting};
+ghost use Rattle.chart_core.specs.declared.why.Why.TheVariants.{Frozen};
+ghost use Rattle.chart_cursor.specs.Holding.{flag_at, is_unasked, numbered, under_way};
 ghost use Rattle.chart_cursor.specs.Logs.{active};
 ghost use Rattle.chart_cursor.specs.Next.{next_after};
-ghost use Rattle.chart_cursor.specs.NextEntry.{broke_or, first_broken, run_next, stop_step};
+ghost use Rattle.chart_cursor.specs.NextEntry.{did_or, first_broken, first_hold, first_unhold, run_next, stop_step, unless_whole};
 ghost use Rattle.chart_cursor.specs.Running.{first_placed, is_wanted};
 ghost use Rattle.chart_cursor.specs.Sights.{tag_of};
 ghost use Rattle.pol_runs.specs.Stopping.{behind, stop_found};
@@ -71,15 +74,34 @@ fn run_next(next: CursorNext) -> Next
     }
 }
 
-/// What a batch that isn't stopped does next.
-pub fn go_on<S: Seen>(cursor: &Cursor, seen: &S) -> Next
+/// What a frozen batch does next whose services are held, by the number of the first node whose step may still be
+/// active and by the flags of the steps that were asked.
+pub fn hold_on<S: Seen>(cursor: &Cursor, seen: &S, from: u32, asked: &[bool]) -> Next
     ensures { (word : List LogEntry) → StandsFor (plain_chart cursor.now.chart) cursor.now.marks word
-        → result ≡ broke_or (first_broken (S.sights seen.now) (active (plain_chart cursor.now.chart) word))
-        (run_next (next_after (plain_chart cursor.now.chart) word (S.sights seen.now))) }
+        → result ≡ did_or (first_hold (S.sights seen.now) (map (λ placed. placed.step)
+        (numbered (is_unasked from asked.now) (active_steps (plain_chart cursor.now.chart) word)))) (Waiting Frozen) }
 {
-    match cursor.first_broken(seen) {
+    match cursor.first_hold(seen, from, asked) {
         Some(entry) => Next::Did(entry),
-        None => run_next(cursor.first_ready(seen)),
+        None => Next::Waiting(Why::Frozen),
+    }
+}
+
+/// What a batch does next that is neither frozen nor stopped, by the flags of the steps that were held.
+pub fn go_on<S: Seen>(cursor: &Cursor, seen: &S, held: &[bool]) -> Next
+    ensures { (word : List LogEntry) → StandsFor (plain_chart cursor.now.chart) cursor.now.marks word
+        → result ≡ did_or (first_broken (S.sights seen.now) (active (plain_chart cursor.now.chart) word))
+        (run_next (unless_whole (first_unhold (S.sights seen.now) (under_way (S.sights seen.now)
+        (map (λ placed. placed.step)
+        (numbered (flag_at held.now) (active_steps (plain_chart cursor.now.chart) word)))))
+        (next_after (plain_chart cursor.now.chart) word (S.sights seen.now)))) }
+{
+    if let Some(entry) = cursor.first_broken(seen) {
+        return Next::Did(entry);
+    }
+    match cursor.first_unhold(seen, held) {
+        CursorNext::Whole => run_next(cursor.first_ready(seen)),
+        next => run_next(next),
     }
 }
 

@@ -1,5 +1,5 @@
 //! One batch.
-ghost use Rattle.std.specs.Prelude.{◌≡◌, ◌||◌, ◌++◌, ◌∷◌, [], not, List, Some, None, false, true, IfOk, option_map, if◌then◌else◌};
+ghost use Rattle.std.specs.Prelude.{◌≡◌, ◌&&◌, ◌||◌, ◌++◌, ◌∷◌, [], not, ℕ, List, Some, None, IfOk, OnErr, OnOk, option_map, if◌then◌else◌};
 ghost use Rattle.std.specs.Option.{option_or};
 ghost use Rattle.mtp_codes.specs.Faults.{when, done_unless};
 ghost use Rattle.chart_core.specs.Active.{active_steps};
@@ -14,11 +14,15 @@ ghost use Rattle.chart_cursor.specs.NextEntry.{next_by};
 ghost use Rattle.chart_cursor.specs.Running.{first_placed, is_wanted, name_of};
 ghost use Rattle.chart_cursor.specs.Sights.{Sights};
 ghost use Rattle.pol_events.specs.Bound.{ArePaired, step_on};
-ghost use Rattle.pol_runs.specs.Logs.{Follows, closing_in, log_after};
+ghost use Rattle.pol_runs.specs.Freezes.{is_frozen, is_holding, frozen_as, freezing};
+ghost use Rattle.pol_runs.specs.Logs.{Asks, Follows, asked_after, closing_in, log_after};
 ghost use Rattle.pol_runs.specs.Runs.{SameBatch};
+ghost use Rattle.pol_runs.specs.declared.freeze.Freeze.TheVariants.{Thawed};
 
 use super::course::Course;
-use super::next::{behind, go_on, stop_found};
+use super::freeze::Freeze;
+use super::holds::{Holds, is_hold};
+use super::next::{behind, go_on, hold_on, stop_found};
 use chart_core::{Chart, LogEntry, Next, Outcome, Why};
 use chart_cursor::{Cursor, Seen};
 use mtp_codes::Name;
@@ -33,7 +37,8 @@ pub struct Run {
     batch: Name,
     binds: Vec<Bind>,
     cursor: Cursor,
-    frozen: bool,
+    holds: Holds,
+    freeze: Freeze,
     course: Course,
     outcome: Option<Outcome>,
 }
@@ -45,6 +50,7 @@ impl Model for Run {
     ghost use Rattle.chart_core.specs.contracts.progress.Progress as progress_type;
     ghost use Rattle.pol_events.specs.contracts.event.Bind as bind_type;
     ghost use Rattle.pol_runs.specs.contracts.course.Course as course_type;
+    ghost use Rattle.pol_runs.specs.contracts.freeze.Freeze as freeze_type;
     ghost use Rattle.pol_runs.specs.Logs.{IsSoundRun};
     ghost use Rattle.pol_runs.specs.Runs.{PlainRun};
 
@@ -57,6 +63,7 @@ impl Model for Run {
       bind_type.the_row.coded,
       outcome_type.the_row.coded,
       course_type.the_row.coded,
+      freeze_type.the_row.coded,
     ) };
 
     ghost view = { λ run. record {
@@ -64,7 +71,8 @@ impl Model for Run {
       chart = run.cursor.chart;
       binds = run.binds.items;
       marks = run.cursor.marks;
-      frozen = run.frozen;
+      holds = run.holds;
+      freeze = run.freeze;
       course = run.course;
       outcome = run.outcome;
     } };
@@ -74,7 +82,8 @@ impl Model for Run {
       chart = run.cursor.chart;
       binds = run.binds.items;
       marks = run.cursor.marks;
-      frozen = run.frozen;
+      holds = run.holds;
+      freeze = run.freeze;
       course = run.course;
       outcome = run.outcome;
     }) };
@@ -86,7 +95,7 @@ impl Run {
     ///
     /// # Errors
     ///
-    /// AllocError where memory is wanting for one mark for each node.
+    /// AllocError where memory is wanting for one mark and two flags for each node.
     pub fn new(
         alloc: Global,
         batch: Name,
@@ -98,45 +107,64 @@ impl Run {
         ensures batch { IfOk result (λ run. run.batch ≡ batch) }
         ensures chart { IfOk result (λ run. run.chart ≡ chart.value) }
         ensures binds { IfOk result (λ run. run.binds ≡ binds.items) }
-        ensures frozen { IfOk result (λ run. run.frozen ≡ false) }
+        ensures thawed { IfOk result (λ run. run.freeze ≡ Thawed) }
         ensures open { IfOk result (λ run. run.outcome ≡ None) }
         ensures empty { IfOk result (λ run. Follows run []) }
+        ensures unasked { IfOk result (λ run. Asks run []) }
     {
+        let holds = Holds::new(alloc, &chart)?;
         let cursor = Cursor::new(alloc, chart)?;
         Ok(Run {
             batch,
             binds,
             cursor,
-            frozen: false,
+            holds,
+            freeze: Freeze::Thawed,
             course: Course::Running,
             outcome: None,
         })
     }
 
-    /// What the batch does next, while it is open. Walks the chart's nodes at most twice, and takes no memory.
+    /// What the batch does next, while it is open. Walks the chart's nodes at most three times, and takes no memory.
     pub fn would<S: Seen>(&self, seen: &S) -> Next
-        ensures { (log : List LogEntry) → Follows self.now log
-            → result ≡ next_by (plain_chart self.now.chart) self.now.frozen log (S.sights seen.now) }
+        ensures { (log : List LogEntry) (asked : List (List ℕ)) → Follows self.now log → Asks self.now asked
+            → result
+            ≡ next_by (plain_chart self.now.chart) (freezing self.now.freeze asked) log (S.sights seen.now) }
     {
-        if self.frozen {
-            return Next::Waiting(Why::Frozen);
-        }
-        match self.course {
-            Course::Running => go_on(&self.cursor, seen),
-            Course::Breaking { from } => stop_found(self.cursor.next_step(from, None), seen, true),
-            Course::Stopping { from } => stop_found(self.cursor.next_step(from, None), seen, false),
+        let from = self.course.first_number();
+        match self.freeze {
+            Freeze::Waiting => Next::Waiting(Why::Frozen),
+            Freeze::Holding => hold_on(&self.cursor, seen, from, self.holds.asked()),
+            Freeze::Thawed => match self.course {
+                Course::Running => go_on(&self.cursor, seen, self.holds.held()),
+                Course::Breaking { .. } => stop_found(
+                    self.cursor.next_step(from, None),
+                    seen,
+                    true,
+                ),
+                Course::Stopping { .. } => {
+                    stop_found(self.cursor.next_step(from, None), seen, false)
+                }
+            },
         }
     }
 
     // Takes an entry into the log that was said to come next.
     fn did(&mut self, entry: LogEntry)
-        requires { (seen : Sights) × ((log : List LogEntry) → Follows self.old log
-            → Did entry ≡ next_by (plain_chart self.old.chart) self.old.frozen log seen) }
+        requires { (seen : Sights) × ((log : List LogEntry) (asked : List (List ℕ)) → Follows self.old log
+            → Asks self.old asked
+            → Did entry ≡ next_by (plain_chart self.old.chart) (freezing self.old.freeze asked) log seen) }
         ensures log { (log : List LogEntry) → Follows self.old log → Follows self.new (log ++ entry ∷ []) }
+        ensures asked { (asked : List (List ℕ)) → Asks self.old asked
+            → Asks self.new (asked_after (Did entry) asked) }
         ensures same_batch { SameBatch self.old self.new }
-        ensures frozen { self.new.frozen ≡ self.old.frozen }
+        ensures freeze { self.new.freeze ≡ self.old.freeze }
         ensures outcome { self.new.outcome ≡ self.old.outcome }
     {
+        self.holds.take(self.cursor.chart(), &entry);
+        if is_hold(&entry) {
+            return;
+        }
         match self.course {
             Course::Running => match entry {
                 LogEntry::Broke { .. } => self.course = Course::Breaking { from: 0 },
@@ -159,11 +187,13 @@ impl Run {
     /// `Seen` borrows the run, so that it can't `advance` it. Walks the chart's nodes at most once, and takes no
     /// memory.
     pub fn settle(&mut self, next: &Next)
-        requires { (seen : Sights) × ((log : List LogEntry) → Follows self.old log
-            → next.now ≡ next_by (plain_chart self.old.chart) self.old.frozen log seen) }
+        requires { (seen : Sights) × ((log : List LogEntry) (asked : List (List ℕ)) → Follows self.old log
+            → Asks self.old asked
+            → next.now ≡ next_by (plain_chart self.old.chart) (freezing self.old.freeze asked) log seen) }
         ensures log { (log : List LogEntry) → Follows self.old log → Follows self.new (log_after next.now log) }
+        ensures asked { (asked : List (List ℕ)) → Asks self.old asked → Asks self.new (asked_after next.now asked) }
         ensures same_batch { SameBatch self.old self.new }
-        ensures frozen { self.new.frozen ≡ self.old.frozen }
+        ensures freeze { self.new.freeze ≡ self.old.freeze }
         ensures outcome { self.new.outcome ≡ option_or (closing_in next.now) self.old.outcome }
     {
         match next {
@@ -177,11 +207,13 @@ impl Run {
     /// nodes at most three times, and takes no memory.
     pub fn advance<S: Seen>(&mut self, seen: &S) -> Next
         requires open { self.old.outcome ≡ None }
-        ensures next { (log : List LogEntry) → Follows self.old log
-            → result ≡ next_by (plain_chart self.old.chart) self.old.frozen log (S.sights seen.now) }
+        ensures next { (log : List LogEntry) (asked : List (List ℕ)) → Follows self.old log → Asks self.old asked
+            → result
+            ≡ next_by (plain_chart self.old.chart) (freezing self.old.freeze asked) log (S.sights seen.now) }
         ensures log { (log : List LogEntry) → Follows self.old log → Follows self.new (log_after result log) }
+        ensures asked { (asked : List (List ℕ)) → Asks self.old asked → Asks self.new (asked_after result asked) }
         ensures same_batch { SameBatch self.old self.new }
-        ensures frozen { self.new.frozen ≡ self.old.frozen }
+        ensures freeze { self.new.freeze ≡ self.old.freeze }
         ensures outcome { self.new.outcome ≡ closing_in result }
     {
         let next = self.would(seen);
@@ -189,27 +221,37 @@ impl Run {
         next
     }
 
-    /// Lets the open batch wait until it is thawed. `AlreadyFrozen` exactly where it is frozen; then nothing changes.
-    pub fn freeze(&mut self) -> Result<(), Rule>
-        ensures answer { result ≡ done_unless (when self.old.frozen Rule.AlreadyFrozen) }
-        ensures frozen { self.new ≡ record self.old { frozen = true } }
+    /// Freezes the open batch until it is thawed, and where `hold` is true lets it hold the services of its active
+    /// steps. `AlreadyFrozen` exactly where it is frozen and, beside that, either `hold` is false or its services are
+    /// held already; then nothing changes. So a batch that only waits can be frozen anew, so that its services are held.
+    pub fn freeze(&mut self, hold: bool) -> Result<(), Rule>
+        ensures answer { result
+            ≡ done_unless (when (is_frozen self.old.freeze && (not hold || is_holding self.old.freeze))
+            Rule.AlreadyFrozen) }
+        ensures log { (log : List LogEntry) → Follows self.old log → Follows self.new log }
+        ensures freeze { OnOk result (self.new.freeze ≡ frozen_as hold) }
+        ensures asked { OnOk result (Asks self.new []) }
+        ensures same_batch { SameBatch self.old self.new }
+        ensures outcome { self.new.outcome ≡ self.old.outcome }
+        ensures unchanged { OnErr result (self.new ≡ self.old) }
     {
-        if self.frozen {
+        if self.freeze.is_frozen() && (!hold || self.freeze.is_holding()) {
             return Err(Rule::AlreadyFrozen);
         }
-        self.frozen = true;
+        self.freeze = Freeze::new(hold);
+        self.holds.begin();
         Ok(())
     }
 
     /// Lets the frozen batch go on. `NotFrozen` exactly where it isn't frozen; then nothing changes.
     pub fn thaw(&mut self) -> Result<(), Rule>
-        ensures answer { result ≡ done_unless (when (not self.old.frozen) Rule.NotFrozen) }
-        ensures frozen { self.new ≡ record self.old { frozen = false } }
+        ensures answer { result ≡ done_unless (when (not (is_frozen self.old.freeze)) Rule.NotFrozen) }
+        ensures freeze { self.new ≡ record self.old { freeze = Thawed } }
     {
-        if !self.frozen {
+        if !self.freeze.is_frozen() {
             return Err(Rule::NotFrozen);
         }
-        self.frozen = false;
+        self.freeze = Freeze::Thawed;
         Ok(())
     }
 
@@ -219,11 +261,12 @@ impl Run {
         ensures new { (log : List LogEntry) → Follows self.old log → result ≡ not (has_broken log || was_stopped log) }
         ensures log { (log : List LogEntry) → Follows self.old log
             → Follows self.new (if result then log ++ StopAsked ∷ [] else log) }
+        ensures asked { (asked : List (List ℕ)) → Asks self.old asked → Asks self.new asked }
         ensures same_batch { SameBatch self.old self.new }
-        ensures frozen { self.new.frozen ≡ false }
+        ensures freeze { self.new.freeze ≡ Thawed }
         ensures outcome { self.new.outcome ≡ self.old.outcome }
     {
-        self.frozen = false;
+        self.freeze = Freeze::Thawed;
         match self.course {
             Course::Running => {
                 self.course = Course::Stopping { from: 0 };
@@ -249,9 +292,16 @@ impl Run {
 
     /// Whether the batch is frozen.
     pub fn is_frozen(&self) -> bool
-        ensures { result ≡ self.now.frozen }
+        ensures { result ≡ is_frozen self.now.freeze }
     {
-        self.frozen
+        self.freeze.is_frozen()
+    }
+
+    /// Whether the batch is frozen and the services of its active steps are held.
+    pub fn is_holding(&self) -> bool
+        ensures { result ≡ is_holding self.now.freeze }
+    {
+        self.freeze.is_holding()
     }
 
     /// The chart of its recipe.

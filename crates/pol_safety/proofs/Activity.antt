@@ -26,7 +26,7 @@ use Rattle.pol_history.proofs.Names.{same_true}
 use Rattle.pol_events.proofs.Lists.{among_member}
 use Rattle.pol_history.proofs.Binds.{IsFitting}
 use Rattle.pol_safety.proofs.Seen.{IsLive, IsSeen, seen_of, tag_of_bound}
-use Rattle.pol_safety.proofs.Nexts.{ComesFrom, stops, leaves, breaks, runs}
+use Rattle.pol_safety.proofs.Nexts.{ComesFrom, stops, leaves, breaks, holds, unholds, runs}
 
 -- ---- the phase after one more entry
 
@@ -160,5 +160,9 @@ next_seen history binds chart log entry placed phase fits valid inside (leaves n
     stays_idle (same_name name placed.step.name) phase (ap (phase_by placed.step.name) (sym is) ∙ says) running
 next_seen history binds chart log entry placed phase fits valid inside (breaks name state is) says running =
     let none = ap (phase_by placed.step.name) (sym is) ∙ says in cc
+next_seen history binds chart log entry placed phase fits valid inside (holds hold) says running =
+    let none = ap (phase_by placed.step.name) (sym hold.is) ∙ says in cc
+next_seen history binds chart log entry placed phase fits valid inside (unholds unhold) says running =
+    let none = ap (phase_by placed.step.name) (sym unhold.is) ∙ says in cc
 next_seen history binds chart log entry placed phase fits valid inside (runs is) says running =
     run_seen history binds chart (chart_entries log) entry placed phase fits valid inside is says running

@@ -1,17 +1,19 @@
 -- An accepted advance is answered as the runs of the chart say.
-use Rattle.std.proofs.Common.{◌≡◌, ℕ, Bool, true, false, List, Option, Some, None, refl, ap, sym, ◌∙◌}
+use Rattle.std.proofs.Common.{◌≡◌, ℕ, Bool, true, false, List, [], Option, Some, None, refl, ap, sym, ◌∙◌}
 use Rattle.std.specs.Prelude.{◌||◌, option_map, option_and_then, if◌then◌else◌}
 use Rattle.chart_core.specs.Roles.{PlainChart}
+use Rattle.chart_core.specs.Trees.{PlainStep}
 use Rattle.chart_core.specs.declared.entry.LogEntry.{LogEntry}
 use Rattle.chart_cursor.specs.Logs.{chart_entries, active, has_broken, was_stopped}
 use Rattle.chart_cursor.specs.Next.{next_after}
-use Rattle.chart_cursor.specs.NextEntry.{first_broken, stop_next, run_next, broke_or, next_by}
+use Rattle.chart_cursor.specs.NextEntry.{first_broken, stop_next, owed, first_unhold, unless_whole, run_next, did_or, next_by}
+use Rattle.chart_cursor.specs.Freezing.{thawed}
 use Rattle.chart_cursor.specs.Sights.{Sights}
 use Rattle.chart_cursor.proofs.Firsts.{next_follows}
 use Rattle.pol_events.specs.Events.{advance}
 use Rattle.pol_events.specs.declared.answer.Answer.{Answer}
 use Rattle.pol_history.specs.Looking.{History, past, past_of_batch, recipes, is_accepted}
-use Rattle.pol_history.specs.Batches.{Started, start_of, chart_named, chart_by, log_of, is_frozen}
+use Rattle.pol_history.specs.Batches.{Started, start_of, chart_named, chart_by, is_frozen_by, is_holding_by, asked_by, frozen_so, log_of, freezing_of}
 use Rattle.pol_history.specs.Following.{next_of_started, next_of}
 use Rattle.pol_history.specs.Rules.{no_batch}
 use Rattle.pol_history.specs.Answers.{advanced, answer_of}
@@ -43,24 +45,28 @@ was_started (Some started) none = (started, refl)
 next_of_it : (history : History) (batch : List ℕ) (started : Started) (chart : PlainChart) →
     start_of history batch ≡ Some started →
     chart_named started.recipe (recipes history) ≡ Some chart →
-    next_of history batch ≡ Some (next_by chart (is_frozen history batch) (log_of history batch)
+    next_of history batch ≡ Some (next_by chart (freezing_of history batch) (log_of history batch)
     (seen_by history started))
 next_of_it history batch started chart start_is chart_is =
     ap (option_and_then (next_of_started (recipes history) (past_of_batch batch history)
     (λ tag. past tag history))) start_is
-    ∙ ap (option_map (λ chart. next_by chart (is_frozen history batch) (log_of history batch)
+    ∙ ap (option_map (λ chart. next_by chart (freezing_of history batch) (log_of history batch)
     (seen_by history started))) chart_is
 
 -- where the run of the chart goes on, that is what comes next in it
-goes_on : (chart : PlainChart) (log : List LogEntry) (seen : Sights) (frozen broke stop : Bool)
-    (broken : Option LogEntry) →
-    frozen ≡ false → broke ≡ false → stop ≡ false → broken ≡ None →
-    (if frozen then next_by chart true log seen
-    else if broke || stop then stop_next seen broke (active chart log)
-    else broke_or broken (run_next (next_after chart (chart_entries log) seen)))
+goes_on : (chart : PlainChart) (log : List LogEntry) (seen : Sights) (broke stop : Bool)
+    (broken : Option LogEntry) (owes : List PlainStep) →
+    broke ≡ false → stop ≡ false → broken ≡ None → owes ≡ [] →
+    (if broke || stop then stop_next seen broke (active chart log)
+    else did_or broken (run_next (unless_whole (first_unhold seen owes) (next_after chart (chart_entries log) seen))))
     ≡ run_next (next_after chart (chart_entries log) seen)
-goes_on chart log seen frozen broke stop broken unfrozen unbroken unstopped whole = rw
-    (unfrozen, unbroken, unstopped, whole) refl
+goes_on chart log seen broke stop broken owes unbroken unstopped whole unowed = rw
+    (unbroken, unstopped, whole, unowed) refl
+
+-- a batch that isn't frozen is thawed, whatever it was asked before
+pub thawed_so : (past : History) → is_frozen_by past ≡ false → frozen_so (is_frozen_by past) (is_holding_by past)
+    (asked_by past) ≡ thawed
+thawed_so past unfrozen = ap (λ frozen. frozen_so frozen (is_holding_by past) (asked_by past)) unfrozen
 
 module _ (history : History) (batch : List ℕ) (started : Started) (chart : PlainChart)
     (legal : IsLegal history) (orderly : IsOrderly history) (start_is : start_of history batch ≡ Some started)
@@ -77,8 +83,10 @@ module _ (history : History) (batch : List ℕ) (started : Started) (chart : Pla
         next = next_after chart (chart_entries log) seen;
         is_next = next_follows chart (chart_entries log) seen sound.is_formed sound.valid follows.partial;
         answer_is = is ∙ ap advanced (next_of_it history batch started chart start_is chart_is
-            ∙ ap Some (goes_on chart log seen (is_frozen history batch) (has_broken log) (was_stopped log)
-            (first_broken seen (active chart log)) on.unfrozen on.unbroken on.unstopped on.whole));
+            ∙ ap Some (ap (λ freezing. next_by chart freezing log seen)
+            (thawed_so (past_of_batch batch history) on.unfrozen)
+            ∙ goes_on chart log seen (has_broken log) (was_stopped log) (first_broken seen (active chart log))
+            (owed seen log (active chart log)) on.unbroken on.unstopped on.whole on.unowed));
       }
 
 -- an accepted advance, by its event and its answer

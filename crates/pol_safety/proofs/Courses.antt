@@ -24,7 +24,7 @@ use Rattle.pol_events.specs.declared.answer.Answer.{Answer}
 use Rattle.pol_events.specs.declared.answer.Answer.TheVariants.{Done, Did, Waiting, Closed}
 use Rattle.pol_events.specs.Bound.{given}
 use Rattle.pol_history.specs.Looking.{History, past, past_of_batch, recipes, is_accepted}
-use Rattle.pol_history.specs.Batches.{Started, starting, start_by, start_of, chart_named, chart_by, chart_of, closing, outcome_by, outcome_of, is_frozen, taken, log_by, log_of}
+use Rattle.pol_history.specs.Batches.{Started, starting, start_by, start_of, chart_named, chart_by, chart_of, closing, outcome_by, outcome_of, freezing_of, taken, log_by, log_of}
 use Rattle.pol_history.specs.Following.{sights_by, next_of}
 use Rattle.pol_history.specs.Answers.{advanced, otherwise}
 use Rattle.pol_history.specs.Runs.{IsLegal, IsOrderly}
@@ -32,7 +32,7 @@ use Rattle.pol_history.proofs.Accepted.{paired}
 use Rattle.pol_history.proofs.Pasts.{log_grows}
 use Rattle.pol_safety.specs.Charts.{LogsFollowCharts}
 use Rattle.pol_events.proofs.Options.{no_both}
-use Rattle.pol_safety.proofs.Nexts.{ComesFrom, stops, leaves, breaks, runs, did_from, completed_from, next_at}
+use Rattle.pol_safety.proofs.Nexts.{ComesFrom, stops, leaves, breaks, holds, unholds, runs, did_from, completed_from, next_at}
 use Rattle.pol_safety.proofs.Sides.{Sides, sides, accepted, Comes, IsKeptBy, always, at_own}
 use Rattle.pol_safety.proofs.Starts.{may_start, is_open_batch, start_same, IsGoodChart, sound, unstarted, StartCase, its_own, earlier, start_case, chart_before}
 
@@ -78,6 +78,10 @@ did_follows chart past event entry seen sound open' (leaves name state is) follo
     other_follows chart past event entry open' (ap chart_entry is) follows
 did_follows chart past event entry seen sound open' (breaks name state is) follows =
     other_follows chart past event entry open' (ap chart_entry is) follows
+did_follows chart past event entry seen sound open' (holds hold) follows =
+    other_follows chart past event entry open' (ap chart_entry hold.is) follows
+did_follows chart past event entry seen sound open' (unholds unhold) follows =
+    other_follows chart past event entry open' (ap chart_entry unhold.is) follows
 did_follows chart past event entry seen sound open' (runs is) follows =
     let of_run = next_of_run chart (chart_entries (log_by past)) seen entry is in
     record {
@@ -128,7 +132,7 @@ advance_follows history batch started chart event (Some (next.Waiting obstacle))
 advance_follows history batch started chart event (Some (next.Did entry)) start_is chart_is sound open' is follows =
     let seen = sights_by (given started.binds) (λ tag. past tag history) in
     did_follows chart (past_of_batch batch history) event entry seen sound open'
-    (did_from chart (is_frozen history batch) (log_of history batch) seen entry
+    (did_from chart (freezing_of history batch) (log_of history batch) seen entry
     (next_at history batch started chart (next.Did entry) start_is chart_is is)) follows
 advance_follows history batch started chart event (Some (next.Closed outcome)) start_is chart_is sound
     open' is follows =
@@ -138,7 +142,7 @@ advance_follows history batch started chart event (Some (next.Closed outcome)) s
     complete closes =
         let seen = sights_by (given started.binds) (λ tag. past tag history) in
         let one : outcome ≡ Completed = cc in
-        let whole = completed_from chart (is_frozen history batch) (log_of history batch) seen
+        let whole = completed_from chart (freezing_of history batch) (log_of history batch) seen
         (next_at history batch started chart (next.Closed outcome) start_is chart_is is ∙ ap next.Closed one) in
         subst (IsNext chart (chart_entries (log_of history batch))
         (ready_after chart (chart_entries (log_of history batch)) seen)) whole
@@ -204,11 +208,11 @@ follow_more history (advance at other) comes follow batch started chart start_is
     (next_of history other) was.start_is was.chart_is was.sound
     (ap (outcome_of history) (sym same) ∙ is_open_batch history other comes.free.1.0)
     (ap (next_of history) (sym same)) was.follows)
-follow_more history (freeze at other) comes follow batch started chart start_is chart_is =
-    let was = before history (freeze at other) batch started chart comes follow refl start_is chart_is in
-    at_own (Follows chart) (past_of_batch batch history) (accepted history (freeze at other)) true other
+follow_more history (freeze at other hold) comes follow batch started chart start_is chart_is =
+    let was = before history (freeze at other hold) batch started chart comes follow refl start_is chart_is in
+    at_own (Follows chart) (past_of_batch batch history) (accepted history (freeze at other hold)) true other
     batch was.follows
-    (λ same. quiet_follows chart (past_of_batch batch history) (freeze at other) Done refl refl was.follows)
+    (λ same. quiet_follows chart (past_of_batch batch history) (freeze at other hold) Done refl refl was.follows)
 follow_more history (thaw at other) comes follow batch started chart start_is chart_is =
     let was = before history (thaw at other) batch started chart comes follow refl start_is chart_is in
     at_own (Follows chart) (past_of_batch batch history) (accepted history (thaw at other)) true other batch was.follows

@@ -20,7 +20,7 @@ use Rattle.pol_events.specs.Bound.{bound_tag, given, is_tag, step_on}
 use Rattle.pol_history.proofs.Open.{open_before}
 use Rattle.pol_history.specs.Looking.{History, past, past_of_batch, recipes, is_accepted, is_accepted_of_batch}
 use Rattle.pol_history.specs.Modules.{absent, docked, docking_by, docking_of}
-use Rattle.pol_history.specs.Batches.{Started, start_by, start_of, chart_named, outcome_by, outcome_of, is_frozen, taken, log_by, log_of, holder_of}
+use Rattle.pol_history.specs.Batches.{Started, start_by, start_of, chart_named, outcome_by, outcome_of, freezing_of, taken, log_by, log_of, holder_of}
 use Rattle.pol_history.specs.Following.{sights_by, next_of}
 use Rattle.pol_history.specs.Rules.{not_in_exchange, active_step_on, active_step}
 use Rattle.pol_history.specs.Answers.{advanced, otherwise}
@@ -214,7 +214,7 @@ advance_active history batch started chart event placed (Some (next.Did entry)) 
     go (was_active is) = inl is
     go (made_active phase says runs) =
         inr (next_seen history (given started.binds) chart (log_of history batch) entry placed phase fits valid inside
-        (did_from chart (is_frozen history batch) (log_of history batch)
+        (did_from chart (freezing_of history batch) (log_of history batch)
         (sights_by (given started.binds) (λ tag. past tag history)) entry
         (next_at history batch started chart (next.Did entry) running.start_is running.chart_is after)) says runs)
 
@@ -291,11 +291,12 @@ seen_more history (stop_batch at other) comes all_seen batch started chart start
     batch (λ is. is)
     (λ same is. stop_active (past_of_batch batch history) (stop_batch at other) placed
     (has_broken (log_of history other) || was_stopped (log_of history other)) is) is)
-seen_more history (freeze at other) comes all_seen batch started chart start_is chart_is unclosed placed inside is =
-    seen_after history (freeze at other) batch started chart placed comes all_seen
-    (was_running history (freeze at other) batch started chart refl comes
+seen_more history (freeze at other hold) comes all_seen batch started chart start_is chart_is unclosed placed inside
+    is =
+    seen_after history (freeze at other hold) batch started chart placed comes all_seen
+    (was_running history (freeze at other hold) batch started chart refl comes
     (now _ batch started chart start_is chart_is unclosed)) inside
-    (active_before history (accepted history (freeze at other)) batch placed refl is)
+    (active_before history (accepted history (freeze at other hold)) batch placed refl is)
 seen_more history (thaw at other) comes all_seen batch started chart start_is chart_is unclosed placed inside is =
     seen_after history (thaw at other) batch started chart placed comes all_seen
     (was_running history (thaw at other) batch started chart refl comes

@@ -24,7 +24,7 @@ use Rattle.pol_events.specs.declared.event.Bind.{Bind}
 use Rattle.pol_events.specs.Bound.{given}
 use Rattle.pol_history.specs.Looking.{History, past, is_accepted}
 use Rattle.pol_history.specs.Modules.{view_of}
-use Rattle.pol_history.specs.Batches.{is_frozen, log_of}
+use Rattle.pol_history.specs.Batches.{freezing_of, log_of}
 use Rattle.pol_history.specs.Following.{sights_by, next_of}
 use Rattle.pol_history.specs.Rules.{not_reported}
 use Rattle.pol_history.specs.Commands.{sent_command}
@@ -33,7 +33,7 @@ use Rattle.pol_history.proofs.Accepted.{NoneHolds, accepted_none, accepted_other
 use Rattle.pol_safety.specs.Permitted.{WasPermitted, CommandsArePermitted}
 use Rattle.pol_safety.proofs.Forbidding.{unforbidden}
 use Rattle.pol_safety.proofs.Seen.{seen_of, tag_of_bound}
-use Rattle.pol_safety.proofs.Nexts.{ComesFrom, stops, leaves, breaks, runs, did_from, has_next}
+use Rattle.pol_safety.proofs.Nexts.{ComesFrom, stops, leaves, breaks, holds, unholds, runs, did_from, has_next}
 
 -- what a batch does next sends only what it sees permitted
 next_sends : (chart : PlainChart) (log : List LogEntry) (seen : Sights) (entry : LogEntry) (sent : Sent)
@@ -43,6 +43,14 @@ next_sends chart log seen entry sent (stops step view at free is) sends =
     subst (IsPermittedIn seen) one (refl, (step.role, view, refl, at, free))
 next_sends chart log seen entry sent (leaves name state is) sends = let none = ap sent_by (sym is) ∙ sends in cc
 next_sends chart log seen entry sent (breaks name state is) sends = let none = ap sent_by (sym is) ∙ sends in cc
+next_sends chart log seen entry sent (holds hold) sends =
+    let one = same_Some _ sent (ap sent_by (sym hold.is) ∙ sends) in
+    subst (IsPermittedIn seen) one
+    (refl, (hold.step.role, hold.permits.view, refl, hold.permits.seen_as, hold.permits.free))
+next_sends chart log seen entry sent (unholds unhold) sends =
+    let one = same_Some _ sent (ap sent_by (sym unhold.is) ∙ sends) in
+    subst (IsPermittedIn seen) one
+    (refl, (unhold.step.role, unhold.permits.view, refl, unhold.permits.seen_as, unhold.permits.free))
 next_sends chart log seen entry sent (runs is) sends = commands_permitted chart
     (chart_entries log) seen entry sent is sends
 
@@ -70,7 +78,7 @@ advance_sends history batch sent (Some (next.Did entry)) is sends =
     let seen = sights_by (given has.started.binds) (λ tag. past tag history) in
     seen_permitted history (given has.started.binds) sent
     (next_sends has.chart (log_of history batch) seen entry sent
-    (did_from has.chart (is_frozen history batch) (log_of history batch) seen entry has.next_is) sends)
+    (did_from has.chart (freezing_of history batch) (log_of history batch) seen entry has.next_is) sends)
 
 -- a command that the operator may send
 unforbidden_desk : (command : Command) (view : ServiceView) → forbidden command view ≡ None

@@ -180,8 +180,9 @@ unstarted_more history (start at other name binds) comes unstarted batch none = 
 unstarted_more history (advance at other) comes unstarted batch none =
     unstarted_on history other batch (accepted history (advance at other))
     (is_accepted (otherwise history (advance at other))) comes.free.0 (unstarted batch) refl none
-unstarted_more history (freeze at other) comes unstarted batch none =
-    unstarted_on history other batch (accepted history (freeze at other)) true comes.free.0 (unstarted batch) refl none
+unstarted_more history (freeze at other hold) comes unstarted batch none =
+    unstarted_on history other batch (accepted history (freeze at other hold)) true comes.free.0 (unstarted batch) refl
+    none
 unstarted_more history (thaw at other) comes unstarted batch none =
     unstarted_on history other batch (accepted history (thaw at other)) true comes.free.0 (unstarted batch) refl none
 unstarted_more history (stop_batch at other) comes unstarted batch none =

@@ -1,10 +1,10 @@
 -- An advance is answered as the runs of the chart say.
-use Rattle.std.specs.Prelude.{ℕ, ◌≡◌, List, ◌∷◌, true, false, Some, None}
+use Rattle.std.specs.Prelude.{ℕ, ◌≡◌, List, [], ◌∷◌, true, false, Some, None}
 use Rattle.chart_core.specs.Roles.{PlainChart}
 use Rattle.chart_core.specs.declared.entry.LogEntry.{LogEntry}
 use Rattle.chart_cursor.specs.Logs.{chart_entries, active, has_broken, was_stopped}
 use Rattle.chart_cursor.specs.Next.{IsNext, ready_after}
-use Rattle.chart_cursor.specs.NextEntry.{first_broken, run_next}
+use Rattle.chart_cursor.specs.NextEntry.{first_broken, owed, run_next}
 use Rattle.chart_cursor.specs.Sights.{Sights}
 use Rattle.chart_cursor.specs.declared.next.CursorNext.{CursorNext}
 use Rattle.pol_events.specs.Events.{PlainEntry, advance}
@@ -21,13 +21,14 @@ use Rattle.pol_safety.specs.Kept.{IsOpen}
 abbrev pub seen_by : History → Started → Sights
 seen_by history started = sights_by (given started.binds) (λ tag. past tag history)
 
--- the run of the batch's chart goes on: the batch isn't frozen, it didn't break, nobody had it stopped, and the service
--- of no active step is stopped or aborted
+-- the run of the batch's chart goes on: the batch isn't frozen, it didn't break, nobody had it stopped, the service of
+-- no active step is stopped or aborted, and none is owed an Unhold
 pub record GoesOn (history : History) (batch : List ℕ) (started : Started) (chart : PlainChart) : Type 0 where
   pub unfrozen : is_frozen history batch ≡ false
   pub unbroken : has_broken (log_of history batch) ≡ false
   pub unstopped : was_stopped (log_of history batch) ≡ false
   pub whole : first_broken (seen_by history started) (active chart (log_of history batch)) ≡ None
+  pub unowed : owed (seen_by history started) (log_of history batch) (active chart (log_of history batch)) ≡ []
 
 -- the answer is what comes next in the run of the chart: the entry of the first awaited node that is ready; where none
 -- is, the obstacle of the first awaited node; and completed, only after a complete run

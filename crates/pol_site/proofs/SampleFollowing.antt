@@ -293,7 +293,8 @@ not_a_refused_value allowed = let is = allowed.accepted in cc
 not_unplugged : IsAllowed site (plugged ∷ known ∷ []) (unplug 20 tag) answer.Done → ⊥
 not_unplugged allowed = allowed
 
-not_frozen : IsAllowed site (started ∷ idle ∷ plugged ∷ known ∷ []) (freeze 20 batch) answer.Done → ⊥
+-- no batch is frozen
+not_frozen : IsAllowed site (started ∷ idle ∷ plugged ∷ known ∷ []) (freeze 20 batch false) answer.Done → ⊥
 not_frozen allowed = allowed
 
 not_thawed : IsAllowed site (started ∷ idle ∷ plugged ∷ known ∷ []) (thaw 20 batch) answer.Done → ⊥

@@ -1,5 +1,5 @@
 -- Whose each event of the small site is.
-use Rattle.std.specs.Prelude.{◌≡◌, codes, Some, None}
+use Rattle.std.specs.Prelude.{◌≡◌, codes, false, Some, None}
 use Rattle.std.proofs.Common.{refl}
 use Rattle.pol_events.specs.Events.{unplug, freeze, advance}
 use Rattle.pol_site.specs.Actors.{owner_of}
@@ -23,7 +23,7 @@ of_the_desk : owner_of site ordered.event ≡ Some 3
 of_the_desk = refl
 
 -- other kinds, and events of a batch that the site lacks, are of nobody
-of_nobody : (owner_of site (unplug 20 tag) ≡ None) × (owner_of site (freeze 20 batch) ≡ None)
+of_nobody : (owner_of site (unplug 20 tag) ≡ None) × (owner_of site (freeze 20 batch false) ≡ None)
 of_nobody = (refl, refl)
 
 of_no_batch : owner_of site (advance 20 (codes "bb")) ≡ None

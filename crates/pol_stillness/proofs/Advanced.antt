@@ -21,7 +21,7 @@ use Rattle.chart_core.specs.Runs.{IsPartial}
 use Rattle.chart_core.specs.Trees.{PlainStep, Placed, steps}
 use Rattle.chart_core.specs.Valid.{IsValid}
 use Rattle.chart_core.specs.declared.entry.LogEntry.{LogEntry}
-use Rattle.chart_core.specs.declared.entry.LogEntry.TheVariants.{Start, Finish, Reset, End, Chose, Turn, Leave, Stop, Broke, Left, StopAsked, Asked}
+use Rattle.chart_core.specs.declared.entry.LogEntry.TheVariants.{Start, Finish, Reset, End, Chose, Turn, Leave, Stop, Broke, Left, StopAsked, Hold, Unhold, Asked}
 use Rattle.chart_core.proofs.Lawful.{names_tell_steps, roles_of_steps}
 use Rattle.chart_cursor.specs.Commands.{Sent, sent_by, is_step_entry, IsOfStep}
 use Rattle.chart_cursor.specs.Next.{next_after}
@@ -410,6 +410,8 @@ silent older tag service owed entry known other = by entry known other
     by (Left step at) known other = let no = known.of_run in cc
     by (Broke step at) known other = refl
     by StopAsked known other = refl
+    by (Hold step t s) known other = refl
+    by (Unhold step t s) known other = refl
     by (Asked t s given) known other = refl
 
 -- a service that was owed a report, and isn't commanded now, is owed it still

@@ -180,7 +180,7 @@ accepted_owing site older (start at other name binds) comes legal allowed answer
             no_both (start_of older batch) begun (ap (start_of older) (sym (same_true other batch here)) ∙ may.2.fresh)
             was
         go false here = refl
-accepted_owing site older (freeze at other) comes legal allowed answered follows plain again = absurd allowed
+accepted_owing site older (freeze at other hold) comes legal allowed answered follows plain again = absurd allowed
 accepted_owing site older (thaw at other) comes legal allowed answered follows plain again = absurd allowed
 accepted_owing site older (stop_batch at other) comes legal allowed answered follows plain again = absurd allowed
 accepted_owing site older (abandon at other) comes legal allowed answered follows plain again = absurd allowed

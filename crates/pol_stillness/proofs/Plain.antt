@@ -1,6 +1,6 @@
 -- Only Start, Complete and Reset are ever sent, and no service leaves the states that they lead to.
-use Rattle.std.proofs.Common.{◌≡◌, ◌≤◌, ◌+◌, ℕ, Bool, true, false, cond, not, List, [], ◌∷◌, Option, Some, None, refl, ap, sym, ◌∙◌, subst, arith, length, inl, inr, ◌⊎◌}
-use Rattle.std.specs.Prelude.{◌&&◌, ◌||◌, is_some, filter, if◌then◌else◌}
+use Rattle.std.proofs.Common.{◌≡◌, ◌≤◌, ◌+◌, ℕ, Bool, true, false, cond, not, List, [], ◌∷◌, Option, Some, None, refl, ap, sym, ◌∙◌, subst, arith, length}
+use Rattle.std.specs.Prelude.{◌&&◌, ◌||◌, unwrap_or, is_some, filter, if◌then◌else◌}
 use Rattle.std.specs.List.{AllByRecursion, list_any, cons_option}
 use Rattle.std.specs.Option.{option_or}
 use Rattle.std.specs.Str.{bytes_eq}
@@ -21,7 +21,7 @@ use Rattle.chart_core.specs.Roles.{PlainChart}
 use Rattle.chart_core.specs.Trees.{PlainStep}
 use Rattle.chart_core.specs.declared.entry.LogEntry.{LogEntry}
 use Rattle.chart_core.specs.declared.why.Why.TheVariants as why
-use Rattle.chart_core.specs.declared.entry.LogEntry.TheVariants.{Start, Finish, Reset, Stop, Broke, StopAsked, Asked}
+use Rattle.chart_core.specs.declared.entry.LogEntry.TheVariants.{Start, Finish, Reset, Stop, Broke, StopAsked, Hold, Unhold, Asked}
 use Rattle.chart_cursor.specs.Commands.{Sent, sent_by}
 use Rattle.chart_cursor.specs.Next.{next_after}
 use Rattle.chart_cursor.specs.Sights.{Sights}
@@ -30,8 +30,8 @@ use Rattle.chart_cursor.specs.declared.next.CursorNext.TheVariants.{Entry, Wait,
 use Rattle.chart_cursor.specs.declared.sight.Sight.{Sight}
 use Rattle.chart_cursor.specs.declared.sight.Sight.TheVariants as sight
 use Rattle.chart_cursor.proofs.Commanding.{next_of_run}
+use Rattle.pol_events.specs.Events.{PlainEvent, plug, unplug, report, advance, freeze, thaw, stop_batch, abandon, desk, exchange_begin, exchange_end, exchange_cancel, PlainEntry}
 use Rattle.pol_events.specs.Bound.{given}
-use Rattle.pol_events.specs.Events.{PlainEvent, plug, unplug, report, advance, stop_batch, abandon, desk, exchange_begin, exchange_end, exchange_cancel, PlainEntry}
 use Rattle.pol_events.specs.Refusals.{may_follow, not_an_edge}
 use Rattle.pol_events.specs.declared.answer.Answer.{Answer}
 use Rattle.pol_events.specs.declared.answer.Answer.TheVariants.{Done, Ticket, Did, Waiting, Closed, Refused}
@@ -42,13 +42,14 @@ use Rattle.chart_core.specs.declared.next.Outcome.TheVariants as outcome
 use Rattle.pol_events.specs.declared.answer.Rule.TheVariants.{NotAnEdge}
 use Rattle.pol_history.specs.Looking.{History, past, past_of_batch, is_accepted, is_accepted_of, is_accepted_of_batch}
 use Rattle.pol_history.specs.Modules.{is_moving, since_docking, control_by, description_by, completes_by, seen_with, view_of}
-use Rattle.pol_history.specs.Batches.{is_frozen, taken, log_by, log_of}
+use Rattle.pol_history.specs.Batches.{freezing, is_frozen, is_frozen_by, freezing_of, taken, log_by, log_of}
 use Rattle.pol_history.specs.Commands.{sent_command}
 use Rattle.pol_history.specs.Following.{sights_by, next_of}
 use Rattle.pol_history.specs.Answers.{advanced, otherwise, answer_of}
 use Rattle.pol_history.proofs.Accepted.{accepted_none, accepted_otherwise, paired}
 use Rattle.pol_history.proofs.Names.{same_refl}
 use Rattle.pol_history.proofs.Pasts.{log_grows}
+use Rattle.pol_safety.proofs.Advances.{thawed_so}
 use Rattle.pol_safety.proofs.Courses.{log_stays}
 use Rattle.pol_safety.proofs.Nexts.{HasNext, has_next}
 use Rattle.pol_safety.proofs.Seen.{seen_of}
@@ -60,8 +61,11 @@ use Rattle.pol_simulated.proofs.Reports.{last_newest}
 use Rattle.pol_simulated.specs.Units.{newest}
 use Rattle.pol_stillness.proofs.Desks.{view_control, desks_refused}
 use Rattle.pol_stillness.specs.Plain.{is_plain, is_plain_command, is_completed_outcome, is_plain_answer, IsPlain, PlantsArePlain}
-use Rattle.chart_cursor.specs.NextEntry.{broke_or, broken_step, first_broken, is_broken_state, next_by, run_next, stop_next}
-use Rattle.chart_cursor.specs.Logs.{active, chart_entries, has_broken, is_broke, is_stop_asked, was_stopped}
+use Rattle.chart_cursor.specs.NextEntry.{did_or, broken_step, first_broken, first_unhold, is_broken_state, is_under_way, next_by, owed, run_next, stop_next, unless_whole}
+use Rattle.chart_cursor.specs.Freezing.{Freezing, thawed}
+use Rattle.chart_cursor.specs.Logs.{active, chart_entries, has_broken, holding_by, is_broke, is_stop_asked, was_held, was_stopped}
+use Rattle.chart_core.specs.Active.{or_earlier, last_of}
+use Rattle.mtp_codes.specs.Names.{same_name}
 
 -- ---- states
 
@@ -161,6 +165,8 @@ given_none tag service given (Did entry) odd plain = by entry plain
     by (Finish step other named) run = to _ (same_not given odd).1 (bytes_eq other tag)
     by (Reset step other named) run = to _ (same_not given odd).2 (bytes_eq other tag)
     by (Stop step other named) run = cc
+    by (Hold step other named) run = cc
+    by (Unhold step other named) run = cc
     by (Asked other named asked) run = cc
     by _ run = refl
 given_none tag service given _ odd plain = refl
@@ -356,16 +362,76 @@ whole_steps older binds plain (step ∷ steps) =
         (first_broken (sights_by binds (λ tag. past tag older)) steps))
         (whole_state view.control.state plain_state) ∙ rest
 
--- then what comes next is what the run says, or the batch is frozen
-run_only : (chart : PlainChart) (frozen : Bool) (log : List LogEntry) (seen : Sights) (given : Next)
-    → (has_broken log || was_stopped log) ≡ false
-    → first_broken seen (active chart log) ≡ None → next_by chart frozen log seen ≡ given
-    → (given ≡ next.Waiting why.Frozen) ⊎ (run_next (next_after chart (chart_entries log) seen) ≡ given)
-run_only chart true log seen given calm whole is = inl (sym is)
-run_only chart false log seen given calm whole is =
-    inr (sym (ap (λ b. if b then stop_next seen (has_broken log) (active chart log) else broke_or
-    (first_broken seen (active chart log)) (run_next (next_after chart (chart_entries log) seen))) calm
-    ∙ ap (λ found. broke_or found (run_next (next_after chart (chart_entries log) seen))) whole) ∙ is)
+-- an entry holds a step
+abbrev is_a_hold : LogEntry → Bool
+is_a_hold (Hold step tag service) = true
+is_a_hold _ = false
+
+-- no entry of a run does so
+run_no_hold : (entry : LogEntry) → is_some (chart_entry entry) ≡ true → is_a_hold entry ≡ false
+run_no_hold (Hold step tag service) run = cc
+run_no_hold _ run = refl
+
+-- what another entry says is that the step isn't held, if anything
+no_hold_said : (name : List ℕ) (entry : LogEntry) → is_a_hold entry ≡ false
+    → unwrap_or (holding_by name entry) false ≡ false
+no_hold_said name (Start step tag service procedure) other = go (same_name step name)
+  where
+    go : (same : Bool) → unwrap_or (when same false) false ≡ false
+    go true = refl
+    go false = refl
+no_hold_said name (Unhold step tag service) other = go (same_name step name)
+  where
+    go : (same : Bool) → unwrap_or (when same false) false ≡ false
+    go true = refl
+    go false = refl
+no_hold_said name (Hold step tag service) other = cc
+no_hold_said name _ other = refl
+
+-- in a log without holds no step is held
+none_held : (name : List ℕ) (log : List LogEntry) → list_any is_a_hold log ≡ false → was_held log name ≡ false
+none_held name [] none = refl
+none_held name (entry ∷ log) none = go (is_a_hold entry) refl none (none_held name log)
+  where
+    go : (here : Bool) → is_a_hold entry ≡ here → (here || list_any is_a_hold log) ≡ false
+        → (list_any is_a_hold log ≡ false → was_held log name ≡ false)
+        → unwrap_or (or_earlier (last_of (holding_by name) log) (holding_by name entry)) false ≡ false
+    go true is none rest = cc
+    go false is none rest = by (last_of (holding_by name) log) (rest none)
+      where
+        by : (said : Option Bool) → unwrap_or said false ≡ false
+            → unwrap_or (or_earlier said (holding_by name entry)) false ≡ false
+        by None said = no_hold_said name entry is
+        by (Some held) said = said
+
+-- so none is owed an Unhold
+none_owed : (seen : Sights) (log : List LogEntry) (steps : List PlainStep) → list_any is_a_hold log ≡ false
+    → owed seen log steps ≡ []
+none_owed seen log [] none = refl
+none_owed seen log (step ∷ steps) none =
+    ap (λ held. cond (held && is_under_way (seen.view step.role step.service)) (step ∷ owed seen log steps)
+    (owed seen log steps)) (none_held step.name log none)
+    ∙ none_owed seen log steps none
+
+-- then what comes next is what the run says
+run_only : (chart : PlainChart) (freezing : Freezing) (log : List LogEntry) (seen : Sights) (given : Next)
+    → freezing ≡ thawed → (has_broken log || was_stopped log) ≡ false → list_any is_a_hold log ≡ false
+    → first_broken seen (active chart log) ≡ None → next_by chart freezing log seen ≡ given
+    → run_next (next_after chart (chart_entries log) seen) ≡ given
+run_only chart freezing log seen given is_thawed calm unheld whole is =
+    sym (ap (λ freezing. next_by chart freezing log seen) is_thawed
+    ∙ ap (λ b. if b then stop_next seen (has_broken log) (active chart log) else did_or
+    (first_broken seen (active chart log))
+    (run_next (unless_whole (first_unhold seen (owed seen log (active chart log)))
+    (next_after chart (chart_entries log) seen)))) calm
+    ∙ ap (λ found. did_or found (run_next (unless_whole (first_unhold seen (owed seen log (active chart log)))
+    (next_after chart (chart_entries log) seen)))) whole
+    ∙ ap (λ steps. run_next (unless_whole (first_unhold seen steps) (next_after chart (chart_entries log) seen)))
+    (none_owed seen log (active chart log) unheld)) ∙ is
+
+-- a plain history freezes no batch
+not_frozen : (history : History) (batch : List ℕ) → IsPlain history → freezing_of history batch ≡ thawed
+not_frozen history batch plain = thawed_so (past_of_batch batch history) (plain.thawed batch)
 
 -- what a batch does of a run is the entry that is next
 run_did : (found : CursorNext) (entry : LogEntry) → run_next found ≡ next.Did entry → found ≡ Entry entry
@@ -386,22 +452,13 @@ pub did_runs : (history : History) (batch : List ℕ) (entry : LogEntry) → IsP
     → next_after has.chart (chart_entries (log_of history batch))
     (sights_by (given has.started.binds) (λ tag. past tag history)) ≡ Entry entry
 did_runs history batch entry plain has =
-    go (run_only has.chart (is_frozen history batch) (log_of history batch)
+    run_did (next_after has.chart (chart_entries (log_of history batch))
+    (sights_by (given has.started.binds) (λ tag. past tag history))) entry
+    (run_only has.chart (freezing_of history batch) (log_of history batch)
     (sights_by (given has.started.binds) (λ tag. past tag history)) (next.Did entry)
-    (calm batch history plain)
-    (whole_steps history (given has.started.binds) plain (active has.chart (log_of history batch)))
-    has.next_is)
-  where
-    Runs : Type 0
-    Runs = next_after has.chart (chart_entries (log_of history batch))
-        (sights_by (given has.started.binds) (λ tag. past tag history)) ≡ Entry entry
-
-    go : (next.Did entry ≡ next.Waiting why.Frozen) ⊎
-        (run_next (next_after has.chart (chart_entries (log_of history batch))
-        (sights_by (given has.started.binds) (λ tag. past tag history))) ≡ next.Did entry) → Runs
-    go (inl frozen) = cc
-    go (inr runs) = run_did (next_after has.chart (chart_entries (log_of history batch))
-        (sights_by (given has.started.binds) (λ tag. past tag history))) entry runs
+    (not_frozen history batch plain) (calm batch history plain)
+    (quiet is_a_hold run_no_hold batch history plain.answers)
+    (whole_steps history (given has.started.binds) plain (active has.chart (log_of history batch))) has.next_is)
 
 -- and it closes where its run is whole
 pub closed_whole : (history : History) (batch : List ℕ) (outcome : Outcome) → IsPlain history
@@ -409,22 +466,13 @@ pub closed_whole : (history : History) (batch : List ℕ) (outcome : Outcome) �
     → (next_after has.chart (chart_entries (log_of history batch))
     (sights_by (given has.started.binds) (λ tag. past tag history)) ≡ Whole) × (is_completed_outcome outcome ≡ true)
 closed_whole history batch outcome plain has =
-    go (run_only has.chart (is_frozen history batch) (log_of history batch)
+    run_closed (next_after has.chart (chart_entries (log_of history batch))
+    (sights_by (given has.started.binds) (λ tag. past tag history))) outcome
+    (run_only has.chart (freezing_of history batch) (log_of history batch)
     (sights_by (given has.started.binds) (λ tag. past tag history)) (next.Closed outcome)
-    (calm batch history plain)
-    (whole_steps history (given has.started.binds) plain (active has.chart (log_of history batch)))
-    has.next_is)
-  where
-    Closes : Type 0
-    Closes = (next_after has.chart (chart_entries (log_of history batch))
-        (sights_by (given has.started.binds) (λ tag. past tag history)) ≡ Whole) × (is_completed_outcome outcome ≡ true)
-
-    go : (next.Closed outcome ≡ next.Waiting why.Frozen) ⊎
-        (run_next (next_after has.chart (chart_entries (log_of history batch))
-        (sights_by (given has.started.binds) (λ tag. past tag history))) ≡ next.Closed outcome) → Closes
-    go (inl frozen) = cc
-    go (inr runs) = run_closed (next_after has.chart (chart_entries (log_of history batch))
-        (sights_by (given has.started.binds) (λ tag. past tag history))) outcome runs
+    (not_frozen history batch plain) (calm batch history plain)
+    (quiet is_a_hold run_no_hold batch history plain.answers)
+    (whole_steps history (given has.started.binds) plain (active has.chart (log_of history batch))) has.next_is)
 
 -- an advance is answered plainly
 advance_plain : (history : History) (batch : List ℕ) → IsPlain history → (found : Option Next)
@@ -474,9 +522,29 @@ answer_plain site older entry is allowed follows plain =
         ap is_plain_answer (accepted_otherwise older entry.event accepted) ∙ otherwise_plain site older entry.event
         entry.answer allowed follows plain accepted
 
+-- no event of a site freezes a batch
+allowed_thaws : (site : PlainSite) (older : History) (event : PlainEvent) (answer : Answer)
+    → IsAllowed site older event answer → freezing event ≡ None
+allowed_thaws site older (freeze at batch hold) answer allowed = absurd allowed
+allowed_thaws site older (thaw at batch) answer allowed = absurd allowed
+allowed_thaws site older (stop_batch at batch) answer allowed = absurd allowed
+allowed_thaws site older _ answer allowed = refl
+
+-- a batch that isn't frozen isn't after an event of a site
+still_thawed : (site : PlainSite) (older : History) (entry : PlainEntry) (batch : List ℕ)
+    → IsAllowed site older entry.event entry.answer → is_frozen older batch ≡ false
+    → is_frozen (entry ∷ older) batch ≡ false
+still_thawed site older entry batch allowed before = go (is_accepted_of_batch batch entry)
+  where
+    go : (own : Bool)
+        → is_frozen_by (cond own (entry ∷ past_of_batch batch older) (past_of_batch batch older)) ≡ false
+    go false = before
+    go true = rw (allowed_thaws site older entry.event entry.answer allowed) before
+
 -- every such history
 pub plants_plain : PlantsArePlain
-plants_plain site [] legal follows commanded = record { controls = λ tag service control is. cc; answers = tt }
+plants_plain site [] legal follows commanded =
+    record { controls = λ tag service control is. cc; answers = tt; thawed = λ batch. refl }
 plants_plain site (entry ∷ older) legal follows commanded =
     let plain = plants_plain site older legal.2 follows.1 commanded.1 in
     let answer = answer_plain site older entry legal.0 follows.0 follows.1 plain in
@@ -484,6 +552,7 @@ plants_plain site (entry ∷ older) legal follows commanded =
       controls = λ tag service control is. more plain (answer, plain.answers) tag service control
           (is_accepted_of tag entry) is;
       answers = (answer, plain.answers);
+      thawed = λ batch. still_thawed site older entry batch follows.0 (plain.thawed batch);
     }
   where
     more : IsPlain older → AllByRecursion (λ entry. is_plain_answer entry.answer ≡ true) (entry ∷ older)

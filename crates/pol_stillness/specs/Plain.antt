@@ -13,6 +13,7 @@ use Rattle.pol_events.specs.declared.answer.Answer.TheVariants.{Did, Closed}
 use Rattle.chart_core.specs.declared.next.Outcome.{Outcome}
 use Rattle.chart_core.specs.declared.next.Outcome.TheVariants as outcome
 use Rattle.pol_history.specs.Looking.{History, past}
+use Rattle.pol_history.specs.Batches.{is_frozen}
 use Rattle.pol_history.specs.Modules.{control_by}
 use Rattle.pol_history.specs.Runs.{IsLegal}
 use Rattle.pol_site.specs.Sites.{PlainSite}
@@ -47,12 +48,13 @@ is_plain_answer (Did entry) = is_some (chart_entry entry)
 is_plain_answer (Closed outcome) = is_completed_outcome outcome
 is_plain_answer _ = true
 
--- every service is in such a state, and every answer is so
+-- every service is in such a state, every answer is so, and no batch is frozen
 pub record IsPlain (history : History) : Type 0 where
   pub controls :
       (tag service : List ℕ) (control : ServiceControl) → control_by service (past tag history) ≡ Some control →
       is_plain control.state ≡ true
   pub answers : AllByRecursion (λ entry. is_plain_answer entry.answer ≡ true) history
+  pub thawed : (batch : List ℕ) → is_frozen history batch ≡ false
 
 -- every plant that follows its site, each change having its command
 abbrev pub PlantsArePlain : Type 0

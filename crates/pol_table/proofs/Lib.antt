@@ -1,4 +1,5 @@
 pub mod Tags
+pub mod ByteOrder
 pub mod Views
 pub mod Steps
 pub mod Docking

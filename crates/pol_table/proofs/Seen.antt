@@ -3,6 +3,7 @@ use Rattle.std.proofs.Common.{◌≡◌, ℕ, suc, ◌+◌, ◌<◌, arith, get_
 use Rattle.std.specs.Prelude.{IsSome, Result, Ok, Err, OnOk, OnErr, filter, slice_get, unwrap_or, if◌then◌else◌}
 use Rattle.std.proofs.lemmas.Bool.{or_left, or_right}
 use Rattle.std.specs.List.{cons_option}
+use Rattle.std.specs.Map.{keys_of}
 use Rattle.std.specs.Option.{option_and_then}
 use Rattle.std.specs.Str.{bytes_eq}
 use Rattle.std.proofs.lemmas.List.{length-map}
@@ -69,6 +70,11 @@ module _ {T : Type 0} where
     -- there are as many rows as in the holdings
     pub length_seen : (rows : HeldRows T) → length (seen_rows watches rows) ≡ length rows
     length_seen rows = length-map rows (λ row. (row.0, seen_row watches row.0 row.1))
+
+    -- and they have the same tags
+    pub keys_seen : (rows : HeldRows T) → keys_of (seen_rows watches rows) ≡ keys_of rows
+    keys_seen [] = refl
+    keys_seen (row ∷ rows) = ap (λ tags. row.0 ∷ tags) (keys_seen rows)
 
     -- a tag has the part that it has there
     pub part_seen : (rows : HeldRows T) (tag : List ℕ) → part_of tag (seen_rows watches rows) ≡ held.part_of tag rows

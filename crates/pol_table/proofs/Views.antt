@@ -2,7 +2,7 @@
 use Rattle.std.proofs.Common.{◌≡◌, ℕ, suc, Bool, true, false, cond, List, [], ◌∷◌, length, Option, Some, None, is_some, refl, sym, ap, true≢false}
 use Rattle.std.specs.Prelude.{IsSome}
 use Rattle.std.specs.List.{AllByRecursion}
-use Rattle.std.specs.Map.{lookup}
+use Rattle.std.specs.Map.{lookup, keys_of}
 use Rattle.std.specs.Option.{option_map, option_and_then}
 use Rattle.std.specs.Str.{bytes_eq}
 use Rattle.pol_table.specs.HeldRows.{HeldRow, look, part_of, holder_of}
@@ -69,6 +69,17 @@ module _ {T : Type 0} where
           → length (rows_of (entry ∷ seats) parts) ≡ length (entry ∷ seats)
       go (part, is) rest = rw is (ap suc rest)
 
+  -- where each place has a part, the rows have the tags of the seats
+  tags_of : (seats : List (List ℕ × Seat)) (parts : List (Option T))
+      → AllByRecursion (λ entry. IsSome (part_at parts entry.1.place)) seats
+      → keys_of (rows_of seats parts) ≡ keys_of seats
+  tags_of [] parts all = refl
+  tags_of (entry ∷ seats) parts all = go (some_of (part_at parts entry.1.place) all.0) (tags_of seats parts all.1)
+    where
+      go : (part : T) × (part_at parts entry.1.place ≡ Some part) → keys_of (rows_of seats parts) ≡ keys_of seats
+          → keys_of (rows_of (entry ∷ seats) parts) ≡ keys_of (entry ∷ seats)
+      go (part, is) rest = rw is (ap (λ tags. entry.0 ∷ tags) rest)
+
   module _ (seats : List (List ℕ × Seat)) (parts : List (Option T)) (sound : IsSound seats parts) where
     occupied : AllByRecursion (λ entry. IsSome (part_at parts entry.1.place)) seats
     occupied = each_entry (λ tag seat. IsSome (part_at parts seat.place)) seats sound.unique sound.occupied
@@ -81,6 +92,10 @@ module _ {T : Type 0} where
     -- there are as many rows as seats
     pub length_rows_of : length (rows_of seats parts) ≡ length seats
     length_rows_of = count_of seats parts occupied
+
+    -- the rows have the tags of the seats
+    pub keys_rows_of : keys_of (rows_of seats parts) ≡ keys_of seats
+    keys_rows_of = tags_of seats parts occupied
 
     -- a tag is docked where it has a seat
     pub is_some_look : (tag : List ℕ) → is_some (look tag (rows_of seats parts))

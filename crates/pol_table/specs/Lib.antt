@@ -1,5 +1,6 @@
 pub mod HeldRows
 pub mod Rows
+pub mod ByteOrder
 pub mod Reasons
 pub mod HeldAnswers
 pub mod Answers

@@ -1,14 +1,17 @@
 //! Which parts are docked, and which batch holds each.
-ghost use Rattle.std.specs.Prelude.{◌≡◌, ℕ, ◌+◌, List, [], length, OnOk, OnErr, IfErr, if◌then◌else◌, unwrap_or, option_copied};
+ghost use Rattle.std.specs.Prelude.{◌≡◌, ℕ, ◌+◌, List, [], length, OnOk, OnErr, IfErr, slice_get, if◌then◌else◌, unwrap_or, option_copied};
 ghost use Rattle.std.specs.Borrow.{LendsIf, sem};
+ghost use Rattle.std.specs.Map.{keys_of};
 ghost use Rattle.std.specs.Option.{option_copied_mut, option_map};
 ghost use Rattle.std.specs.Str.{bytes_eq};
 ghost use Rattle.mtp_codes.specs.Names.{is_among};
 ghost use Rattle.pol_table.specs.HeldRows.{look, part_of, holder_of, with_part, held_by, freed_from};
 ghost use Rattle.pol_table.specs.HeldAnswers.{dock_fault, leaving, holding};
+ghost use Rattle.pol_table.specs.ByteOrder.{in_byte_order};
 
 use super::faults::{DockFault, HoldFault, LeaveFault};
 use super::holding::{first_busy, first_missing, free_each, free_seat, hold_each, holder_of_seat};
+use super::order::tag_at;
 use super::seat::Seat;
 use indexmap::IndexMap;
 use mtp_codes::{MOST_MODULES, Name};
@@ -79,6 +82,13 @@ impl<T: Drop> Holdings<T> {
         ensures { result ≡ holder_of tag self.now }
     {
         holder_of_seat(&self.seats, tag)
+    }
+
+    /// The docked tag at this place, from 0, in byte order; None from the number of parts on.
+    pub(crate) fn tag_at(&self, place: u32) -> Option<Name>
+        ensures { result ≡ slice_get (in_byte_order (keys_of self.now)) place }
+    {
+        tag_at(&self.seats, place as usize)
     }
 
     /// Docks a part under a tag that no batch holds yet.

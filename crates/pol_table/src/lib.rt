@@ -9,6 +9,7 @@
 mod faults;
 mod holding;
 mod holdings;
+mod order;
 mod seat;
 mod table;
 mod watch;

@@ -1,11 +1,13 @@
 //! The table of docked parts.
 ghost use Rattle.std.specs.Prelude.{◌≡◌, ℕ, ◌+◌, List, [], length, OnOk, OnErr, IfErr, IsSome, true, slice_get, if◌then◌else◌, unwrap_or, option_copied};
 ghost use Rattle.std.specs.Borrow.{LendsIf, sem};
+ghost use Rattle.std.specs.Map.{keys_of};
 ghost use Rattle.std.specs.Option.{option_copied_mut, option_map};
 ghost use Rattle.std.specs.Str.{bytes_eq};
 ghost use Rattle.mtp_codes.specs.Names.{is_among};
 ghost use Rattle.pol_table.specs.Rows.{look, part_of, holder_of, watchers_of, with_part, held_by, watched_among, freed_from};
 ghost use Rattle.pol_table.specs.Answers.{dock_fault, leaving, holding};
+ghost use Rattle.pol_table.specs.ByteOrder.{in_byte_order};
 ghost use Rattle.pol_table.specs.Watches.{watchers_in};
 
 use super::faults::{DockFault, HoldFault, LeaveFault};
@@ -77,6 +79,14 @@ impl<T: Drop> Table<T> {
         ensures { result ≡ holder_of tag self.now }
     {
         self.holdings.holder(tag)
+    }
+
+    /// The docked tag at this place, from 0, in byte order; None from the number of parts on. Takes no memory; compares
+    /// each tag with each.
+    pub fn tag_at(&self, place: u32) -> Option<Name>
+        ensures { result ≡ slice_get (in_byte_order (keys_of self.now)) place }
+    {
+        self.holdings.tag_at(place)
     }
 
     /// The batch that watches the tag at this place, from 0, in the order in which they began; None from their number

@@ -1,8 +1,10 @@
 //! The program `pol`, run on a word that is no text, which asks for nothing: it ends with status 2.
 #![tactic(auto)]
 
+use pol_file::FileDisk;
 use std::process::ExitCode;
 
 fn main(rt: HostRuntime) -> ExitCode {
-    pol_cli::run(&rt)
+    let disk = FileDisk::new(&rt, "pol.journal", ".");
+    pol_cli::run(&rt, disk)
 }

@@ -1,8 +1,10 @@
 //! The program `pol`, run on the five words of a demo: it writes the summary of the journal of seed 0.
 #![tactic(auto)]
 
+use pol_file::FileDisk;
 use std::process::ExitCode;
 
 fn main(rt: HostRuntime) -> ExitCode {
-    pol_cli::run(&rt)
+    let disk = FileDisk::new(&rt, "pol.journal", ".");
+    pol_cli::run(&rt, disk)
 }

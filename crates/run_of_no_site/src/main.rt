@@ -1,8 +1,10 @@
 //! The program `pol`, run as a plant on a site without modules, which is none: it ends with status 7.
 #![tactic(auto)]
 
+use pol_file::FileDisk;
 use std::process::ExitCode;
 
 fn main(rt: HostRuntime) -> ExitCode {
-    pol_cli::run(&rt)
+    let disk = FileDisk::new(&rt, "pol.journal", ".");
+    pol_cli::run(&rt, disk)
 }

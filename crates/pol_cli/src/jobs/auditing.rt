@@ -4,8 +4,8 @@ ghost use Rattle.pol_record.specs.Verdicts.{verdict_text};
 ghost use Rattle.pol_audit.specs.Audits.{plain_audit};
 ghost use Rattle.pol_audit.specs.Reading.{nothing_read, verdict_after};
 
-use crate::jobs::meaning::is_blank;
 use pol_audit::Audit;
+use pol_events::is_blank;
 use pol_io::Sink;
 use pol_jobs::{InputLine, LineJob, PutFault, Stop, close_with};
 use pol_record::verdict_line;
@@ -44,6 +44,7 @@ impl Auditing {
 impl LineJob for Auditing {
     type Refusal = Infallible;
 
+    ghost use Rattle.std.specs.Prelude.{⊤};
     ghost use Rattle.pol_audit.specs.Audits.{plain_audit};
     ghost use Rattle.pol_audit.specs.Reading.{Read};
     ghost use Rattle.pol_cli.specs.Audits.{audit_work};
@@ -53,6 +54,12 @@ impl LineJob for Auditing {
     ghost state = { λ auditing. plain_audit auditing.audit };
 
     ghost work = { audit_work };
+
+    ghost Did = { λ _ _ _ _. ⊤ };
+
+    ghost did_nothing = { λ _. tt };
+
+    ghost did_more = { λ _ _ _ _ _ _ _ _. tt };
 
     #[tactic(auto, using(crate::proofs::Auditing::blank_read, crate::proofs::Auditing::filled_read))]
     fn reply(&mut self, line: InputLine<'_>, _out: &mut Vec<u8>) -> Result<(), Stop<Infallible>> {

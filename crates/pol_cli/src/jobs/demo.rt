@@ -1,6 +1,7 @@
 //! The demo: a journal that is made from a seed.
 ghost use Rattle.pol_jobs.specs.Ends.{Ends, edge};
-ghost use Rattle.pol_cli.specs.Tasks.{demonstrated, no_input};
+ghost use Rattle.pol_keep.specs.Exported.{no_input};
+ghost use Rattle.pol_cli.specs.Tasks.{demonstrated};
 
 use pol_demo::demo_line;
 use pol_io::Sink;

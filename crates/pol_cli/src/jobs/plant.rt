@@ -10,13 +10,14 @@ ghost use Rattle.pol_site.specs.PlainSite.{plain_site};
 ghost use Rattle.pol_jobs.specs.Ends.{Ends, edge};
 ghost use Rattle.pol_jobs.specs.Written.{WritesPart, WritesSome};
 ghost use Rattle.pol_cli.specs.Journal.{Laws};
-ghost use Rattle.pol_cli.specs.SiteRuns.{AreReadBack, IsRunOf, RunWrites, entries_text, entry_lines, planted, run_text};
+ghost use Rattle.pol_retold.specs.Inputs.{run_text};
+ghost use Rattle.pol_retold.specs.Retold.{IsRetold};
+ghost use Rattle.pol_cli.specs.SiteRuns.{AreReadBack, AreRetold, IsRunOf, RunWrites, entries_text, entry_lines, planted};
 ghost use Rattle.pol_cli.specs.Tasks.{PlantEnds};
 
-use crate::jobs::closing::close;
 use crate::jobs::site_text::read_text;
 use crate::journal::journals_are_sound;
-use crate::status::{Status, status_of_site};
+use crate::status::{Status, Wanted, status_wanting};
 use mtp_json::JsonFault;
 use pol_arguments::LiveTask;
 use pol_events::Entry;
@@ -24,32 +25,34 @@ use pol_io::{Clock, Sink, Source};
 use pol_jobs::{JobFault, PutFault, put};
 use pol_live::{Gate, Ran, run_site};
 use pol_record::put_entry_line;
+use pol_replay::close;
 use pol_site::Site;
 use std::alloc::{AllocError, Global};
 use std::sync::Wait;
 use std::thread::Threads;
 
-// Writes the line of an entry, and gives its memory back.
+// Writes the line of an entry, which is made in a buffer that holds nothing before or after.
 #[tactic(auto, using(pol_jobs::proofs::Written::nothing_written, pol_jobs::proofs::Written::some_written))]
 fn put_entry<K: Sink>(
     alloc: Global,
-    buffer: Vec<u8>,
+    line: &mut Vec<u8>,
     entry: &Entry,
     sink: &mut K,
-) -> Result<Vec<u8>, PutFault>
+) -> Result<(), PutFault>
     requires orderly { IsTrue (is_orderly (plain_event entry.now.event)) }
-    requires empty { buffer.items ≡ [] }
-    ensures empty { IfOk result (λ buffer. buffer.items ≡ []) }
+    requires empty { line.old.items ≡ [] }
+    ensures empty { OnOk result (line.new.items ≡ []) }
     ensures line { OnOk result (Appends (K.held sink.old) (K.held sink.new) (entry_line_text (plain_entry entry.now))) }
     ensures read_back { OnOk result (IsReadBack (plain_entry entry.now)) }
+    ensures retold { OnOk result (IsRetold (plain_entry entry.now)) }
     ensures part { OnErr result (WritesSome (K.held sink.old) (K.held sink.new)
         (entry_line_text (plain_entry entry.now))) }
     ensures cause { HasCauseOf PutFault.Write (K.faults sink.old) (K.faults sink.new) result }
 {
-    let mut line = put_entry_line(alloc, buffer, entry)?;
-    put(sink, &line)?;
+    put_entry_line(alloc, line, entry)?;
+    put(sink, line)?;
     line.clear();
-    Ok(line)
+    Ok(())
 }
 
 // Writes the line of each of these entries.
@@ -57,12 +60,13 @@ fn put_each<K: Sink>(alloc: Global, entries: &[Entry], sink: &mut K) -> Result<(
     requires { IsOrderly (plain_history entries.now) }
     ensures text { OnOk result (Appends (K.held sink.old) (K.held sink.new) (entry_lines entries.now)) }
     ensures read_back { OnOk result (AreReadBack (map plain_entry entries.now)) }
+    ensures retold { OnOk result (AreRetold (map plain_entry entries.now)) }
     ensures part { OnErr result (WritesSome (K.held sink.old) (K.held sink.new) (entry_lines entries.now)) }
     ensures cause { HasCauseOf PutFault.Write (K.faults sink.old) (K.faults sink.new) result }
 {
-    let mut buffer = Vec::new(alloc);
+    let mut line = Vec::new(alloc);
     for entry in entries {
-        buffer = put_entry(alloc, buffer, entry, sink)?;
+        put_entry(alloc, &mut line, entry, sink)?;
     }
     Ok(())
 }
@@ -73,6 +77,7 @@ fn put_entries<K: Sink>(alloc: Global, history: &[Entry], sink: &mut K) -> Resul
     ensures text { OnOk result
         (Appends (K.held sink.old) (K.held sink.new) (entries_text (plain_history history.now))) }
     ensures read_back { OnOk result (AreReadBack (plain_history history.now)) }
+    ensures retold { OnOk result (AreRetold (plain_history history.now)) }
     ensures part { OnErr result (WritesSome (K.held sink.old) (K.held sink.new)
         (entries_text (plain_history history.now))) }
     ensures cause { HasCauseOf PutFault.Write (K.faults sink.old) (K.faults sink.new) result }
@@ -85,6 +90,7 @@ fn put_run<K: Sink>(alloc: Global, history: &[Entry], sink: &mut K) -> Result<()
     requires { IsOrderly (plain_history history.now) }
     ensures text { OnOk result (Appends (K.held sink.old) (K.held sink.new) (run_text (plain_history history.now))) }
     ensures read_back { OnOk result (AreReadBack (plain_history history.now)) }
+    ensures retold { OnOk result (AreRetold (plain_history history.now)) }
     ensures part { OnErr result (WritesPart (K.held sink.old) (K.held sink.new)
         (run_text (plain_history history.now))) }
     ensures cause { HasCauseOf PutFault.Write (K.faults sink.old) (K.faults sink.new) result }
@@ -152,5 +158,6 @@ pub fn live<R: Threads + Wait + Sync, S: Source, K: Sink, C: Clock + Send, G: Ga
     ensures laws { Laws }
 {
     journals_are_sound();
-    status_of_site(read_and_run(rt, alloc, task.watchers, source, sink, clock, gate))
+    let done = read_and_run(rt, alloc, task.watchers, source, sink, clock, gate);
+    status_wanting(Wanted::Site, done)
 }

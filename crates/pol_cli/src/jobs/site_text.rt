@@ -9,8 +9,8 @@ ghost use Rattle.pol_jobs.specs.LineWork.{AcceptsEnd};
 ghost use Rattle.pol_cli.specs.SiteRuns.{planted};
 ghost use Rattle.pol_cli.specs.SiteTexts.{Says, after_filled, line_says, one, site_work, telling_of, told};
 
-use crate::jobs::meaning::is_blank;
 use mtp_json::{FaultKind, JsonFault, JsonRefusal, Path};
+use pol_events::is_blank;
 use pol_io::{Sink, SinkFault, Source};
 use pol_jobs::{InputLine, JobFault, LineJob, PutFault, Stop, work};
 use pol_site::{Site, read_site};
@@ -111,6 +111,7 @@ impl SiteText {
 impl LineJob for SiteText {
     type Refusal = JsonFault;
 
+    ghost use Rattle.std.specs.Prelude.{⊤};
     ghost use Rattle.pol_cli.specs.SiteTexts.{Told, site_work, telling_of};
 
     ghost State = { Told };
@@ -118,6 +119,12 @@ impl LineJob for SiteText {
     ghost state = { λ text. telling_of text.telling };
 
     ghost work = { site_work };
+
+    ghost Did = { λ _ _ _ _. ⊤ };
+
+    ghost did_nothing = { λ _. tt };
+
+    ghost did_more = { λ _ _ _ _ _ _ _ _. tt };
 
     #[tactic(auto, using(crate::proofs::SiteTexts::after_blank, crate::proofs::SiteTexts::after_some))]
     fn reply(&mut self, line: InputLine<'_>, _out: &mut Vec<u8>) -> Result<(), Stop<JsonFault>> {

@@ -5,7 +5,7 @@ use Rattle.chart_cursor.specs.NextEntry.{next_by}
 use Rattle.pol_events.specs.Bound.{given, plain_allocation}
 use Rattle.pol_events.specs.Events.{plain_history}
 use Rattle.pol_history.specs.Looking.{past, past_of_batch}
-use Rattle.pol_history.specs.Batches.{is_frozen_by}
+use Rattle.pol_history.specs.Batches.{freezing_by}
 use Rattle.pol_history.specs.Following.{sights_by}
 use Rattle.pol_audit.proofs.following.next_of_start.Goals as goal
 
@@ -16,8 +16,7 @@ returns c =
     IfOk-weaker c.next_by.result _ _
     (λ next is.
     is
-    ∙ ap (λ frozen. next_by (plain_chart c.args.chart.now) frozen c.deref.result.now seen) c.is_frozen.ensures
     ∙ ap (λ log. next_by (plain_chart c.args.chart.now)
-    (is_frozen_by (past_of_batch c.args.batch (plain_history c.args.history.now))) log seen) (c.deref.ensures.value
+    (freezing_by (past_of_batch c.args.batch (plain_history c.args.history.now))) log seen) (c.deref.ensures.value
     ∙ c.in_ok-log.ensures))
     c.next_by.ensures

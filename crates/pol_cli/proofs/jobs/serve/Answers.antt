@@ -1,11 +1,19 @@
 use Rattle.std.proofs.Common.{ap, ◌∙◌}
 use Rattle.pol_jobs.specs.LineWork.{output_by}
 use Rattle.pol_cli.specs.Audits.{audit_work, audited}
-use Rattle.pol_cli.specs.Replay.{replay_work, replayed}
-use Rattle.pol_cli.specs.Statuses.{no_refusal}
+use Rattle.pol_replay.specs.Replay.{replay_work, replayed}
+use Rattle.pol_find.specs.Finding.{find_work, found}
+use Rattle.pol_find.proofs.Replayed.{find_output}
+use Rattle.pol_guard.specs.Work.{guard_work}
+use Rattle.pol_guard.specs.Guarded.{guarded}
+use Rattle.pol_guard.proofs.Working.{guard_output}
+use Rattle.pol_migration.specs.Job.{migrating}
+use Rattle.pol_migration.proofs.Replies.{migrating_output}
+use Rattle.pol_cli.specs.Statuses.{no_refusal, refused_as}
+use Rattle.pol_cli.specs.declared.status.Wanted.TheVariants.{Policy}
 use Rattle.pol_cli.proofs.Auditing.{audit_output}
 use Rattle.pol_cli.proofs.Ending.{job_ends}
-use Rattle.pol_cli.proofs.Replaying.{replay_output}
+use Rattle.pol_replay.proofs.Replaying.{replay_output}
 use Rattle.pol_cli.proofs.jobs.serve.Goals as goal
 
 pub returns-in-Replay-clause-ends : goal.returns-in-Replay-clause-ends
@@ -17,3 +25,19 @@ pub returns-in-Audit-clause-ends : goal.returns-in-Audit-clause-ends
 returns-in-Audit-clause-ends g c =
     rw (c.in-Audit.is, c.status_of-in-Audit.ensures) (job_ends _ audited no_refusal _ _ _ _ c.work-in-Audit.result
     (ap (output_by audit_work) c.new-in-Audit.ensures ∙ audit_output) c.work-in-Audit.ensures.ends)
+
+pub returns-in-Find-clause-ends : goal.returns-in-Find-clause-ends
+returns-in-Find-clause-ends g c =
+    rw (c.in-Find.is, c.status_of-in-Find.ensures) (job_ends _ found no_refusal _ _ _ _ c.work-in-Find.result
+    (ap (output_by find_work) c.new-in-Find.ensures ∙ find_output) c.work-in-Find.ensures.ends)
+
+pub returns-in-Guard-clause-ends : goal.returns-in-Guard-clause-ends
+returns-in-Guard-clause-ends g c =
+    rw (c.in-Guard.is, c.status_wanting.ensures) (job_ends _ guarded (refused_as Policy) _ _ _ _
+    c.work-in-Guard.result (ap (output_by guard_work) c.new-in-Guard.ensures ∙ guard_output)
+    c.work-in-Guard.ensures.ends)
+
+pub returns-in-Migrate-clause-ends : goal.returns-in-Migrate-clause-ends
+returns-in-Migrate-clause-ends g c =
+    rw (c.in-Migrate.is, c.status_of-in-Migrate.ensures) (job_ends _ migrating no_refusal _ _ _ _
+    c.work-in-Migrate.result migrating_output c.work-in-Migrate.ensures.ends)

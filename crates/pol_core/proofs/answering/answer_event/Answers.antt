@@ -92,7 +92,7 @@ returns-in-Advance-clause-answered c =
 pub returns-in-Freeze-clause-answered : goal.returns-in-Freeze-clause-answered
 returns-in-Freeze-clause-answered c =
     λ history mirrors room.
-    batch_told (freeze c.in-Freeze.at c.in-Freeze.batch) c.in-Freeze.batch
+    batch_told (freeze c.in-Freeze.at c.in-Freeze.batch c.in-Freeze.hold) c.in-Freeze.batch
     (ap plain_event (sym c.in-Freeze.is)) refl refl
     mirrors
     (c.freeze.ensures.answered history c.in-Freeze.at c.args.modules.now mirrors.seats mirrors.counted

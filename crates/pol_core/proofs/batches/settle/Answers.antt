@@ -20,7 +20,8 @@ returns-clause-settled c =
           (record {
             log = c.settle.ensures.log;
             same_batch = c.settle.ensures.same_batch;
-            frozen_is = c.settle.ensures.frozen;
+            asked = c.settle.ensures.asked;
+            freeze_is = c.settle.ensures.freeze;
             outcome_is = c.settle.ensures.outcome;
           });
       runs = λ other. ap (lookup (bytes_eq other)) (c.get_mut.follows.holds c.settle.new.self).0

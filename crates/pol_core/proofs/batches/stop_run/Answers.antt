@@ -18,10 +18,11 @@ returns-clause-stopped c =
       after = c.stop.new.self;
       stops = subst (λ (run : PlainRun). Stops c.stop.result run c.stop.new.self) is
           (record {
-            asked = c.stop.ensures.new;
+            was = c.stop.ensures.new;
             log = c.stop.ensures.log;
             same_batch = c.stop.ensures.same_batch;
-            frozen_is = c.stop.ensures.frozen;
+            asked = c.stop.ensures.asked;
+            freeze_is = c.stop.ensures.freeze;
             outcome_is = c.stop.ensures.outcome;
           });
       runs = λ other. ap (lookup (bytes_eq other)) (c.get_mut.follows.holds c.stop.new.self).0

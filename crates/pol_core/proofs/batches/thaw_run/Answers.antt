@@ -1,5 +1,6 @@
 -- The run of the batch is changed in its place.
-use Rattle.std.proofs.Common.{◌≡◌, ◌∙◌, sym, ap, Some, cond, false, None}
+use Rattle.std.proofs.Common.{◌≡◌, ◌∙◌, sym, ap, Some, cond, None}
+use Rattle.pol_runs.specs.declared.freeze.Freeze.TheVariants.{Thawed}
 use Rattle.std.specs.Map.{lookup}
 use Rattle.std.specs.Option.{option_copied_mut}
 use Rattle.std.specs.Str.{bytes_eq}
@@ -17,7 +18,7 @@ returns-clause-changed c =
     ∙ written c.args.batch other c.args.runs.now.entries run c.thaw.new.self found
     ∙ ap (λ (run : PlainRun). cond (bytes_eq c.args.batch other) (Some run)
     (lookup (bytes_eq other) c.args.runs.now.entries))
-    (c.thaw.ensures.frozen ∙ ap (λ (run : PlainRun). record run { frozen = false }) is)
+    (c.thaw.ensures.freeze ∙ ap (λ (run : PlainRun). record run { freeze = Thawed }) is)
 
 pub unreachable-requires : goal.unreachable-requires
 unreachable-requires c =

@@ -1,11 +1,16 @@
 -- A module is plugged, or a rule is against it.
-use Rattle.std.proofs.Common.{◌∙◌, sym, ap, is_some, refl, length, ◌<◌, ◌≤◌, arith}
+use Rattle.std.proofs.Common.{◌≡◌, ◌∙◌, ℕ, List, sym, ap, is_some, refl, length, ◌<◌, ◌≤◌, arith, None}
+use Rattle.std.specs.Prelude.{unwrap_or}
 use Rattle.std.proofs.lemmas.Bool.{lt-leb, le-leb}
 use Rattle.mtp_codes.specs.declared.limits.TheConstants.{MOST_MODULES}
 use Rattle.mtp_desc.specs.PlainDescription.{plain_description}
 use Rattle.pol_events.specs.declared.answer.Answer.TheVariants.{Done}
 use Rattle.pol_history.specs.Looking.{past}
-use Rattle.pol_table.specs.Rows.{look}
+use Rattle.pol_slots.specs.declared.slot.Slot.{Slot}
+use Rattle.pol_table.specs.Answers.{dock_fault}
+use Rattle.pol_table.specs.Rows.{Rows, look}
+use Rattle.pol_table.specs.declared.faults.DockFault.{DockFault}
+use Rattle.pol_table.specs.declared.faults.DockFault.TheVariants as fault
 use Rattle.pol_core.proofs.Plugging.{plug_keeps, refused_answered, tag_taken_is, full_answered, plug_answered}
 use Rattle.pol_events.proofs.Options.{not_some}
 use Rattle.pol_core.proofs.Telling.{part_some, copied_some}
@@ -50,3 +55,32 @@ returns-in-Ok-clause-answered c =
     ∙ (ap plain_description c.in_ok-clone.ensures.cases)) c.in_ok-slot.ensures.begins c.in_ok-slot.ensures.docked
     c.in_ok-slot.ensures.unreported)
     c.in-Ok.ensures.docked c.in-Ok.ensures.count seats counted room
+
+-- a part is docked under a tag that isn't there, where there is room; unless there is no memory
+memory_alone : (tag : List ℕ) (rows : Rows Slot) (refused : DockFault) → look tag rows ≡ None →
+    length rows < MOST_MODULES → refused ≡ unwrap_or (dock_fault tag rows) fault.Memory → refused ≡ fault.Memory
+memory_alone tag rows refused none few is = is ∙ rw (none, lt-leb MOST_MODULES (length rows) few) refl
+
+pub unreachable-requires : goal.unreachable-requires
+unreachable-requires c =
+    let taken = c.in-Err-default-TagTaken in
+    let room = c.if-len-ge-MOST_MODULES.false in
+    let len = c.len.ensures in
+    let clash : fault.TagTaken ≡ fault.Memory = sym taken.field-0-1-is
+    ∙ memory_alone c.args.tag c.args.modules.now taken.field-0-1
+    (not_some (look c.args.tag c.args.modules.now)
+    (sym (part_some (look c.args.tag c.args.modules.now)) ∙ ap is_some (sym c.get.ensures)
+    ∙ copied_some c.get.result ∙ sym c.is_some.ensures ∙ c.if-is_some.false))
+    (omega (arith, room, len)) taken.ensures.err in cc
+
+pub unreachable-requires-in-Err-default-PlantFull : goal.unreachable-requires-in-Err-default-PlantFull
+unreachable-requires-in-Err-default-PlantFull c =
+    let full = c.in-Err-default-PlantFull in
+    let room = c.if-len-ge-MOST_MODULES.false in
+    let len = c.len.ensures in
+    let clash : fault.PlantFull ≡ fault.Memory = sym full.field-0-1-is
+    ∙ memory_alone c.args.tag c.args.modules.now full.field-0-1
+    (not_some (look c.args.tag c.args.modules.now)
+    (sym (part_some (look c.args.tag c.args.modules.now)) ∙ ap is_some (sym c.get.ensures)
+    ∙ copied_some c.get.result ∙ sym c.is_some.ensures ∙ c.if-is_some.false))
+    (omega (arith, room, len)) full.ensures.err in cc

@@ -1,3 +1,4 @@
+use Rattle.std.proofs.Common.{arith}
 use Rattle.std.proofs.lemmas.Result.{IfOk-weaker}
 use Rattle.serde_json.specs.View.{view}
 use Rattle.pol_events.specs.Events.{plain_event}
@@ -11,7 +12,8 @@ returns-clause-reads_back c = IfOk-weaker c.write_event.result _ _
 
 pub returns-clause-nests : goal.returns-clause-nests
 returns-clause-nests c = IfOk-weaker c.write_event.result _ _
-    (λ value is. rw is.0 (event_depth c.args.event.now c.requires)) c.write_event.ensures
+    (λ value is. let less = event_depth c.args.event.now c.requires in rw is.0 (omega (arith, less)))
+    c.write_event.ensures
 
 pub returns-clause-whole : goal.returns-clause-whole
 returns-clause-whole c = IfOk-weaker c.write_event.result _ _

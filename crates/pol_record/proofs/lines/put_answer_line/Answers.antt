@@ -2,5 +2,5 @@
 use Rattle.pol_record.proofs.Tokens.{done_text}
 use Rattle.pol_record.proofs.lines.put_answer_line.Goals as goal
 
-pub returns-in-Done : goal.returns-in-Done
-returns-in-Done c = rw (c.in-Done.is, done_text) c.in_ok-extend_from_slice.ensures.items
+pub returns-in-Done-clause-line : goal.returns-in-Done-clause-line
+returns-in-Done-clause-line c = rw (c.in-Done.is, done_text) c.in_ok-extend_from_slice.ensures.items

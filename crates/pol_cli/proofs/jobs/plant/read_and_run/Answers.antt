@@ -4,6 +4,7 @@ use Rattle.pol_events.specs.Events.{plain_history}
 use Rattle.pol_jobs.specs.Ends.{edge}
 use Rattle.pol_site.specs.PlainSite.{plain_site}
 use Rattle.pol_cli.specs.SiteRuns.{IsRunOf}
+use Rattle.pol_cli.proofs.EntryLines.{puts_run}
 use Rattle.pol_cli.proofs.PlantEnding.{run_broken, run_done}
 use Rattle.pol_cli.proofs.jobs.plant.read_and_run.Goals as goal
 
@@ -41,9 +42,19 @@ returns-clause-ends g c =
     c.in_ok-site.ensures.says c.in_ok-site.ensures.well
     (edge (g.K.Sink.held c.args.sink.now) (g.K.Sink.faults c.args.sink.now))
     (edge (g.K.Sink.held c.put_run.new.sink) (g.K.Sink.faults c.put_run.new.sink))
-    (record {
-      history = plain_history c.deref.result.now;
-      is_run = is_run;
-      written = c.in_ok-put_run.ensures.text;
-      read_back = c.in_ok-put_run.ensures.read_back;
-    }) c.in_ok-put_run.ensures.cause.done
+    (puts_run site (g.K.Sink.held c.args.sink.now) (g.K.Sink.held c.put_run.new.sink)
+    (plain_history c.deref.result.now) is_run c.in_ok-put_run.ensures.text c.in_ok-put_run.ensures.read_back
+    c.in_ok-put_run.ensures.retold) c.in_ok-put_run.ensures.cause.done
+
+pub returns-clause-writes : goal.returns-clause-writes
+returns-clause-writes g c =
+    let site = plain_site c.in_ok-site.site in
+    let is_run = subst (λ items. IsRunOf site (plain_history items)) (sym c.deref.ensures.value)
+    c.in_ok-history.ensures in
+    record {
+      site = site;
+      says = c.in_ok-site.ensures.says;
+      puts = puts_run site (g.K.Sink.held c.args.sink.now) (g.K.Sink.held c.put_run.new.sink)
+          (plain_history c.deref.result.now) is_run c.in_ok-put_run.ensures.text c.in_ok-put_run.ensures.read_back
+          c.in_ok-put_run.ensures.retold;
+    }

@@ -22,8 +22,8 @@ returns-in-Some c =
     let first = λ (from : ℕ) (log : List LogEntry).
     first_placed (is_wanted from (Some c.args.role)) (active_steps (plain_chart run.chart) (chart_entries log)) in
     subst (IsFirstOf c.args.role (Some c.in-Some.step.name)) c.self.view_is (λ log follows.
-    ap name_of (sym c.in-Some.is ∙ c.next_step.ensures (chart_entries log) follows.marks
-    ∙ ap (λ from. first from log) c.first_number.ensures ∙ role_active run log c.args.role follows))
+    ap name_of (sym c.in-Some.is ∙ c.next_step.ensures (chart_entries log) follows.proceeds.marks
+    ∙ ap (λ from. first from log) c.first_number.ensures ∙ role_active run log c.args.role follows.proceeds))
 
 pub returns-in-None : goal.returns-in-None
 returns-in-None c =
@@ -31,5 +31,5 @@ returns-in-None c =
     let first = λ (from : ℕ) (log : List LogEntry).
     first_placed (is_wanted from (Some c.args.role)) (active_steps (plain_chart run.chart) (chart_entries log)) in
     subst (IsFirstOf c.args.role None) c.self.view_is (λ log follows.
-    ap name_of (sym c.in-None.is ∙ c.next_step.ensures (chart_entries log) follows.marks
-    ∙ ap (λ from. first from log) c.first_number.ensures ∙ role_active run log c.args.role follows))
+    ap name_of (sym c.in-None.is ∙ c.next_step.ensures (chart_entries log) follows.proceeds.marks
+    ∙ ap (λ from. first from log) c.first_number.ensures ∙ role_active run log c.args.role follows.proceeds))

@@ -1,0 +1,69 @@
+//! The number of a step, by its name.
+ghost use Rattle.std.specs.Prelude.{◌≡◌, ◌+◌, ◌<◌, ◌^◌};
+ghost use Rattle.chart_core.specs.Charts.{plain_chart};
+ghost use Rattle.chart_core.specs.Numbers.{number_named, number_in, number_among, number_in_arms};
+ghost use Rattle.chart_core.specs.Trees.{plain_node, trees, arms, size, sizes, arm_sizes, steps};
+ghost use Rattle.chart_core.specs.Valid.{IsValid};
+
+use super::chart::Chart;
+use super::node::{Arm, Node};
+use super::size::node_count;
+use mtp_codes::Name;
+
+// The number of the first step of this tree that has the name; the tree's first node has this number.
+#[cycle(numbered)]
+fn number_in(node: &Node, number: u32, name: Name) -> Option<u32>
+    requires { number + size (plain_node node.now) < 2 ^ 32 }
+    ensures { result ≡ number_in name (plain_node node.now) number }
+{
+    match node {
+        Node::Step(step) if step.name == name => Some(number),
+        Node::Step(_) => None,
+        Node::Seq(kids) => number_among(kids, number + 1, name),
+        Node::Par(kids) => number_among(kids, number + 1, name),
+        Node::Sel(each) => number_in_arms(each, number + 1, name),
+        Node::Loop(body, _) => number_in(body, number + 1, name),
+    }
+}
+
+// The same among kids, the first of which has this number.
+#[cycle(numbered)]
+fn number_among(kids: &[Node], first: u32, name: Name) -> Option<u32>
+    requires { first + sizes (trees kids.now) < 2 ^ 32 }
+    ensures { result ≡ number_among name (trees kids.now) first }
+{
+    let mut number = first;
+    for kid in kids {
+        let found = number_in(kid, number, name);
+        if found.is_some() {
+            return found;
+        }
+        number += node_count(kid);
+    }
+    None
+}
+
+// The same among arms, the first of whose bodies has this number.
+#[cycle(numbered)]
+fn number_in_arms(each: &[Arm], first: u32, name: Name) -> Option<u32>
+    requires { first + arm_sizes (arms each.now) < 2 ^ 32 }
+    ensures { result ≡ number_in_arms name (arms each.now) first }
+{
+    let mut number = first;
+    for arm in each {
+        let found = number_in(&arm.body, number, name);
+        if found.is_some() {
+            return found;
+        }
+        number += node_count(&arm.body);
+    }
+    None
+}
+
+/// The number of the step with this name in the valid chart; None where no step has it. Walks the chart's nodes once.
+pub fn step_number(chart: &Chart, name: Name) -> Option<u32>
+    requires { IsValid (plain_chart chart.now) }
+    ensures { result ≡ number_named name (steps (plain_chart chart.now).root 0) }
+{
+    number_in(&chart.root, 0, name)
+}

@@ -1,0 +1,33 @@
+use Rattle.std.proofs.Common.{refl}
+use Rattle.pol_cli.proofs.Keeping.{not_begun, on_disk_fault, on_good, on_no_store}
+use Rattle.pol_cli.proofs.jobs.keeping.keep.Goals as goal
+
+pub returns-clause-ends : goal.returns-clause-ends
+returns-clause-ends g c =
+    rw c.status_of_kept.ensures (record { result = c.keep-done.result.0; told = refl; ends = c.keep-done.ensures.ends })
+
+pub returns-clause-keeps : goal.returns-clause-keeps
+returns-clause-keeps g c =
+    rw c.status_of_kept.ensures (record {
+      moments = λ old holds. c.keep-done.ensures.moments holds.bytes old holds.told holds.stand;
+      kept = λ old holds. c.keep-done.ensures.kept holds.bytes old holds.told holds.stand;
+      kept_all = λ good old holds. on_good _ c.keep-done.result.0
+          (c.keep-done.ensures.kept_all holds.bytes old holds.told holds.stand) good;
+    })
+
+pub returns-clause-begins : goal.returns-clause-begins
+returns-clause-begins g c =
+    rw c.status_of_kept.ensures (λ all told none well. not_begun c.keep-done.result.0
+    (c.keep-done.ensures.unopened all told none well))
+
+pub returns-clause-disk_cause : goal.returns-clause-disk_cause
+returns-clause-disk_cause g c =
+    rw c.status_of_kept.ensures (on_disk_fault _ c.keep-done.result.0 c.keep-done.ensures.disk_cause)
+
+pub returns-clause-no_store : goal.returns-clause-no_store
+returns-clause-no_store g c =
+    rw c.status_of_kept.ensures (λ place. on_no_store _ c.keep-done.result.0 place c.keep-done.ensures.no_store)
+
+pub returns-clause-untouched : goal.returns-clause-untouched
+returns-clause-untouched g c =
+    rw c.status_of_kept.ensures (λ place. on_no_store _ c.keep-done.result.0 place c.keep-done.ensures.unread)

@@ -1,0 +1,91 @@
+-- One call more on a disk in memory.
+use Rattle.std.proofs.Common.{◌≡◌, inl, inr, ⊎_elim, ℕ, ◌+◌, ◌-◌, ◌≤◌, min, List, [], ◌∷◌, ◌++◌, length, take, drop, map, reverse, refl, sym, ◌∙◌, ap, subst, arith, append_assoc, length-drop, take-append-drop}
+use Rattle.std.proofs.lemmas.Bool.{cases_lt}
+use Rattle.std.proofs.lemmas.List.{map-append, reverse-append, take_all, drop-drop}
+use Rattle.pol_disk.specs.declared.memory.Call.{Call}
+use Rattle.pol_disk.specs.Calls.{deed_of, deeds_of}
+use Rattle.pol_disk.specs.Disks.{Torn, Holds, Elapses, Follows}
+use Rattle.pol_disk.specs.Remains.{Range, MayRemain}
+use Rattle.pol_disk.specs.Records.{Deed, wrote, undone, kept_of, ranges_of, IsLeft, LeftSince}
+use Rattle.pol_disk.proofs.Splices.{spliced, take-spliced, drop-spliced}
+use Rattle.pol_disk.proofs.Remaining.{remains_written, before_write}
+
+-- a call more is a newest one
+pub deeds-push : (calls : List Call) (call : Call) → deeds_of (calls ++ call ∷ []) ≡ deed_of call ∷ deeds_of calls
+deeds-push calls call =
+    ap (λ (l : List Deed). reverse l) (map-append deed_of calls (call ∷ []))
+    ∙ reverse-append (map deed_of calls) (deed_of call ∷ [])
+
+-- what stood in the range gives the old bytes back
+pub undone-spliced : (at : ℕ) (piece bytes : List ℕ) → at ≤ length bytes →
+    undone (spliced at piece bytes)
+    (wrote at (length piece) (take (min (length piece) (length bytes - at)) (drop at bytes))) ≡ bytes
+undone-spliced at piece bytes le =
+    let over : List ℕ = take (min (length piece) (length bytes - at)) (drop at bytes) in
+    let rest : over ++ drop (at + length piece) bytes ≡ drop at bytes = ⊎_elim
+    (λ fits.
+    let size : min (length piece) (length bytes - at) ≡ length piece = omega (arith, fits) in
+    ap (λ (n : ℕ). take n (drop at bytes) ++ drop (at + length piece) bytes) size
+    ∙ ap (λ (l : List ℕ). take (length piece) (drop at bytes) ++ l) (sym (drop-drop (length piece) at bytes))
+    ∙ take-append-drop (length piece) (drop at bytes))
+    (λ past.
+    let size : min (length piece) (length bytes - at) ≡ length bytes - at = omega (arith, past) in
+    let none : length (drop (at + length piece) bytes) ≡ 0 = omega
+    (arith, length-drop (at + length piece) bytes, past) in
+    ap (λ (n : ℕ). take n (drop at bytes) ++ drop (at + length piece) bytes) size
+    ∙ ap (λ (l : List ℕ). l
+    ++ drop (at + length piece) bytes)
+    (take_all (length bytes - at) (drop at bytes) (omega (arith, length-drop at bytes)))
+    ∙ ap (λ (l : List ℕ). drop at bytes ++ l) (empty (drop (at + length piece) bytes) none)
+    ∙ nothing_behind (drop at bytes))
+    (cases_lt (length piece) (length bytes - at)) in
+    ap (λ (l : List ℕ). l ++ over ++ drop (at + length piece) (spliced at piece bytes)) (take-spliced at piece bytes le)
+    ∙ ap (λ (l : List ℕ). take at bytes ++ over ++ l) (drop-spliced at piece bytes le)
+    ∙ append_assoc (take at bytes) over (drop (at + length piece) bytes)
+    ∙ ap (λ (l : List ℕ). take at bytes ++ l) rest
+    ∙ take-append-drop at bytes
+  where
+    empty : (l : List ℕ) → length l ≡ 0 → l ≡ []
+    empty [] none = refl
+    empty (x ∷ xs) none = absurd (omega (arith, none))
+
+    nothing_behind : (l : List ℕ) → l ++ [] ≡ l
+    nothing_behind [] = refl
+    nothing_behind (x ∷ xs) = ap (λ (l : List ℕ). x ∷ l) (nothing_behind xs)
+
+-- no call
+pub elapses_same : (bytes : List ℕ) (deeds : List Deed) →
+    Elapses (length deeds) (length deeds) (LeftSince bytes deeds) (LeftSince bytes deeds) (IsLeft bytes deeds)
+elapses_same bytes deeds =
+    record { later = omega arith; nothing_else = λ t image le left. inl left; keeps = λ t image le left. left }
+
+-- a call whose undoing gives the old bytes
+pub elapses_push : (old new : List ℕ) (deeds : List Deed) (deed : Deed) → undone new deed ≡ old
+    → Elapses (length deeds) (length (deed ∷ deeds)) (LeftSince old deeds) (LeftSince new (deed ∷ deeds))
+    (IsLeft new (deed ∷ deeds))
+elapses_push old new deeds deed undoes = record {
+  later = omega arith;
+  nothing_else =
+      λ t image le left. ⊎_elim (λ now. inr now.1)
+      (λ was. inl (subst (λ (l : List ℕ). LeftSince l deeds t image) undoes was)) left;
+  keeps = λ t image le left. inr (subst (λ (l : List ℕ). LeftSince l deeds t image) (sym undoes) left);
+}
+
+-- a write: what reads give is still one of the images, and each image comes by the write from one before
+pub left_written : (at : ℕ) (piece over old new : List ℕ) (deeds : List Deed) → at ≤ length old →
+    Holds at piece old new → undone new (wrote at (length piece) over) ≡ old → IsLeft old deeds old
+    → IsLeft new (wrote at (length piece) over ∷ deeds) new
+left_written at piece over old new deeds le holds undoes left =
+    subst (λ (l : List ℕ). MayRemain (kept_of l deeds) (record { at = at; size = length piece } ∷ ranges_of deeds) new)
+    (sym undoes)
+    (remains_written (kept_of old deeds) (ranges_of deeds) at piece old new left le holds)
+
+-- each image after a write comes by the write from one before it
+pub follows_write : (at : ℕ) (piece over old new : List ℕ) (deeds : List Deed) → at ≤ length old →
+    undone new (wrote at (length piece) over) ≡ old → IsLeft old deeds old
+    → Follows (Torn at (length piece)) (IsLeft old deeds) (IsLeft new (wrote at (length piece) over ∷ deeds))
+follows_write at piece over old new deeds le undoes left image remains =
+    let range : Range = record { at = at; size = length piece } in
+    before_write (kept_of old deeds) (ranges_of deeds) range image
+    (subst (λ (l : List ℕ). MayRemain (kept_of l deeds) (range ∷ ranges_of deeds) image) undoes remains)
+    (omega (arith, le, left.no_longer))

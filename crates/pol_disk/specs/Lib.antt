@@ -1,0 +1,4 @@
+pub mod Disks
+pub mod Remains
+pub mod Records
+pub mod Calls

@@ -1,0 +1,15 @@
+pub mod Lists
+pub mod Tokens
+pub mod Idle
+pub mod Looked
+pub mod Sorting
+pub mod ByRole
+pub mod Listed
+pub mod Free
+pub mod Unrefused
+pub mod Starting
+pub mod Assigned
+pub mod Written
+pub mod Possible
+pub mod Entries
+pub mod Replayed

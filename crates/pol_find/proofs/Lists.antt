@@ -1,0 +1,72 @@
+-- Members of lists.
+use Rattle.std.proofs.Common.{◌≡◌, Bool, true, false, cond, Option, Some, None, List, [], ◌∷◌, map, refl, sym, ◌∙◌, ap, inl, inr}
+use Rattle.std.specs.Prelude.{filter_map, find, reverse}
+use Rattle.std.specs.List.{AllByRecursion, Contains, cons_option, list_all, list_any}
+use Rattle.std.specs.Option.{option_or}
+use Rattle.std.proofs.lemmas.Bool.{and_parts}
+use Rattle.std.proofs.lemmas.List.Folds.{Any-from_list_any}
+use Rattle.std.proofs.lemmas.List.Sorted.{Contains-permutation, IsPermutation-reverse, IsPermutation-sym}
+use Rattle.mtp_codes.specs.Faults.{first_of}
+use Rattle.chart_core.proofs.Lawful.{member_cases}
+use Rattle.pol_events.proofs.Lists.{member_first, member_later, no_member}
+
+-- what holds of each member holds of all
+pub all_members : {X : Type 0} (P : X → Type 0) (xs : List X) → ((x : X) → Contains xs x → P x) →
+    AllByRecursion P xs
+all_members P [] each = tt
+all_members P (x ∷ xs) each =
+    (each x (member_first x xs), all_members P xs (λ y inside. each y (member_later x y xs inside)))
+
+-- a list that no member passes has nothing to be found
+pub none_passes : {X : Type 0} (test : X → Bool) (xs : List X) → ((x : X) → Contains xs x → test x ≡ false) →
+    find test xs ≡ None
+none_passes test [] fails = refl
+none_passes test (x ∷ xs) fails =
+    ap (λ passes. cond passes (Some x) (find test xs)) (fails x (member_first x xs))
+    ∙ none_passes test xs (λ y inside. fails y (member_later x y xs inside))
+
+-- rules of which none holds of a member have no first that holds
+pub no_first : {X Y : Type 0} (rule : X → Option Y) (xs : List X) → ((x : X) → Contains xs x → rule x ≡ None) →
+    first_of (map rule xs) ≡ None
+no_first rule [] none = refl
+no_first rule (x ∷ xs) none =
+    ap (λ first. option_or first (first_of (map rule xs))) (none x (member_first x xs))
+    ∙ no_first rule xs (λ y inside. none y (member_later x y xs inside))
+
+-- where one passes, there is a member that does
+pub one_passes : {X : Type 0} (test : X → Bool) (xs : List X) → list_any test xs ≡ true →
+    (x : X) × Contains xs x × (test x ≡ true)
+one_passes test xs some =
+    let found = Any-from_list_any test xs some in (found.1, (found.0, found.2, found.3), found.4)
+
+-- where all pass, each member does
+pub each_passes : {X : Type 0} (test : X → Bool) (xs : List X) (x : X) → list_all test xs ≡ true → Contains xs x →
+    test x ≡ true
+each_passes test [] x all inside = no_member x inside
+each_passes test (y ∷ xs) x all inside =
+    let parts = and_parts (test y) (list_all test xs) all in
+    elim (member_cases y x xs inside) [
+      | inl same ↦ ap test (sym same) ∙ parts.0
+      | inr later ↦ each_passes test xs x parts.1 later
+    ]
+
+-- what is made of some of a list's members is made of one of them
+pub made_of : {X Y : Type 0} (make : X → Option Y) (xs : List X) (y : Y) → Contains (filter_map make xs) y →
+    (x : X) × Contains xs x × (make x ≡ Some y)
+made_of make [] y inside = no_member y inside
+made_of {X} {Y} make (x ∷ xs) y inside = go (make x) refl inside (made_of make xs y)
+  where
+    go : (made : Option Y) → make x ≡ made → Contains (cons_option made (filter_map make xs)) y →
+        (Contains (filter_map make xs) y → (x : X) × Contains xs x × (make x ≡ Some y)) →
+        (other : X) × Contains (x ∷ xs) other × (make other ≡ Some y)
+    go None is inside rest = let (other, later, made) = rest inside in (other, member_later x other xs later, made)
+    go (Some first) is inside rest =
+        elim (member_cases first y (filter_map make xs) inside) [
+          | inl same ↦ (x, member_first x xs, is ∙ ap Some same)
+          | inr behind ↦ let (other, later, made) = rest behind in (other, member_later x other xs later, made)
+        ]
+
+-- a member of a list that is turned round is a member of the list
+pub member_turned : {X : Type 0} (xs : List X) (x : X) → Contains (reverse xs) x → Contains xs x
+member_turned xs x inside =
+    Contains-permutation (reverse xs) xs x (IsPermutation-sym xs (reverse xs) (IsPermutation-reverse xs)) inside

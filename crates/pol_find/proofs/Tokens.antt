@@ -1,0 +1,43 @@
+-- Tokens of the lines of a finder.
+use Rattle.std.proofs.Common.{◌≡◌, ℕ, List, [], ◌∷◌, ◌++◌, append_assoc, codes, map, refl}
+use Rattle.json.specs.Token as token
+use Rattle.json.specs.Token.{Token}
+use Rattle.json.specs.Tree.{items_tokens, members_tokens}
+use Rattle.serde_json.specs.Data.{Data, string}
+use Rattle.serde_json.specs.View.{items_of}
+use Rattle.serde_json.specs.Written.{items_outline, members_outline}
+use Rattle.pol_events.specs.Written.{bind_members}
+use Rattle.pol_events.specs.declared.event.Bind.{Bind}
+use Rattle.pol_record.specs.Objects.{data_tokens}
+use Rattle.pol_find.specs.Lines.{bind_object, short_object}
+
+-- the tokens of the last binds of an object, and its bracket
+abbrev pub binds_tokens : List Bind → List Token
+binds_tokens binds = members_tokens (members_outline (bind_members binds))
+
+-- the tokens of the last names of a list, and its bracket
+abbrev pub names_tokens : List (List ℕ) → List Token
+names_tokens names = items_tokens (items_outline (items_of (map string names)))
+
+-- a bracket, the binds, the recipe and a bracket behind other tokens are the tokens of a recipe that can be bound
+pub bind_tokens : (old : List Token) (recipe : List ℕ) (binds : Data) →
+    ((((old ++ token.begin_object ∷ []) ++ token.key (codes "bind") ∷ []) ++ data_tokens binds)
+    ++ token.key (codes "recipe")
+    ∷ token.string recipe
+    ∷ [])
+    ++ token.end_object
+    ∷ []
+    ≡ old ++ data_tokens (bind_object binds recipe)
+unfolding bind_object
+bind_tokens old recipe binds = simp append_assoc refl
+
+-- a bracket, the recipe, the roles, the tags and a bracket behind other tokens are the tokens of one that can't
+pub short_tokens : (old : List Token) (recipe : List ℕ) (roles tags : Data) →
+    ((((old ++ token.begin_object ∷ []) ++ token.key (codes "recipe") ∷ token.string recipe ∷ [])
+    ++ token.key (codes "short") ∷ data_tokens roles)
+    ++ token.key (codes "tags") ∷ data_tokens tags)
+    ++ token.end_object
+    ∷ []
+    ≡ old ++ data_tokens (short_object recipe roles tags)
+unfolding short_object
+short_tokens old recipe roles tags = simp append_assoc refl

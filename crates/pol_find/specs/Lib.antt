@@ -1,0 +1,6 @@
+pub mod Candidates
+pub mod Recipes
+pub mod Lines
+pub mod Found
+pub mod Finding
+pub mod Starts

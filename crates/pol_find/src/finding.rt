@@ -1,0 +1,85 @@
+//! The finder as a job over lines.
+ghost use Rattle.std.specs.Prelude.{◌≡◌, OnOk, IsTrue};
+ghost use Rattle.pol_core.specs.Plants.{plant_history};
+ghost use Rattle.pol_events.specs.Events.{plain_event};
+ghost use Rattle.pol_events.specs.Orderly.{is_orderly};
+ghost use Rattle.pol_history.specs.Runs.{entry_of, recorded};
+ghost use Rattle.pol_find.specs.Finding.{known_by, nothing_known};
+
+use crate::telling::close;
+use pol_core::Plant;
+use pol_events::Event;
+use pol_io::Sink;
+use pol_jobs::{InputLine, LineJob, PutFault, Stop};
+use pol_replay::{LineMeaning, read_meaning};
+use std::alloc::{AllocError, Global};
+use std::convert::Infallible;
+
+// Lets the plant answer an event.
+fn apply(plant: &mut Plant, event: Event) -> Result<(), AllocError>
+    requires { IsTrue (is_orderly (plain_event event)) }
+    ensures { OnOk result (plant_history plant.new
+        ≡ recorded (entry_of (plant_history plant.old) (plain_event event)) (plant_history plant.old)) }
+{
+    match plant.apply(event) {
+        Ok(_answer) => Ok(()),
+        Err((_event, error)) => Err(error),
+    }
+}
+
+/// A finder: it replays a journal, replies nothing, and closes with the line of each recipe and the last line.
+#[derive(Drop)]
+pub struct Finding {
+    alloc: Global,
+    plant: Plant,
+    bad: u64,
+}
+
+impl Finding {
+    /// A finder that has read nothing yet.
+    pub fn new(alloc: Global) -> Finding
+        ensures { known_by result ≡ nothing_known }
+    {
+        Finding {
+            alloc,
+            plant: Plant::new(alloc),
+            bad: 0,
+        }
+    }
+}
+
+impl LineJob for Finding {
+    type Refusal = Infallible;
+
+    ghost use Rattle.std.specs.Prelude.{⊤};
+    ghost use Rattle.pol_find.specs.Finding.{Known, find_work, known_by};
+
+    ghost State = { Known };
+
+    ghost state = { known_by };
+
+    ghost work = { find_work };
+
+    ghost Did = { λ _ _ _ _. ⊤ };
+
+    ghost did_nothing = { λ _. tt };
+
+    ghost did_more = { λ _ _ _ _ _ _ _ _. tt };
+
+    fn reply(&mut self, line: InputLine<'_>, _out: &mut Vec<u8>) -> Result<(), Stop<Infallible>> {
+        match read_meaning(self.alloc, line)? {
+            LineMeaning::Nothing => {}
+            LineMeaning::Fault(_) => self.bad = self.bad.saturating_add(1),
+            LineMeaning::Event(event) => apply(&mut self.plant, event)?,
+        }
+        Ok(())
+    }
+
+    fn end(&mut self) -> Result<(), Stop<Infallible>> {
+        Ok(())
+    }
+
+    fn close<K: Sink>(&mut self, sink: &mut K) -> Result<(), PutFault> {
+        close(self.alloc, &self.plant, self.bad, sink)
+    }
+}

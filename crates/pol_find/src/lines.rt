@@ -1,0 +1,177 @@
+//! The lines of a finder, each a JSON object in compact text and a line feed.
+ghost use Rattle.std.specs.Prelude.{◌≡◌, ◌∷◌, ◌++◌, [], IfOk, OnOk};
+ghost use Rattle.json.specs.Print.{print};
+ghost use Rattle.json.specs.Token as token;
+ghost use Rattle.pol_events.specs.Binds.{by_role, with_bind};
+ghost use Rattle.pol_events.specs.Written.{written_binds};
+ghost use Rattle.pol_record.specs.Objects.{data_tokens};
+ghost use Rattle.pol_find.specs.Lines.{bad_object, bad_text, bind_object, bind_text, names_data, short_object, short_text};
+
+use json::Writer;
+use mtp_codes::Name;
+use pol_events::Bind;
+use std::alloc::{AllocError, Global};
+use std::cmp::Ordering;
+
+// Puts a bind at its place among binds in byte order of their roles.
+fn put_bind(sorted: &mut Vec<Bind>, bind: Bind) -> Result<(), AllocError>
+    ensures { OnOk result (sorted.new.items ≡ with_bind bind sorted.old.items) }
+{
+    for place in 0..sorted.len() {
+        match bind.role.cmp(&sorted[place].role) {
+            Ordering::Less => {
+                sorted.insert(place, bind)?;
+                return Ok(());
+            }
+            Ordering::Equal => return Ok(()),
+            Ordering::Greater => {}
+        }
+    }
+    sorted.push(bind)?;
+    Ok(())
+}
+
+/// The binds in byte order of their roles.
+pub(crate) fn by_role(alloc: Global, binds: Vec<Bind>) -> Result<Vec<Bind>, AllocError>
+    ensures { IfOk result (λ sorted. sorted.items ≡ by_role binds.items) }
+{
+    let mut left = binds;
+    let mut sorted = Vec::new(alloc);
+    while let Some(bind) = left.pop() {
+        put_bind(&mut sorted, bind)?;
+    }
+    Ok(sorted)
+}
+
+// Writes a text under a key.
+fn write_text(writer: &mut Writer, key: &str, text: &str) -> Result<(), AllocError>
+    ensures tokens { OnOk result (writer.new.tokens
+        ≡ writer.old.tokens ++ token.key key.now ∷ token.string text.now ∷ []) }
+    ensures before { writer.new.before ≡ writer.old.before }
+{
+    writer.key(key)?;
+    writer.string(text)
+}
+
+// Writes binds as an object from role to tag.
+#[tactic(auto, unfolding(pol_events::specs::Written::written_binds))]
+fn write_binds(writer: &mut Writer, binds: &[Bind]) -> Result<(), AllocError>
+    ensures tokens { OnOk result (writer.new.tokens ≡ writer.old.tokens ++ data_tokens (written_binds binds.now)) }
+    ensures before { writer.new.before ≡ writer.old.before }
+{
+    writer.begin_object()?;
+    for bind in binds {
+        write_text(writer, bind.role.as_str(), bind.tag.as_str())?;
+    }
+    writer.end_object()
+}
+
+// Writes names as a list of texts.
+fn write_names(writer: &mut Writer, names: &[Name]) -> Result<(), AllocError>
+    ensures tokens { OnOk result (writer.new.tokens ≡ writer.old.tokens ++ data_tokens (names_data names.now)) }
+    ensures before { writer.new.before ≡ writer.old.before }
+{
+    writer.begin_array()?;
+    for name in names {
+        writer.string(name.as_str())?;
+    }
+    writer.end_array()
+}
+
+// Writes names under a key.
+fn write_list(writer: &mut Writer, key: &str, names: &[Name]) -> Result<(), AllocError>
+    ensures tokens { OnOk result (writer.new.tokens
+        ≡ writer.old.tokens ++ token.key key.now ∷ data_tokens (names_data names.now)) }
+    ensures before { writer.new.before ≡ writer.old.before }
+{
+    writer.key(key)?;
+    write_names(writer, names)
+}
+
+// What was written, as a line.
+fn ended_line(writer: Writer) -> Result<Vec<u8>, AllocError>
+    ensures { IfOk result (λ line. line.items ≡ (writer.before ++ print writer.tokens) ++ 10 ∷ []) }
+{
+    let mut line = writer.into_inner();
+    line.push(b'\n')?;
+    Ok(line)
+}
+
+#[tactic(auto, using(crate::proofs::Tokens::bind_tokens))]
+fn write_bound(writer: &mut Writer, recipe: Name, binds: &[Bind]) -> Result<(), AllocError>
+    ensures tokens { OnOk result (writer.new.tokens
+        ≡ writer.old.tokens ++ data_tokens (bind_object (written_binds binds.now) recipe)) }
+    ensures before { writer.new.before ≡ writer.old.before }
+{
+    writer.begin_object()?;
+    writer.key("bind")?;
+    write_binds(writer, binds)?;
+    write_text(writer, "recipe", recipe.as_str())?;
+    writer.end_object()
+}
+
+#[tactic(auto, using(crate::proofs::Tokens::short_tokens))]
+fn write_short(
+    writer: &mut Writer,
+    recipe: Name,
+    roles: &[Name],
+    tags: &[Name],
+) -> Result<(), AllocError>
+    ensures tokens { OnOk result (writer.new.tokens
+        ≡ writer.old.tokens ++ data_tokens (short_object recipe (names_data roles.now) (names_data tags.now))) }
+    ensures before { writer.new.before ≡ writer.old.before }
+{
+    writer.begin_object()?;
+    write_text(writer, "recipe", recipe.as_str())?;
+    write_list(writer, "short", roles)?;
+    write_list(writer, "tags", tags)?;
+    writer.end_object()
+}
+
+#[tactic(auto, unfolding(crate::specs::Lines::bad_object))]
+fn write_bad(writer: &mut Writer, bad: u64) -> Result<(), AllocError>
+    ensures tokens { OnOk result (writer.new.tokens ≡ writer.old.tokens ++ data_tokens (bad_object bad)) }
+    ensures before { writer.new.before ≡ writer.old.before }
+{
+    writer.begin_object()?;
+    writer.key("bad")?;
+    writer.u64(bad)?;
+    writer.key("end")?;
+    writer.boolean(true)?;
+    writer.end_object()
+}
+
+/// The line of a recipe that can be bound so.
+#[tactic(auto, using(pol_record::proofs::Tokens::line_of_tokens))]
+pub(crate) fn bind_line(alloc: Global, recipe: Name, binds: &[Bind]) -> Result<Vec<u8>, AllocError>
+    ensures { IfOk result (λ line. line.items ≡ bind_text recipe binds.now) }
+{
+    let mut writer = Writer::new(Vec::new(alloc));
+    write_bound(&mut writer, recipe, binds)?;
+    ended_line(writer)
+}
+
+/// The line of a recipe that can't be bound: these roles fit these tags alone, which are fewer.
+#[tactic(auto, using(pol_record::proofs::Tokens::line_of_tokens))]
+pub(crate) fn short_line(
+    alloc: Global,
+    recipe: Name,
+    roles: &[Name],
+    tags: &[Name],
+) -> Result<Vec<u8>, AllocError>
+    ensures { IfOk result (λ line. line.items ≡ short_text recipe roles.now tags.now) }
+{
+    let mut writer = Writer::new(Vec::new(alloc));
+    write_short(&mut writer, recipe, roles, tags)?;
+    ended_line(writer)
+}
+
+/// The last line, with the number of lines at fault.
+#[tactic(auto, using(pol_record::proofs::Tokens::line_of_tokens))]
+pub(crate) fn bad_line(alloc: Global, bad: u64) -> Result<Vec<u8>, AllocError>
+    ensures { IfOk result (λ line. line.items ≡ bad_text bad) }
+{
+    let mut writer = Writer::new(Vec::new(alloc));
+    write_bad(&mut writer, bad)?;
+    ended_line(writer)
+}

@@ -1,0 +1,135 @@
+//! A journal under a policy, line by line.
+ghost use Rattle.std.specs.Prelude.{◌≡◌, ◌++◌, [], IfOk, IfErr, Ok, Err, OnOk};
+ghost use Rattle.pol_jobs.specs.Faults.{RefusedFor};
+ghost use Rattle.pol_jobs.specs.InputLines.{plain_line};
+ghost use Rattle.pol_policy.specs.PlainPolicy.{plain_policy};
+ghost use Rattle.pol_replay.specs.Meanings.{is_some_line};
+ghost use Rattle.pol_guard.specs.Guarded.{policy_said};
+ghost use Rattle.pol_guard.specs.Guards.{known_by};
+ghost use Rattle.pol_guard.specs.Work.{waiting};
+
+use crate::replying::reply_to;
+use mtp_json::{FaultKind, JsonFault, JsonRefusal, Path};
+use pol_core::Plant;
+use pol_events::is_blank;
+use pol_io::Sink;
+use pol_jobs::{InputLine, LineJob, PutFault, Stop};
+use pol_policy::{Policy, read_policy};
+use pol_replay::close;
+use std::alloc::Global;
+
+/// What a guard has between two lines.
+#[derive(Drop)]
+pub enum Guard {
+    /// Nothing: all lines were blank.
+    Waiting,
+    /// The policy, and the plant behind it.
+    Begun { policy: Policy, plant: Plant },
+}
+
+// Whether a line isn't blank.
+fn is_some_line(line: InputLine<'_>) -> bool
+    ensures { result ≡ is_some_line (plain_line line.entry) }
+{
+    match line {
+        InputLine::Text(text) => !is_blank(text),
+        InputLine::TooLong => true,
+    }
+}
+
+// A fault of the whole policy.
+fn whole(alloc: Global, kind: FaultKind) -> JsonFault
+    ensures { result ≡ record { kind = kind; path = [] } }
+{
+    JsonFault {
+        kind,
+        path: Path::new(alloc),
+    }
+}
+
+// The policy that a line says.
+fn policy_said(alloc: Global, line: InputLine<'_>) -> Result<Policy, Stop<JsonFault>>
+    ensures says { IfOk result (λ policy. policy_said (plain_line line.entry) ≡ Ok (plain_policy policy)) }
+    ensures refused { IfErr result (RefusedFor (λ fault. policy_said (plain_line line.entry) ≡ Err fault)) }
+{
+    let InputLine::Text(text) = line else {
+        return Err(Stop::Refused(whole(alloc, FaultKind::TooLong)));
+    };
+    match read_policy(alloc, text) {
+        Ok(policy) => Ok(policy),
+        Err(JsonRefusal::Fault(fault)) => Err(Stop::Refused(fault)),
+        Err(JsonRefusal::Memory) => Err(Stop::Memory),
+    }
+}
+
+/// A guard: its first line that isn't blank is its policy, and it replies to each other line of the journal as the
+/// policy and its plant say; it closes with the line of each batch and the end line.
+#[derive(Drop)]
+pub struct Guarding {
+    alloc: Global,
+    guard: Guard,
+}
+
+impl Guarding {
+    /// A guard that has read nothing yet.
+    pub fn new(alloc: Global) -> Guarding
+        ensures { known_by result.guard ≡ waiting }
+    {
+        Guarding {
+            alloc,
+            guard: Guard::Waiting,
+        }
+    }
+}
+
+impl LineJob for Guarding {
+    type Refusal = JsonFault;
+
+    ghost use Rattle.std.specs.Prelude.{⊤};
+    ghost use Rattle.pol_guard.specs.Guards.{known_by};
+    ghost use Rattle.pol_guard.specs.Work.{Known, guard_work};
+
+    ghost State = { Known };
+
+    ghost state = { λ guarding. known_by guarding.guard };
+
+    ghost work = { guard_work };
+
+    ghost Did = { λ _ _ _ _. ⊤ };
+
+    ghost did_nothing = { λ _. tt };
+
+    ghost did_more = { λ _ _ _ _ _ _ _ _. tt };
+
+    fn reply(&mut self, line: InputLine<'_>, out: &mut Vec<u8>) -> Result<(), Stop<JsonFault>> {
+        if !is_some_line(line) {
+            return Ok(());
+        }
+        match &mut self.guard {
+            Guard::Waiting => {
+                let policy = policy_said(self.alloc, line)?;
+                let plant = Plant::new(self.alloc);
+                self.guard = Guard::Begun { policy, plant };
+            }
+            Guard::Begun { policy, plant } => {
+                reply_to(self.alloc, policy, plant, line, out)?;
+            }
+        }
+        Ok(())
+    }
+
+    fn end(&mut self) -> Result<(), Stop<JsonFault>> {
+        match &self.guard {
+            Guard::Waiting => Err(Stop::Refused(whole(self.alloc, FaultKind::Missing))),
+            Guard::Begun { .. } => Ok(()),
+        }
+    }
+
+    #[tactic(auto, using(pol_jobs::proofs::Closing::closes_with, pol_jobs::proofs::Closing::closes_part))]
+    fn close<K: Sink>(&mut self, sink: &mut K) -> Result<(), PutFault> {
+        match &self.guard {
+            Guard::Waiting => close(self.alloc, &[], sink),
+            Guard::Begun { plant, .. } => close(self.alloc, plant.history(), sink),
+        }
+    }
+}

@@ -1,0 +1,20 @@
+//! A journal under an operator policy, as a job over lines.
+//!
+//! The first line that isn't blank is the policy, the others are those of a journal, in which a command of the desk
+//! names who gives it. The policy judges each of these commands before the plant sees it: one that is denied is
+//! answered with the name of the rule that denies, and the plant answers all other events as in a replay of these alone
+//! (`specs/Guarded.antt`). An input whose first such line is no policy is refused for its fault, and nothing is
+//! written. Each command of the desk in the history that is left was allowed to the person whom its line names, and
+//! each denial is right (`specs/Laws.antt`).
+//!
+//! It knows nothing of how a policy judges, or of how a plant finds an answer.
+#![tactic(auto)]
+
+mod denials;
+mod guarding;
+mod laws;
+mod reading;
+mod replying;
+
+pub use guarding::Guarding;
+pub use laws::guards_are_sound;

@@ -1,0 +1,140 @@
+-- How the job on a kept plant ended.
+use Rattle.std.proofs.Common.{ℕ, ◌≡◌, ◌≢◌, Bool, inr, List, [], Option, Some, None, refl, sym, subst, arith, append-nil}
+use Rattle.std.specs.Prelude.{IfErr, IfSome, OnErr, OnOk, Result, Ok, Err}
+use Rattle.std.specs.declared.convert.Infallible.{Infallible}
+use Rattle.pol_disk.specs.Disks.{LeavesOnly}
+use Rattle.pol_disk.proofs.Moments.{then, wider}
+use Rattle.pol_events.specs.Events.{PlainEvent}
+use Rattle.pol_history.specs.Looking.{History}
+use Rattle.pol_history.specs.Runs.{IsLegal}
+use Rattle.pol_io.specs.Edge.{Edge}
+use Rattle.pol_io.specs.Pieces.{pieces}
+use Rattle.pol_jobs.specs.Deeds.{DidAll, DidSome}
+use Rattle.pol_jobs.specs.Ends.{Ends}
+use Rattle.pol_jobs.specs.LineWork.{Line, LineWork, Output}
+use Rattle.pol_jobs.specs.declared.fault.JobFault.{JobFault}
+use Rattle.pol_jobs.proofs.Deeds.{all_some}
+use Rattle.pol_jobs.proofs.Ending.{completes}
+use Rattle.pol_jobs.proofs.Written.{nothing_written}
+use Rattle.pol_store.specs.declared.opening.OpenFault.{OpenFault}
+use Rattle.pol_store.specs.declared.opening.OpenFault.TheVariants as opening
+use Rattle.pol_store.specs.Stands.{StandsFor, events_of}
+use Rattle.pol_store.proofs.Histories.{legal_few, length-events}
+use Rattle.pol_keep.specs.Keeping.{Telling}
+use Rattle.pol_keep.specs.Kept.{IsFaultOf, IsUnopened, KeepEnds, Keeps, StandsForAnswered, StandsForMore, answers_with, events_with, job_result}
+use Rattle.pol_keep.specs.declared.fault.KeepFault.{KeepFault}
+use Rattle.pol_keep.specs.declared.fault.KeepFault.TheVariants.{Read, Write, Memory, TooMuch, Disk, NotAStore}
+
+-- what else a job did, whatever its result
+pub did_either : {State Reason E : Type 0} (work : LineWork State Reason) (start : State)
+    (Did : List Line → Bool → Type 0) (held held' input : Option (List ℕ)) (result : Result (Unit {0}) E) →
+    OnOk result (DidAll Did input) → OnErr result (DidSome work start Did held held' input) →
+    DidSome work start Did held held' input
+did_either work start Did held held' input (Ok done) all some = all_some work start Did held held' input all
+did_either work start Did held held' input (Err fault) all some = some
+
+-- a job that is done is done over its lines too
+pub when_done : (P : Type 0) (result : Result (Unit {0}) KeepFault) (done : Result (Unit {0}) (JobFault Infallible)) →
+    job_result result ≡ done → OnOk done P → OnOk result P
+when_done P (Ok all) done is known = subst (λ done. OnOk done P) (sym is) known
+when_done P (Err fault) done is known = tt
+
+-- the disk stood for the events of a legal history, and the job ended so
+pub keeps : (output : List PlainEvent → Output Infallible) (seen : Option (List ℕ)) (source source' sink sink' : Edge)
+    (result : Result (Unit {0}) (JobFault Infallible)) (history : History) → IsLegal history →
+    IfSome seen (StandsFor (events_of history)) →
+    Ends (output (events_of history)) source source' sink sink' result →
+    Keeps output seen source source' sink sink' result
+keeps output seen source source' sink sink' result history legal stood ends = record {
+  old = events_of history;
+  few = omega (arith, length-events history, legal_few history legal);
+  stood = stood;
+  ends = ends;
+  complete = completes (output (events_of history)) source source' sink sink' result ends;
+}
+
+-- by its result
+pub keep_ends : (output : List PlainEvent → Output Infallible) (seen : Option (List ℕ))
+    (source source' sink sink' : Edge) (result : Result (Unit {0}) KeepFault) →
+    IfErr result (λ fault. (place : ℕ) → fault ≢ NotAStore place) →
+    Keeps output seen source source' sink sink' (job_result result) →
+    KeepEnds output seen source source' sink sink' result
+keep_ends output seen source source' sink sink' (Ok done) store keeps = keeps
+keep_ends output seen source source' sink sink' (Err Read) store keeps = keeps
+keep_ends output seen source source' sink sink' (Err Write) store keeps = keeps
+keep_ends output seen source source' sink sink' (Err Memory) store keeps = inr keeps
+keep_ends output seen source source' sink sink' (Err TooMuch) store keeps = keeps
+keep_ends output seen source source' sink sink' (Err Disk) store keeps = inr keeps
+keep_ends output seen source source' sink sink' (Err (NotAStore place)) store keeps = absurd (store place refl)
+
+-- where no call of the disk failed, a disk that couldn't be opened is no store, or there was no memory
+pub unopened_is : (fault : OpenFault) (told : KeepFault) → IsFaultOf fault told → (fault ≡ opening.Disk → ⊥) →
+    IsUnopened (Err told)
+unopened_is opening.Memory told is well = rw is tt
+unopened_is opening.Disk told is well = absurd (well refl)
+unopened_is (opening.NotAStore place) told is well = rw is tt
+
+-- what is known of the bytes that a disk told
+pub told_stood : (seen : Option (List ℕ)) (P : List ℕ → Type 0) → ((all : List ℕ) → seen ≡ Some all → P all) →
+    IfSome seen P
+told_stood None P known = tt
+told_stood (Some all) P known = known all refl
+
+-- what holds of each input holds of the one that a source told
+pub of_input : (input : Option (List ℕ)) (P : List ℕ → Type 0) → ((bytes : List ℕ) → P bytes) → IfSome input P
+of_input None P each = tt
+of_input (Some bytes) P each = each bytes
+
+-- what stands for the old events stands for no new one
+pub stands_old : (old : List PlainEvent) (input image : List ℕ) → StandsFor old image → StandsForMore old input image
+stands_old old input image stands = record {
+  first = [];
+  others = pieces input;
+  are = refl;
+  stands = subst (λ events. StandsFor events image) (sym (append-nil old)) stands;
+}
+
+-- before anything is written, no answer is
+pub stands_unanswered : (old : List PlainEvent) (input image : List ℕ) (held : Option (List ℕ)) →
+    StandsFor old image → StandsForAnswered old input held held image
+stands_unanswered old input image held stands = record {
+  first = [];
+  others = pieces input;
+  are = refl;
+  stands = subst (λ events. StandsFor events image) (sym (append-nil old)) stands;
+  taken = inr (nothing_written held (answers_with old []));
+}
+
+-- ---- a job that goes on where its disk was opened
+
+module _ {D : Type 0} (disk : Telling D) where
+  -- the disk was opened, and then the job went on from the events that it stood for
+  pub going_moments : (first mid last : D) (old events : List PlainEvent) → events ≡ old →
+      (input : Option (List ℕ)) → LeavesOnly disk.moment disk.left_since first mid (StandsFor old) →
+      IfSome input (λ input. LeavesOnly disk.moment disk.left_since mid last (StandsForMore events input)) →
+      IfSome input (λ input. LeavesOnly disk.moment disk.left_since first last (StandsForMore old input))
+  going_moments first mid last old events same None opened went = tt
+  going_moments first mid last old events same (Some input) opened went =
+      then disk.moment disk.left_since first mid last (StandsForMore old input) (StandsForMore events input)
+      (wider disk.moment disk.left_since first mid (StandsFor old) (StandsForMore old input) opened
+      (λ image stands. stands_old old input image stands)) went
+      (λ image stands. subst (λ events. StandsForMore events input image) same stands)
+
+  -- what each image at the end stands for
+  pub going_kept : (last : D) (old events : List PlainEvent) → events ≡ old → (input held held' : Option (List ℕ)) →
+      IfSome input (λ input. (image : List ℕ) → disk.images last image →
+      StandsForAnswered events input held held' image) →
+      IfSome input (λ input. (image : List ℕ) → disk.images last image → StandsForAnswered old input held held' image)
+  going_kept last old events same None held held' went = tt
+  going_kept last old events same (Some input) held held' went =
+      λ image left. subst (λ events. StandsForAnswered events input held held' image) same (went image left)
+
+  -- where all was done, for the events of all lines
+  pub going_all : (last : D) (old events : List PlainEvent) → events ≡ old → (input : Option (List ℕ)) →
+      IfSome input (λ input. (image : List ℕ) → disk.images last image →
+      StandsFor (events_with events (pieces input)) image) →
+      IfSome input (λ input. (image : List ℕ) → disk.images last image →
+      StandsFor (events_with old (pieces input)) image)
+  going_all last old events same None went = tt
+  going_all last old events same (Some input) went =
+      λ image left. subst (λ events. StandsFor (events_with events (pieces input)) image) same (went image left)

@@ -1,0 +1,5 @@
+pub mod Applying
+pub mod Running
+pub mod Ended
+pub mod Orderly
+pub mod Exported

@@ -1,0 +1,51 @@
+use Rattle.std.proofs.Common.{subst}
+use Rattle.std.proofs.lemmas.Result.{on_ok_weaker}
+use Rattle.pol_core.specs.Plants.{plant_history}
+use Rattle.pol_jobs.specs.Ends.{Ends, edge}
+use Rattle.pol_replay.specs.Replay.{replay_work}
+use Rattle.pol_store.proofs.Histories.{runs_legal}
+use Rattle.pol_keep.specs.Keeping.{GoesOn, telling}
+use Rattle.pol_keep.proofs.Ended.{did_either, when_done}
+use Rattle.pol_keep.proofs.Running.{keeps_all, keeps_answered, leaves_more, output_run}
+use Rattle.pol_keep.proofs.job.keep_on.Goals as goal
+
+pub returns-clause-ends : goal.returns-clause-ends
+returns-clause-ends g c =
+    let history = plant_history c.args.store.plant in
+    let s = g.S.Source in
+    let k = g.K.Sink in
+    rw c.ended.ensures.job (subst (λ output. Ends output
+    (edge (s.left c.args.source.now) (s.faults c.args.source.now))
+    (edge (s.left c.work-done.new.source) (s.faults c.work-done.new.source))
+    (edge (k.held c.args.sink.now) (k.faults c.args.sink.now)) (edge (k.held c.work-done.new.sink) (k.faults c.work-done.new.sink))
+    c.work-done.result) (output_run history (runs_legal history c.requires.legal)) c.work-done.ensures.ends)
+
+pub returns-clause-moments : goal.returns-clause-moments
+returns-clause-moments g c = λ kept.
+    let d = g.D.Disk in
+    let history = plant_history c.args.store.plant in
+    let disk = telling d.bytes d.images d.moment d.left_since d.faults in
+    rw c.into_parts-plant.ensures.1 (leaves_more disk c.args.store c.work-done.new.job.store _ _ _
+    (runs_legal history c.requires.legal)
+    (did_either replay_work history (GoesOn disk c.args.store c.work-done.new.job.store) _ _ _ c.work-done.result
+    c.work-done.ensures.did_all c.work-done.ensures.did_some) kept)
+
+pub returns-clause-kept : goal.returns-clause-kept
+returns-clause-kept g c = λ kept.
+    let d = g.D.Disk in
+    let history = plant_history c.args.store.plant in
+    let disk = telling d.bytes d.images d.moment d.left_since d.faults in
+    rw c.into_parts-plant.ensures.1 (keeps_answered disk c.args.store c.work-done.new.job.store _ _ _
+    (runs_legal history c.requires.legal)
+    (did_either replay_work history (GoesOn disk c.args.store c.work-done.new.job.store) _ _ _ c.work-done.result
+    c.work-done.ensures.did_all c.work-done.ensures.did_some) kept)
+
+pub returns-clause-kept_all : goal.returns-clause-kept_all
+returns-clause-kept_all g c = λ kept.
+    let d = g.D.Disk in
+    let history = plant_history c.args.store.plant in
+    let disk = telling d.bytes d.images d.moment d.left_since d.faults in
+    rw c.into_parts-plant.ensures.1 (when_done _ c.ended.result c.work-done.result c.ended.ensures.job
+    (on_ok_weaker c.work-done.result
+    (λ all. keeps_all disk c.args.store c.work-done.new.job.store _ (runs_legal history c.requires.legal) all kept)
+    c.work-done.ensures.did_all))

@@ -1,0 +1,116 @@
+-- What the job on a kept plant writes and keeps, and how a job on one ends.
+use Rattle.std.specs.Prelude.{ℕ, ◌≡◌, ◌≤◌, ◌⊎◌, List, [], ◌∷◌, ◌++◌, length, map, if◌then◌else◌, Option, IfSome, Result, Ok, Err}
+use Rattle.std.specs.declared.convert.Infallible.{Infallible}
+use Rattle.mtp_codes.specs.declared.limits.TheConstants.{LONGEST_HISTORY}
+use Rattle.pol_events.specs.Events.{PlainEvent}
+use Rattle.pol_history.specs.Answers.{answer_of}
+use Rattle.pol_history.specs.Looking.{History}
+use Rattle.pol_history.specs.Runs.{entry_of, history_after, is_recorded, recorded}
+use Rattle.pol_io.specs.Edge.{Edge}
+use Rattle.pol_io.specs.Pieces.{pieces}
+use Rattle.pol_jobs.specs.Ends.{Completes, Ends}
+use Rattle.pol_jobs.specs.LineWork.{Output, texts_of}
+use Rattle.pol_jobs.specs.Written.{WritesSome}
+use Rattle.pol_jobs.specs.declared.fault.JobFault.{JobFault}
+use Rattle.pol_jobs.specs.declared.fault.JobFault.TheVariants as job
+use Rattle.pol_record.specs.Lines.{answered_lines_after, answered_texts, closing_text, events_in, input_line_of}
+use Rattle.pol_store.specs.Stands.{StandsFor}
+use Rattle.pol_store.specs.declared.opening.OpenFault.{OpenFault}
+use Rattle.pol_store.specs.declared.opening.OpenFault.TheVariants as opening
+use Rattle.pol_keep.specs.declared.fault.KeepFault.{KeepFault}
+use Rattle.pol_keep.specs.declared.fault.KeepFault.TheVariants.{Read, Write, Memory, TooMuch, Disk, NotAStore}
+
+-- the history of the run of old events and of those of some lines, each with its line feed
+abbrev pub run_with : List PlainEvent → List (List ℕ) → History
+run_with old lines = history_after [] (old ++ events_in (map input_line_of lines))
+
+-- of events that come after a history, those that are recorded: all but those that are answered HistoryFull
+abbrev pub kept_events : History → List PlainEvent → List PlainEvent
+kept_events history [] = []
+kept_events history (event ∷ events) =
+    let later = kept_events (recorded (entry_of history event) history) events in
+    if is_recorded (answer_of history event) then event ∷ later else later
+
+-- the old events, and those of some lines that are recorded
+abbrev pub events_with : List PlainEvent → List (List ℕ) → List PlainEvent
+events_with old lines = old ++ kept_events (history_after [] old) (events_in (map input_line_of lines))
+
+-- the answer and fault lines of some lines in that run
+abbrev pub answers_with : List PlainEvent → List (List ℕ) → List ℕ
+answers_with old lines = answered_texts (answered_lines_after (history_after [] old) (map input_line_of lines))
+
+-- the output of the job on a plant where these events happened: the answer or fault line of each line that isn't blank
+-- in the run of the old and the new events, and then the lines of the batches of that whole run and the end line
+abbrev pub kept_output : List PlainEvent → Output Infallible
+kept_output old =
+    texts_of (λ bytes. answers_with old (pieces bytes)) (λ bytes. closing_text (run_with old (pieces bytes)))
+
+-- the image stands for the old events and the new ones of the first lines of an input
+pub record StandsForMore (old : List PlainEvent) (input image : List ℕ) : Type 0 where
+  pub first : List (List ℕ)
+  pub others : List (List ℕ)
+  pub are : pieces input ≡ first ++ others
+  pub stands : StandsFor (events_with old first) image
+
+-- the same; and these are all lines, or the sink took no more than the answers to them: so each line whose answer it
+-- took whole is one of them
+pub record StandsForAnswered (old : List PlainEvent) (input : List ℕ) (held held' : Option (List ℕ)) (image : List ℕ)
+    : Type 0 where
+  pub first : List (List ℕ)
+  pub others : List (List ℕ)
+  pub are : pieces input ≡ first ++ others
+  pub stands : StandsFor (events_with old first) image
+  pub taken : (others ≡ []) ⊎ WritesSome held held' (answers_with old first)
+
+-- ---- how it ends
+
+-- the result of a job over lines that ended so: where the disk failed, one that had no memory
+abbrev pub job_result : Result (Unit {0}) KeepFault → Result (Unit {0}) (JobFault Infallible)
+job_result (Ok done) = Ok done
+job_result (Err Read) = Err job.Read
+job_result (Err Write) = Err job.Write
+job_result (Err Memory) = Err job.Memory
+job_result (Err TooMuch) = Err job.TooMuch
+job_result (Err Disk) = Err job.Memory
+job_result (Err (NotAStore place)) = Err job.Memory
+
+-- the fault of a job whose disk wasn't opened for this one
+abbrev pub IsFaultOf : OpenFault → KeepFault → Type 0
+IsFaultOf opening.Memory fault = fault ≡ Memory
+IsFaultOf opening.Disk fault = fault ≡ Disk
+IsFaultOf (opening.NotAStore place) fault = fault ≡ NotAStore place
+
+-- the disk stood for these old events, at most 200,000, and the job ended as one with their output does
+pub record Keeps (output : List PlainEvent → Output Infallible) (seen : Option (List ℕ))
+    (source source' sink sink' : Edge) (result : Result (Unit {0}) (JobFault Infallible)) : Type 0 where
+  pub old : List PlainEvent
+  pub few : length old ≤ LONGEST_HISTORY
+  pub stood : IfSome seen (StandsFor old)
+  pub ends : Ends (output old) source source' sink sink' result
+  pub complete : Completes (output old) source source' sink sink' result
+
+-- nothing was read or written
+abbrev pub IsUntouched : Edge → Edge → Edge → Edge → Type 0
+IsUntouched source source' sink sink' = (source' ≡ source) × (sink' ≡ sink)
+
+-- How a job with this output of the old events ended on a disk that read as these bytes, by its source and its sink
+-- before and after. Where the disk failed, what was written is what is written where there is no memory.
+abbrev pub KeepEnds : (List PlainEvent → Output Infallible) → Option (List ℕ) → Edge → Edge → Edge → Edge
+    → Result (Unit {0}) KeepFault → Type 0
+KeepEnds output seen source source' sink sink' (Ok done) = Keeps output seen source source' sink sink' (Ok done)
+KeepEnds output seen source source' sink sink' (Err Read) = Keeps output seen source source' sink sink' (Err job.Read)
+KeepEnds output seen source source' sink sink' (Err Write) = Keeps output seen source source' sink sink' (Err job.Write)
+KeepEnds output seen source source' sink sink' (Err Memory) =
+    IsUntouched source source' sink sink' ⊎ Keeps output seen source source' sink sink' (Err job.Memory)
+KeepEnds output seen source source' sink sink' (Err TooMuch) =
+    Keeps output seen source source' sink sink' (Err job.TooMuch)
+KeepEnds output seen source source' sink sink' (Err Disk) =
+    IsUntouched source source' sink sink' ⊎ Keeps output seen source source' sink sink' (Err job.Memory)
+KeepEnds output seen source source' sink sink' (Err (NotAStore place)) = IsUntouched source source' sink sink'
+
+-- it is no store, or there was no memory
+abbrev pub IsUnopened : Result (Unit {0}) KeepFault → Type 0
+IsUnopened (Ok done) = ⊥
+IsUnopened (Err Memory) = Unit {0}
+IsUnopened (Err (NotAStore place)) = Unit {0}
+IsUnopened (Err _) = ⊥

@@ -1,0 +1,4 @@
+pub mod Keeping
+pub mod Going
+pub mod Kept
+pub mod Exported

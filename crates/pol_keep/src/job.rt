@@ -1,0 +1,99 @@
+//! The job on a kept plant.
+ghost use Rattle.std.specs.Prelude.{◌≡◌, ◌≢◌, ℕ, List, Some, false, IfErr, IfSome, OnOk};
+ghost use Rattle.pol_core.specs.Plants.{plant_history};
+ghost use Rattle.pol_disk.specs.Disks.{LeavesOnly};
+ghost use Rattle.pol_events.specs.Events.{PlainEvent};
+ghost use Rattle.pol_history.specs.Runs.{IsLegal};
+ghost use Rattle.pol_io.specs.Causes.{Rose};
+ghost use Rattle.pol_io.specs.Pieces.{pieces};
+ghost use Rattle.pol_jobs.specs.Ends.{Ends, edge};
+ghost use Rattle.pol_store.specs.Opens.{IsNoStore};
+ghost use Rattle.pol_store.specs.Stands.{StandsFor, StandsForNone, events_of};
+ghost use Rattle.pol_keep.specs.Keeping.{IsKept, telling};
+ghost use Rattle.pol_keep.specs.Kept.{IsUnopened, KeepEnds, StandsForAnswered, StandsForMore, events_with, job_result, kept_output};
+
+use crate::fault::{KeepFault, ended, unopened};
+use crate::keeping::Keeping;
+use pol_disk::Disk;
+use pol_io::{Sink, Source};
+use pol_jobs::work;
+use pol_store::Store;
+use std::alloc::Global;
+
+// Replies to each line of the source on an open store, closes the output, and hands the disk back.
+fn keep_on<S: Source, K: Sink, D: Disk>(
+    alloc: Global,
+    store: Store<D>,
+    source: &mut S,
+    sink: &mut K,
+) -> (Result<(), KeepFault>, D)
+    requires legal { IsLegal (plant_history store.plant) }
+    requires opened { store.closed ≡ false }
+    ensures ends { Ends (kept_output (events_of (plant_history store.plant)))
+        (edge (S.left source.old) (S.faults source.old)) (edge (S.left source.new) (S.faults source.new))
+        (edge (K.held sink.old) (K.faults sink.old)) (edge (K.held sink.new) (K.faults sink.new))
+        (job_result result.0) }
+    ensures disk_cause { IfErr result.0 (λ fault. fault ≡ KeepFault.Disk
+        → Rose (D.faults store.disk) (D.faults result.1)) }
+    ensures is_store { IfErr result.0 (λ fault. (place : ℕ) → fault ≢ KeepFault.NotAStore place) }
+    ensures moments { IsKept (telling D.bytes D.images D.moment D.left_since D.faults) store
+        → IfSome (S.left source.old) (λ input. LeavesOnly D.moment D.left_since store.disk result.1
+        (StandsForMore (events_of (plant_history store.plant)) input)) }
+    ensures kept { IsKept (telling D.bytes D.images D.moment D.left_since D.faults) store
+        → IfSome (S.left source.old) (λ input. (image : List ℕ) → D.images result.1 image
+        → StandsForAnswered (events_of (plant_history store.plant)) input (K.held sink.old) (K.held sink.new) image) }
+    ensures kept_all { IsKept (telling D.bytes D.images D.moment D.left_since D.faults) store
+        → OnOk result.0 (IfSome (S.left source.old) (λ input. (image : List ℕ) → D.images result.1 image
+        → StandsFor (events_with (events_of (plant_history store.plant)) (pieces input)) image)) }
+{
+    let mut keeping = Keeping { alloc, store };
+    let done = work(alloc, &mut keeping, source, sink);
+    let Keeping { alloc: _, store } = keeping;
+    let closed = store.closed();
+    let (_plant, disk) = store.into_parts();
+    (ended(closed, done), disk)
+}
+
+/// Replays the source on the plant that the disk keeps, and keeps each new event there; the disk comes back. It opens
+/// the disk before it reads the source, so where the disk is no store nothing is read or written.
+///
+/// How it ends is one row for each result. `Disk` comes only where the disk's count of faults rose in this call, and
+/// `NotAStore` exactly where it did not and the disk reads as bytes for which no list of at most 200,000 events stands,
+/// unless there was no memory. Where each image of the disk at the start stands for the old events, a crash at any moment
+/// of the call leaves a disk that stands for the old events and the new ones of the first lines, and at the end each
+/// image stands for so many of these that each line whose answer the sink took whole is among them; where all is done,
+/// for those of all lines.
+pub fn keep<S: Source, K: Sink, D: Disk>(
+    alloc: Global,
+    source: &mut S,
+    sink: &mut K,
+    disk: D,
+) -> (Result<(), KeepFault>, D)
+    ensures ends { KeepEnds kept_output (D.bytes disk)
+        (edge (S.left source.old) (S.faults source.old)) (edge (S.left source.new) (S.faults source.new))
+        (edge (K.held sink.old) (K.faults sink.old)) (edge (K.held sink.new) (K.faults sink.new)) result.0 }
+    ensures moments { (all : List ℕ) (old : List PlainEvent) → D.bytes disk ≡ Some all
+        → ((image : List ℕ) → D.images disk image → StandsFor old image)
+        → IfSome (S.left source.old) (λ input.
+        LeavesOnly D.moment D.left_since disk result.1 (StandsForMore old input)) }
+    ensures kept { (all : List ℕ) (old : List PlainEvent) → D.bytes disk ≡ Some all
+        → ((image : List ℕ) → D.images disk image → StandsFor old image)
+        → IfSome (S.left source.old) (λ input. (image : List ℕ) → D.images result.1 image
+        → StandsForAnswered old input (K.held sink.old) (K.held sink.new) image) }
+    ensures kept_all { (all : List ℕ) (old : List PlainEvent) → D.bytes disk ≡ Some all
+        → ((image : List ℕ) → D.images disk image → StandsFor old image)
+        → OnOk result.0 (IfSome (S.left source.old) (λ input. (image : List ℕ) → D.images result.1 image
+        → StandsFor (events_with old (pieces input)) image)) }
+    ensures disk_cause { IfErr result.0 (λ fault. fault ≡ KeepFault.Disk → Rose (D.faults disk) (D.faults result.1)) }
+    ensures no_store { IfErr result.0 (λ fault. (place : ℕ) → fault ≡ KeepFault.NotAStore place
+        → (D.faults result.1 ≡ D.faults disk) × IfSome (D.bytes disk) (λ all. IsNoStore all place)) }
+    ensures unread { IfErr result.0 (λ fault. (place : ℕ) → fault ≡ KeepFault.NotAStore place
+        → (source.new ≡ source.old) × (sink.new ≡ sink.old)) }
+    ensures unopened { (all : List ℕ) → D.bytes disk ≡ Some all → StandsForNone all
+        → ¬ Rose (D.faults disk) (D.faults result.1) → IsUnopened result.0 }
+{
+    match Store::open(alloc, disk) {
+        Ok(store) => keep_on(alloc, store, source, sink),
+        Err((disk, fault)) => (Err(unopened(fault)), disk),
+    }
+}

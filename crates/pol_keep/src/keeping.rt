@@ -1,0 +1,60 @@
+//! A replay on a plant that is kept on a disk.
+
+use crate::answering::answer;
+use pol_disk::Disk;
+use pol_io::Sink;
+use pol_jobs::{InputLine, LineJob, PutFault, Stop};
+use pol_replay::{close, read_meaning};
+use pol_store::Store;
+use std::alloc::Global;
+use std::convert::Infallible;
+
+/// A replay on a plant that is kept: it keeps the event of each line before it answers it, and closes with the line of
+/// each batch and the end line. Where the disk fails it stops as for want of memory, and its store is closed.
+pub struct Keeping<D: Disk> {
+    /// The memory that it takes.
+    pub alloc: Global,
+    /// The plant and its disk.
+    pub store: Store<D>,
+}
+
+impl<D: Disk> LineJob for Keeping<D> {
+    type Refusal = Infallible;
+
+    ghost use Rattle.pol_history.specs.Looking.{History};
+    ghost use Rattle.pol_core.specs.Plants.{plant_history};
+    ghost use Rattle.pol_replay.specs.Replay.{replay_work};
+    ghost use Rattle.pol_keep.specs.Going.{goes_nowhere, goes_further};
+    ghost use Rattle.pol_keep.specs.Keeping.{GoesOn, telling};
+
+    ghost State = { History };
+
+    ghost state = { λ keeping. plant_history keeping.store.plant };
+
+    ghost work = { replay_work };
+
+    ghost Did = { λ before now lines whole.
+        GoesOn (telling D.bytes D.images D.moment D.left_since D.faults) before.store now.store lines whole };
+
+    ghost did_nothing = { λ keeping.
+        goes_nowhere (telling D.bytes D.images D.moment D.left_since D.faults) D.only_now keeping.store };
+
+    ghost did_more = { λ first keeping next lines more whole.
+        goes_further (telling D.bytes D.images D.moment D.left_since D.faults)
+        first.store keeping.store next.store lines more whole };
+
+    fn reply(&mut self, line: InputLine<'_>, out: &mut Vec<u8>) -> Result<(), Stop<Infallible>> {
+        let meaning = read_meaning(self.alloc, line)?;
+        answer(self.alloc, &mut self.store, meaning, out)?;
+        Ok(())
+    }
+
+    fn end(&mut self) -> Result<(), Stop<Infallible>> {
+        Ok(())
+    }
+
+    #[tactic(auto, using(pol_jobs::proofs::Closing::closes_with, pol_jobs::proofs::Closing::closes_part))]
+    fn close<K: Sink>(&mut self, sink: &mut K) -> Result<(), PutFault> {
+        close(self.alloc, self.store.plant().history(), sink)
+    }
+}

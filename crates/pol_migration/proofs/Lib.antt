@@ -1,0 +1,4 @@
+pub mod FreezeText
+pub mod Lines
+pub mod Outputs
+pub mod Replies

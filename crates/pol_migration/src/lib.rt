@@ -1,0 +1,12 @@
+//! What a journal of version 1 becomes in version 2, and that its answers stay.
+//!
+//! In version 2 the line of a freeze has the field `hold`, and nothing else is new. `specs/Migration.antt` defines the
+//! migrated journal; a law says that a replay of it writes what a replay of the old one wrote, without the fault lines.
+//! `Migrating` is the job that writes it, line by line. The crate knows nothing of the plant.
+#![tactic(auto)]
+
+mod laws;
+mod migrating;
+
+pub use laws::migration_keeps_outputs;
+pub use migrating::Migrating;

@@ -1,0 +1,87 @@
+//! The job that migrates a journal of version 1.
+ghost use Rattle.std.specs.Prelude.{◌≡◌, ◌++◌, OnOk};
+ghost use Rattle.pol_events.specs.Events.{plain_event};
+ghost use Rattle.pol_migration.specs.Migration.{migrated_event, migrated_line, short_meaning_of_version_1};
+
+use pol_events::{Event, LineRefusal, event_value, is_blank, read_event_of_version_1};
+use pol_io::Sink;
+use pol_jobs::{InputLine, LineJob, PutFault, Stop};
+use std::alloc::{AllocError, Global};
+use std::convert::Infallible;
+
+// Puts what the line of an event becomes behind what a buffer holds.
+fn put_event(alloc: Global, line: &[u8], event: &Event, out: &mut Vec<u8>) -> Result<(), AllocError>
+    ensures { OnOk result (out.new.items ≡ out.old.items ++ migrated_event line.now (plain_event event.now)) }
+{
+    match event {
+        Event::Freeze { .. } => {
+            let text = event_value(alloc, event)?.to_vec(alloc)?;
+            out.extend_from_slice(&text)?;
+        }
+        _ => out.extend_from_slice(line)?,
+    }
+    out.push(b'\n')?;
+    Ok(())
+}
+
+// Puts what a line becomes behind what a buffer holds.
+fn put_line(alloc: Global, line: &[u8], out: &mut Vec<u8>) -> Result<(), AllocError>
+    ensures { OnOk result (out.new.items
+        ≡ out.old.items ++ migrated_line line.now (short_meaning_of_version_1 line.now)) }
+{
+    if is_blank(line) {
+        return Ok(());
+    }
+    match read_event_of_version_1(alloc, line) {
+        Ok(event) => put_event(alloc, line, &event, out),
+        Err(LineRefusal::Fault(_)) => Ok(()),
+        Err(LineRefusal::Memory) => Err(AllocError),
+    }
+}
+
+/// A migration: each line that is an event by version 1 becomes its line in version 2, and every other line nothing.
+#[derive(Drop)]
+pub struct Migrating {
+    alloc: Global,
+}
+
+impl Migrating {
+    /// A migration, which knows nothing between two lines.
+    pub fn new(alloc: Global) -> Migrating {
+        Migrating { alloc }
+    }
+}
+
+impl LineJob for Migrating {
+    type Refusal = Infallible;
+
+    ghost use Rattle.std.specs.Prelude.{⊤};
+    ghost use Rattle.pol_migration.specs.Job.{migrating_work};
+
+    ghost State = { ⊤ };
+
+    ghost state = { λ _. tt };
+
+    ghost work = { migrating_work };
+
+    ghost Did = { λ _ _ _ _. ⊤ };
+
+    ghost did_nothing = { λ _. tt };
+
+    ghost did_more = { λ _ _ _ _ _ _ _ _. tt };
+
+    fn reply(&mut self, line: InputLine<'_>, out: &mut Vec<u8>) -> Result<(), Stop<Infallible>> {
+        if let InputLine::Text(text) = line {
+            put_line(self.alloc, text, out)?;
+        }
+        Ok(())
+    }
+
+    fn end(&mut self) -> Result<(), Stop<Infallible>> {
+        Ok(())
+    }
+
+    fn close<K: Sink>(&mut self, _sink: &mut K) -> Result<(), PutFault> {
+        Ok(())
+    }
+}

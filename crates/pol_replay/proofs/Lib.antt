@@ -1,0 +1,3 @@
+pub mod Spoken
+pub mod BatchLines
+pub mod Replaying

@@ -1,0 +1,14 @@
+//! The replay of a journal as a job over lines, and what other jobs over journals take from it: what a line says, and
+//! the lines that close an output.
+//!
+//! A replay knows the history of its plant: it replies to a line with the fault's or the answer's line, and closes with
+//! the line of each batch and the end line (`specs/Replay.antt`); so its output is the defined output of its input.
+#![tactic(auto)]
+
+mod closing;
+mod meaning;
+mod replay;
+
+pub use closing::close;
+pub use meaning::{LineMeaning, read_meaning};
+pub use replay::{Replay, answer_event};

@@ -1,0 +1,114 @@
+//! The replay of a journal.
+ghost use Rattle.std.specs.Prelude.{◌≡◌, ◌++◌, [], IsTrue, IfOk, OnOk};
+ghost use Rattle.pol_events.specs.Events.{plain_event};
+ghost use Rattle.pol_events.specs.Orderly.{is_orderly};
+ghost use Rattle.pol_history.specs.Answers.{answer_of};
+ghost use Rattle.pol_history.specs.Runs.{entry_of, recorded};
+ghost use Rattle.pol_record.specs.Texts.{answer_text, fault_text};
+ghost use Rattle.pol_core.specs.Plants.{plant_history};
+ghost use Rattle.pol_replay.specs.Meanings.{IsOrderly, plain_meaning, reply_text, after_meaning};
+
+use crate::closing::close;
+use crate::meaning::{LineMeaning, read_meaning};
+use pol_core::Plant;
+use pol_events::Event;
+use pol_io::Sink;
+use pol_jobs::{InputLine, LineJob, PutFault, Stop};
+use pol_record::{put_answer_line, put_fault_line};
+use std::alloc::{AllocError, Global};
+use std::convert::Infallible;
+
+/// Puts the line of the plant's answer to an event behind what a buffer holds. The event is recorded, unless the history
+/// is full.
+pub fn answer_event(
+    alloc: Global,
+    plant: &mut Plant,
+    event: Event,
+    out: &mut Vec<u8>,
+) -> Result<(), AllocError>
+    requires { IsTrue (is_orderly (plain_event event)) }
+    ensures line { OnOk result (out.new.items
+        ≡ out.old.items ++ answer_text (answer_of (plant_history plant.old) (plain_event event))) }
+    ensures history { OnOk result (plant_history plant.new
+        ≡ recorded (entry_of (plant_history plant.old) (plain_event event)) (plant_history plant.old)) }
+{
+    match plant.apply(event) {
+        Ok(answer) => put_answer_line(alloc, out, &answer),
+        Err((_event, error)) => Err(error),
+    }
+}
+
+// Puts the line that answers what a line says behind what a buffer holds; nothing, where it says nothing.
+fn answer(
+    alloc: Global,
+    plant: &mut Plant,
+    meaning: LineMeaning,
+    out: &mut Vec<u8>,
+) -> Result<(), AllocError>
+    requires { IsOrderly meaning }
+    ensures line { OnOk result (out.new.items
+        ≡ out.old.items ++ reply_text (plant_history plant.old) (plain_meaning meaning)) }
+    ensures history { OnOk result (
+        plant_history plant.new ≡ after_meaning (plant_history plant.old) (plain_meaning meaning)) }
+{
+    match meaning {
+        LineMeaning::Nothing => Ok(()),
+        LineMeaning::Fault(fault) => put_fault_line(alloc, out, &fault),
+        LineMeaning::Event(event) => answer_event(alloc, plant, event, out),
+    }
+}
+
+/// A replay: it answers each line of a journal, and closes with the line of each batch and the end line.
+#[derive(Drop)]
+pub struct Replay {
+    alloc: Global,
+    plant: Plant,
+}
+
+impl Replay {
+    /// A replay that has read nothing yet.
+    pub fn new(alloc: Global) -> Replay
+        ensures { plant_history result.plant ≡ [] }
+    {
+        Replay {
+            alloc,
+            plant: Plant::new(alloc),
+        }
+    }
+}
+
+impl LineJob for Replay {
+    type Refusal = Infallible;
+
+    ghost use Rattle.std.specs.Prelude.{⊤};
+    ghost use Rattle.pol_history.specs.Looking.{History};
+    ghost use Rattle.pol_core.specs.Plants.{plant_history};
+    ghost use Rattle.pol_replay.specs.Replay.{replay_work};
+
+    ghost State = { History };
+
+    ghost state = { λ replay. plant_history replay.plant };
+
+    ghost work = { replay_work };
+
+    ghost Did = { λ _ _ _ _. ⊤ };
+
+    ghost did_nothing = { λ _. tt };
+
+    ghost did_more = { λ _ _ _ _ _ _ _ _. tt };
+
+    fn reply(&mut self, line: InputLine<'_>, out: &mut Vec<u8>) -> Result<(), Stop<Infallible>> {
+        let meaning = read_meaning(self.alloc, line)?;
+        answer(self.alloc, &mut self.plant, meaning, out)?;
+        Ok(())
+    }
+
+    fn end(&mut self) -> Result<(), Stop<Infallible>> {
+        Ok(())
+    }
+
+    #[tactic(auto, using(pol_jobs::proofs::Closing::closes_with, pol_jobs::proofs::Closing::closes_part))]
+    fn close<K: Sink>(&mut self, sink: &mut K) -> Result<(), PutFault> {
+        close(self.alloc, self.plant.history(), sink)
+    }
+}

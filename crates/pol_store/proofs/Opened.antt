@@ -1,0 +1,112 @@
+-- A disk is opened.
+use Rattle.std.proofs.Common.{◌≡◌, inl, inr, ℕ, ◌<◌, ◌≤◌, List, [], length, Option, Some, None, refl, subst, arith}
+use Rattle.std.specs.Prelude.{IfSome}
+use Rattle.pol_disk.specs.Disks.{LeavesOnly}
+use Rattle.pol_disk.proofs.Moments.{then, wider}
+use Rattle.pol_texts.specs.Settled.{IsSynced, IsSettled}
+use Rattle.pol_texts.specs.Stands.{Stands}
+use Rattle.pol_events.specs.Events.{PlainEvent}
+use Rattle.pol_store.specs.Stands.{StandsFor, BreaksAt}
+use Rattle.pol_store.specs.Opens.{Breaks, IsOpened, IsReplayed, IsNoStore, Tells}
+use Rattle.pol_store.specs.declared.opening.OpenFault.{OpenFault}
+use Rattle.pol_store.specs.declared.opening.OpenFault.TheVariants.{Memory, Disk, NotAStore}
+use Rattle.pol_store.proofs.Texts.{one_history}
+use Rattle.pol_store.proofs.Broken.{breaks_none}
+
+-- a short disk stands for no event
+pub short_stands : (all : List ℕ) → length all ≤ 1 → StandsFor [] all
+short_stands all short = record { texts = []; are = tt; stands = inl (short, refl) }
+
+-- and for no others
+pub short_none : (all : List ℕ) (events : List PlainEvent) → length all ≤ 1 → StandsFor events all → [] ≡ events
+short_none all events short stands = one_history all [] events (short_stands all short) stands
+
+-- an image that stands for no text stands for no event
+pub none_stands : (image : List ℕ) → Stands image [] → StandsFor [] image
+none_stands image stands = record { texts = []; are = tt; stands = stands }
+
+-- a short disk that was begun is opened without events
+pub opened_short : (all : List ℕ) (seen : Option (List ℕ)) (images : List ℕ → Type 0) → length all ≤ 1 →
+    IsSettled seen images 0 [] → IsOpened all seen images 0 []
+opened_short all seen images short settled =
+    record { stood = short_stands all short; kept = record { texts = []; are = tt; settled = settled } }
+
+-- another one that was replayed is opened with its events
+pub opened_long : (all : List ℕ) (seen : Option (List ℕ)) (images : List ℕ →
+    Type 0) (end : ℕ) (events : List PlainEvent) → IsSynced seen images all → IsReplayed all end events →
+    IsOpened all seen images end events
+opened_long all seen images end events synced replayed = record {
+  stood = record { texts = replayed.texts; are = replayed.are; stands = inr replayed.begins };
+  kept = record {
+    texts = replayed.texts;
+    are = replayed.are;
+    settled = record { bytes = all; synced = synced; begins = replayed.begins; ends = replayed.ends };
+  };
+}
+
+-- a disk that breaks is no store
+pub no_store : (all : List ℕ) (place : ℕ) → 1 < length all → BreaksAt place all → IsNoStore all place
+no_store all place long breaks = record { long = long; none = breaks_none place all long breaks; breaks = breaks }
+
+-- what was told
+pub number_told : (seen : Option (List ℕ)) (all : List ℕ) (number : ℕ) → seen ≡ Some all →
+    IfSome seen (λ l. number ≡ length l) → number ≡ length all
+number_told seen all number told is = subst (λ (o : Option (List ℕ)). IfSome o (λ l. number ≡ length l)) told is
+
+-- of the bytes too
+pub bytes_told : (seen : Option (List ℕ)) (all items : List ℕ) → seen ≡ Some all → IfSome seen (λ l. items ≡ l) →
+    items ≡ all
+bytes_told seen all items told is = subst (λ (o : Option (List ℕ)). IfSome o (λ l. items ≡ l)) told is
+
+-- what follows from two facts of bytes that may be told
+both : (o : Option (List ℕ)) (A B C : List ℕ → Type 0) → ((l : List ℕ) → A l → B l → C l) → IfSome o A → IfSome o B →
+    IfSome o C
+both None A B C f a b = tt
+both (Some l) A B C f a b = f l a b
+
+-- what a fault of the replay says of the disk
+pub replay_tells : (fault : OpenFault) (items : List ℕ) (number : ℕ) (seen seen' : Option (List ℕ))
+    (faults faults' : ℕ) → Breaks items fault → seen' ≡ seen → faults' ≡ faults
+    → 1 < number → IfSome seen (λ l. number ≡ length l) → IfSome seen (λ l. items ≡ l) →
+    Tells fault seen seen' faults faults'
+replay_tells Memory items number seen seen' faults faults' breaks same faultless long counted read = same
+replay_tells Disk items number seen seen' faults faults' breaks same faultless long counted read = tt
+replay_tells (NotAStore place) items number seen seen' faults faults' breaks same faultless long counted read = (
+  faultless,
+  same,
+  both seen (λ l. number ≡ length l) (λ l. items ≡ l) (λ l. IsNoStore l place)
+      (λ l many is. no_store l place (omega (arith, long, many))
+      (subst (λ (i : List ℕ). BreaksAt place i) is breaks)) counted read,
+)
+
+module _ {D : Type 0} (bytes : D → Option (List ℕ)) (images : D → List ℕ → Type 0) (moment : D → ℕ) (left_since : D → ℕ →
+    List ℕ → Type 0) (old mid : D) (events : List PlainEvent)
+    (stand : (image : List ℕ) → images old image →
+    StandsFor events image) (first : LeavesOnly moment left_since old mid (images old)) where
+  -- the first sync leaves what was there
+  pub settled_leaves : LeavesOnly moment left_since old mid (StandsFor events)
+  settled_leaves = wider moment left_since old mid (images old) (StandsFor events) first stand
+
+  -- a short disk was begun
+  pub begun_leaves : (new : D) (all : List ℕ) → images old all → length all ≤ 1 →
+      LeavesOnly moment left_since mid new (λ image. Stands image []) →
+      LeavesOnly moment left_since old new (StandsFor events)
+  begun_leaves new all image short begun =
+      then moment left_since old mid new (StandsFor events) (λ image. Stands image []) settled_leaves begun
+      (λ other stands. subst (λ (es : List PlainEvent). StandsFor es other)
+      (short_none all events short (stand all image)) (none_stands other stands))
+
+  -- all was read
+  pub read_leaves : (new : D) → ((image : List ℕ) → images mid image → images old image) →
+      LeavesOnly moment left_since mid new (images mid) → LeavesOnly moment left_since old new (StandsFor events)
+  read_leaves new keeps read =
+      then moment left_since old mid new (StandsFor events) (images mid) settled_leaves read
+      (λ image left. stand image (keeps image left))
+
+-- after calls of which a crash at any moment leaves only what has a property, each image has it
+pub left_images : {D : Type 0} (images : D → List ℕ → Type 0) (moment : D → ℕ) (left_since : D → ℕ → List ℕ → Type 0) →
+    ((disk : D) (t : ℕ) (image : List ℕ) → t ≤ moment disk → images disk image → left_since disk t image) →
+    (old new : D) (P : List ℕ → Type 0) → LeavesOnly moment left_since old new P → (image : List ℕ) →
+    images new image → P image
+left_images images moment left_since counts_now old new P leaves image left =
+    leaves.each image (counts_now new (moment old) image leaves.later left)

@@ -1,0 +1,77 @@
+use Rattle.std.proofs.Common.{◌≡◌, ℕ, ◌<◌, ◌≤◌, List, length, Option, ◌∙◌, subst, arith}
+use Rattle.std.specs.Prelude.{IfSome}
+use Rattle.std.proofs.lemmas.Result.{err_from_is_err_and}
+use Rattle.pol_texts.specs.Settled.{IsSynced}
+use Rattle.pol_events.specs.Events.{PlainEvent}
+use Rattle.pol_core.specs.Plants.{plant_history}
+use Rattle.pol_store.specs.Opens.{Breaks, IsReplayed}
+use Rattle.pol_store.specs.Stands.{events_of}
+use Rattle.pol_store.proofs.Opened.{begun_leaves, bytes_told, number_told, opened_long, read_leaves, replay_tells}
+use Rattle.pol_store.proofs.opening.open_on.Goals as goal
+
+pub returns-in_err-begin-clause-moments : goal.returns-in_err-begin-clause-moments
+returns-in_err-begin-clause-moments g c = λ all events told stand.
+    let d = g.D.Disk in
+    let same = c.in_ok-size.ensures.bytes ∙ told in
+    let many : c.in_ok-size.size ≡ length all = number_told
+    (d.bytes c.settle.new.disk) all c.in_ok-size.size same c.in_ok-size.ensures.number in
+    let short : length all ≤ 1 = omega (arith, many, c.if-size-le1.true) in
+    begun_leaves d.bytes d.images d.moment d.left_since c.args.disk.now c.settle.new.disk events stand
+    c.in_ok-size.ensures.moments c.begin.new.disk all
+    (c.in_ok-size.ensures.image all told) short
+    (c.begin.ensures.moments all short (c.in_ok-size.ensures.synced all told))
+
+pub returns-then-size-le1-clause-moments : goal.returns-then-size-le1-clause-moments
+returns-then-size-le1-clause-moments g c = λ all events told stand.
+    let d = g.D.Disk in
+    let same = c.in_ok-size.ensures.bytes ∙ told in
+    let many : c.in_ok-size.size ≡ length all = number_told
+    (d.bytes c.settle.new.disk) all c.in_ok-size.size same c.in_ok-size.ensures.number in
+    let short : length all ≤ 1 = omega (arith, many, c.if-size-le1.true) in
+    begun_leaves d.bytes d.images d.moment d.left_since c.args.disk.now c.settle.new.disk events stand
+    c.in_ok-size.ensures.moments c.begin.new.disk all
+    (c.in_ok-size.ensures.image all told) short
+    (c.begin.ensures.moments all short (c.in_ok-size.ensures.synced all told))
+
+pub returns-in_err-plant-clause-tells : goal.returns-in_err-plant-clause-tells
+returns-in_err-plant-clause-tells g c =
+    let d = g.D.Disk in
+    let fault = err_from_is_err_and c.from_residual-in_err-plant.result c.from_residual-in_err-plant.ensures.1 in
+    let items : List ℕ = c.in_ok-bytes.bytes.items in
+    let breaks : Breaks items c.in_err-plant.field-0.0 = subst
+    (λ (l : List ℕ). Breaks l c.in_err-plant.field-0.0) c.deref.ensures.value c.in_err-plant.ensures.breaks in
+    let long : 1 < c.in_ok-size.size = omega (arith, c.if-size-le1.false) in
+    let counted = subst
+    (λ (o : Option (List ℕ)). IfSome o
+    (λ l. c.in_ok-size.size ≡ length l)) c.in_ok-size.ensures.bytes c.in_ok-size.ensures.number in
+    let read = subst
+    (λ (o : Option (List ℕ)). IfSome o (λ l. items ≡ l)) c.in_ok-size.ensures.bytes c.in_ok-bytes.ensures.read in
+    rw (fault.1, fault.2)
+    (replay_tells c.in_err-plant.field-0.0 items c.in_ok-size.size (d.bytes c.args.disk.now)
+    (d.bytes c.load_all.new.disk) (d.faults c.args.disk.now) (d.faults c.load_all.new.disk)
+    breaks (c.in_ok-bytes.ensures.bytes ∙ c.in_ok-size.ensures.bytes) (c.in_ok-bytes.ensures.cause.done
+    ∙ c.in_ok-size.ensures.cause.done) long counted read)
+
+pub returns-clause-opened : goal.returns-clause-opened
+returns-clause-opened g c = λ all told.
+    let d = g.D.Disk in
+    let same = c.in_ok-size.ensures.bytes ∙ told in
+    let synced = c.in_ok-size.ensures.synced all told in
+    let events : List PlainEvent = events_of (plant_history c.in_ok-plant.plant) in
+    let items_are : c.deref.result.now ≡ all = c.deref.ensures.value
+    ∙ bytes_told (d.bytes c.settle.new.disk) all c.in_ok-bytes.bytes.items same c.in_ok-bytes.ensures.read in
+    let loaded : IsSynced (d.bytes c.load_all.new.disk) (d.images c.load_all.new.disk) all =
+    record {
+      told = c.in_ok-bytes.ensures.bytes
+          ∙ synced.told;
+      only = λ image left. synced.only image (c.in_ok-bytes.ensures.images image left);
+    } in
+    opened_long all (d.bytes c.load_all.new.disk) (d.images c.load_all.new.disk) c.in_ok-plant.end events loaded
+    (subst (λ (l : List ℕ). IsReplayed l c.in_ok-plant.end events) items_are c.in_ok-plant.ensures.replayed)
+
+pub returns-clause-moments : goal.returns-clause-moments
+returns-clause-moments g c = λ all events told stand.
+    let d = g.D.Disk in
+    read_leaves d.bytes d.images d.moment d.left_since c.args.disk.now c.settle.new.disk events stand
+    c.in_ok-size.ensures.moments c.load_all.new.disk
+    c.in_ok-size.ensures.images c.load_all.ensures.moments

@@ -1,0 +1,29 @@
+use Rattle.std.proofs.Common.{ℕ, List, Option}
+use Rattle.pol_core.specs.Plants.{plant_history}
+use Rattle.pol_store.specs.Stands.{events_of}
+use Rattle.pol_store.specs.Keeping.{KeepsEvents}
+use Rattle.pol_store.specs.Stands.{StandsFor}
+use Rattle.pol_store.proofs.Kept.{if_told}
+use Rattle.pol_store.proofs.Opened.{left_images}
+use Rattle.pol_store.proofs.store.Store.open.Goals as goal
+
+pub invariant_of-result : goal.invariant_of-result
+invariant_of-result g c =
+    let d = g.D.Disk in
+    let seen : Option (List ℕ) = d.bytes c.open_on.new.disk in
+    if_told (d.bytes c.args.disk) seen
+    (KeepsEvents seen (d.images c.open_on.new.disk) c.in-Ok.end
+    (events_of (plant_history c.in-Ok.plant))) c.in-Ok.ensures.told
+    (λ all told. (c.in-Ok.ensures.opened all told).kept)
+
+pub returns-in-Ok-clause-images : goal.returns-in-Ok-clause-images
+returns-in-Ok-clause-images g c = λ all events told stand.
+    let d = g.D.Disk in
+    left_images d.images d.moment d.left_since g.met.D.Disk.counts_now c.args.disk c.open_on.new.disk (StandsFor events)
+    (c.open_on.ensures.moments all events told stand)
+
+pub returns-in-Err-clause-images_err : goal.returns-in-Err-clause-images_err
+returns-in-Err-clause-images_err g c = λ all events told stand.
+    let d = g.D.Disk in
+    left_images d.images d.moment d.left_since g.met.D.Disk.counts_now c.args.disk c.open_on.new.disk (StandsFor events)
+    (c.open_on.ensures.moments all events told stand)

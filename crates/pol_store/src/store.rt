@@ -1,0 +1,181 @@
+//! A plant whose events are kept on a disk.
+ghost use Rattle.std.specs.Prelude.{◌≡◌, ◌++◌, ◌∷◌, [], ℕ, List, Some, true, false, IfOk, IfErr, OnOk, IsTrue, length};
+ghost use Rattle.pol_io.specs.Causes.{Rose};
+ghost use Rattle.pol_disk.specs.Disks.{LeavesOnly};
+ghost use Rattle.pol_events.specs.Events.{PlainEvent, plain_event};
+ghost use Rattle.pol_events.specs.Orderly.{is_orderly};
+ghost use Rattle.pol_core.specs.Plants.{plant_history};
+ghost use Rattle.pol_history.specs.Answers.{answer_of};
+ghost use Rattle.pol_history.specs.Runs.{IsLegal, entry_of, history_after, is_recorded, recorded};
+ghost use Rattle.pol_texts.specs.Settled.{AreAlike};
+ghost use Rattle.pol_store.specs.Keeping.{KeepsMore, LeavesEvents};
+ghost use Rattle.pol_store.specs.Opens.{Tells};
+ghost use Rattle.pol_store.specs.Refusals.{Refuses};
+ghost use Rattle.pol_store.specs.Stands.{StandsFor, events_of};
+
+use crate::opening::{OpenFault, open_on};
+use crate::records::behind_gate;
+use pol_core::Plant;
+use pol_disk::Disk;
+use pol_events::{Answer, Event, Rule};
+use pol_texts::add;
+use std::alloc::Global;
+use std::marker::Model;
+
+/// Why an event isn't kept.
+#[derive(Drop)]
+pub enum StoreRefusal {
+    /// There was no memory; nothing has changed.
+    Memory(Event),
+    /// The disk failed; the store is closed.
+    Disk,
+    /// The store is closed.
+    Closed(Event),
+}
+
+/// A plant and the disk that keeps its events.
+pub struct Store<D: Disk> {
+    alloc: Global,
+    plant: Plant,
+    disk: D,
+    // The place of the closed gate behind the last record.
+    end: u64,
+    closed: bool,
+}
+
+impl<D: Disk> Model for Store<D> {
+    ghost use Rattle.pol_store.specs.Keeping.{StoreState};
+
+    ghost Value = { StoreState D };
+
+    ghost use Rattle.std.specs.Coded.{codes};
+    ghost use Rattle.pol_core.specs.contracts.plant.Plant as plant_type;
+
+    ghost coded = { Prim.hlevel (codes, plant_type.the_row.coded, D.code) };
+
+    ghost use Rattle.pol_core.specs.Plants.{plant_history};
+    ghost use Rattle.pol_store.specs.Keeping.{Keeps, Open};
+    ghost use Rattle.pol_store.specs.Stands.{events_of};
+
+    ghost view = { λ store. record { plant = store.plant; disk = store.disk; closed = store.closed } };
+
+    ghost invariant = { λ store. Open store.closed
+        (Keeps (D.bytes store.disk) (D.images store.disk) store.end (events_of (plant_history store.plant))) };
+}
+
+// Whether the event of such an answer is kept: all are, unless the history is full.
+fn is_kept(answer: &Answer) -> bool
+    ensures { result ≡ is_recorded answer.now }
+{
+    !matches!(answer, Answer::Refused(Rule::HistoryFull))
+}
+
+impl<D: Disk> Store<D> {
+    /// Opens a disk that a crash may have left. A disk of at most one byte becomes a store without events.
+    pub fn open(alloc: Global, disk: D) -> Result<Store<D>, (D, OpenFault)>
+        ensures opened { IfOk result (λ store. store.closed ≡ false) }
+        ensures moments { (all : List ℕ) (events : List PlainEvent) → D.bytes disk ≡ Some all
+            → ((image : List ℕ) → D.images disk image → StandsFor events image)
+            → IfOk result (λ store. LeavesOnly D.moment D.left_since disk store.disk (StandsFor events)) }
+        ensures moments_err { (all : List ℕ) (events : List PlainEvent) → D.bytes disk ≡ Some all
+            → ((image : List ℕ) → D.images disk image → StandsFor events image)
+            → IfErr result (λ back. LeavesOnly D.moment D.left_since disk back.0 (StandsFor events)) }
+        ensures images { (all : List ℕ) (events : List PlainEvent) → D.bytes disk ≡ Some all
+            → ((image : List ℕ) → D.images disk image → StandsFor events image)
+            → IfOk result (λ store. (image : List ℕ) → D.images store.disk image → StandsFor events image) }
+        ensures images_err { (all : List ℕ) (events : List PlainEvent) → D.bytes disk ≡ Some all
+            → ((image : List ℕ) → D.images disk image → StandsFor events image)
+            → IfErr result (λ back. (image : List ℕ) → D.images back.0 image → StandsFor events image) }
+        ensures stood { IfOk result (λ store. (all : List ℕ) → D.bytes disk ≡ Some all
+            → StandsFor (events_of (plant_history store.plant)) all) }
+        ensures legal { IfOk result (λ store. IsLegal (plant_history store.plant)) }
+        ensures image { (all : List ℕ) → D.bytes disk ≡ Some all → D.images disk all }
+        ensures told { IfOk result (λ store. AreAlike (D.bytes disk) (D.bytes store.disk)) }
+        ensures quiet { IfOk result (λ store. D.faults store.disk ≡ D.faults disk) }
+        ensures tells { IfErr result (λ back. Tells back.1
+            (D.bytes disk) (D.bytes back.0) (D.faults disk) (D.faults back.0)) }
+        ensures disk_cause { IfErr result (λ back. back.1 ≡ OpenFault.Disk → Rose (D.faults disk) (D.faults back.0)) }
+    {
+        let mut disk = disk;
+        match open_on(alloc, &mut disk) {
+            Ok((plant, end)) => Ok(Store {
+                alloc,
+                plant,
+                disk,
+                end,
+                closed: false,
+            }),
+            Err(fault) => Err((disk, fault)),
+        }
+    }
+
+    /// The plant.
+    pub fn plant(&self) -> &Plant
+        ensures plant { result.now ≡ self.now.plant }
+        ensures kept { self.now.closed ≡ false → (all : List ℕ) → D.bytes self.now.disk ≡ Some all
+            → (image : List ℕ) → D.images self.now.disk image → StandsFor (events_of (plant_history self.now.plant)) image }
+    {
+        &self.plant
+    }
+
+    /// Whether a call of the disk failed.
+    pub fn closed(&self) -> bool
+        ensures { result ≡ self.now.closed }
+    {
+        self.closed
+    }
+
+    /// The plant and the disk.
+    pub fn into_parts(self) -> (Plant, D)
+        ensures { (result.0 ≡ self.plant) × (result.1 ≡ self.disk) }
+    {
+        let Store {
+            alloc: _,
+            plant,
+            disk,
+            end: _,
+            closed: _,
+        } = self;
+        (plant, disk)
+    }
+
+    /// Answers an event and keeps it. At Ok each crash from now on leaves it, unless the answer is HistoryFull.
+    pub fn apply(&mut self, event: Event) -> Result<Answer, StoreRefusal>
+        requires orderly { IsTrue (is_orderly (plain_event event)) }
+        ensures answer { IfOk result (λ answer. answer ≡ answer_of (plant_history self.old.plant) (plain_event event)) }
+        ensures history { OnOk result (plant_history self.new.plant
+            ≡ recorded (entry_of (plant_history self.old.plant) (plain_event event)) (plant_history self.old.plant)) }
+        ensures refuses { IfErr result (Refuses D.faults self.old self.new event) }
+        ensures open { OnOk result ((self.old.closed ≡ false) × (self.new.closed ≡ false)) }
+        ensures told { OnOk result (AreAlike (D.bytes self.old.disk) (D.bytes self.new.disk)) }
+        ensures quiet { OnOk result (D.faults self.new.disk ≡ D.faults self.old.disk) }
+        ensures moments { LeavesEvents D.bytes D.moment D.left_since self.old self.new.disk (plain_event event) }
+        ensures kept { IfOk result (λ answer. IsTrue (is_recorded answer)
+            → KeepsMore D.bytes D.images self.old self.new.disk (plain_event event)) }
+        ensures full { is_recorded (answer_of (plant_history self.old.plant) (plain_event event)) ≡ false
+            → self.new.disk ≡ self.old.disk }
+    {
+        if self.closed {
+            return Err(StoreRefusal::Closed(event));
+        }
+        let Ok(behind) = behind_gate(self.alloc, &event) else {
+            return Err(StoreRefusal::Memory(event));
+        };
+        let Some(next) = self.end.checked_add(behind.len() as u64) else {
+            return Err(StoreRefusal::Memory(event));
+        };
+        let answer = match self.plant.apply(event) {
+            Ok(answer) => answer,
+            Err((event, _error)) => return Err(StoreRefusal::Memory(event)),
+        };
+        if !is_kept(&answer) {
+            return Ok(answer);
+        }
+        if add(&mut self.disk, self.end, &behind).is_err() {
+            self.closed = true;
+            return Err(StoreRefusal::Disk);
+        }
+        self.end = next;
+        Ok(answer)
+    }
+}
