@@ -1,11 +1,12 @@
 //! A batch of three parallel steps is frozen, held, thawed, stopped and broken in every order of these, and advanced
 //! twice after each. Its module obeys each command at once.
 use crate::given::named;
+use crate::plant::answered;
 use chart_core::{LogEntry, Why};
 use mtp_assembly::ServiceControl;
 use mtp_codes::{Mode, Name, Origin, State};
 use pol_core::Plant;
-use pol_events::{Answer, Event, Outcome, Rule, read_event};
+use pol_events::{Answer, Event, Outcome, Rule};
 use std::alloc::AllocError;
 use std::test::*;
 
@@ -149,11 +150,6 @@ const ORDERS: [(&str, &str); 120] = [
     ("BSTHF", "k1l1 .s2s3 rBn nnn nnn nnnnnn"),
 ];
 
-// What the plant answers to an event.
-fn answer_to(plant: &mut Plant, event: Event) -> Result<Answer, Fail> {
-    Ok(plant.apply(event).ok().ok_or("no memory")?)
-}
-
 // A service reports that it is in a state and enables these commands.
 fn report(plant: &mut Plant, service: Name, state: State, mask: u32) -> Result<(), Fail> {
     let control = ServiceControl {
@@ -178,10 +174,7 @@ fn report(plant: &mut Plant, service: Name, state: State, mask: u32) -> Result<(
 fn opened(rt: &HostRuntime) -> Result<Plant, Fail> {
     let mut plant = Plant::new(rt.alloc());
     for line in OPENING {
-        let event = read_event(rt.alloc(), line.as_bytes())
-            .ok()
-            .ok_or("no event")?;
-        answer_to(&mut plant, event)?;
+        answered(rt, &mut plant, line)?;
     }
     for service in ["1", "2", "3"] {
         report(&mut plant, named(service)?, State::Starting, 8)?;
@@ -244,45 +237,36 @@ fn obey(plant: &mut Plant, answer: &Answer) -> Result<(), Fail> {
 fn advance(plant: &mut Plant, times: u32, word: &mut Vec<u8>) -> Result<(), Fail> {
     let batch = named("b")?;
     for _ in 0..times {
-        let answer = answer_to(plant, Event::Advance { at: 0, batch })?;
+        let answer = plant.apply(Event::Advance { at: 0, batch });
+        let answer = answer.ok().ok_or("no memory")?;
         put(word, &answer)?;
         obey(plant, &answer)?;
     }
     Ok(())
 }
 
-// The event that a letter of an order stands for; none where the service of the first step is aborted.
-fn event_of(letter: u8) -> Result<Option<Event>, Fail> {
+// What a letter of an order stands for happens.
+fn happen(plant: &mut Plant, letter: u8, word: &mut Vec<u8>) -> Result<(), Fail> {
     let (at, batch) = (0, named("b")?);
-    Ok(match letter {
-        b'F' => Some(Event::Freeze {
+    let answer = match letter {
+        b'F' => plant.apply(Event::Freeze {
             at,
             batch,
             hold: false,
         }),
-        b'H' => Some(Event::Freeze {
+        b'H' => plant.apply(Event::Freeze {
             at,
             batch,
             hold: true,
         }),
-        b'T' => Some(Event::Thaw { at, batch }),
-        b'S' => Some(Event::StopBatch { at, batch }),
-        _ => None,
-    })
-}
-
-// What a letter stands for happens.
-fn happen(plant: &mut Plant, letter: u8, word: &mut Vec<u8>) -> Result<(), Fail> {
-    match event_of(letter)? {
-        Some(event) => {
-            let answer = answer_to(plant, event)?;
-            put(word, &answer)?;
-        }
-        None => {
+        b'T' => plant.apply(Event::Thaw { at, batch }),
+        b'S' => plant.apply(Event::StopBatch { at, batch }),
+        _ => {
             report(plant, named("1")?, State::Aborting, 0)?;
-            report(plant, named("1")?, State::Aborted, 2)?;
+            return report(plant, named("1")?, State::Aborted, 2);
         }
-    }
+    };
+    put(word, &answer.ok().ok_or("no memory")?)?;
     Ok(())
 }
 
