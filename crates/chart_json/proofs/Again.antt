@@ -32,6 +32,7 @@ use Rattle.chart_json.proofs.Formed.{distinct_told}
 
 -- ---- conditions
 
+-- an operator's word is read back
 op_again : (op : Op) → word op_words (string (op_word op)) ≡ Ok op
 op_again Lt = refl
 op_again Le = refl
@@ -40,10 +41,12 @@ op_again Ne = refl
 op_again Ge = refl
 op_again Gt = refl
 
+-- and so is what a value is compared with
 compared_again : (value : Compared) → is_compared_sound value ≡ true → compared (written_compared value) ≡ Ok value
 compared_again (Whole z) sound = rw (whole_again z, sound) refl
 compared_again (Bit bit) sound = refl
 
+-- as many conditions are written as there are
 formulas_len : (each : Formulas) → items_len (written_formulas each) ≡ formula_count each
 unfolding written_formulas
 formulas_len no_formulas = refl
@@ -54,11 +57,13 @@ listed : Formulas → List Formula
 listed no_formulas = []
 listed (more_formulas one each) = one ∷ listed each
 
+-- conditions that are listed are the same again
 listed_again : (each : Formulas) → formulas_of (listed each) ≡ each
 unfolding listed
 listed_again no_formulas = refl
 listed_again (more_formulas one each) = ap (more_formulas one) (listed_again each)
 
+-- a test of a variable is read back from what is written of it
 test_again : (depth : ℕ) (role variable : List ℕ) (op : Op) (value : Compared) → may_compare op value ≡ true
     → is_formula_sound (test role variable op value) ≡ true
     → condition_within (suc depth) (written_formula (test role variable op value)) ≡ Ok (test role variable op value)
@@ -72,6 +77,7 @@ mutual
   unfolding condition_within condition_by_key const_form all_form any_form not_form written_formula
       written_formulas listed each
 
+  -- so is a condition, where as many levels are read as it has
   within_again : (condition : Formula) (depth : ℕ) → has_parts_formed condition ≡ true
       → is_formula_sound condition ≡ true → nesting condition ≤ depth
       → condition_within depth (written_formula condition) ≡ Ok condition
@@ -92,6 +98,7 @@ mutual
   within_again (test role variable op value) (suc depth) formed sound deep =
       test_again depth role variable op value formed sound
 
+  -- and so is each of some conditions
   all_again : (conditions : Formulas) (depth place : ℕ) → have_parts_formed conditions ≡ true
       → are_formulas_sound conditions ≡ true → nestings conditions ≤ depth
       → each (condition_within depth) place (written_formulas conditions) ≡ Ok (listed conditions)
@@ -116,6 +123,7 @@ mutual
   formula_levels (not_of inner) = omega (arith, formula_levels inner)
   formula_levels (test role variable op value) = omega arith
 
+  -- some conditions have no more levels than what is written of them
   formulas_levels : (conditions : Formulas) → nestings conditions ≤ suc (items_depth (written_formulas conditions))
   formulas_levels no_formulas = omega arith
   formulas_levels (more_formulas one others) = omega (arith, formula_levels one, formulas_levels others)
@@ -140,6 +148,7 @@ condition_again condition formed sound =
 
 -- ---- steps
 
+-- a setting is read back
 setting_again : (setting : Setting) → is_setting_sound setting ≡ true
     → setting_of (written_setting setting) ≡ Ok setting
 unfolding setting_of written_setting
@@ -157,6 +166,7 @@ record AreFields (step : PlainStep) : Type 0 where
   pub settings : list_all is_setting_sound step.settings ≡ true
   pub unlike : repeats_by same_setting step.settings ≡ false
 
+-- so are the fields of a step, with the condition of its finish
 fields_again : (step : PlainStep) (finish : Option Formula) → AreFields step → is_finish_formed finish ≡ true
     → is_finish_sound finish ≡ true
     → step_of (object (finish_first finish
@@ -190,6 +200,7 @@ fields_again step (Some finish) are formed sound =
       are.unlike,
     ) refl
 
+-- a step may have any number of settings up to the most
 some_settings : (n : ℕ) → nat_le n MOST_SETTINGS ≡ true → is_between 0 MOST_SETTINGS n ≡ true
 some_settings n few = rw few (grind (arith, nat_tests))
 
@@ -237,6 +248,7 @@ step_is_object : (step : PlainStep) → object_here (written_step step) ≡ Ok t
 unfolding written_step
 step_is_object step = refl
 
+-- what is written of a step has the key that tells a step, whether or not it has a finish
 has_step_by : (step : PlainStep) (finish : Option Formula)
     → has (codes "step") (object
     (finish_first finish (step_keys step.name step.procedure step.role step.service (written_settings step.settings))))
@@ -244,20 +256,24 @@ has_step_by : (step : PlainStep) (finish : Option Formula)
 has_step_by step None = refl
 has_step_by step (Some finish) = refl
 
+-- so it is read as a step
 has_step : (step : PlainStep) → has (codes "step") (written_step step) ≡ true
 unfolding written_step
 has_step step = has_step_by step step.finish
 
+-- a step is read back as a node
 leaf_again : (depth : ℕ) (step : PlainStep) → is_step_formed step ≡ true → is_step_sound step ≡ true
     → tree_within (suc depth) (written_tree (leaf step)) ≡ Ok (leaf step)
 unfolding tree_within node_by_key step_form written_tree
 leaf_again depth step formed sound = rw (step_is_object step, has_step step, step_again step formed sound) refl
 
+-- as many nodes are written as there are
 trees_len : (each : Trees) → items_len (written_trees each) ≡ tree_count each
 unfolding written_trees
 trees_len no_trees = refl
 trees_len (more_trees one each) = ap suc (trees_len each)
 
+-- and as many arms
 arms_len : (each : Arms) → items_len (written_arms each) ≡ arm_count each
 unfolding written_arms
 arms_len no_arms = refl
@@ -268,6 +284,7 @@ nodes : Trees → List Tree
 nodes no_trees = []
 nodes (more_trees one each) = one ∷ nodes each
 
+-- nodes that are listed are the same again
 nodes_again : (each : Trees) → trees_of (nodes each) ≡ each
 unfolding nodes
 nodes_again no_trees = refl
@@ -278,6 +295,7 @@ plans : Arms → List PlainArm
 plans no_arms = []
 plans (more_arms when one each) = record { when = when; body = one } ∷ plans each
 
+-- and so are arms
 plans_again : (each : Arms) → arms_of (plans each) ≡ each
 unfolding plans
 plans_again no_arms = refl
@@ -310,6 +328,7 @@ mutual
       let sounds = and_parts (is_tree_sound body) (is_formula_sound until) sound in
       rw (tree_within_again body depth parts.0 sounds.0 (omega arith), condition_again until parts.1 sounds.1) refl
 
+  -- each of some nodes is read back, where as many levels are read as they have
   trees_again : (trees : Trees) (depth place : ℕ) → are_trees_formed trees ≡ true → are_trees_sound trees ≡ true
       → all_levels trees ≤ depth → each (tree_within depth) place (written_trees trees) ≡ Ok (nodes trees)
   trees_again no_trees depth place formed sound deep = refl
@@ -322,6 +341,7 @@ mutual
             (suc place) parts.1 sounds.1 (omega arith),
       ) refl
 
+  -- and so is each of some arms
   arms_again : (arms : Arms) (depth place : ℕ) → are_arms_formed arms ≡ true → are_arms_sound arms ≡ true
       → arm_levels arms ≤ depth → each (arm_of (tree_within depth)) place (written_arms arms) ≡ Ok (plans arms)
   arms_again no_arms depth place formed sound deep = refl
@@ -348,10 +368,12 @@ mutual
   tree_levels (choice each) = omega (arith, arms_levels each)
   tree_levels (loop body until) = omega (arith, tree_levels body)
 
+  -- some nodes have no more levels than what is written of them
   trees_levels : (nodes : Trees) → all_levels nodes ≤ suc (items_depth (written_trees nodes))
   trees_levels no_trees = omega arith
   trees_levels (more_trees one others) = omega (arith, tree_levels one, trees_levels others)
 
+  -- nor have some arms
   arms_levels : (arms : Arms) → arm_levels arms ≤ suc (items_depth (written_arms arms))
   arms_levels no_arms = omega arith
   arms_levels (more_arms when one others) = omega (arith, tree_levels one, arms_levels others)
@@ -364,6 +386,7 @@ tree_again node formed sound = tree_within_again node (suc (depth (written_tree 
 
 -- ---- roles
 
+-- a result that is good has a value
 what_is_ok : {A E : Type 0} (result : Result A E) → is_ok result ≡ true → (x : A) × (result ≡ Ok x)
 what_is_ok (Ok x) ok = (x, refl)
 what_is_ok (Err error) ok = absurd (true≢false (sym ok))
@@ -372,6 +395,7 @@ what_is_ok (Err error) ok = absurd (true≢false (sym ok))
 abbrev is_role_written : PlainRole → Bool
 is_role_written role = is_role_sound role && nat_le (length role.wants) LONGEST_WANTED
 
+-- a role is read back
 role_again : (role : PlainRole) → is_role_written role ≡ true → role_of (written_role role) ≡ Ok role
 unfolding role_of written_role
 role_again role written =
@@ -381,6 +405,7 @@ role_again role written =
     let required = what_is_ok (requirement_of role.wants) typed.1 in
     rw (named.0, typed.0, parts.1, required.1) refl
 
+-- roles that are sound and short enough are read back one by one
 all_of_both : (roles : List PlainRole) → list_all is_role_sound roles ≡ true
     → list_all (λ role. nat_le (length role.wants) LONGEST_WANTED) roles ≡ true → list_all is_role_written roles ≡ true
 all_of_both [] sound short = refl
@@ -406,6 +431,7 @@ roles_again roles sized sound =
 
 -- ---- charts
 
+-- a chart in form has as many roles as it may have
 sized_told : (chart : PlainChart) → is_chart_form chart ≡ true → are_roles_sized chart.roles ≡ true
 sized_told chart formed =
     let parts = and_parts (are_roles_formed chart) (is_tree_formed chart.root) formed in
@@ -416,6 +442,7 @@ sized_told chart formed =
     (λ role. nat_le (length role.wants) LONGEST_WANTED) chart.roles) sizes.1 in
     rw (sizes.0, texts.1) refl
 
+-- and no two with one name
 unlike_told : (chart : PlainChart) → is_chart_form chart ≡ true → repeats_by same_role chart.roles ≡ false
 unlike_told chart formed =
     let parts = and_parts (are_roles_formed chart) (is_tree_formed chart.root) formed in

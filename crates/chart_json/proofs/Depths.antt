@@ -20,6 +20,7 @@ use Rattle.chart_core.specs.Roles.{PlainChart, PlainRole, are_roles_formed, is_c
 use Rattle.chart_json.specs.Levels.{levels, all_levels, arm_levels}
 use Rattle.chart_json.specs.Written.{written_role, written_roles, written_compared, written_formula, written_formulas, written_setting, finish_first, step_keys, written_settings, written_step, written_tree, written_trees, written_arms}
 
+-- a role is one level deep
 role_depth : (role : PlainRole) → depth (written_role role) ≤ 1
 unfolding written_role
 role_depth role = omega arith
@@ -29,6 +30,7 @@ pub roles_depth : (roles : List PlainRole) → depth (written_roles roles) ≤ 2
 unfolding written_roles
 roles_depth roles = omega (arith, items_depth_below written_role 1 role_depth roles)
 
+-- what a value is compared with has no level
 compared_depth : (value : Reading) → depth (written_compared value) ≤ 0
 compared_depth (reading.Whole z) = omega arith
 compared_depth (reading.Bit bit) = omega arith
@@ -36,6 +38,7 @@ compared_depth (reading.Bit bit) = omega arith
 mutual
   unfolding written_formula written_formulas
 
+  -- a condition has two levels for each that is nested
   formula_depth : (formula : Formula) → depth (written_formula formula) ≤ 2 * nesting formula
   formula_depth (constant holds) = omega arith
   formula_depth (all_of each) = omega (arith, formulas_depth each)
@@ -43,6 +46,7 @@ mutual
   formula_depth (not_of inner) = omega (arith, formula_depth inner)
   formula_depth (test role variable op value) = omega (arith, compared_depth value)
 
+  -- and so have some conditions
   formulas_depth : (each : Formulas) → items_depth (written_formulas each) ≤ 2 * nestings each
   formulas_depth no_formulas = omega arith
   formulas_depth (more_formulas one each) = omega (arith, formula_depth one, formulas_depth each)
@@ -66,10 +70,12 @@ scalar_depth (Whole z) = omega arith
 scalar_depth (Bit bit) = omega arith
 scalar_depth (Text bytes) = omega arith
 
+-- a setting is one level deep
 setting_depth : (setting : Setting) → depth (written_setting setting) ≤ 1
 unfolding written_setting
 setting_depth setting = omega (arith, scalar_depth setting.value)
 
+-- a step is as deep as its finish, and never more than 17 levels
 finish_depth : (step : PlainStep) (finish : Option Formula) → is_finish_formed finish ≡ true
     → depth (object (finish_first finish
     (step_keys step.name step.procedure step.role step.service (written_settings step.settings)))) ≤ 17
@@ -77,6 +83,7 @@ finish_depth step None formed = omega (arith, items_depth_below written_setting 
 finish_depth step (Some finish) formed =
     omega (arith, condition_depth finish formed, items_depth_below written_setting 1 setting_depth step.settings)
 
+-- a step in form has a finish in form
 step_parts : (step : PlainStep) → is_step_formed step ≡ true → is_finish_formed step.finish ≡ true
 step_parts step formed =
     let a = and_parts (nat_le 1 step.procedure)
@@ -86,6 +93,7 @@ step_parts step formed =
     (map (λ setting. setting.name) step.settings) && is_finish_formed step.finish) a.1 in
     (and_parts (are_distinct (map (λ setting. setting.name) step.settings)) (is_finish_formed step.finish) b.1).1
 
+-- so a step in form has at most 17 levels
 step_depth : (step : PlainStep) → is_step_formed step ≡ true → depth (written_step step) ≤ 17
 unfolding written_step
 step_depth step formed = finish_depth step step.finish (step_parts step formed)
@@ -115,6 +123,7 @@ mutual
       let parts = and_parts (is_tree_formed body) (is_formula_formed until) formed in
       omega (arith, tree_depth body parts.0, condition_depth until parts.1)
 
+  -- some nodes have three levels for each of theirs, and a step's below them
   trees_depth : (each : Trees) → are_trees_formed each ≡ true
       → items_depth (written_trees each) ≤ 3 * all_levels each + 17
   trees_depth no_trees formed = omega arith
@@ -122,6 +131,7 @@ mutual
       let parts = and_parts (is_tree_formed one) (are_trees_formed each) formed in
       omega (arith, tree_depth one parts.0, trees_depth each parts.1)
 
+  -- and so have some arms, with one for the arm itself
   arms_depth : (each : Arms) → are_arms_formed each ≡ true → items_depth (written_arms each) ≤ 3 * arm_levels each + 18
   arms_depth no_arms formed = omega arith
   arms_depth (more_arms when one each) formed =

@@ -30,10 +30,12 @@ use Rattle.chart_json.proofs.Told.{HasSize, any_before, any_value, told_before, 
 
 -- ---- conditions
 
+-- some conditions are as many as their list
 count_formulas : (each : List Formula) → formula_count (formulas_of each) ≡ length each
 count_formulas [] = refl
 count_formulas (one ∷ each) = ap suc (count_formulas each)
 
+-- they are in form where each of the list is
 parts_of_all : (each : List Formula) → have_parts_formed (formulas_of each) ≡ list_all has_parts_formed each
 parts_of_all [] = refl
 parts_of_all (one ∷ each) = ap (λ rest. has_parts_formed one && rest) (parts_of_all each)
@@ -42,14 +44,17 @@ parts_of_all (one ∷ each) = ap (λ rest. has_parts_formed one && rest) (parts_
 abbrev HasParts : Formula → Type 0
 HasParts condition = has_parts_formed condition ≡ true
 
+-- what is not false is true
 not_false : (b : Bool) → not b ≡ false → b ≡ true
 not_false true e = refl
 not_false false e = cc
 
+-- a truth value that is read is a condition in form
 const_parts : (value : Data) → IfOk (const_form value) HasParts
 unfolding const_form
 const_parts value = search any_before
 
+-- so is one of conditions that must all hold, where those below it are
 all_parts : (inner : Data → ReadResult Formula) → ((value : Data) → IfOk (inner value) HasParts) → (value : Data)
     → IfOk (all_form inner value) HasParts
 unfolding all_form
@@ -62,6 +67,7 @@ all_parts inner told value =
     (λ each are. any_before HasParts (nothing_but (codes "all") value) (λ _. Ok (all_of (formulas_of each)))
     (λ _. rw (count_formulas each, are.0, parts_of_all each, are.1) refl))
 
+-- one of conditions of which any may hold
 any_parts : (inner : Data → ReadResult Formula) → ((value : Data) → IfOk (inner value) HasParts) → (value : Data)
     → IfOk (any_form inner value) HasParts
 unfolding any_form
@@ -74,6 +80,7 @@ any_parts inner told value =
     (λ each are. any_before HasParts (nothing_but (codes "any") value) (λ _. Ok (any_of (formulas_of each)))
     (λ _. rw (count_formulas each, are.0, parts_of_all each, are.1) refl))
 
+-- one that must not hold
 not_parts : (inner : Data → ReadResult Formula) → ((value : Data) → IfOk (inner value) HasParts) → (value : Data)
     → IfOk (not_form inner value) HasParts
 unfolding not_form
@@ -92,10 +99,12 @@ tested variable role op against =
     (λ _. Ok (test variable role op against)) (kept (not (may_compare op against)) Unsound)
     (λ _ may. not_false (may_compare op against) may)
 
+-- a test of a variable
 test_parts : (value : Data) → IfOk (test_form value) HasParts
 unfolding test_form
 test_parts value = search (any_before, tested) depth 12
 
+-- and so whichever of these the key tells
 by_key_parts : (inner : Data → ReadResult Formula) → ((value : Data) → IfOk (inner value) HasParts) → (value : Data)
     → IfOk (condition_by_key inner value) HasParts
 unfolding condition_by_key
@@ -110,6 +119,7 @@ by_key_parts inner told value =
       test_parts value,
     ) depth 12
 
+-- so a condition read within any number of levels is in form
 within_parts : (levels : ℕ) (value : Data) → IfOk (condition_within levels value) HasParts
 unfolding condition_within
 within_parts zero value = tt
@@ -119,6 +129,7 @@ within_parts (suc levels) value = search (
       (within_parts levels) value,
 )
 
+-- and so is each condition that is read
 formula_parts : (value : Data) → IfOk (formula_of value) HasParts
 unfolding formula_of
 formula_parts value = within_parts (suc (depth value)) value
@@ -141,6 +152,7 @@ condition_formed value =
 
 -- ---- steps
 
+-- bytes are the same either way
 same_either_way : (one other : List ℕ) → bytes_eq other one ≡ bytes_eq one other
 same_either_way one other =
     let same = bytes_eq-Decides other one in
@@ -148,11 +160,13 @@ same_either_way one other =
     (λ e. sym ((bytes_eq-Decides one other).0 e), λ e. (bytes_eq-Decides one other).1 (sym e)) in
     one_answer (bytes_eq other one) (bytes_eq one other) same turned
 
+-- a key is among those of a list where one of the list has it
 among_told : {A : Type 0} (key : A → List ℕ) (x : A) (xs : List A)
     → is_among (map key xs) (key x) ≡ list_any (λ other. bytes_eq (key x) (key other)) xs
 among_told key x [] = refl
 among_told key x (y ∷ xs) = rw (same_either_way (key x) (key y), among_told key x xs) refl
 
+-- neither of two is not the one and not the other
 neither : (a b : Bool) → not (a || b) ≡ not a && not b
 neither true b = refl
 neither false b = refl
@@ -169,6 +183,7 @@ distinct_told key (x ∷ xs) =
           (repeats_by (λ x other. bytes_eq (key x) (key other)) xs),
     ) refl
 
+-- a number from 1 on is at least 1
 from_one : (n : ℕ) → is_between 1 65535 n ≡ true → nat_le 1 n ≡ true
 from_one n is_within = (and_parts (nat_le 1 n) (nat_le n 65535) is_within).0
 
@@ -191,6 +206,7 @@ ruled_step named role service procedure settings finish value =
       finish = finish;
     })
 
+-- a step that passes the rules for its fields is in form
 ruled : (named role service : List ℕ) (procedure : ℕ) (settings : List Setting) (finish : Option Formula) (value : Data)
     → nat_le 1 procedure ≡ true → nat_le (length settings) MOST_SETTINGS ≡ true → is_finish_formed finish ≡ true
     → IfOk (ruled_step named role service procedure settings finish value) IsStep
@@ -251,6 +267,7 @@ rest_of_step named role service value =
     (λ finish formed. ruled named role service procedure settings finish value (from_one procedure numbered)
     (and_parts (nat_le 0 (length settings)) (nat_le (length settings) MOST_SETTINGS) few.0).1 formed)))
 
+-- so each step that is read is in form
 step_formed : (value : Data) → IfOk (step_of value) IsStep
 unfolding step_of
 step_formed value = search (any_before, rest_of_step) depth 12
@@ -261,14 +278,17 @@ step_formed value = search (any_before, rest_of_step) depth 12
 abbrev IsNode : Tree → Type 0
 IsNode node = is_tree_formed node ≡ true
 
+-- some nodes are as many as their list
 count_trees : (nodes : List Tree) → tree_count (trees_of nodes) ≡ length nodes
 count_trees [] = refl
 count_trees (node ∷ nodes) = ap suc (count_trees nodes)
 
+-- they are in form where each of the list is
 trees_all : (nodes : List Tree) → are_trees_formed (trees_of nodes) ≡ list_all is_tree_formed nodes
 trees_all [] = refl
 trees_all (node ∷ nodes) = ap (λ rest. is_tree_formed node && rest) (trees_all nodes)
 
+-- some arms are as many as their list
 count_arms : (arms : List PlainArm) → arm_count (arms_of arms) ≡ length arms
 count_arms [] = refl
 count_arms (arm ∷ arms) = ap suc (count_arms arms)
@@ -277,17 +297,20 @@ count_arms (arm ∷ arms) = ap suc (count_arms arms)
 abbrev is_arm_formed : PlainArm → Bool
 is_arm_formed arm = is_tree_formed arm.body && is_formula_formed arm.when
 
+-- they are in form where each of the list is
 arms_all : (arms : List PlainArm) → are_arms_formed (arms_of arms) ≡ list_all is_arm_formed arms
 arms_all [] = refl
 arms_all (arm ∷ arms) =
     rw (arms_all arms) (sym (and_assoc (is_tree_formed arm.body) (is_formula_formed arm.when)
     (list_all is_arm_formed arms)))
 
+-- a step that is read is a node in form
 leaf_formed : (value : Data) → IfOk (step_form value) IsNode
 unfolding step_form
 leaf_formed value = told_before IsStep IsNode (step_of value) (λ step. Ok (leaf step)) (step_formed value)
     (λ step formed. formed)
 
+-- so is a sequence, where the nodes below it are
 seq_formed : (inner : Data → ReadResult Tree) → ((value : Data) → IfOk (inner value) IsNode) → (value : Data)
     → IfOk (seq_form inner value) IsNode
 unfolding seq_form
@@ -298,6 +321,7 @@ seq_formed inner told value =
     (λ nodes are. any_before IsNode (nothing_but (codes "seq") value) (λ _. Ok (seq (trees_of nodes)))
     (λ _. rw (count_trees nodes, are.0, trees_all nodes, are.1) refl))
 
+-- parallel branches
 par_formed : (inner : Data → ReadResult Tree) → ((value : Data) → IfOk (inner value) IsNode) → (value : Data)
     → IfOk (par_form inner value) IsNode
 unfolding par_form
@@ -312,6 +336,7 @@ par_formed inner told value =
 abbrev IsArm : PlainArm → Type 0
 IsArm arm = is_arm_formed arm ≡ true
 
+-- an arm
 arm_formed : (inner : Data → ReadResult Tree) → ((value : Data) → IfOk (inner value) IsNode) → (value : Data)
     → IfOk (arm_of inner value) IsArm
 unfolding arm_of
@@ -331,6 +356,7 @@ arm_formed inner told value =
     (λ body body_formed. any_before IsArm (nothing_but (codes "when then") value)
     (λ _. Ok (record { when = when; body = body })) (λ _. rw (body_formed, when_formed) refl))))
 
+-- a selection
 sel_formed : (inner : Data → ReadResult Tree) → ((value : Data) → IfOk (inner value) IsNode) → (value : Data)
     → IfOk (sel_form inner value) IsNode
 unfolding sel_form
@@ -344,6 +370,7 @@ sel_formed inner told value =
     (λ arms are. any_before IsNode (nothing_but (codes "sel") value) (λ _. Ok (choice (arms_of arms)))
     (λ _. rw (count_arms arms, are.0, arms_all arms, are.1) refl))
 
+-- a loop
 loop_formed : (inner : Data → ReadResult Tree) → ((value : Data) → IfOk (inner value) IsNode) → (value : Data)
     → IfOk (loop_form inner value) IsNode
 unfolding loop_form
@@ -359,6 +386,7 @@ loop_formed inner told value =
     (λ until until_formed. any_before IsNode (nothing_but (codes "loop until") value) (λ _. Ok (loop body until))
     (λ _. rw (body_formed, until_formed) refl)))
 
+-- and so whichever of these the key tells
 node_by_key_formed : (inner : Data → ReadResult Tree) → ((value : Data) → IfOk (inner value) IsNode) → (value : Data)
     → IfOk (node_by_key inner value) IsNode
 unfolding node_by_key
@@ -373,6 +401,7 @@ node_by_key_formed inner told value =
       loop_formed inner told value,
     ) depth 12
 
+-- so a node read within any number of levels is in form
 within_formed : (levels : ℕ) (value : Data) → IfOk (tree_within levels value) IsNode
 unfolding tree_within
 within_formed zero value = tt
@@ -397,6 +426,7 @@ is_role_short role = nat_le (length role.wants) LONGEST_WANTED
 abbrev IsShort : PlainRole → Type 0
 IsShort role = is_role_short role ≡ true
 
+-- a role with the version that it wants has one of at most the longest
 wants_short : (role type_name : List ℕ) (value : Data)
     → IfOk (required (codes "version") (text_to LONGEST_WANTED) value >>= λ wants.
     under (codes "version") (here (requirement_of wants)) >>= λ _.
@@ -412,6 +442,7 @@ wants_short role type_name value =
     (told_text LONGEST_WANTED) value)
     (λ wants short. search (any_before, short))
 
+-- so each role that is read has
 role_short : (value : Data) → IfOk (role_of value) IsShort
 unfolding role_of
 role_short value = search (any_before, wants_short) depth 12

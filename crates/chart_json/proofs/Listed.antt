@@ -16,6 +16,7 @@ use Rattle.chart_core.specs.declared.node.Node.{Node}
 use Rattle.chart_core.proofs.Items.{arm_laid}
 use Rattle.chart_json.specs.Written.{written_arm, written_arms, written_formula, written_formulas, written_role, written_roles, written_tree, written_trees}
 
+-- what is written of conditions one by one is what is written of all
 formulas_items : (conditions : List Condition)
     → items_of (map (λ condition. written_formula (plain_condition condition)) conditions)
     ≡ written_formulas (formulas conditions)
@@ -31,6 +32,7 @@ pub conditions_written : (list : Vec Value Global) (conditions : List Condition)
 conditions_written list conditions each_is = view-Array list ∙ ap (λ values. array (items_of values)) each_is
     ∙ ap array (formulas_items conditions)
 
+-- and so for nodes
 trees_items : (nodes : List Node) → items_of (map (λ node. written_tree (plain_node node)) nodes)
     ≡ written_trees (trees nodes)
 unfolding written_trees
@@ -44,6 +46,7 @@ pub nodes_written : (list : Vec Value Global) (nodes : List Node)
 nodes_written list nodes each_is = view-Array list ∙ ap (λ values. array (items_of values)) each_is
     ∙ ap array (trees_items nodes)
 
+-- and for arms
 arms_items : (each : List Arm)
     → items_of (map (λ arm. written_arm (written_formula (plain_condition arm.when))
     (written_tree (plain_node arm.body))) each)

@@ -21,6 +21,7 @@ node_shallow chart node rest none =
     (no_fault (nat_lt DEEPEST_NODE node.depth) (TooDeep node.number)
     (first_clear (when (nat_lt DEEPEST_NODE node.depth) (TooDeep node.number)) rest none).0)
 
+-- visits without a fault are without one in each of two parts
 both_clear : (chart : PlainChart) (xs ys : List Visit) → first_fault chart (xs ++ ys) ≡ None
     → (first_fault chart xs ≡ None) × (first_fault chart ys ≡ None)
 both_clear chart [] ys none = (refl, none)
@@ -30,6 +31,7 @@ both_clear chart (x ∷ xs) ys none =
     (rw first.0 rest.0, rest.1)
 
 mutual
+  -- a node without a fault has at most 17 levels with those above it
   shallow : (chart : PlainChart) (t : Tree) (n d k : ℕ) → first_fault chart (visits t n d k) ≡ None → levels t + d ≤ 17
   shallow chart (leaf step) n d k none =
       let here : d ≤ DEEPEST_NODE = node_shallow chart (visit (leaf step) n d k) _
@@ -54,6 +56,7 @@ mutual
       (first_fault chart (visits body (n + 1) (d + 1) k)) none in
       omega (arith, shallow chart body (n + 1) (d + 1) k parts.1)
 
+  -- and so have some nodes
   all_shallow : (chart : PlainChart) (ts : Trees) (n d k : ℕ) → first_fault chart (all_visits ts n d k) ≡ None → d ≤ 17
       → all_levels ts + d ≤ 17
   all_shallow chart no_trees n d k none few = omega arith
@@ -61,6 +64,7 @@ mutual
       let parts = both_clear chart (visits t n d k) (all_visits ts (n + size t) d (k + step_count t)) none in
       omega (arith, shallow chart t n d k parts.0, all_shallow chart ts (n + size t) d (k + step_count t) parts.1 few)
 
+  -- and some arms
   arms_shallow : (chart : PlainChart) (ts : Arms) (n d k : ℕ) → first_fault chart (arm_visits ts n d k) ≡ None → d ≤ 17
       → arm_levels ts + d ≤ 17
   arms_shallow chart no_arms n d k none few = omega arith

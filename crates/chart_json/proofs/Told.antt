@@ -36,6 +36,7 @@ pub told_at : {A : Type 0} (P : A → Type 0) (part : PathPart) (read : ReadResu
 told_at P part (Ok x) told = told
 told_at P part (Err fault) told = tt
 
+-- what is told of a value read holds of it at its place
 pub told_here : {A : Type 0} (P : A → Type 0) (found : Finding A) → IfOk found P → IfOk (here found) P
 told_here P (Ok x) told = told
 told_here P (Err kind) told = tt
@@ -62,6 +63,7 @@ pub kept : (broken : Bool) (kind : FaultKind) → IfOk (refused_if broken kind) 
 kept true kind = tt
 kept false kind = refl
 
+-- of a value at a key that must be there
 told_present : {A : Type 0} (P : A → Type 0) (form : Data → Finding A) → ((value : Data) → IfOk (form value) P)
     → (found : Option Data) → IfOk (present form found) P
 told_present P form told None = tt
@@ -81,6 +83,7 @@ told_inside P key form told value =
     any_before P (required key anything value) (λ inner. under key (form inner))
     (λ inner. told_at P (Key key) (form inner) (told inner))
 
+-- of a value at a key that may be missing
 told_by_form : {A : Type 0} (P : Option A → Type 0) (form : Data → ReadResult A) → P None
     → ((value : Data) → IfOk (form value) (λ x. P (Some x))) → (found : Option Data)
     → IfOk (nested_if_present form found) P
@@ -101,6 +104,7 @@ told_count_in low high (Some (pos n)) = told_if (λ n. is_between low high n ≡
     (is_between low high n) n OutOfRange (λ is_within. is_within)
 told_count_in low high (Some (negsuc n)) = tt
 
+-- a count that is read is within its bounds
 pub told_count : (low high : ℕ) (value : Data) → IfOk (count low high value) (λ n. is_between low high n ≡ true)
 told_count low high value = told_count_in low high (whole_number value)
 
@@ -111,6 +115,7 @@ told_text_in limit None = tt
 told_text_in limit (Some bytes) = told_if (λ bytes. nat_le (length bytes) limit ≡ true)
     (nat_le (length bytes) limit) bytes OutOfRange (λ is_within. is_within)
 
+-- a text that is read is no longer than it may be
 pub told_text : (limit : ℕ) (value : Data) → IfOk (text_to limit value) (λ bytes. nat_le (length bytes) limit ≡ true)
 told_text limit value = told_text_in limit (as_str value)
 
@@ -120,19 +125,23 @@ told_text limit value = told_text_in limit (as_str value)
 abbrev pub HasSize : (ℕ → Bool) → Items → Type 0
 HasSize size values = size (items_len values) ≡ true
 
+-- items that pass the test of their number have such a number
 told_sized : (low high : ℕ) (found : Option Items) → IfOk (sized low high found) (HasSize (is_between low high))
 told_sized low high None = tt
 told_sized low high (Some values) = told_if (HasSize (is_between low high))
     (is_between low high (items_len values)) values OutOfRange (λ is_within. is_within)
 
+-- so a list that is read has
 pub told_items : (low high : ℕ) (value : Data) → IfOk (items_in low high value) (HasSize (is_between low high))
 told_items low high value = told_sized low high (as_array value)
 
+-- and the same where only a least number is asked for
 told_sized_from : (low : ℕ) (found : Option Items) → IfOk (sized_from low found) (HasSize (nat_le low))
 told_sized_from low None = tt
 told_sized_from low (Some values) = told_if (HasSize (nat_le low)) (nat_le low (items_len values)) values OutOfRange
     (λ is_within. is_within)
 
+-- so a list that is read has at least so many
 pub told_items_from : (low : ℕ) (value : Data) → IfOk (items_from low value) (HasSize (nat_le low))
 told_items_from low value = told_sized_from low (as_array value)
 
@@ -140,6 +149,7 @@ told_items_from low value = told_sized_from low (as_array value)
 abbrev AreRead : {A : Type 0} → (A → Bool) → Items → List A → Type 0
 AreRead test values found = (length found ≡ items_len values) × (list_all test found ≡ true)
 
+-- each item that is read passes a test that its form promises
 told_each : {A : Type 0} (test : A → Bool) (form : Data → ReadResult A)
     → ((value : Data) → IfOk (form value) (λ x. test x ≡ true)) → (place : ℕ) (values : Items)
     → IfOk (each form place values) (AreRead test values)
@@ -177,15 +187,18 @@ told_list size test key leaf form told_leaf told value =
     (λ values sized. told_at (IsListOf size test) (Key key) (each form 0 values)
     (told_all size test form told values sized))
 
+-- what holds of a value found holds of it as one that may be missing
 told_some : {A : Type 0} (P : A → Type 0) (found : Finding A) → IfOk found P → IfOk (some_found found) (λ x. IfSome x P)
 told_some P (Ok x) told = told
 told_some P (Err kind) told = tt
 
+-- of a leaf at a key that may be missing
 told_if_present : {A : Type 0} (P : A → Type 0) (leaf : Data → Finding A) → ((value : Data) → IfOk (leaf value) P)
     → (found : Option Data) → IfOk (if_present leaf found) (λ values. IfSome values P)
 told_if_present P leaf told None = tt
 told_if_present P leaf told (Some value) = told_some P (leaf value) (told value)
 
+-- of each item of a list at a key that may be missing
 told_each_or_none : {A : Type 0} (size : ℕ → Bool) (test : A → Bool) (key : List ℕ) (form : Data → ReadResult A)
     → size 0 ≡ true → ((value : Data) → IfOk (form value) (λ x. test x ≡ true))
     → (values : Option Items) → IfSome values (HasSize size) → IfOk (each_or_none key form values) (IsListOf size test)

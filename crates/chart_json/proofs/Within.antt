@@ -50,6 +50,7 @@ value_below key (array values) inner found = cc
 abbrev FindsItems : (Data → Finding Items) → Type 0
 FindsItems sizes = (value : Data) (items : Items) → sizes value ≡ Ok items → as_array value ≡ Some items
 
+-- a list with bounds is one of the value's own
 in_finds : (low high : ℕ) → FindsItems (items_in low high)
 in_finds low high value items found = go (as_array value) found
   where
@@ -61,6 +62,7 @@ in_finds low high value items found = go (as_array value) found
     go None found = cc
     go (Some list) found = ap Some (sized_is list (is_between low high (items_len list)) found)
 
+-- and so is one with a least number
 from_finds : (low : ℕ) → FindsItems (items_from low)
 from_finds low value items found = go (as_array value) found
   where
@@ -120,11 +122,13 @@ found_below sizes finds key value items found = go (get key value) refl found
               (inside_of inner (sizes inner) refl found),
         )
 
+-- the items of a list at a key lie below the object
 pub list_below : (low high : ℕ) (key : List ℕ) (value : Data) (items : Items) →
     required key (items_in low high) value ≡ Ok items →
     suc (items_depth items) < depth value
 list_below low high = found_below (items_in low high) (in_finds low high)
 
+-- and so do those of a list with a least number
 pub list_from_below : (low : ℕ) (key : List ℕ) (value : Data) (items : Items) →
     required key (items_from low) value ≡ Ok items →
     suc (items_depth items) < depth value
@@ -136,6 +140,7 @@ list_from_below low = found_below (items_from low) (from_finds low)
 abbrev Agree : {A : Type 0} → (Data → ReadResult A) → (Data → ReadResult A) → ℕ → Type 0
 Agree one other levels = (value : Data) → depth value < levels → one value ≡ other value
 
+-- two readers that agree down to a depth read the same items
 each_agree : {A : Type 0} (one other : Data → ReadResult A) (place : ℕ) (items : Items) →
     Agree one other (suc (items_depth items)) →
     each one place items ≡ each other place items
@@ -176,6 +181,7 @@ items_agree key sizes finds one other value agree = go (required key sizes value
 
 -- ---- conditions
 
+-- and the same condition, whichever the key tells
 key_agree : (one other : Data → ReadResult Formula) (value : Data) → Agree one other (depth value) →
     condition_by_key one value ≡ condition_by_key other value
 unfolding condition_by_key all_form any_form not_form
@@ -207,6 +213,7 @@ formula_steps value =
 
 -- ---- nodes
 
+-- the same arm
 arm_agree : (one other : Data → ReadResult Tree) (value : Data) → Agree one other (depth value) →
     arm_of one value ≡ arm_of other value
 unfolding arm_of
@@ -215,6 +222,7 @@ arm_agree one other value agree =
     nothing_but (codes "when then") value >>= λ _. Ok (record { when = when; body = body }))
     (inside_agree (codes "then") one other value agree)
 
+-- and the same node
 node_agree : (one other : Data → ReadResult Tree) (value : Data) → Agree one other (depth value) →
     node_by_key one value ≡ node_by_key other value
 unfolding node_by_key seq_form par_form sel_form loop_form
@@ -227,6 +235,7 @@ node_agree one other value agree =
       inside_agree (codes "loop") one other value agree,
     ) refl
 
+-- so more levels than a value has don't change what is read
 tree_agree : (levels more : ℕ) (value : Data) → depth value < levels → depth value < more →
     tree_within levels value ≡ tree_within more value
 unfolding tree_within

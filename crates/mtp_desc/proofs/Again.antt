@@ -19,6 +19,7 @@ use Rattle.mtp_desc.specs.Plain.{PlainProcedure, PlainService, PlainDescription,
 use Rattle.mtp_desc.specs.Written.{written_param, written_variable, written_procedure, written_service, written_description}
 use Rattle.mtp_desc.proofs.Sound.{is_param, is_variable, is_procedure, is_service, IsDescription}
 
+-- the kind of a parameter is read back with its name
 kind_again : (named : List ℕ) (kind : ParamKind) → is_name named ≡ true → is_ordered kind ≡ true
     → param_of (written_param (record { name = named; kind = kind })) ≡ Ok (record { name = named; kind = kind })
 unfolding param_of written_param ranged_param free_param
@@ -35,10 +36,12 @@ kind_again named (DInt min max) is ordered =
 kind_again named Bin is ordered = rw is refl
 kind_again named Text is ordered = rw is refl
 
+-- so is a parameter
 pub param_again : (param : PlainParam) → is_param param ≡ true → param_of (written_param param) ≡ Ok param
 param_again param sound = let parts = and_parts (is_name param.name) (is_ordered param.kind) sound in
     kind_again param.name param.kind parts.0 parts.1
 
+-- the kind of a variable is read back with its name
 variable_kind_again : (named : List ℕ) (kind : ViewKind) → is_name named ≡ true
     → variable_of (written_variable (record { name = named; kind = kind })) ≡ Ok (record { name = named; kind = kind })
 unfolding variable_of written_variable
@@ -47,10 +50,12 @@ variable_kind_again named variable.DInt is = rw is refl
 variable_kind_again named variable.Bin is = rw is refl
 variable_kind_again named variable.Text is = rw is refl
 
+-- so is a variable
 pub variable_again : (variable : PlainVariable) → is_variable variable ≡ true
     → variable_of (written_variable variable) ≡ Ok variable
 variable_again variable sound = variable_kind_again variable.name variable.kind sound
 
+-- a procedure
 pub procedure_again : (procedure : PlainProcedure) → is_procedure procedure ≡ true
     → procedure_of (written_procedure procedure) ≡ Ok procedure
 unfolding procedure_of written_procedure
@@ -70,6 +75,7 @@ procedure_again procedure sound =
       not-true (repeats_by same_param procedure.params) each.1,
     ) refl
 
+-- and a service
 pub service_again : (service : PlainService) → is_service service ≡ true
     → service_of (written_service service) ≡ Ok service
 unfolding service_of ruled_service written_service

@@ -49,12 +49,15 @@ pub all_sound : {X Y : Type 0} (view : X → Y) (test : Y → Bool) → ((x : X)
 all_sound view test sound [] = refl
 all_sound view test sound (x ∷ xs) = rw (sound x, all_sound view test sound xs) refl
 
+-- a parameter is in form by its type
 pub param_sound : (param : Param) → is_param (plain_param param) ≡ true
 param_sound param = rw (param.named, param.ordered) refl
 
+-- and so is a variable
 pub variable_sound : (variable : View) → is_variable (plain_variable variable) ≡ true
 variable_sound variable = variable.named
 
+-- a procedure
 pub procedure_sound : (procedure : Procedure) → is_procedure (plain_procedure procedure) ≡ true
 procedure_sound procedure =
     rw (
@@ -66,6 +69,7 @@ procedure_sound procedure =
       procedure.unlike,
     ) refl
 
+-- a service
 pub service_sound : (service : Service) → is_service (plain_service service) ≡ true
 service_sound service =
     rw (
@@ -90,6 +94,7 @@ pub record IsDescription (description : PlainDescription) : Type 0 where
   pub variables : list_all is_variable description.variables ≡ true
   pub unlike_variables : repeats_by same_variable description.variables ≡ false
 
+-- and so a whole description
 pub description_sound : (description : Description) → IsDescription (plain_description description)
 description_sound description = record {
   typed = description.typed;

@@ -5,6 +5,7 @@ use Rattle.std.specs.Borrow.{Bor}
 use Rattle.std.specs.List.{find, position, prefix_len, fold}
 use Rattle.std.proofs.lemmas.List.{length-map}
 
+-- to fold what is seen of each is to fold over the items as they are seen
 fold_map : {X Y B : Type 0} (view : X → Y) (step : B → Y → B) (start : B) (xs : List X)
     → fold step start (map view xs) ≡ fold (λ a x. step a (view x)) start xs
 fold_map view step start [] = refl
@@ -15,6 +16,7 @@ pub count_map : {X Y : Type 0} (view : X → Y) (test : Y → Bool) (xs : List X
     → count_by test (map view xs) ≡ count_by (λ x. test (view x)) xs
 count_map view test xs = fold_map view (λ a y. a + cond (test y) 1 0) 0 xs
 
+-- what is found among the items as they are seen is what is seen of the found one
 found_by : {X Y : Type 0} (view : X → Y) (passes : Bool) (x : X) (ours : Option Y) (theirs : Option X)
     → ours ≡ option_map view theirs → cond passes (Some (view x)) ours ≡ option_map view (cond passes (Some x) theirs)
 found_by view true x ours theirs e = refl
@@ -34,6 +36,7 @@ pub looks_up : {X Y : Type 0} (view : X → Y) (test : Y → Bool) (xs : List X)
 looks_up view test xs None is = rw (find_map view test xs, ← is) refl
 looks_up view test xs (Some x) is = rw (find_map view test xs, ← is) refl
 
+-- as many of them in front pass a test
 prefix_len_map : {X Y : Type 0} (view : X → Y) (test : Y → Bool) (xs : List X)
     → prefix_len test (map view xs) ≡ prefix_len (λ x. test (view x)) xs
 prefix_len_map view test [] = refl
@@ -44,6 +47,7 @@ pub position_map : {X Y : Type 0} (view : X → Y) (test : Y → Bool) (xs : Lis
     → position test (map view xs) ≡ position (λ x. test (view x)) xs
 position_map view test xs = rw (prefix_len_map view (λ y. not (test y)) xs, length-map xs view) refl
 
+-- an item that doesn't pass a test isn't counted
 none_in_step : {X : Type 0} (test : X → Bool) (start : ℕ) (x : X) (xs : List X) (passes : Bool) → test x ≡ passes
     → cond (test x) (Some x) (find test xs) ≡ None
     → ((n : ℕ) → find test xs ≡ None → fold (λ a y. a + cond (test y) 1 0) n xs ≡ n)
@@ -51,6 +55,7 @@ none_in_step : {X : Type 0} (test : X → Bool) (start : ℕ) (x : X) (xs : List
 none_in_step test start x xs true e none rest = let clash : Some x ≡ None = rw e at none in absurd cc
 none_in_step test start x xs false e none rest = rw (e, add-zero) (rest start (rw e at none))
 
+-- so where none passes none is counted
 none_folded : {X : Type 0} (test : X → Bool) (start : ℕ) (xs : List X) → find test xs ≡ None
     → fold (λ a y. a + cond (test y) 1 0) start xs ≡ start
 none_folded test start [] none = refl

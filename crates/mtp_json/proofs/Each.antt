@@ -52,6 +52,7 @@ items_view_drop values i value inside is =
     let next : i + 1 ≡ suc i = omega arith in
     rw (split, ← is, next) refl
 
+-- an item that its form reads stands behind those read before
 goes_on : {A : Type 0} (form : Data
     → ReadResult A) (front : List A) (values : List Value) (i : ℕ) (value : Value) (x : A) (total : ReadResult (List A))
     → i < length values → value ≡ get_or values i value
@@ -66,6 +67,7 @@ goes_on form front values i value x total inside is read so_far =
     (regroup front x (each form (suc i) (items_view (drop (i + 1) values)))) in
     ap (λ k. with_front (front ++ x ∷ []) (each form k (items_view (drop (i + 1) values)))) next ∙ (sym one ∙ so_far)
 
+-- one that it doesn't read ends the list with its fault
 ends : {A : Type 0} (form : Data
     → ReadResult A) (refusal : JsonRefusal) (front : List A) (values : List Value) (i : ℕ) (value : Value)
     (total : ReadResult (List A)) → i < length values → value ≡ get_or values i value

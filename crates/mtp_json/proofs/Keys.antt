@@ -7,11 +7,13 @@ use Rattle.serde_json.specs.View.{members_view}
 use Rattle.serde_json.specs.declared.value.Value.{Value}
 use Rattle.mtp_json.specs.Form.{is_listed, all_listed}
 
+-- the keys of some entries are listed where those of the members are
 all_listed_of : (keys : List ℕ) (entries : List (String Global × Value))
     → list_all (λ key. is_listed keys (string_bytes key)) (keys_of entries) ≡ all_listed keys (members_view entries)
 all_listed_of keys [] = refl
 all_listed_of keys (entry ∷ entries) = ap (λ b. is_listed keys (string_bytes entry.0) && b) (all_listed_of keys entries)
 
+-- so a map's keys tell whether its members are listed
 pub all_listed_by_keys : (keys : List ℕ) (object : BTreeMap (String Global) Value)
     → all_listed keys (members_view object.entries)
     ≡ list_all (λ key. is_listed keys (string_bytes key)) (map_keys object)

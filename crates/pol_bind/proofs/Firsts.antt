@@ -13,16 +13,19 @@ use Rattle.pol_events.proofs.Lists.{found_append}
 use Rattle.pol_bind.specs.TestMisfits.{is_test_misfit_for}
 use Rattle.pol_bind.specs.Walks.{variable_in, variable_among, variable_in_finish, variable_under, variable_under_all, variable_under_arms, first_name, first_name_among, first_name_in_arms}
 
+-- the first variable of a list and then of another
 variable_append :
     (property : PlainTest → Bool) (xs ys : List PlainTest)
     → variable_of_first property (xs ++ ys) ≡ option_or (variable_of_first property xs) (variable_of_first property ys)
 variable_append property xs ys = found_append (λ test. test.variable) property xs ys
 
+-- the first step's name of a list and then of another
 name_append :
     (property : PlainStep → Bool) (xs ys : List Placed)
     → name_of_first property (xs ++ ys) ≡ option_or (name_of_first property xs) (name_of_first property ys)
 name_append property xs ys = found_append (λ each. each.step.name) (λ each. property each.step) xs ys
 
+-- the name of one step, by its number or without
 one_name : (property : PlainStep → Bool) (step : PlainStep) (n : ℕ) (b : Bool)
     → cond b (Some step.name) None ≡ option_map (λ (each : Placed). each.step.name)
     (cond b (Some (record { number = n; step = step })) None)
@@ -31,6 +34,7 @@ one_name property step n false = refl
 
 -- the walk finds the first step in chart order, whatever the number of the tree's first node
 mutual
+  -- the first name in a node is that of the first among its steps
   pub first_is : (property : PlainStep → Bool) (each : Tree) (n : ℕ)
       → first_name property each ≡ name_of_first property (steps each n)
   first_is property (leaf step) n = one_name property step n (property step)
@@ -39,6 +43,7 @@ mutual
   first_is property (choice each) n = first_in_arms_is property each (n + 1)
   first_is property (loop body until) n = first_is property body (n + 1)
 
+  -- so in some nodes
   pub first_among_is : (property : PlainStep → Bool) (each : Trees) (n : ℕ)
       → first_name_among property each ≡ name_of_first property (all_steps each n)
   first_among_is property no_trees n = refl
@@ -51,6 +56,7 @@ mutual
             (n + size each),
       ) refl
 
+  -- and in some arms
   pub first_in_arms_is : (property : PlainStep → Bool) (each : Arms) (n : ℕ)
       → first_name_in_arms property each ≡ name_of_first property (arm_steps each n)
   first_in_arms_is property no_arms n = refl
@@ -63,6 +69,7 @@ mutual
             (n + size each),
       ) refl
 
+-- the variable of one test
 one_variable : (each : PlainTest) (b : Bool) → cond b (Some each.variable) None
     ≡ option_map (λ (test : PlainTest). test.variable) (cond b (Some each) None)
 one_variable each true = refl
@@ -70,6 +77,7 @@ one_variable each false = refl
 
 -- the walk finds the first of a condition's tests
 mutual
+  -- the first variable in a condition is that of the first among its tests
   test_is : (property : PlainTest → Bool) (each : Formula) → variable_in property each
       ≡ variable_of_first property (tests_of each)
   test_is property (constant value) = refl
@@ -80,6 +88,7 @@ mutual
       one_variable (record { role = role; variable = variable; value = value })
       (property (record { role = role; variable = variable; value = value }))
 
+  -- so in some conditions
   test_among_is : (property : PlainTest → Bool) (each : Formulas)
       → variable_among property each ≡ variable_of_first property (tests_of_all each)
   test_among_is property no_formulas = refl
@@ -91,6 +100,7 @@ mutual
             property others,
       ) refl
 
+-- in the finish of a step
 test_in_finish_is : (property : PlainTest → Bool) (finish : Option Formula)
     → variable_in_finish property finish ≡ variable_of_first property (finish_tests finish)
 test_in_finish_is property None = refl
@@ -98,6 +108,7 @@ test_in_finish_is property (Some condition) = test_is property condition
 
 -- the walk finds the first of a tree's tests
 mutual
+  -- in a node
   pub test_under_is : (property : PlainTest → Bool) (each : Tree)
       → variable_under property each ≡ variable_of_first property (tests_in each)
   test_under_is property (leaf step) = test_in_finish_is property step.finish
@@ -118,6 +129,7 @@ mutual
             property body,
       ) refl
 
+  -- in some nodes
   test_under_all_is : (property : PlainTest → Bool) (each : Trees)
       → variable_under_all property each ≡ variable_of_first property (tests_in_all each)
   test_under_all_is property no_trees = refl
@@ -129,6 +141,7 @@ mutual
             test_under_all_is property others,
       ) refl
 
+  -- and in some arms
   test_under_arms_is : (property : PlainTest → Bool) (each : Arms)
       → variable_under_arms property each ≡ variable_of_first property (tests_in_arms each)
   test_under_arms_is property no_arms = refl
@@ -140,6 +153,7 @@ mutual
             test_under_arms_is property others,
       ) refl
 
+-- one is found where one passes
 found_is_any : {X Y : Type 0} (part : X → Y) (property : X → Bool) (x : X) (b : Bool) (rest : Option X) (others : Bool)
     → is_some (option_map part rest) ≡ others → is_some (option_map part (cond b (Some x) rest)) ≡ (b || others)
 found_is_any part property x true rest others same = refl
@@ -153,6 +167,7 @@ found_where_any property (x ∷ xs) =
     found_is_any (λ test. test.variable) property x (property x) (find property xs) (list_any property xs)
     (found_where_any property xs)
 
+-- where none of the rest misfits the sum is that of the others
 none_more : (ours theirs same misfits rest : Bool) → (ours && misfits || rest) ≡ false
     → (ours && (same && misfits) || theirs) ≡ theirs
 none_more true theirs true true rest h = cc
@@ -160,6 +175,7 @@ none_more true theirs true false rest h = refl
 none_more true theirs false misfits rest h = refl
 none_more false theirs same misfits rest h = refl
 
+-- where none of two is, the second is not
 rest_none : (one rest : Bool) → (one || rest) ≡ false → rest ≡ false
 rest_none true rest h = cc
 rest_none false rest h = h
@@ -177,10 +193,12 @@ none_of_variable role variable description (x ∷ xs) none =
     ∙ none_of_variable role variable description xs (rest_none (is_test_misfit_for role description x)
     (list_any (is_test_misfit_for role description) xs) none)
 
+-- nor are both
 and_none : (one other : Bool) → other ≡ false → (one && other) ≡ false
 and_none true other h = h
 and_none false other h = refl
 
+-- where none passes none is found
 none_found : {X Y : Type 0} (part : X → Y) (property : X → Bool) → ((x : X) → property x ≡ false) → (xs : List X)
     → option_map part (find property xs) ≡ None
 none_found part property none [] = refl

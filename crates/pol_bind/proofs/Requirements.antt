@@ -10,6 +10,7 @@ use Rattle.semver.proofs.EvalViews.{matches_all-views}
 use Rattle.chart_core.specs.Requirements.{IsReadTo}
 use Rattle.mtp_procs.specs.Covers.{meets}
 
+-- a version matches what was read of a requirement where it meets what the text asks for
 pub matches_as_read :
     (wants : List ℕ) (req : VersionReq) (version : Version) → IsReadTo wants req
     → matches_all req.comparators.items version ≡ meets (parts_of version) (req_of wants)

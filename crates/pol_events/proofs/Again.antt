@@ -198,14 +198,17 @@ recipe_again at named chart formed held =
 
 -- ---- batches
 
+-- what is written of binds has only texts
 texts_again : (binds : List Bind) → are_texts (bind_members binds) ≡ true
 texts_again [] = refl
 texts_again (bind ∷ binds) = texts_again binds
 
+-- and as many members as there are binds
 many_again : (binds : List Bind) → members_len (bind_members binds) ≡ length binds
 many_again [] = refl
 many_again (bind ∷ binds) = ap suc (many_again binds)
 
+-- each bind is read back
 each_again : (binds : List Bind) → list_all is_bind_in_range binds ≡ true → each_bind (bind_members binds) ≡ Ok binds
 unfolding each_bind
 each_again [] held = refl
@@ -268,6 +271,7 @@ batch_again word event at batch held = let stamped = and_parts (is_between 0 gre
 
 -- ---- all kinds
 
+-- what is none is none
 is_none_none : {A : Type 0} (found : Option A) → is_none found ≡ true → found ≡ None
 is_none_none None none = refl
 is_none_none (Some value) none = absurd (true≢false (sym none))

@@ -18,18 +18,22 @@ use Rattle.pol_events.specs.Orderly.{is_orderly}
 use Rattle.pol_events.specs.Written.{bind_members, written_binds, written_event, written_plug, written_tag, written_report, written_variable, written_desk, written_exchange_end, written_exchange_cancel, written_recipe, watch_member, start_with, written_freeze, written_batch}
 use Rattle.pol_events.proofs.Again.{faultless}
 
+-- the members of binds have no level
 members_depth_is : (binds : List Bind) → members_depth (bind_members binds) ≤ 0
 members_depth_is [] = omega arith
 members_depth_is (bind ∷ binds) = omega (arith, members_depth_is binds)
 
+-- so binds are one level deep
 binds_depth : (binds : List Bind) → depth (written_binds binds) ≤ 1
 unfolding written_binds
 binds_depth binds = omega (arith, members_depth_is binds)
 
+-- the members of binds have no number with a point
 members_whole : (binds : List Bind) → members_have_float (bind_members binds) ≡ false
 members_whole [] = refl
 members_whole (bind ∷ binds) = members_whole binds
 
+-- nor have binds
 binds_whole : (binds : List Bind) → has_float (written_binds binds) ≡ false
 unfolding written_binds
 binds_whole binds = members_whole binds

@@ -29,6 +29,7 @@ use Rattle.pol_events.specs.Orderly.{rise}
 use Rattle.pol_events.proofs.Rising.{by_role_rises, by_role_few}
 use Rattle.pol_events.specs.declared.event.Bind.{Bind}
 
+-- members are texts where each value is one
 texts_of : (entries : List (String Global × Value)) → are_texts (members_view entries)
     ≡ list_all (λ value. is_some (as_str (view value))) (values_of entries)
 texts_of [] = refl
@@ -77,6 +78,7 @@ is_done front left total is so_far = sym so_far ∙ rw is (ap (λ binds. Ok bind
 abbrev HasRole : List ℕ → Bind → Type 0
 HasRole key bind = bind.role ≡ key
 
+-- a bind that is read has its member's key as its role
 named_by : (is_named : Bool) (key : List ℕ) (value : Data)
     → IfOk (here (if is_named then Ok key else Err OutOfRange) >>= λ role. here (name value)
     >>= λ tag. Ok (record { role = role; tag = tag })) (HasRole key)
@@ -87,6 +89,7 @@ named_by false key value = tt
 abbrev AreKeys : List Entry → List Bind → Type 0
 AreKeys entries binds = map (λ bind. bind.role) binds ≡ map (λ entry. string_bytes entry.0) entries
 
+-- binds that are read have the keys as their roles
 keys_read : (entries : List Entry) → IfOk (each_bind (members_view entries)) (AreKeys entries)
 unfolding each_bind
 keys_read [] = refl
@@ -97,6 +100,7 @@ keys_read (entry ∷ entries) =
     told_before (AreKeys entries) (AreKeys (entry ∷ entries)) (each_bind (members_view entries)) _ (keys_read entries)
     (λ binds keys. rw (role, keys) refl))
 
+-- keys that rise make roles that rise
 keys_rise : (entries : List Entry) (binds : List Bind) → AreKeys entries binds
     → IsStrictlySortedBy string_cmp (keys_of entries) → rise binds ≡ true
 unfolding IsStrictlySortedBy
@@ -120,6 +124,7 @@ read_binds_rise entries binds sorted read = let keys : AreKeys entries binds = r
 abbrev AreAsMany : Members → List Bind → Type 0
 AreAsMany members binds = length binds ≡ members_len members
 
+-- as many binds are read as there are members
 length_read : (members : Members) → IfOk (each_bind members) (AreAsMany members)
 unfolding each_bind
 length_read no_members = refl
@@ -132,15 +137,18 @@ length_read (member key value members) =
 abbrev AreFew : Members → Type 0
 AreFew members = nat_le (members_len members) MOST_BINDS ≡ true
 
+-- members that pass the test of their number are few
 few_by : (are_few : Bool) (members : Members) → nat_le (members_len members) MOST_BINDS ≡ are_few
     → IfOk (here (if are_few then Ok members else Err OutOfRange)) AreFew
 few_by true found is = is
 few_by false found is = tt
 
+-- whether or not all of them are texts
 few_of : (are_all : Bool) (members : Members) → IfOk (here (if are_all then few members else Err WrongKind)) AreFew
 few_of true found = few_by (nat_le (members_len found) MOST_BINDS) found refl
 few_of false found = tt
 
+-- and whether or not there are any
 few_found : (found : Option Members) → IfOk (here (few_texts found)) AreFew
 few_found None = tt
 few_found (Some found) = few_of (are_texts found) found
@@ -149,6 +157,7 @@ few_found (Some found) = few_of (are_texts found) found
 abbrev pub AreOrderly : List Bind → Type 0
 AreOrderly binds = (nat_le (length binds) MOST_BINDS && rise binds) ≡ true
 
+-- so few binds as are read are in order once they are sorted by role
 in_order : (members : Members) (binds : List Bind) → AreFew members → AreAsMany members binds
     → AreOrderly (by_role binds)
 in_order found binds few same =

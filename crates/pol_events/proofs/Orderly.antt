@@ -54,6 +54,7 @@ allocation_orderly held watched first second = go (shares_a_role (record { held 
     go true is = tt
     go false is = rw (first, second, is) refl
 
+-- a start that is read is in order
 start_orderly : (value : Data) → IfOk (start_in value) IsOrderly
 unfolding start_in
 start_orderly value =
@@ -87,6 +88,7 @@ made_orderly at named roles root sized formed = go (repeats_by same_role roles) 
     go false is = λ none. sound_chart (record { roles = roles; root = root })
         (chart_formed roles root sized formed is) none
 
+-- and so is a recipe
 recipe_orderly : (value : Data) → IfOk (recipe_in value) IsOrderly
 unfolding recipe_in
 recipe_orderly value =
@@ -123,14 +125,17 @@ pub value_orderly : (value : Data) → IfOk (event_in value) IsOrderly
 unfolding event_in
 value_orderly value = search (rules, any_before, kind_orderly)
 
+-- so whatever a line says is in order, but for the rules of charts
 read_orderly : (line : List ℕ) → IfOk (read_of line) IsOrderly
 read_orderly line = search (rules, any_before, value_orderly)
 
+-- with those it is in order in full
 valid_orderly : (found event : PlainEvent) (fault : Option ChartFault) → fault_within found ≡ fault → IsOrderly found
     → unless_faulty found fault ≡ Ok event → is_orderly event ≡ true
 valid_orderly found event None none orderly is = let same : found ≡ event = cc in rw (← same) (orderly none)
 valid_orderly found event (Some fault) some orderly is = absurd cc
 
+-- an event that a line says is in order
 said_orderly : (read : ReadResult PlainEvent) (event : PlainEvent) → IfOk read IsOrderly → of_line read ≡ Ok event
     → is_orderly event ≡ true
 said_orderly (Ok found) event orderly is = valid_orderly found event (fault_within found) refl orderly is

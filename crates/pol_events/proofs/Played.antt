@@ -10,9 +10,11 @@ use Rattle.pol_events.specs.declared.event.Bind.{Bind}
 use Rattle.pol_events.proofs.Lists.{found_member, none_found}
 use Rattle.pol_events.proofs.Options.{no_image}
 
+-- names of the same bytes are the same name
 same_true : (one other : List ℕ) → bytes_eq one other ≡ true → one ≡ other
 same_true one other = (bytes_eq-Decides one other).0
 
+-- a name has the bytes that it has
 same_refl : (name : List ℕ) → bytes_eq name name ≡ true
 same_refl name = (bytes_eq-Decides name name).1 refl
 

@@ -16,6 +16,7 @@ use Rattle.pol_events.specs.declared.event.Bind.{Bind}
 abbrev pub compared : Bind → Bind → Ordering
 compared bind other = slice_cmp nat_cmp bind.role other.role
 
+-- only the order less is less
 pub less : (order : Ordering) → is_lt order ≡ true → order ≡ Less
 less Less is = refl
 less Equal is = absurd (true≢false (sym is))
@@ -39,6 +40,7 @@ by_role_rising (bind ∷ next ∷ binds) rising =
     let parts = and_parts (stands_before bind next) (rise (next ∷ binds)) rising in
     rw (by_role_rising (next ∷ binds) parts.1, less (compared bind next) parts.0) refl
 
+-- what leads some binds leads them with one more, wherever that is placed
 leads_placed : (bind other next : Bind) (binds : List Bind) (order : Ordering) → stands_before bind other ≡ true
     → stands_before bind next ≡ true
     → leads bind (match_ordering order (other ∷ next ∷ binds) (next ∷ binds) (next ∷ with_bind other binds)) ≡ true
@@ -46,15 +48,18 @@ leads_placed bind other next binds Less before leading = before
 leads_placed bind other next binds Equal before leading = leading
 leads_placed bind other next binds Greater before leading = leading
 
+-- so it leads them with a bind that it stands before
 leads_with : (bind other : Bind) (binds : List Bind) → stands_before bind other ≡ true → leads bind binds ≡ true
     → leads bind (with_bind other binds) ≡ true
 leads_with bind other [] before leading = before
 leads_with bind other (next ∷ binds) before leading = leads_placed bind other next binds
     (compared other next) before leading
 
+-- what compares as greater stands behind
 reversed : (bind next : Bind) → compared bind next ≡ Greater → stands_before next bind ≡ true
 reversed bind next after = rw (nat_list_cmp_total.antisymm next.role bind.role, after) refl
 
+-- binds that rise do so with one more, wherever that is placed
 rise_placed : (bind next : Bind) (binds : List Bind) (order : Ordering) → compared bind next ≡ order
     → rise (next ∷ binds) ≡ true → (rise binds ≡ true → rise (with_bind bind binds) ≡ true)
     → rise (match_ordering order (bind ∷ next ∷ binds) (next ∷ binds) (next ∷ with_bind bind binds)) ≡ true
@@ -69,6 +74,7 @@ rise_placed bind next binds Greater is rising rest =
       rest parts.1,
     ) refl
 
+-- so they rise with any bind
 rise_with : (bind : Bind) (binds : List Bind) → rise binds ≡ true → rise (with_bind bind binds) ≡ true
 rise_with bind [] rising = refl
 rise_with bind (next ∷ binds) rising = rise_placed bind next binds (compared bind next) refl rising
@@ -79,6 +85,7 @@ pub by_role_rises : (binds : List Bind) → rise (by_role binds) ≡ true
 by_role_rises [] = refl
 by_role_rises (bind ∷ binds) = rise_with bind (by_role binds) (by_role_rises binds)
 
+-- one more bind makes the list longer by one at most, wherever it is placed
 length_placed : (bind next : Bind) (binds : List Bind) (order : Ordering)
     → length (with_bind bind binds) ≤ length (bind ∷ binds)
     → length (match_ordering order (bind ∷ next ∷ binds) (next ∷ binds) (next ∷ with_bind bind binds)) ≤ length
@@ -87,6 +94,7 @@ length_placed bind next binds Less few = omega arith
 length_placed bind next binds Equal few = omega arith
 length_placed bind next binds Greater few = omega arith
 
+-- and so with any bind
 length_with : (bind : Bind) (binds : List Bind) → length (with_bind bind binds) ≤ length (bind ∷ binds)
 length_with bind [] = omega arith
 length_with bind (next ∷ binds) = length_placed bind next binds (compared bind next) (length_with bind binds)
@@ -96,6 +104,7 @@ pub by_role_few : (binds : List Bind) → length (by_role binds) ≤ length bind
 by_role_few [] = omega arith
 by_role_few (bind ∷ binds) = omega (arith, length_with bind (by_role binds), by_role_few binds)
 
+-- what stands before the first of rising binds stands before each
 before_each : (bind next : Bind) (binds : List Bind) → stands_before bind next ≡ true → rise (next ∷ binds) ≡ true
     → list_all (stands_before bind) (next ∷ binds) ≡ true
 before_each bind next [] before rising = rw before refl
@@ -113,9 +122,11 @@ first_before bind [] rising = refl
 first_before bind (next ∷ binds) rising = let parts =
     and_parts (stands_before bind next) (rise (next ∷ binds)) rising in before_each bind next binds parts.0 parts.1
 
+-- a bind that stands before another names another role
 unlike : (bind other : Bind) → stands_before bind other ≡ true → bytes_eq bind.role other.role ≡ false
 unlike bind other before = sym (is_eq-slice_cmp bind.role other.role) ∙ ap is_eq (less (compared bind other) before)
 
+-- so it names another role than each behind it
 unlike_each : (bind : Bind) (binds : List Bind) → list_all (stands_before bind) binds ≡ true
     → list_all (λ other. not (bytes_eq bind.role other.role)) binds ≡ true
 unlike_each bind [] before = refl

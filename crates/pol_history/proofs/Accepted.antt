@@ -13,6 +13,7 @@ abbrev pub NoneHolds : List (Option Rule) → Type 0
 NoneHolds [] = Unit {0}
 NoneHolds (rule ∷ rules) = (rule ≡ None) × NoneHolds rules
 
+-- where the answer is accepted no rule holds
 pub none_holds : (rules : List (Option Rule)) (answer : Answer) → is_accepted (first_rule rules answer) ≡ true
     → NoneHolds rules
 none_holds [] answer accepted = tt

@@ -5,6 +5,7 @@ use Rattle.std.proofs.lemmas.List.{reverse-append}
 use Rattle.std.proofs.lemmas.List.Elements.{filter-append}
 use Rattle.std.specs.List.{AllByRecursion}
 
+-- a filter that takes less, over an item that may be kept
 kept_step : {X : Type 0} (takes : X → Bool) (x : X) (xs : List X) (kept taken : Bool) → takes x ≡ taken
     → (taken ≡ true → kept ≡ true) →
     filter takes (cond kept (x ∷ xs) xs) ≡ cond taken (x ∷ filter takes xs) (filter takes xs)
@@ -23,6 +24,7 @@ filter_kept takes keeps (x ∷ xs) all = rw (
   filter_kept takes keeps xs all.1,
 )
 
+-- a filter gives no more than there is
 pub length_filter : {X : Type 0} (keeps : X → Bool) (xs : List X) → length (filter keeps xs) ≤ length xs
 length_filter keeps [] = omega arith
 length_filter {X} keeps (x ∷ xs) = go (keeps x) (length_filter keeps xs)
@@ -37,6 +39,7 @@ pub all_of : {X : Type 0} (P : X → Type 0) → ((x : X) → P x) → (xs : Lis
 all_of P each [] = tt
 all_of P each (x ∷ xs) = (each x, all_of P each xs)
 
+-- two filters in turn over one item, in either order
 filters_step : {X : Type 0} (first second : X → Bool) (x : X) (xs ys : List X) (one two : Bool) → first x ≡ one
     → second x ≡ two → filter first xs ≡ filter second ys →
     filter first (cond two (x ∷ xs) xs) ≡ filter second (cond one (x ∷ ys) ys)

@@ -5,6 +5,7 @@ use Rattle.pol_events.specs.Orderly.{is_orderly}
 use Rattle.pol_history.specs.Looking.{History}
 use Rattle.pol_history.specs.Runs.{entry_of, is_recorded, recorded, history_after, IsLegal, AreOrderly, IsOrderly, RunsAreLegal}
 
+-- a legal history with one more event is legal
 legal_recorded : (history : History) (event : PlainEvent) → IsLegal history
     → IsLegal (recorded (entry_of history event) history)
 legal_recorded history event legal = go (is_recorded (entry_of history event).answer) refl
@@ -14,12 +15,14 @@ legal_recorded history event legal = go (is_recorded (entry_of history event).an
     go true is = (refl, is, legal)
     go false is = legal
 
+-- and so it is with any number of them
 pub legal_after : (history : History) (events : List PlainEvent) → IsLegal history
     → IsLegal (history_after history events)
 legal_after history [] legal = legal
 legal_after history (event ∷ events) legal = legal_after (recorded (entry_of history event) history) events
     (legal_recorded history event legal)
 
+-- a history in order with one more event in order is in order
 orderly_recorded : (history : History) (event : PlainEvent) → is_orderly event ≡ true → IsOrderly history
     → IsOrderly (recorded (entry_of history event) history)
 orderly_recorded history event here orderly = go (is_recorded (entry_of history event).answer)
@@ -28,6 +31,7 @@ orderly_recorded history event here orderly = go (is_recorded (entry_of history 
     go true = (here, orderly)
     go false = orderly
 
+-- and so it is with any number of them
 pub orderly_after : (history : History) (events : List PlainEvent) → IsOrderly history → AreOrderly events
     → IsOrderly (history_after history events)
 orderly_after history [] orderly all = orderly
@@ -35,5 +39,6 @@ orderly_after history (event ∷ events) orderly all =
     orderly_after (recorded (entry_of history event) history) events
     (orderly_recorded history event all.0 orderly) all.1
 
+-- so the history of each run is legal
 pub runs_legal : RunsAreLegal
 runs_legal events = (legal_after [] events tt, λ all. orderly_after [] events tt all)

@@ -54,6 +54,7 @@ longer service state (entry ∷ older) next path = go (reported service entry.ev
         rw is (and_from (may_follow control.state state) (is_path_back (control.state ∷ states_in service older))
         (rw is at next) (rw is at path))
 
+-- a report that isn't refused for its edge comes after the last state
 allowed : (state : State) (last : Option ServiceControl) → not_an_edge state last ≡ None → comes_after last state ≡ true
 allowed state None none = refl
 allowed state (Some control) none = go (may_follow control.state state) none
@@ -150,6 +151,7 @@ step history tag service (report at other named control) of_tag accepted path = 
         (sym docked_here) ∙ here in
         rw is (longer service control.state (after_docking (past tag history)) last path)
 
+-- one event more keeps the states since docking a path
 more : (history : History) (tag service : List ℕ) (event : PlainEvent)
     → is_path_back (states_in service (after_docking (past tag history))) ≡ true →
     is_path_back (states_in service (after_docking (past tag (entry_of history event ∷ history)))) ≡ true
@@ -163,6 +165,7 @@ more history tag service event path = go (is_accepted_of tag (entry_of history e
         step history tag service event parts.0 parts.1 path
     go false is = path
 
+-- so in a legal history they are one, read from the newest
 paths_back : (history : History) → IsLegal history → (tag service : List ℕ)
     → is_path_back (states_in service (after_docking (past tag history))) ≡ true
 paths_back [] legal tag service = refl
@@ -178,6 +181,7 @@ ends_before [] state = true
 ends_before (last ∷ []) state = may_follow last state
 ends_before (first ∷ next ∷ states) state = ends_before (next ∷ states) state
 
+-- a path with a state behind it that may follow is a path
 path_pushed : (states : List State) (state : State) → is_path states ≡ true → ends_before states state ≡ true
     → is_path (states ++ state ∷ []) ≡ true
 path_pushed [] state path ends = refl
@@ -187,12 +191,14 @@ path_pushed (first ∷ next ∷ states) state path ends =
     and_from (may_follow first next) (is_path (next ∷ states ++ state ∷ [])) parts.0
     (path_pushed (next ∷ states) state parts.1 ends)
 
+-- what may follow such a path may follow its last state
 ends_pushed : (states : List State) (last state : State) → ends_before (states ++ last ∷ []) state
     ≡ may_follow last state
 ends_pushed [] last state = refl
 ends_pushed (first ∷ []) last state = refl
 ends_pushed (first ∷ next ∷ states) last state = ends_pushed (next ∷ states) last state
 
+-- the newest state comes last when a list is turned round
 reversed : (state : State) (states : List State) → reverse (state ∷ states) ≡ reverse states ++ state ∷ []
 reversed state states = reverse-append (state ∷ []) states
 
@@ -206,6 +212,7 @@ path_reversed (new ∷ old ∷ older) path =
     ap (λ states. ends_before states new) (reversed old older) ∙ ends_pushed (reverse older) old new ∙ parts.0 in
     rw (reversed new (old ∷ older)) (path_pushed (reverse (old ∷ older)) new (path_reversed (old ∷ older) parts.1) ends)
 
+-- the promise: the accepted reports of a service since docking are a path of the state machine
 pub reports_follow_paths : ReportsArePaths
 reports_follow_paths history legal tag service = path_reversed (states_in service (after_docking (past tag history)))
     (paths_back history legal tag service)

@@ -93,51 +93,62 @@ each_records says keep (x ∷ xs) = or_records (says x) (first_of (map says xs))
 
 -- ---- rules of a module
 
+-- a tag that is taken
 taken_records : (docking : Docking) → Records (tag_taken docking)
 taken_records absent = tt
 taken_records (docked count) = refl
 taken_records (away ticket) = refl
 
+-- a module that isn't there
 module_records : (tag : List ℕ) (docking : Docking) → Records (no_module tag docking)
 module_records tag absent = refl
 module_records tag (docked count) = tt
 module_records tag (away ticket) = tt
 
+-- a module that isn't away
 docked_records : (docking : Docking) → Records (not_in_exchange docking)
 docked_records absent = tt
 docked_records (docked count) = refl
 docked_records (away ticket) = tt
 
+-- one that is
 exchange_records : (tag : List ℕ) (ticket : Option ℕ) → Records (in_exchange tag ticket)
 exchange_records tag ticket = mapped_records (InExchange tag) (λ ticket. refl) ticket
 
+-- a wrong ticket
 ticket_records : (given : ℕ) (ticket : Option ℕ) → Records (wrong_ticket given ticket)
 ticket_records given None = tt
 ticket_records given (Some kept) = when_records _ (WrongTicket kept given) refl
 
+-- a report that follows no edge
 edge_records : (state : State) (last : Option ServiceControl) → Records (not_an_edge state last)
 edge_records state None = tt
 edge_records state (Some last) = when_records (not (may_follow last.state state)) (NotAnEdge last.state state) refl
 
+-- a value that is refused
 value_recorded : (fault : ValueFault) → is_recorded (Refused (value_rule fault)) ≡ true
 value_recorded value.WrongKind = refl
 value_recorded value.OutOfRange = refl
 
+-- a command that is forbidden
 forbid_recorded : (fault : Forbid) → is_recorded (Refused (forbid_rule fault)) ≡ true
 forbid_recorded forbid.ModeForbids = refl
 forbid_recorded forbid.SelfCompletes = refl
 forbid_recorded forbid.StateForbids = refl
 forbid_recorded forbid.NotEnabled = refl
 
+-- a service that hasn't reported
 reported_records : (tag service : List ℕ) (view : Option ServiceView) → Records (not_reported tag service view)
 reported_records tag service None = refl
 reported_records tag service (Some view) = tt
 
+-- one that isn't idle
 idle_records : (tag service : List ℕ) (view : Option ServiceView) → Records (not_idle tag service view)
 idle_records tag service None = tt
 idle_records tag service (Some view) =
     when_records (not (is_idle view.control.state)) (NotIdle tag service view.control.state) refl
 
+-- one that isn't at rest
 rest_records : (service : List ℕ) (last : Option ServiceControl) → Records (service_not_at_rest service last)
 rest_records service None = tt
 rest_records service (Some control) = when_records (not (is_at_rest control.state))
@@ -145,22 +156,26 @@ rest_records service (Some control) = when_records (not (is_at_rest control.stat
 
 -- ---- rules of a start
 
+-- a role that isn't covered
 cover_recorded : (role : List ℕ) (fault : CoverFault) → is_recorded (Refused (cover_rule role fault)) ≡ true
 cover_recorded role cover.WrongType = refl
 cover_recorded role cover.WrongVersion = refl
 cover_recorded role (cover.NotCovered missing) = refl
 
+-- and the rule that says so
 covered_records : (chart : PlainChart) (role : List ℕ) (description : Option PlainDescription) →
     Records (not_covered chart role description)
 covered_records chart role None = tt
 covered_records chart role (Some description) =
     mapped_records (cover_rule role) (cover_recorded role) (cover_fault chart role description)
 
+-- a module that isn't ready for a role
 ready_records : (tag : List ℕ) (past : History) (service : List ℕ) → Records (unready tag past service)
 ready_records tag past service =
     or_records (not_reported tag service (view_by service past)) (not_idle tag service (view_by service past))
     (reported_records tag service (view_by service past)) (idle_records tag service (view_by service past))
 
+-- a module that is bound twice
 twice_records : (binds : List Bind) (earlier roles : List (List ℕ)) → Records (one_module_twice binds earlier roles)
 twice_records binds earlier [] = tt
 twice_records binds earlier (role ∷ roles) =
@@ -171,6 +186,7 @@ twice_records binds earlier (role ∷ roles) =
     one None = tt
     one (Some tag) = when_records (is_bound_before binds earlier tag) (OneModuleTwice tag) refl
 
+-- the rule of a role and its module
 unfit_records : (history : History) (chart : PlainChart) (role : List ℕ) (tag : Option (List ℕ)) →
     Records (module_rule history chart role tag)
 unfit_records history chart role None = tt
@@ -182,6 +198,7 @@ unfit_records history chart role (Some tag) =
     (each_records (unready tag (past tag history)) (ready_records tag (past tag history))
     (services_of chart role)) tt)))
 
+-- a module that is busy
 busy_records : (history : History) (tag : Option (List ℕ)) → Records (busy_role history tag)
 busy_records history None = tt
 busy_records history (Some tag) = held (holder_of history tag)
@@ -225,6 +242,7 @@ start_records history batch binds (Some chart) = (
 
 -- ---- rules of holders and watchers
 
+-- an active step of the holder
 active_records : (history : History) (tag : List ℕ) → Records (active_step history tag)
 active_records history tag =
     then_records _ (λ batch. then_records _ (λ started. then_records _
@@ -258,6 +276,7 @@ watched_records history tag = each_records (λ batch. Some (Watched batch)) (λ 
 
 -- ---- all kinds of event
 
+-- so whichever rule holds of an event, its answer is recorded
 rules_record : (history : History) (event : PlainEvent) → AllRecord (rules history event)
 rules_record history (plug at tag description) = (taken_records _, (when_records _ PlantFull refl, tt))
 rules_record history (unplug at tag) = (
@@ -340,16 +359,19 @@ rules_record history (exchange_end at tag ticket description) =
 rules_record history (exchange_cancel at tag ticket) =
     (module_records tag _, (docked_records _, (ticket_records ticket _, tt)))
 
+-- the answer to an advance is recorded
 next_recorded : (next : Option Next) → is_recorded (advanced next) ≡ true
 next_recorded None = refl
 next_recorded (Some (next.Did entry)) = refl
 next_recorded (Some (next.Waiting obstacle)) = refl
 next_recorded (Some (next.Closed outcome)) = refl
 
+-- and the answer to a stop
 stop_recorded : (stopping : Bool) → is_recorded (if stopping then Done else Did StopAsked) ≡ true
 stop_recorded true = refl
 stop_recorded false = refl
 
+-- so whatever is answered where no rule holds is recorded
 otherwise_recorded : (history : History) (event : PlainEvent) → is_recorded (otherwise history event) ≡ true
 otherwise_recorded history (advance at batch) = next_recorded _
 otherwise_recorded history (stop_batch at batch) =

@@ -11,11 +11,13 @@ use Rattle.pol_history.specs.Modules.{present_after, present_tags}
 use Rattle.pol_history.specs.Batches.{starting, started_batch, taking, takes, watching, watches, outcome_by, if_open, is_open, is_start}
 use Rattle.pol_history.specs.Refused.{RefusedChangesNothing}
 
+-- a refused event docks nothing and takes nothing away
 present_refused : (event : PlainEvent) (tags : List (List ℕ)) → present_after event false tags ≡ tags
 present_refused (plug at tag description) tags = refl
 present_refused (unplug at tag) tags = refl
 present_refused _ tags = refl
 
+-- nor does it close a batch
 open_refused : (entry : PlainEntry) (history : History) →
     ((batch : List ℕ) → past_of_batch batch (entry ∷ history) ≡ past_of_batch batch history) →
     (found : Option (List ℕ)) → if_open (entry ∷ history) found ≡ if_open history found

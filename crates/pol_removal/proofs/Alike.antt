@@ -42,6 +42,7 @@ pub record Alike (tags bound : List (List ℕ)) (whole less : History) : Type 0 
 
 -- ---- holders
 
+-- an event that takes a module is its batch's
 taking_batch : (tag batch : List ℕ) (event : PlainEvent) → taking tag event ≡ Some batch
     → subject event ≡ of_batch batch
 taking_batch tag batch (start at other name binds) is = go (is_among (tags_of binds.held) tag) is
@@ -51,6 +52,7 @@ taking_batch tag batch (start at other name binds) is = go (is_among (tags_of bi
     go false is = cc
 taking_batch tag batch _ is = cc
 
+-- an entry of a batch that stays is of no batch that is taken out
 batch_outside : (tags bound : List (List ℕ)) (batch : List ℕ) (entry : PlainEntry) → stays tags bound entry ≡ true
     → subject entry.event ≡ of_batch batch →
     is_among bound batch ≡ false
@@ -68,6 +70,7 @@ open_or_none less batch holder held = go (outcome_of less batch) refl
     go None is = inr (rw is, held is)
     go (Some outcome) is = inl (rw is)
 
+-- what takes the module last after the smaller history: its batch is closed there, or holds the module after both
 holder_found : (bound : List (List ℕ)) (whole less : History) (tag batch : List ℕ) → is_among bound batch ≡ false
     → last_of (takes tag) less ≡ Some batch →
     (if_open less (Some batch) ≡ None) ⊎ ((if_open less (Some batch) ≡ Some batch)
@@ -76,6 +79,7 @@ holder_found bound whole less tag batch outside is (inl closed) = inl (ap (if_op
 holder_found bound whole less tag batch outside is (inr held) =
     inr (batch, outside, ap (if_open less) is ∙ held.0, held.1)
 
+-- the holder of each module is alike after both histories
 holders_alike : (tags bound : List (List ℕ)) (history : History) → AllByRecursion (Covered tags bound) history
     → AllByRecursion (Owned history) history →
     (tag : List ℕ) → HolderAlike bound history (filter (stays tags bound) history) tag
@@ -171,6 +175,7 @@ starts_apart tags bound history covered batch started outside is =
 
 -- ---- all of them
 
+-- all these facts hold of a history and of what stays of it
 pub alike_without : (tags bound : List (List ℕ)) (history : History) → AllByRecursion (Covered tags bound) history
     → AllByRecursion (Owned history) history →
     Alike tags bound history (filter (stays tags bound) history)

@@ -38,6 +38,7 @@ active_another recipes tag batch past =
     (step_on (given started.binds) tag (active chart (log_by past))))
     (chart_by recipes (Some started))) (start_by past)
 
+-- and so is the one of a role that the module doesn't cover
 back_another : (recipes : History) (tag : List ℕ) (description : PlainDescription) (batch : List ℕ) (past : History)
     → IsForAnother (uncovered_by recipes tag description batch past)
 back_another recipes tag description batch past =
@@ -48,6 +49,7 @@ back_another recipes tag description batch past =
 module _ (tags bound : List (List ℕ)) (whole less : History) (alike : Alike tags bound whole less) where
   -- ---- rules for another's sake
 
+  -- a module that is held
   held_falls : (tag : List ℕ)
       → Falls (option_and_then (λ batch. Some (Held batch)) (holder_of whole tag))
       (option_and_then (λ batch. Some (Held batch)) (holder_of less tag))
@@ -66,12 +68,14 @@ module _ (tags bound : List (List ℕ)) (whole less : History) (alike : Alike ta
   watched_falls tag = watching_falls tag (λ batch. Some (Watched batch)) (λ batch. Some (Watched batch))
       (λ batch. inl refl) (λ batch out. refl)
 
+  -- the rule of an active step of the holder
   active_falls : (tag : List ℕ) → Falls (active_step whole tag) (active_step less tag)
   active_falls tag =
       holder_falls bound whole less tag _ _ (λ batch. active_another (recipes whole) tag batch
       (past_of_batch batch whole))
       (λ batch out. rw (alike.batch_pasts batch out, alike.same_recipes)) (alike.holders tag)
 
+  -- the rule of a role of the holder that the module wouldn't cover
   back_falls : (tag : List ℕ) (description : PlainDescription)
       → Falls (held_back whole tag description) (held_back less tag description)
   back_falls tag description =
@@ -86,11 +90,13 @@ module _ (tags bound : List (List ℕ)) (whole less : History) (alike : Alike ta
           uncovered_in less tag description batch ≡ uncovered_in whole tag description batch
       same batch out = rw (alike.batch_pasts batch out, alike.same_recipes)
 
+  -- a plant that is full: fewer modules are there after the smaller history
   plant_falls : Falls (plant_full whole) (plant_full less)
   plant_falls = when_falls PlantFull refl (nat_le MOST_MODULES (length (present_tags whole)))
       (nat_le MOST_MODULES (length (present_tags less)))
       (fewer_reach MOST_MODULES (length (present_tags less)) (length (present_tags whole)) alike.fewer_tags)
 
+  -- a plant with all its batches: the smaller history has fewer starts
   batches_fall : Falls (batches_full whole) (batches_full less)
   batches_fall = when_falls BatchesFull refl (nat_le MOST_BATCHES (length (filter is_start whole)))
       (nat_le MOST_BATCHES (length (filter is_start less)))
@@ -98,6 +104,7 @@ module _ (tags bound : List (List ℕ)) (whole less : History) (alike : Alike ta
 
   -- ---- starts
 
+  -- the rule of a module that plays a role and isn't taken out is the same
   module_same : (chart : PlainChart) (role : List ℕ) (played : Option (List ℕ))
       → ((tag : List ℕ) → played ≡ Some tag → is_among tags tag ≡ false) →
       module_rule less chart role played ≡ module_rule whole chart role played
@@ -105,6 +112,7 @@ module _ (tags bound : List (List ℕ)) (whole less : History) (alike : Alike ta
   module_same chart role (Some tag) outside = ap (λ past. first_of (module_rules chart role tag past))
       (alike.pasts tag (outside tag refl))
 
+  -- and so are those of all the roles of a start that binds none of them
   modules_same : (chart : PlainChart) (binds : List Bind) → is_some_among tags (tags_of binds) ≡ false
       → (roles : List (List ℕ)) →
       modules_unfit less chart binds roles ≡ modules_unfit whole chart binds roles
@@ -113,11 +121,13 @@ module _ (tags bound : List (List ℕ)) (whole less : History) (alike : Alike ta
       (fun_ext (λ role. module_same chart role (bound_tag binds role)
       (λ tag is. played_outside tags binds role tag apart is)))
 
+  -- the rule of a busy module for one role
   busy_role_falls : (played : Option (List ℕ)) → Falls (busy_role whole played) (busy_role less played)
   busy_role_falls None = inr refl
   busy_role_falls (Some tag) = holder_falls bound whole less tag _ _ (λ batch. inl refl) (λ batch out. refl)
       (alike.holders tag)
 
+  -- and the first of them for all the roles
   busy_falls : (binds : List Bind) (roles : List (List ℕ)) → Falls (busy whole binds roles) (busy less binds roles)
   busy_falls binds roles = first_of_falls _ _ (λ role. busy_role_falls (bound_tag binds role)) roles
 
@@ -149,9 +159,11 @@ module _ (tags bound : List (List ℕ)) (whole less : History) (alike : Alike ta
 
   -- ---- the next entry of a batch
 
+  -- what is seen through the binds of a batch, with its two ways of looking
   sees : List Bind → (List ℕ → List ℕ → Sight) → (List ℕ → List ℕ → ReadingSight) → Sights
   sees binds views readings = record { tag = bound_tag binds; view = views; reading = readings }
 
+  -- a batch that binds no module that is taken out sees the same
   sights_same : (binds : List Bind) → is_some_among tags (tags_of binds) ≡ false
       → sights_by binds (λ tag. past tag less) ≡ sights_by binds (λ tag. past tag whole)
   unfolding sees
@@ -176,6 +188,7 @@ module _ (tags bound : List (List ℕ)) (whole less : History) (alike : Alike ta
       reading_same name None outside = refl
       reading_same name (Some tag) outside = rw (alike.pasts tag (outside tag refl))
 
+  -- and what comes next for it is the same
   next_same : (batch : List ℕ) → is_among bound batch ≡ false → next_of less batch ≡ next_of whole batch
   next_same batch out = rw (alike.batch_pasts batch out, alike.same_recipes) (go (start_of whole batch) refl)
     where
@@ -192,6 +205,7 @@ module _ (tags bound : List (List ℕ)) (whole less : History) (alike : Alike ta
 
   -- ---- all kinds
 
+  -- each rule of an event that stays falls or is the same
   rules_fall : (event : PlainEvent) → is_of tags bound (subject event) ≡ false → binds_one tags event ≡ false
       → AllFall (rules whole event) (rules less event)
   rules_fall (plug at tag description) out apart = rw (alike.pasts tag out) (inr refl, (plant_falls, tt))
@@ -220,6 +234,7 @@ module _ (tags bound : List (List ℕ)) (whole less : History) (alike : Alike ta
   rules_fall (exchange_cancel at tag ticket) out apart = rw (alike.pasts tag out)
       (all_same (rules whole (exchange_cancel at tag ticket)))
 
+  -- what answers it where no rule holds is the same
   otherwise_same : (event : PlainEvent) → is_of tags bound (subject event) ≡ false
       → otherwise less event ≡ otherwise whole event
   otherwise_same (advance at batch) out = ap advanced (next_same batch out)
@@ -227,6 +242,7 @@ module _ (tags bound : List (List ℕ)) (whole less : History) (alike : Alike ta
   otherwise_same (exchange_begin at tag) out = ap (λ past. Ticket (next_ticket past)) (alike.pasts tag out)
   otherwise_same _ out = refl
 
+  -- an event that stays, and isn't refused for another's sake, is answered alike
   pub answered_alike : (event : PlainEvent) → is_of tags bound (subject event) ≡ false → binds_one tags event ≡ false →
       is_refused_for_another (answer_of whole event) ≡ false → answer_of less event ≡ answer_of whole event
   answered_alike event out apart own =

@@ -19,6 +19,7 @@ use Rattle.pol_removal.proofs.Induction.{dropped, grown, events_removed}
 
 -- ---- the history
 
+-- what stays of entries that are recorded on a history
 recorded_stay : (tags bound : List (List ℕ)) (entries : List PlainEntry) (history : History) →
     recorded_all (filter (stays tags bound) history) (filter (stays tags bound) entries)
     ≡ filter (stays tags bound) (recorded_all history entries)
@@ -44,6 +45,7 @@ history_without tags events orderly =
     ap (recorded_all []) (events_removed tags events orderly)
     ∙ recorded_stay tags (bound_batches tags (run_of events)) (run_of events) []
 
+-- the batches that bind one of the modules cover the history with its new entries
 covered_all : (tags bound : List (List ℕ)) (entries : List PlainEntry) (history : History)
     → AllByRecursion (Covered tags bound) entries →
     AllByRecursion (Covered tags bound) history → AllByRecursion (Covered tags bound) (recorded_all history entries)
@@ -52,6 +54,7 @@ covered_all tags bound (entry ∷ entries) history covers covered =
     covered_all tags bound entries (recorded entry history) covers.1
     (covered_recorded tags bound entry history covers.0 covered)
 
+-- and so the history after all the events
 pub covered_after : (tags : List (List ℕ)) (events : List PlainEvent)
     → AllByRecursion (Covered tags (bound_batches tags (run_of events))) (history_after [] events)
 covered_after tags events =
@@ -59,6 +62,7 @@ covered_after tags events =
 
 -- ---- the batches
 
+-- the batches of what stays are those that aren't taken out
 batches_stay : (tags bound : List (List ℕ)) (history : History) → AllByRecursion (Covered tags bound) history →
     batches (filter (stays tags bound) history) ≡ filter (λ batch. not (is_among bound batch)) (batches history)
 batches_stay tags bound history covered =

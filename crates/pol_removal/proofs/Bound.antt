@@ -13,6 +13,7 @@ use Rattle.pol_removal.specs.Removal.{binds_one, bound_batch, bound_batches, is_
 use Rattle.pol_removal.proofs.Each.{all_map}
 use Rattle.pol_removal.proofs.Sparing.{Covered}
 
+-- with one more batch taken out, what concerned them still does
 of_more : (tags bound : List (List ℕ)) (batch : Option (List ℕ)) (of : Subject) → is_of tags bound of ≡ true
     → is_of tags (cons_option batch bound) of ≡ true
 of_more tags bound None of is = is
@@ -20,17 +21,20 @@ of_more tags bound (Some batch) (of_module tag) is = is
 of_more tags bound (Some batch) (of_batch other) is = or_right (bytes_eq batch other) (is_among bound other) is
 of_more tags bound (Some batch) (of_recipe name) is = is
 
+-- the start of a batch that binds one of the modules concerns what is taken out once the batch is
 of_started : (tags bound : List (List ℕ)) (event : PlainEvent) → binds_one tags event ≡ true
     → is_of tags (cons_option (started_batch event) bound) (subject event) ≡ true
 of_started tags bound (start at batch name binds) one = or_left (bytes_eq batch batch) (is_among bound batch)
     (same_refl batch)
 of_started tags bound _ one = cc
 
+-- an entry is covered by the batches with its own, if it binds one of the modules
 covered_first : (tags bound : List (List ℕ)) (entry : PlainEntry)
     → Covered tags (cons_option (bound_batch tags entry) bound) entry
 covered_first tags bound entry is = rw is (of_started tags bound entry.event
     (and_parts (binds_one tags entry.event) (is_accepted entry.answer) is).0)
 
+-- the bound batches of some entries cover each of them
 pub bound_covers : (tags : List (List ℕ)) (entries : List PlainEntry)
     → AllByRecursion (Covered tags (bound_batches tags entries)) entries
 bound_covers tags [] = tt
@@ -41,6 +45,7 @@ bound_covers tags (entry ∷ entries) = (
       (covers is)) entries (bound_covers tags entries),
 )
 
+-- an entry that is recorded, or isn't, keeps a history covered
 pub covered_recorded : (tags bound : List (List ℕ)) (entry : PlainEntry) (history : History)
     → Covered tags bound entry →
     AllByRecursion (Covered tags bound) history → AllByRecursion (Covered tags bound) (recorded entry history)

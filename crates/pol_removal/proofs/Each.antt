@@ -6,6 +6,7 @@ use Rattle.std.specs.Option.{option_or}
 use Rattle.pol_events.specs.Events.{PlainEntry}
 use Rattle.pol_history.specs.Looking.{History, last_of}
 
+-- what follows from a fact for each item follows for all of them
 pub all_map : {X : Type 0} (P Q : X → Type 0) → ((x : X) → P x → Q x) → (xs : List X) → AllByRecursion P xs
     → AllByRecursion Q xs
 all_map P Q next [] all = tt

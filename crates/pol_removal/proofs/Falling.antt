@@ -13,6 +13,7 @@ use Rattle.pol_history.specs.Answers.{first_rule}
 use Rattle.pol_removal.specs.Removal.{is_for_another, is_refused_for_another}
 use Rattle.pol_removal.proofs.Alike.{HolderAlike}
 
+-- whether there is a rule, and it is for another's sake
 abbrev is_for_another_if : Option Rule → Bool
 is_for_another_if (Some rule) = is_for_another rule
 is_for_another_if None = false
@@ -28,6 +29,7 @@ AllFall (whole ∷ wholes) [] = ⊥
 AllFall [] (less ∷ lesses) = ⊥
 AllFall (whole ∷ wholes) (less ∷ lesses) = Falls whole less × AllFall wholes lesses
 
+-- of rules that fall the first is the same, unless after the whole history it is for another's sake
 pub first_falls : (wholes lesses : List (Option Rule)) (whole less : Answer) → AllFall wholes lesses → less ≡ whole →
     is_refused_for_another (first_rule wholes whole) ≡ false → first_rule lesses less ≡ first_rule wholes whole
 first_falls [] [] whole less fall same own = same
@@ -40,18 +42,21 @@ first_falls (None ∷ xs) (y ∷ ys) whole less (inl another, fall) same own = c
 first_falls (None ∷ xs) (y ∷ ys) whole less (inr equal, fall) same own =
     rw equal (first_falls xs ys whole less fall same own)
 
+-- rules that are the same fall
 pub all_same : (rules : List (Option Rule)) → AllFall rules rules
 all_same [] = tt
 all_same (rule ∷ rules) = (inr refl, all_same rules)
 
 -- ---- a rule with a test, and the first of some rules
 
+-- a rule with a test that holds after the smaller history only where it does after the whole one
 pub when_falls : (rule : Rule) → is_for_another rule ≡ true → (whole less : Bool) → (less ≡ true → whole ≡ true)
     → Falls (when whole rule) (when less rule)
 when_falls rule another true less falls = inl another
 when_falls rule another false false falls = inr refl
 when_falls rule another false true falls = let clash : false ≡ true = falls refl in cc
 
+-- what reaches a limit with fewer reaches it with more
 pub fewer_reach : (limit less whole : ℕ) → less ≤ whole → nat_le limit less ≡ true → nat_le limit whole ≡ true
 fewer_reach limit less whole fewer reached = le-leb limit whole (let bound = leb-true limit less reached in omega arith)
 
@@ -63,6 +68,7 @@ or_falls (Some rule) less wholes lesses (inr equal) later = inr (rw equal)
 or_falls None less wholes lesses (inl another) later = cc
 or_falls None less wholes lesses (inr equal) later = rw equal later
 
+-- the first of a rule for each name, where each falls
 pub first_of_falls : (whole less : List ℕ → Option Rule) → ((name : List ℕ) → Falls (whole name) (less name))
     → (names : List (List ℕ)) →
     Falls (first_of (map whole names)) (first_of (map less names))
@@ -77,20 +83,24 @@ first_of_falls whole less falls (name ∷ names) =
 abbrev pub IsForAnother : Option Rule → Type 0
 IsForAnother rule = (is_for_another_if rule ≡ true) ⊎ (rule ≡ None)
 
+-- a rule made of what was found
 pub map_another : {A : Type 0} (rule : A → Rule) → ((x : A) → is_for_another (rule x) ≡ true) → (option : Option A)
     → IsForAnother (option_map rule option)
 map_another rule another None = inr refl
 map_another rule another (Some x) = inl (another x)
 
+-- a rule that is looked for in what was found
 pub then_another : {A : Type 0} (rule : A → Option Rule) → ((x : A) → IsForAnother (rule x)) → (option : Option A)
     → IsForAnother (option_and_then rule option)
 then_another rule another None = inr refl
 then_another rule another (Some x) = another x
 
+-- a rule for another's sake may fall to none
 none_falls : (rule : Option Rule) → IsForAnother rule → Falls rule None
 none_falls rule (inl another) = inl another
 none_falls rule (inr none) = inr (sym none)
 
+-- a rule of the holder falls where it is for another's sake and agrees on the batches that stay
 pub holder_falls : (bound : List (List ℕ)) (whole less : History) (tag : List ℕ)
     (whole_rule less_rule : List ℕ → Option Rule) →
     ((batch : List ℕ) → IsForAnother (whole_rule batch)) → ((batch : List ℕ) → is_among bound batch ≡ false

@@ -16,6 +16,7 @@ use Rattle.pol_removal.proofs.Owned.{Owned, owned_recorded}
 use Rattle.pol_removal.proofs.Alike.{alike_without}
 use Rattle.pol_removal.proofs.Answering.{answered_alike}
 
+-- an answer that isn't for another's sake is recorded
 own_recorded : (answer : Answer) → is_refused_for_another answer ≡ false → is_recorded answer ≡ true
 own_recorded (Refused HistoryFull) own = cc
 own_recorded _ own = refl
@@ -50,6 +51,7 @@ same_entry tags bound history covered owned event stay =
 abbrev kept_first : Bool → PlainEntry → List PlainEntry → List PlainEntry
 kept_first stay entry rest = cond stay (entry ∷ rest) rest
 
+-- the events that stay, run by themselves, give what stays of the whole run
 run_stays : (tags bound : List (List ℕ)) (events : List PlainEvent) (history : History) → AreOrderly events →
     AllByRecursion (Covered tags bound) history → AllByRecursion (Owned history) history
     → AllByRecursion (Covered tags bound) (run_after history events) →
@@ -80,6 +82,7 @@ run_stays tags bound (event ∷ events) history orderly covered owned covers =
         ∙ ap (λ entries. entry_of history event ∷ entries) (rw
         (grown tags bound (entry_of history event) history is) at later)
 
+-- taking out events takes out their entries and nothing else
 pub events_removed : RemovalOfEvents
 events_removed tags events orderly =
     run_stays tags (bound_batches tags (run_of events)) events [] orderly tt tt (bound_covers tags (run_of events))

@@ -12,6 +12,7 @@ use Rattle.pol_removal.proofs.Reading.{events_orderly, item_in, IsReadBack, read
 use Rattle.pol_removal.proofs.Rows.{items_of_rows, staying_rows, staying_events, rows_stay}
 use Rattle.pol_removal.proofs.Batches.{history_without, covered_after, batch_lines_stay}
 
+-- rows that are kept are read back from their lines
 kept_read_back : (keeps : AnsweredLine → Bool) (rows : List AnsweredLine) → AllByRecursion IsReadBack rows
     → map input_line_of (map piece_of (filter keeps rows)) ≡ map item_in (filter keeps rows)
 kept_read_back keeps [] all = refl
@@ -42,6 +43,7 @@ closing_stays : (tags : List (List ℕ)) (items : List InputLine) → AreOrderly
 closing_stays tags items orderly = ap (history_after []) (staying_events tags items)
     ∙ history_without tags (events_in items) orderly
 
+-- taking out lines takes out just their output lines
 pub lines_removed : RemovalOfLines
 lines_removed tags bytes =
     let orderly = events_orderly (pieces bytes) in

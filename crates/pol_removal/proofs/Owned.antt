@@ -33,10 +33,12 @@ takes_parts false taken batch is = cc
 
 -- ---- a module that a start takes had no holder
 
+-- a module that the rule finds free has no holder
 not_held : (tag : List ℕ) (holder : Option (List ℕ)) → busy_module tag holder ≡ None → holder ≡ None
 not_held tag None none = refl
 not_held tag (Some batch) none = cc
 
+-- the modules of a start that isn't refused as busy are nobody's
 bound_free : (history : History) (binds : List Bind) (roles : List (List ℕ)) (tag : List ℕ) → roles_once binds ≡ true
     → is_among (tags_of binds) tag ≡ true →
     unknown_role binds roles ≡ None → busy history binds roles ≡ None → holder_of history tag ≡ None
@@ -57,10 +59,12 @@ started_free history batch binds (Some chart) tag once inside none =
     bound_free history binds.held (role_names chart) tag once inside
     (unknown_parts binds (role_names chart) none.1.1.0).0 none.1.1.1.1.1.1.0
 
+-- a module is taken by the batch that is named only where it is among those bound
 bound_by : (inside : Bool) (named batch : List ℕ) → cond inside (Some named) None ≡ Some batch → inside ≡ true
 bound_by true named batch is = refl
 bound_by false named batch is = cc
 
+-- an accepted start takes only modules that nobody held
 pub taken_free : (history : History) (event : PlainEvent) (tag batch : List ℕ) → is_orderly event ≡ true
     → is_accepted (answer_of history event) ≡ true →
     taking tag event ≡ Some batch → holder_of history tag ≡ None
@@ -73,14 +77,17 @@ taken_free history _ tag batch orderly accepted taken = cc
 
 -- ---- one more entry
 
+-- a batch without an outcome is still open
 still_open : (history : History) (batch : List ℕ) → outcome_of history batch ≡ None
     → if_open history (Some batch) ≡ Some batch
 still_open history batch is = rw is
 
+-- a module has a holder or none
 clash : {A : Type 0} (holder : Option (List ℕ)) (batch : List ℕ) → holder ≡ None → holder ≡ Some batch → A
 clash None batch none some = cc
 clash (Some other) batch none some = cc
 
+-- what an entry takes stays its batch's, while that is open, with one more event
 owned_more : (history : History) (event : PlainEvent) → is_orderly event ≡ true → (entry : PlainEntry)
     → Owned history entry → Owned (entry_of history event ∷ history) entry
 owned_more history event orderly entry owned batch tag took is = go (takes tag (entry_of history event)) refl
@@ -97,9 +104,11 @@ owned_more history event orderly entry owned batch tag took is = go (takes tag (
         let parts = takes_parts (is_accepted (answer_of history event)) (taking tag event) other some in
         clash (holder_of history tag) batch (taken_free history event tag other orderly parts.0 parts.1) held
 
+-- and is its batch's when it is new
 owned_new : (history : History) (entry : PlainEntry) → Owned (entry ∷ history) entry
 owned_new history entry batch tag took is = rw took (still_open (entry ∷ history) batch is)
 
+-- each entry of a history owns what it takes, whether or not the event is recorded
 pub owned_recorded : (history : History) (event : PlainEvent) → is_orderly event ≡ true
     → AllByRecursion (Owned history) history →
     AllByRecursion (Owned (recorded (entry_of history event) history)) (recorded (entry_of history event) history)

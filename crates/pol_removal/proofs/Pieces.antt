@@ -10,11 +10,13 @@ abbrev pub AreCut : List (List ℕ) → Type 0
 AreCut [] = Unit {0}
 AreCut (piece ∷ rest) = (pieces piece ≡ piece ∷ []) × (IsTrue (is_whole piece) ⊎ (rest ≡ [])) × AreCut rest
 
+-- a byte that is no line feed goes onto the first piece
 cut_front : (byte : ℕ) (rest : List (List ℕ)) → (byte == 10) ≡ false → AreCut rest → AreCut (onto_first byte rest)
 cut_front byte [] other cut = (rw other, inr refl, tt)
 cut_front byte ([] ∷ rest) other cut = let clash = cut.0 in cc
 cut_front byte ((next ∷ piece) ∷ rest) other cut = (rw other (ap (onto_first byte) cut.0), cut.1, cut.2)
 
+-- the pieces of some bytes are cut where lines end
 pub pieces_cut : (bytes : List ℕ) → AreCut (pieces bytes)
 pieces_cut [] = tt
 pieces_cut (byte ∷ bytes) = go (byte == 10) refl (pieces_cut bytes)
@@ -44,6 +46,7 @@ filter_cut {X} piece_of keeps (x ∷ xs) cut = go (keeps x) (filter_cut piece_of
     go true rest = (cut.0, ended cut.1, rest)
     go false rest = rest
 
+-- pieces that were joined are cut again where they were
 pub pieces_joined : {X : Type 0} (piece_of : X → List ℕ) (xs : List X) → AreCut (map piece_of xs)
     → pieces (flat_map piece_of xs) ≡ map piece_of xs
 pieces_joined piece_of [] cut = refl

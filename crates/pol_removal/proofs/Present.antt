@@ -18,6 +18,7 @@ use Rattle.pol_removal.proofs.Sparing.{of_module_stays, stays_parts}
 abbrev outside : List (List ℕ) → List (List ℕ) → List (List ℕ)
 outside tags present = filter (λ tag. not (is_among tags tag)) present
 
+-- a tag that is taken out isn't one that stays
 another_tag : (tags : List (List ℕ)) (tag other : List ℕ) → is_among tags tag ≡ true → not (is_among tags other) ≡ true
     → not (bytes_eq other tag) ≡ true
 another_tag tags tag other inside out = go (bytes_eq other tag) refl
@@ -27,6 +28,7 @@ another_tag tags tag other inside out = go (bytes_eq other tag) refl
         (not-true (is_among tags other) out)) inside)
     go false is = refl
 
+-- to leave out a tag that is taken out anyway changes nothing of the rest
 outside_without : (tags present : List (List ℕ)) (tag : List ℕ) → is_among tags tag ≡ true
     → outside tags (tags_without tag present) ≡ outside tags present
 outside_without tags present tag inside =
@@ -44,6 +46,7 @@ present_stays tags bound present (unplug at tag) true out = filter_filter (λ ot
     (λ other. not (is_among tags other)) present
 present_stays tags bound present _ _ out = refl
 
+-- an accepted entry that doesn't stay is of a module that is taken out
 inside_gone : (tags bound : List (List ℕ)) (tag : List ℕ) (entry : PlainEntry)
     → is_module tag (subject entry.event) ≡ true →
     is_accepted entry.answer ≡ true → stays tags bound entry ≡ false → is_among tags tag ≡ true
@@ -66,6 +69,7 @@ present_goes tags bound present (unplug at tag) answer true is gone =
     (same_refl tag) is gone))
 present_goes tags bound present _ answer _ is gone = refl
 
+-- one entry more, whether or not it stays, keeps the modules that are there alike
 present_step : (tags bound present : List (List ℕ)) (entry : PlainEntry) (less : History) (stay : Bool)
     → stays tags bound entry ≡ stay →
     present_tags less ≡ outside tags present →
@@ -77,6 +81,7 @@ present_step tags bound present entry less true is same =
 present_step tags bound present entry less false is same = same
     ∙ present_goes tags bound present entry.event entry.answer (is_accepted entry.answer) refl is
 
+-- the modules that are there after what stays are those that aren't taken out
 present_without : (tags bound : List (List ℕ)) (history : History)
     → present_tags (filter (stays tags bound) history) ≡ outside tags (present_tags history)
 present_without tags bound [] = refl

@@ -14,6 +14,7 @@ use Rattle.pol_history.specs.Runs.{AreOrderly}
 use Rattle.pol_record.specs.Lines.{LineMeaning, nothing, a_fault, an_event, meaning_from, meaning_of, InputLine, blank, faulty, happening, as_input_line, input_line_of, events_in, AnsweredLine, skipped, bad, answered}
 use Rattle.pol_removal.specs.Removal.{piece_of}
 
+-- an event that a line says is in order
 said_orderly : (line : List ℕ) (event : PlainEvent) → meaning_of line ≡ an_event event → is_orderly event ≡ true
 unfolding meaning_of
 said_orderly line event says = go (nat_lt LONGEST_LINE (length line)) (list_all is_blank_byte line)
@@ -44,6 +45,7 @@ item_in (skipped piece) = blank piece
 item_in (bad piece fault) = faulty piece fault
 item_in (answered piece entry) = happening piece entry.event
 
+-- the bytes of an input line
 abbrev item_piece : InputLine → List ℕ
 item_piece (blank piece) = piece
 item_piece (faulty piece fault) = piece
@@ -55,6 +57,7 @@ item_piece_is piece nothing = refl
 item_piece_is piece (a_fault fault) = refl
 item_piece_is piece (an_event event) = refl
 
+-- they are those of the row that it answers
 row_piece : (row : AnsweredLine) → item_piece (item_in row) ≡ piece_of row
 row_piece (skipped piece) = refl
 row_piece (bad piece fault) = refl

@@ -26,6 +26,7 @@ items_of_rows (faulty piece fault ∷ items) history = ap (λ items. faulty piec
 items_of_rows (happening piece event ∷ items) history =
     ap (λ items. happening piece event ∷ items) (items_of_rows items (recorded (entry_of history event) history))
 
+-- the entries of the rows are those of the run over the events in the lines
 entries_of_rows : (items : List InputLine) (history : History) → entries_in (answered_lines_after history items)
     ≡ run_after history (events_in items)
 entries_of_rows [] history = refl
@@ -42,12 +43,14 @@ events_of_items (skipped piece ∷ list) = events_of_items list
 events_of_items (bad piece fault ∷ list) = events_of_items list
 events_of_items (answered piece entry ∷ list) = ap (λ events. entry.event ∷ events) (events_of_items list)
 
+-- lines and entries of the rows give the rows again
 rows_again : (list : List AnsweredLine) → answered_lines (map item_in list) (entries_in list) ≡ list
 rows_again [] = refl
 rows_again (skipped piece ∷ list) = ap (λ list. skipped piece ∷ list) (rows_again list)
 rows_again (bad piece fault ∷ list) = ap (λ list. bad piece fault ∷ list) (rows_again list)
 rows_again (answered piece entry ∷ list) = ap (λ list. answered piece entry ∷ list) (rows_again list)
 
+-- the entries of the rows that stay are the entries that stay
 entries_stay : (tags bound : List (List ℕ)) (list : List AnsweredLine)
     → entries_in (filter (row_stays tags bound) list) ≡ filter (stays tags bound) (entries_in list)
 entries_stay tags bound [] = refl
@@ -67,6 +70,7 @@ abbrev pub staying_rows : List (List ℕ) → List InputLine → List AnsweredLi
 staying_rows tags items =
     filter (row_stays tags (bound_batches tags (run_of (events_in items)))) (answered_lines_after [] items)
 
+-- and so those of the rows without some modules
 staying_entries : (tags : List (List ℕ)) (items : List InputLine)
     → entries_in (staying_rows tags items) ≡ entries_without tags (events_in items)
 staying_entries tags items =

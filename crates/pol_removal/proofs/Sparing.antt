@@ -20,6 +20,7 @@ abbrev pub Covered : List (List ℕ) → List (List ℕ) → PlainEntry → Type
 Covered tags bound entry = (binds_one tags entry.event && is_accepted entry.answer) ≡ true
     → is_of tags bound (subject entry.event) ≡ true
 
+-- an accepted answer is none for another's sake
 accepted_own : (answer : Answer) → is_accepted answer ≡ true → is_refused_for_another answer ≡ false
 accepted_own (Refused rule) accepted = cc
 accepted_own _ accepted = refl
@@ -45,10 +46,12 @@ stays_parts tags bound entry stay =
 
 -- ---- modules
 
+-- an event of a module binds nothing
 module_binds_none : (tag : List ℕ) (event : PlainEvent) → is_module tag (subject event) ≡ true → binds_in event ≡ []
 module_binds_none tag (start at batch name binds) of_tag = cc
 module_binds_none tag _ of_tag = refl
 
+-- a module that isn't taken out isn't concerned
 other_module : (tags bound : List (List ℕ)) (tag : List ℕ) (of : Subject) → is_module tag of ≡ true
     → is_among tags tag ≡ false → is_of tags bound of ≡ false
 other_module tags bound tag (of_module other) same outside = rw (same_true other tag same) outside
@@ -63,6 +66,7 @@ of_module_stays tags bound tag outside entry taken =
     let none = module_binds_none tag entry.event parts.0 in
     unnamed_stays tags bound entry (other_module tags bound tag (subject entry.event) parts.0 outside) (rw none) parts.1
 
+-- its past is the same
 pub past_stays : (tags bound : List (List ℕ)) (history : History) (tag : List ℕ) → is_among tags tag ≡ false →
     past tag (filter (stays tags bound) history) ≡ past tag history
 past_stays tags bound history tag outside =
@@ -72,6 +76,7 @@ past_stays tags bound history tag outside =
 
 -- ---- batches
 
+-- a batch that isn't taken out isn't concerned
 pub other_batch : (tags bound : List (List ℕ)) (batch : List ℕ) (of : Subject) → is_batch batch of ≡ true
     → is_among bound batch ≡ false → is_of tags bound of ≡ false
 other_batch tags bound batch (of_module tag) same outside = cc
@@ -87,6 +92,7 @@ other_batch_apart tags bound entry covers out accepted =
     (λ one. both_ways (is_of tags bound (subject entry.event)) out
     (covers (and_from (binds_one tags entry.event) (is_accepted entry.answer) one accepted)))
 
+-- its accepted entries stay
 of_batch_stays : (tags bound : List (List ℕ)) (batch : List ℕ) → is_among bound batch ≡ false → (entry : PlainEntry)
     → Covered tags bound entry →
     is_accepted_of_batch batch entry ≡ true → stays tags bound entry ≡ true
@@ -95,6 +101,7 @@ of_batch_stays tags bound batch outside entry covers taken =
     let out = other_batch tags bound batch (subject entry.event) parts.0 outside in
     unnamed_stays tags bound entry out (other_batch_apart tags bound entry covers out parts.1) parts.1
 
+-- and its past is the same
 pub past_of_batch_stays : (tags bound : List (List ℕ)) (history : History)
     → AllByRecursion (Covered tags bound) history →
     (batch : List ℕ) → is_among bound batch ≡ false → past_of_batch batch (filter (stays tags bound) history)
@@ -135,15 +142,18 @@ start_stays tags bound entry covers batch started = go (is_among bound batch) re
 
 -- ---- recipes
 
+-- a recipe binds nothing
 recipe_binds_none : (event : PlainEvent) → is_recipe (subject event) ≡ true → binds_in event ≡ []
 recipe_binds_none (start at batch name binds) is = cc
 recipe_binds_none _ is = refl
 
+-- nor is it of a module or a batch
 recipe_unnamed : (tags bound : List (List ℕ)) (of : Subject) → is_recipe of ≡ true → is_of tags bound of ≡ false
 recipe_unnamed tags bound (of_module tag) is = cc
 recipe_unnamed tags bound (of_batch batch) is = cc
 recipe_unnamed tags bound (of_recipe name) is = refl
 
+-- so an accepted recipe stays
 recipe_stays : (tags bound : List (List ℕ)) (entry : PlainEntry) → is_accepted_recipe entry ≡ true
     → stays tags bound entry ≡ true
 recipe_stays tags bound entry taken =
@@ -151,6 +161,7 @@ recipe_stays tags bound entry taken =
     let none = recipe_binds_none entry.event parts.0 in
     unnamed_stays tags bound entry (recipe_unnamed tags bound (subject entry.event) parts.0) (rw none) parts.1
 
+-- and the recipes are the same
 pub recipes_stay : (tags bound : List (List ℕ)) (history : History)
     → recipes (filter (stays tags bound) history) ≡ recipes history
 recipes_stay tags bound history =

@@ -36,6 +36,7 @@ pub data ActiveBy (log : List LogEntry) (entry : LogEntry) (placed : Placed) : T
   made_active : (phase : Phase) → phase_by placed.step.name entry ≡ Some phase → is_running phase ≡ true
       → ActiveBy log entry placed
 
+-- a step that is active after an entry was made so by it, or was active before
 pub active_by : (log : List LogEntry) (entry : LogEntry) (placed : Placed)
     → is_active (log ++ entry ∷ []) placed ≡ true → ActiveBy log entry placed
 active_by log entry placed is =
@@ -50,6 +51,7 @@ active_by log entry placed is =
 
 -- ---- a step that an entry of the run makes active
 
+-- a phase that was found here says that it is here
 where_some : (here : Bool) (phase found : Phase) → when here phase ≡ Some found → here ≡ true
 where_some true phase found is = refl
 where_some false phase found is = cc
@@ -90,6 +92,7 @@ step_seen history binds chart placed other sent name fits valid inside within is
     (tag_is ∙ ap (λ p. tag_of (sights_by binds (λ tag. past tag history)) p.step.role) own)
     (service_is ∙ ap (λ p. p.step.service) own) permitted
 
+-- an idle step isn't running
 stays_idle : {A : Type 0} (here : Bool) (phase : Phase) → when here idle ≡ Some phase → is_running phase ≡ true → A
 stays_idle true idle says running = cc
 stays_idle true started says running = cc

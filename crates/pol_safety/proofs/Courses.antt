@@ -111,6 +111,7 @@ still_follows chart past event answer silent complete follows =
     go None closes is = follows.complete is
     go (Some outcome) closes is = complete (closes ∙ is)
 
+-- an entry without a log entry and without a closing keeps a log on its chart
 quiet_follows : (chart : PlainChart) (past : History) (event : PlainEvent) (answer : Answer) → taken answer ≡ None
     → closing answer ≡ None →
     Follows chart past → Follows chart (paired event answer ∷ past)
@@ -168,6 +169,7 @@ record Before (history : History) (batch : List ℕ) (started : Started) (chart 
   sound : IsGoodChart chart
   follows : Follows chart (past_of_batch batch history)
 
+-- a batch that runs after the event ran before it
 before : (history : History) (event : PlainEvent) (batch : List ℕ) (started : Started) (chart : PlainChart)
     → Comes history event → AllFollow (sides history) →
     starting event ≡ None → start_of (accepted history event ∷ history) batch ≡ Some started →
@@ -183,6 +185,7 @@ before history event batch started chart comes follow is start_is chart_is =
       follows = follow batch started chart start_was chart_was;
     }
 
+-- each event keeps every log on its chart
 follow_more : IsKeptBy AllFollow
 follow_more history (start at other name binds) comes follow batch started chart start_is chart_is =
     at_own (Follows chart) (past_of_batch batch history) (accepted history (start at other name binds)) true
@@ -233,6 +236,7 @@ follow_more history (abandon at other) comes follow batch started chart start_is
 follow_more history event comes follow batch started chart start_is chart_is =
     (before history event batch started chart comes follow refl start_is chart_is).follows
 
+-- so each log of a legal history follows its chart
 pub all_follow : (history : History) → IsLegal history → IsOrderly history → AllFollow (sides history)
 all_follow = always AllFollow (λ batch started chart start_is chart_is. cc) follow_more
 
@@ -248,6 +252,7 @@ charted_by_start history batch chart is = go (start_of history batch) refl is
     go None start_is is = cc
     go (Some started) start_is is = (started, start_is, is)
 
+-- the promise: every batch log follows its chart
 pub logs_follow : LogsFollowCharts
 logs_follow history batch chart legal orderly is =
     let by = charted_by_start history batch chart is in

@@ -26,11 +26,13 @@ use Rattle.pol_safety.proofs.Holding.{IsUsed, uses}
 
 -- ---- whether a module is there
 
+-- a module that no rule finds missing is there
 pub there_by_rule : (tag : List ℕ) (docking : Docking) → no_module tag docking ≡ None → docking ≡ absent → ⊥
 there_by_rule tag absent none is = cc
 there_by_rule tag (docked count) none is = cc
 there_by_rule tag (away ticket) none is = cc
 
+-- a tag that isn't taken has no module
 pub is_absent : (docking : Docking) → tag_taken docking ≡ None → docking ≡ absent
 is_absent absent none = refl
 is_absent (docked count) none = cc
@@ -46,12 +48,15 @@ pub record IsDescribed (past : History) : Type 0 where
 abbrev pub IfThere : History → Type 0
 IfThere past = (docking_by past ≡ absent → ⊥) → IsDescribed past
 
+-- each module that is docked or away has a description
 abbrev pub Described : Sides → Type 0
 Described side = (tag : List ℕ) → IfThere (side.modules tag)
 
+-- what describes a module does so after more entries that change nothing of it
 again : (past more : History) → description_by more ≡ description_by past → IsDescribed past → IsDescribed more
 again past more same was = record { description = was.description; described = same ∙ was.described }
 
+-- each event keeps the modules described
 described_more : IsKeptBy Described
 described_more history (plug at other description) comes described tag =
     at_own IfThere (past tag history) (accepted history (plug at other description)) true other tag (described tag)
@@ -86,6 +91,7 @@ described_more history (exchange_cancel at other ticket) comes described tag =
     (ap (docking_of history) same ∙ is))))
 described_more history _ comes described tag = described tag
 
+-- so each module of a legal history is described
 pub described : (history : History) → IsLegal history → IsOrderly history → Described (sides history)
 described = always Described (λ tag there. absurd (there refl)) described_more
 
@@ -180,6 +186,7 @@ record Before (history : History) (batch : List ℕ) (started : Started) (chart 
   used : IsUsed history bind.tag batch
   fits : IsFitting chart (given started.binds)
 
+-- a bind of a batch that runs after the event was one before it
 before : (history : History) (event : PlainEvent) (batch : List ℕ) (started : Started) (chart : PlainChart)
     (bind : Bind)
     → Comes history event →
@@ -195,6 +202,7 @@ before history event batch started chart bind comes cover is now inside =
       fits = running_fits history batch started chart comes.legal comes.orderly was;
     }
 
+-- the module of that bind covers its role after the event too
 module_covers : (history : History) (event : PlainEvent) (batch : List ℕ) (started : Started) (chart : PlainChart)
     (bind : Bind) → Comes history event →
     Contains (given started.binds) bind → Before history batch started chart bind
@@ -243,6 +251,7 @@ module_covers history (exchange_cancel at other ticket) batch started chart bind
     (λ same. still_covers chart bind.role (past bind.tag history) _ refl (λ is. cc) was.covers)
 module_covers history _ batch started chart bind comes inside was = was.covers
 
+-- an event that starts no batch keeps every bind covered
 cover_by : (history : History) (event : PlainEvent) → starting event ≡ None → Comes history event
     → AllCover (sides history) → AllCover (sides (accepted history event ∷ history))
 cover_by history event is comes cover batch started chart start_is chart_is unclosed bind inside =
@@ -250,6 +259,7 @@ cover_by history event is comes cover batch started chart start_is chart_is uncl
     (before history event batch started chart bind comes cover is
     (record { start_is = start_is; chart_is = chart_is; unclosed = unclosed }) inside)
 
+-- and so does a start
 cover_more : IsKeptBy AllCover
 cover_more history (start at other name binds) comes cover batch started chart start_is chart_is unclosed bind inside =
     go (start_case history batch started at other name binds start_is)
@@ -270,5 +280,6 @@ cover_more history (start at other name binds) comes cover batch started chart s
 cover_more history event comes cover batch started chart start_is chart_is unclosed bind inside =
     cover_by history event refl comes cover batch started chart start_is chart_is unclosed bind inside
 
+-- so in a legal history every bound module covers its role
 pub all_cover : (history : History) → IsLegal history → IsOrderly history → AllCover (sides history)
 all_cover = always AllCover (λ batch started chart start_is chart_is unclosed bind inside. cc) cover_more

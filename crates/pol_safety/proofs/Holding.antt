@@ -38,6 +38,7 @@ pub holder_is : (history : History) (tag batch : List ℕ) → last_of (takes ta
 holder_is history tag batch took open' =
     ap (if_open history) took ∙ ap (λ outcome. if is_none outcome then Some batch else None) open'
 
+-- the holder of a module took it last and isn't closed
 pub holder_parts : (history : History) (tag batch : List ℕ) → holder_of history tag ≡ Some batch →
     (last_of (takes tag) history ≡ Some batch) × (outcome_of history batch ≡ None)
 holder_parts history tag batch is = open_some history (last_of (takes tag) history) batch is
@@ -66,6 +67,7 @@ pub record IsStartedOn (past : History) (tag : List ℕ) : Type 0 where
 abbrev pub TakersStarted : Sides → Type 0
 TakersStarted side = (tag batch : List ℕ) → side.taker tag ≡ Some batch → IsStartedOn (side.batches batch) tag
 
+-- a batch that was started on a module stays so
 started_stays : (history : History) (event : PlainEvent) (batch tag : List ℕ) → Comes history event
     → IsStartedOn (past_of_batch batch history) tag →
     IsStartedOn (past_of_batch batch (accepted history event ∷ history)) tag
@@ -78,6 +80,7 @@ started_stays history event batch tag comes on =
       tag_is = on.tag_is;
     }
 
+-- an event that starts no batch keeps the takers started
 started_by : (history : History) (event : PlainEvent) → starting event ≡ None → Comes history event
     → TakersStarted (sides history) →
     TakersStarted (sides (accepted history event ∷ history))
@@ -85,6 +88,7 @@ started_by history event is comes takers tag batch took =
     started_stays history event batch tag comes (takers tag batch
     (sym (taker_same history (accepted history event) tag is) ∙ took))
 
+-- and so does a start
 takers_more : IsKeptBy TakersStarted
 takers_more history (start at other name binds) comes takers tag batch took =
     go (is_among (tags_of binds.held) tag) refl took
@@ -114,9 +118,11 @@ takers_more history (start at other name binds) comes takers tag batch took =
         (member_image (λ bind. bind.tag) binds.held tag (among_member (tags_of binds.held) tag is))
 takers_more history event comes takers tag batch took = started_by history event refl comes takers tag batch took
 
+-- so in a legal history who took a module was started on it
 pub takers_started : (history : History) → IsLegal history → IsOrderly history → TakersStarted (sides history)
 takers_started = always TakersStarted (λ tag batch took. cc) takers_more
 
+-- the promise: a holder is an open batch that was started on the module
 pub holders_open : HoldersAreOpen
 holders_open history tag batch legal orderly is =
     let parts = holder_parts history tag batch is in
@@ -159,6 +165,7 @@ OpenHold side =
     → outcome_by (side.batches batch) ≡ None →
     (bind : Bind) → Contains started.binds.held bind → side.taker bind.tag ≡ Some batch
 
+-- an event that starts no batch keeps each open batch the holder of what it binds
 hold_by : (history : History) (event : PlainEvent) → starting event ≡ None → OpenHold (sides history)
     → OpenHold (sides (accepted history event ∷ history))
 hold_by history event is hold batch started start_is open' bind inside =
@@ -166,6 +173,7 @@ hold_by history event is hold batch started start_is open' bind inside =
     ∙ hold batch started (sym (start_same history (accepted history event) batch is) ∙ start_is)
     (open_before history (accepted history event) batch open') bind inside
 
+-- and so does a start
 hold_more : IsKeptBy OpenHold
 hold_more history (start at other name binds) comes hold batch started start_is open' bind inside =
     go (start_case history batch started at other name binds start_is)
@@ -201,6 +209,7 @@ hold_more history (start at other name binds) comes hold batch started start_is 
 hold_more history event comes hold batch started start_is open' bind inside =
     hold_by history event refl hold batch started start_is open' bind inside
 
+-- so in a legal history an open batch holds what it binds
 pub open_hold : (history : History) → IsLegal history → IsOrderly history → OpenHold (sides history)
 open_hold = always OpenHold (λ batch started start_is open' bind inside. cc) hold_more
 

@@ -43,9 +43,11 @@ pub data ComesFrom (chart : PlainChart) (log : List LogEntry) (seen : Sights) (e
   unholds : IsUnhold seen entry → ComesFrom chart log seen entry
   runs : next_after chart (chart_entries log) seen ≡ Entry entry → ComesFrom chart log seen entry
 
+-- two entries that are the same answer are the same entry
 same_did : (one other : LogEntry) → Did one ≡ Did other → other ≡ one
 same_did one other is = cc
 
+-- the stop of a step comes from what is seen of its service
 stop_from : (chart : PlainChart) (log : List LogEntry) (seen : Sights) (entry : LogEntry) (step : PlainStep)
     (found : Sight) → seen.view step.role step.service ≡ found →
     stop_step step.name step.service (tag_of seen step.role) found ≡ Did entry → ComesFrom chart log seen entry
@@ -60,6 +62,7 @@ stop_from chart log seen entry step (sight.Is view) at is = go (forbidden_by vie
     go None free is = stops step view at free (same_did _ entry is)
     go (Some reason) free is = leaves step.name view.control.state (same_did _ entry is)
 
+-- and so does the first stop of some steps
 stops_from : (chart : PlainChart) (log : List LogEntry) (seen : Sights) (entry : LogEntry) (broken : Bool)
     (steps : List PlainStep) →
     stop_next seen broken steps ≡ Did entry → ComesFrom chart log seen entry
@@ -79,6 +82,7 @@ broken_one step (sight.Is view) entry is = go (is_broken_state view.control.stat
     go true is = (view.control.state, cc)
     go false is = cc
 
+-- the first broken step is told with its name and its state
 broken_first : (seen : Sights) (steps : List PlainStep) (entry : LogEntry) → first_broken seen steps ≡ Some entry
     → (name : List ℕ) × (state : State) × (entry ≡ Broke name state)
 broken_first seen [] entry is = cc
@@ -93,6 +97,7 @@ broken_first seen (step ∷ steps) entry is = go (broken_step step (seen.view st
     go (Some other) at is rest = let one = broken_one step (seen.view step.role step.service) entry (at ∙ is) in
         (step.name, one.0, one.1)
 
+-- the next entry of the chart comes from the chart and what is seen
 run_from : (chart : PlainChart) (log : List LogEntry) (seen : Sights) (entry : LogEntry) (found : CursorNext)
     → next_after chart (chart_entries log) seen ≡ found →
     run_next found ≡ Did entry → ComesFrom chart log seen entry
@@ -111,6 +116,7 @@ unhold_from_owed chart log seen entry steps (Wait obstacle) at is = cc
 unhold_from_owed chart log seen entry steps Whole at is =
     run_from chart log seen entry (next_after chart (chart_entries log) seen) refl is
 
+-- a step that broke is told; where none did, what is owed an unhold or the chart's own entry comes
 broke_from : (chart : PlainChart) (log : List LogEntry) (seen : Sights) (entry : LogEntry) (found : Option LogEntry)
     → first_broken seen (active chart log) ≡ found →
     did_or found (run_next (unless_whole (first_unhold seen (owed seen log (active chart log)))
@@ -148,6 +154,7 @@ did_from chart thawed log seen entry is = go (has_broken log || was_stopped log)
     go true is = stops_from chart log seen entry (has_broken log) (active chart log) is
     go false is = broke_from chart log seen entry (first_broken seen (active chart log)) refl is
 
+-- the stop of a step doesn't complete a batch
 stop_closes : (step : PlainStep) (tag : List ℕ) (found : Sight)
     → stop_step step.name step.service tag found ≡ Closed Completed → ⊥
 stop_closes step tag sight.Away is = cc
@@ -159,6 +166,7 @@ stop_closes step tag (sight.Is view) is = go (is_none (forbidden_by view Recipe 
     go true is = cc
     go false is = cc
 
+-- nor do the stops of all steps
 stops_close : (seen : Sights) (broken : Bool) (steps : List PlainStep)
     → stop_next seen broken steps ≡ Closed Completed → ⊥
 stops_close seen true [] is = cc
@@ -166,6 +174,7 @@ stops_close seen false [] is = cc
 stops_close seen broken (step ∷ steps) is = stop_closes step (tag_of seen step.role)
     (seen.view step.role step.service) is
 
+-- a run completes a batch only where its chart is whole
 run_closes : (found : CursorNext) → run_next found ≡ Closed Completed → found ≡ Whole
 run_closes Whole is = refl
 run_closes (Wait obstacle) is = cc
@@ -218,6 +227,7 @@ pub record HasNext (history : History) (batch : List ℕ) (next : Next) : Type 0
   pub next_is : next_by chart (freezing_of history batch) (log_of history batch)
       (sights_by (given started.binds) (λ tag. past tag history)) ≡ next
 
+-- whatever comes next for a batch comes from its chart, its log and what it sees
 pub has_next : (history : History) (batch : List ℕ) (next : Next) → next_of history batch ≡ Some next
     → HasNext history batch next
 has_next history batch next is = go (start_of history batch) refl is

@@ -86,11 +86,13 @@ ends_not : {A : Type 0} (service : List ℕ) (past : History) → IsLive service
     → not_in_exchange (docking_by past) ≡ None → A
 ends_not service past live free = let clash = ap not_in_exchange (sym live.is_docked) ∙ free in cc
 
+-- what was found is found again when something newer is looked at first
 some_again : {A B : Type 0} (f : A → B) (said found : Option A) (y : B) → option_map f found ≡ Some y
     → (z : B) × (option_map f (option_or said found) ≡ Some z)
 some_again f None found y is = (y, is)
 some_again f (Some x) found y is = (f x, refl)
 
+-- the service of an active step still reports after the event
 live_after : (history : History) (event : PlainEvent) (batch : List ℕ) (started : Started) (chart : PlainChart)
     (placed : Placed) (tag : List ℕ) → Comes history event →
     Before history batch started chart placed tag → IsLive placed.step.service
@@ -241,6 +243,7 @@ now : (history : History) (batch : List ℕ) (started : Started) (chart : PlainC
 now history batch started chart start_is chart_is unclosed =
     record { start_is = start_is; chart_is = chart_is; unclosed = unclosed }
 
+-- each event keeps the services of active steps seen
 seen_more : IsKeptBy AllSeen
 seen_more history (start at other name binds) comes all_seen batch started chart start_is chart_is unclosed
     placed inside is =
@@ -312,5 +315,6 @@ seen_more history event comes all_seen batch started chart start_is chart_is unc
     (was_running history event batch started chart refl comes
     (now _ batch started chart start_is chart_is unclosed)) inside is
 
+-- so in a legal history each of them is seen
 pub each_is_seen : (history : History) → IsLegal history → IsOrderly history → AllSeen (sides history)
 each_is_seen = always AllSeen (λ batch started chart start_is chart_is unclosed placed inside is. cc) seen_more

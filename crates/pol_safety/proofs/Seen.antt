@@ -23,10 +23,12 @@ pub record IsSeen (modules : List ℕ → History) (binds : List Bind) (role ser
   pub bound : bound_tag binds role ≡ Some tag
   pub live : IsLive service (modules tag)
 
+-- a sight of a view is of that view
 is_view : (found : Option ServiceView) (view : ServiceView) → sight_of_view found ≡ sight.Is view → found ≡ Some view
 is_view None view is = cc
 is_view (Some other) view is = let same : other ≡ view = cc in ap Some same
 
+-- and the module is docked
 in_docking : (docking : Docking) (found : Option ServiceView) (view : ServiceView)
     → sight_in docking found ≡ sight.Is view →
     (count : ℕ) × (docking ≡ docked count) × (found ≡ Some view)

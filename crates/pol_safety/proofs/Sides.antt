@@ -24,6 +24,7 @@ pub record Sides : Type 0 where
   pub taker : List ℕ → Option (List ℕ)
   pub onlookers : List ℕ → List (List ℕ)
 
+-- the parts of a history that the laws look at
 abbrev pub sides : History → Sides
 sides history =
     record {
@@ -70,6 +71,7 @@ abbrev pub IsKeptBy : (Sides → Type 0) → Type 0
 IsKeptBy Fact = (history : History) (event : PlainEvent) → Comes history event → Fact (sides history)
     → Fact (sides (accepted history event ∷ history))
 
+-- a fact that each event keeps is kept by the next entry
 kept_one : (Fact : Sides → Type 0) (history : History) (event : PlainEvent) → IsKeptBy Fact → IsLegal history
     → IsOrderly history → is_orderly event ≡ true →
     Fact (sides history) → Fact (sides (entry_of history event ∷ history))

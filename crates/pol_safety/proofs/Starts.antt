@@ -110,15 +110,18 @@ pub record IsGoodChart (chart : PlainChart) : Type 0 where
 abbrev pub GoodCharts : Sides → Type 0
 GoodCharts side = (name : List ℕ) (chart : PlainChart) → chart_named name side.recipes ≡ Some chart → IsGoodChart chart
 
+-- a chart of which no fault is told has none
 no_fault : (fault : Option ChartFault) → is_none fault ≡ true → fault ≡ None
 no_fault None none = refl
 no_fault (Some fault) none = cc
 
+-- a chart that is valid and in form is a good one
 sound_one : (chart : PlainChart) → (is_chart_form chart && is_valid chart) ≡ true → IsGoodChart chart
 sound_one chart formed =
     let parts = and_parts (is_chart_form chart) (is_valid chart) formed in
     record { is_formed = parts.0; valid = no_fault (chart_fault chart) parts.1 }
 
+-- each event keeps the known charts good
 sound_more : IsKeptBy GoodCharts
 sound_more history (recipe at other plan) comes sound name chart found = go (bytes_eq other name) found
   where
@@ -128,6 +131,7 @@ sound_more history (recipe at other plan) comes sound name chart found = go (byt
     go false found = sound name chart found
 sound_more history _ comes sound name chart found = sound name chart found
 
+-- so each chart of a legal history is good
 pub sound : (history : History) → IsLegal history → IsOrderly history → GoodCharts (sides history)
 sound = always GoodCharts (λ name chart found. cc) sound_more
 
@@ -153,6 +157,7 @@ chart_stays history _ name chart comes found = found
 abbrev pub Unstarted : Sides → Type 0
 Unstarted side = (batch : List ℕ) → start_by (side.batches batch) ≡ None → side.batches batch ≡ []
 
+-- a batch that wasn't started has no past after an event of another
 unstarted_on : (history : History) (other batch : List ℕ) (entry : PlainEntry) (kept : Bool)
     → no_batch (start_of history other) ≡ None →
     (start_of history batch ≡ None → past_of_batch batch history ≡ []) → starting entry.event ≡ None →
@@ -167,6 +172,7 @@ unstarted_on history other batch entry kept known unstarted is =
     unknown None before known = cc
     unknown (Some started) before known = cc
 
+-- each event keeps the unstarted batches without a past
 unstarted_more : IsKeptBy Unstarted
 unstarted_more history (start at other name binds) comes unstarted batch none = go (bytes_eq other batch) none
   where
@@ -192,6 +198,7 @@ unstarted_more history (abandon at other) comes unstarted batch none =
     unstarted_on history other batch (accepted history (abandon at other)) true comes.free.0 (unstarted batch) refl none
 unstarted_more history _ comes unstarted batch none = unstarted batch none
 
+-- so in a legal history a batch that wasn't started has no past
 pub unstarted : (history : History) → IsLegal history → IsOrderly history → Unstarted (sides history)
 unstarted = always Unstarted (λ batch none. refl) unstarted_more
 
@@ -229,6 +236,7 @@ pub data StartCase (history : History) (batch : List ℕ) (started : Started) (o
   earlier : bytes_eq other batch ≡ false → start_of history batch ≡ Some started
       → StartCase history batch started other name binds
 
+-- a started batch was started before, or by this very event
 pub start_case : (history : History) (batch : List ℕ) (started : Started) (at : ℕ) (other name : List ℕ)
     (binds : PlainAllocation) →
     start_of (accepted history (start at other name binds) ∷ history) batch ≡ Some started
@@ -254,6 +262,7 @@ abbrev pub Charted : Sides → Type 0
 Charted side = (batch : List ℕ) (started : Started) → start_by (side.batches batch) ≡ Some started
     → IsCharted side.recipes started
 
+-- the recipe of a started batch stays known
 charted_stays : (history : History) (event : PlainEvent) (started : Started) → Comes history event
     → IsCharted (recipes history) started →
     IsCharted (recipes (accepted history event ∷ history)) started
@@ -266,12 +275,14 @@ charted_stays history event started comes charted =
       steps_held = charted.steps_held;
     }
 
+-- an event that starts no batch keeps each started batch on a known chart
 charted_by : (history : History) (event : PlainEvent) → starting event ≡ None → Comes history event
     → Charted (sides history) → Charted (sides (accepted history event ∷ history))
 charted_by history event is comes charted batch started found =
     charted_stays history event started comes (charted batch started
     (sym (start_same history (accepted history event) batch is) ∙ found))
 
+-- and so does a start
 charted_more : IsKeptBy Charted
 charted_more history (start at other name binds) comes charted batch started found =
     go (start_case history batch started at other name binds found)
@@ -291,6 +302,7 @@ charted_more history (start at other name binds) comes charted batch started fou
 charted_more history event comes charted batch started found =
     charted_by history event refl comes charted batch started found
 
+-- so in a legal history each started batch has a known chart
 pub charted : (history : History) → IsLegal history → IsOrderly history → Charted (sides history)
 charted = always Charted (λ batch started found. cc) charted_more
 
