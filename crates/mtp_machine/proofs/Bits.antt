@@ -14,6 +14,7 @@ use Rattle.mtp_machine.proofs.EveryState.{of_each_state, of_each_command}
 abbrev MaskHasEdge : State → State → Type 0
 MaskHasEdge from to = has_bit (successor_mask from) (state_number to) ≡ is_edge from to
 
+-- for each two states the mask says whether there is an edge
 every_edge : AllByRecursion (λ from. AllByRecursion (MaskHasEdge from) every_state) every_state
 unfolding successor_mask is_edge
 every_edge = search
@@ -29,6 +30,7 @@ MaskHasTarget state command =
     command_target state command ≡ (if has_bit (enabled_mask state) (command_number command) then Some
     (command_goal command) else None)
 
+-- for each state and command the mask says whether it is enabled
 every_target : AllByRecursion (λ state. AllByRecursion (MaskHasTarget state) every_command) every_state
 unfolding command_target enabled_mask
 every_target = search

@@ -60,6 +60,7 @@ apart_free entry tag apart none =
 
 -- no event of the exchanger sends a command
 module _ (older : History) where
+  -- an event that sends nothing where no rule holds sends nothing
   silent : (event : PlainEvent) → sent_command (otherwise older event) ≡ None →
       sent_command (answer_of older event) ≡ None
   silent event none =
@@ -84,15 +85,18 @@ untaken (away ticket) none = cc
 module _ (site : PlainSite) (older : History) (at : ℕ) (n : ℕ) (unit : PlainSiteModule) (own : Module)
     (follows : FollowsSite site older) (unlike : repeats_by same_tag site.modules ≡ false)
     (listed : slice_get site.modules n ≡ Some unit) (is : IsUnit site unit older own) where
+  -- what is to be shown of an errand and the event that it makes
   abbrev Goal : Errand → PlainEvent → Type 0
   Goal errand event =
       IsUnit site unit (entry_at older at event ∷ older) (unit_then errand (answer_of older event) unit.tag own)
 
+  -- a recipe that is made known
   known : (place : ℕ) (each : PlainSiteRecipe) → Goal (task.Open place) (know_event each)
   known place each =
       unit_untouched site older (entry_at older at (know_event each)) unit own
       (apart_free (entry_at older at (know_event each)) unit.tag refl (silent older (know_event each) refl)) is
 
+  -- a module that is plugged
   plugged : (place m : ℕ) (other : PlainSiteModule) → slice_get site.modules m ≡ Some other →
       Goal (task.Open place) (plug_event other)
   plugged place m other listed' = go (bytes_eq other.tag unit.tag) refl
@@ -126,6 +130,7 @@ module _ (site : PlainSite) (older : History) (at : ℕ) (n : ℕ) (unit : Plain
               ∙ position_at (λ (each : PlainSiteModule). each.tag) site.modules n unit unit.tag unlike listed
               (same_refl unit.tag))
 
+  -- an exchange that begins
   begun : (tag : List ℕ) → is_there (docking_of older tag) ≡ true →
       is_accepted (answer_of older (exchange_begin 0 tag)) ≡ true → Goal (task.Begin tag) (exchange_begin 0 tag)
   begun tag there accepted = go (bytes_eq unit.tag tag) refl
@@ -143,6 +148,7 @@ module _ (site : PlainSite) (older : History) (at : ℕ) (n : ℕ) (unit : Plain
           unit_untouched site older entry unit own
           (apart_free entry unit.tag (turned unit.tag tag apart) (silent older (exchange_begin 0 tag) refl)) is
 
+  -- one that is cancelled
   cancelled : (tag : List ℕ) (ticket : ℕ) → is_there (docking_of older tag) ≡ true →
       is_accepted (answer_of older (exchange_cancel 0 tag ticket)) ≡ true →
       Goal (task.Cancel tag ticket) (exchange_cancel 0 tag ticket)
@@ -162,6 +168,7 @@ module _ (site : PlainSite) (older : History) (at : ℕ) (n : ℕ) (unit : Plain
           unit_untouched site older entry unit own
           (apart_free entry unit.tag (turned unit.tag tag apart) (silent older (exchange_cancel 0 tag ticket) refl)) is
 
+  -- and one that ends
   ended : (tag : List ℕ) (ticket place : ℕ) (exchange : PlainSiteExchange) →
       exchanging older ≡ was_begun tag ticket →
       place ≡ pred (begun_in older) → slice_get site.exchanges place ≡ Some exchange →

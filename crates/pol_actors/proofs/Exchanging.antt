@@ -445,6 +445,7 @@ module _ (site : PlainSite) (older : History) (exchanger : Exchanger) (sound : I
     (follows : FollowsSite site older) (room : is_full older ≡ false)
     (all : length site.recipes + length site.modules ≤ exchanger.opened)
     (stands : IsExchanger site older exchanger) where
+  -- all recipes and modules were opened
   opened_all : length site.recipes + length site.modules ≤ opened older
   opened_all = let is = stands.opened_is in omega (arith, is, all)
 
@@ -469,6 +470,7 @@ module _ (site : PlainSite) (older : History) (exchanger : Exchanger) (sound : I
       there_after entry (past unit.tag older) (own unit.tag) (moved unit.tag)
       (stands.there place unit at (omega (arith, within, opened_all)))
 
+  -- so none is left to open
   none_left : opened older < length site.recipes + length site.modules → ⊥
   none_left less = let most = opened_all in omega (arith, less, most)
 

@@ -93,12 +93,15 @@ unit_sent site older at batch did sent unit own legal orderly follows commanded 
 -- an accepted event of it stands in its past and in its story
 module _ (older : History) (entry : PlainEntry) (tag : List ℕ) (mine : is_module tag (subject entry.event) ≡ true)
     (accepted : is_accepted entry.answer ≡ true) where
+  -- the entry is an accepted one of the module
   both : is_accepted_of tag entry ≡ true
   both = and_from (is_module tag (subject entry.event)) (is_accepted entry.answer) mine accepted
 
+  -- so it stands in front of the module's past
   pub own_past : past tag (entry ∷ older) ≡ entry ∷ past tag older
   own_past = ap (λ own. cond own (entry ∷ past tag older) (past tag older)) both
 
+  -- and of its story
   pub own_story : story tag (entry ∷ older) ≡ entry ∷ story tag older
   own_story =
       ap (λ own. cond (own || is_some (sent_to tag entry)) (entry ∷ story tag older) (story tag older)) both

@@ -44,15 +44,18 @@ valid_is chart is = none (chart_fault chart) is
     none (Some fault) is = cc
 
 module _ {Z : Type 0} where
+  -- a chart that is seen plainly is there where it was
   mapped_is : (found : Option (Arc Chart Z)) →
       is_some (option_map (λ (chart : Arc Chart Z). plain_chart chart.value) found) ≡ is_some found
   mapped_is None = refl
   mapped_is (Some chart) = refl
 
+  -- a recipe is known to the history where it is to the table
   named_is : (history : History) (known : List (List ℕ × Arc Chart Z)) (name : List ℕ) → RecipesMirror known history →
       is_some (chart_named name (recipes history)) ≡ is_some (lookup (bytes_eq name) known)
   named_is history known name mirror = ap is_some (sym (mirror.named name)) ∙ mapped_is (lookup (bytes_eq name) known)
 
+  -- so a recipe is answered by what the table knows
   recipe_answer : (history : History) (at : ℕ) (name : List ℕ) (chart : PlainChart)
       (known : List (List ℕ × Arc Chart Z)) → RecipesMirror known history →
       is_full history ≡ false → answer_of history (recipe at name chart)
@@ -79,6 +82,7 @@ module _ {Z : Type 0} where
         names = λ other chart is. ap (chart_named other) nothing.recipes ∙ is;
       }
 
+  -- one that is known is refused
   pub known_recipe : (history : History) (at : ℕ) (name : List ℕ) (chart : PlainChart)
       (known : List (List ℕ × Arc Chart Z)) → RecipesMirror known history →
       is_full history ≡ false → is_some (lookup (bytes_eq name) known) ≡ true →
@@ -90,6 +94,7 @@ module _ {Z : Type 0} where
       (nat_le MOST_RECIPES (length known)) RecipesFull ∷ []) Done)
       there)) refl mirror
 
+  -- one that isn't is answered by the table's room
   full_recipe : (history : History) (at : ℕ) (name : List ℕ) (chart : PlainChart)
       (known : List (List ℕ × Arc Chart Z)) → RecipesMirror known history →
       is_full history ≡ false → is_some (lookup (bytes_eq name) known) ≡ false → (full : Bool) →
@@ -101,6 +106,7 @@ module _ {Z : Type 0} where
       (nat_le MOST_RECIPES (length known)) RecipesFull ∷ []) Done) new
       ∙ ap (λ full. first_rule (when full RecipesFull ∷ []) Done) is
 
+  -- where that has none it is refused
   pub no_room_recipe : (history : History) (at : ℕ) (name : List ℕ) (chart : PlainChart)
       (known : List (List ℕ × Arc Chart Z)) → RecipesMirror known history →
       is_full history ≡ false → is_some (lookup (bytes_eq name) known) ≡ false
@@ -110,6 +116,7 @@ module _ {Z : Type 0} where
       refused_recipe history at name chart known (Refused RecipesFull)
       (sym (full_recipe history at name chart known mirror room new true full)) refl mirror
 
+  -- and else it is made known
   pub new_recipe : (history : History) (at : ℕ) (name : List ℕ) (kept : Arc Chart Z)
       (old new : List (List ℕ × Arc Chart Z)) → RecipesMirror old history →
       is_full history ≡ false → is_some (lookup (bytes_eq name) old) ≡ false

@@ -43,6 +43,7 @@ mutual
   said_is says (choice each) n = said_in_arms_is says each (n + 1)
   said_is says (loop body until) n = said_is says body (n + 1)
 
+  -- so for some nodes
   said_among_is : {A : Type 0} (says : PlainStep → Option A) (each : Trees) (n : ℕ) →
       first_said_among says each ≡ said says (all_steps each n)
   said_among_is says no_trees n = refl
@@ -51,6 +52,7 @@ mutual
       ∙ ap (option_or (said says (steps each n))) (said_among_is says others (n + size each))
       ∙ sym (said_append says (steps each n) (all_steps others (n + size each)))
 
+  -- and for some arms
   said_in_arms_is : {A : Type 0} (says : PlainStep → Option A) (each : Arms) (n : ℕ) →
       first_said_in_arms says each ≡ said says (arm_steps each n)
   said_in_arms_is says no_arms n = refl

@@ -9,18 +9,21 @@ use Rattle.pol_history.specs.Looking.{History}
 use Rattle.pol_history.specs.Runs.{entry_of, recorded, history_after}
 use Rattle.pol_record.specs.Lines.{InputLine, blank, faulty, happening, input_line_of, input_lines_of, events_in, AnsweredLine, answered_lines_after, answered_text, answered_texts, answers_of, history_of, skipped, bad, answered}
 
+-- the events in lines, and in others behind them
 events_in_append : (items others : List InputLine) → events_in (items ++ others) ≡ events_in items ++ events_in others
 events_in_append [] others = refl
 events_in_append (blank piece ∷ items) others = events_in_append items others
 events_in_append (faulty piece fault ∷ items) others = events_in_append items others
 events_in_append (happening piece event ∷ items) others = ap (λ events. event ∷ events) (events_in_append items others)
 
+-- the history after some events, and others behind them
 history_after_append : (history : History) (events others : List PlainEvent)
     → history_after history (events ++ others) ≡ history_after (history_after history events) others
 history_after_append history [] others = refl
 history_after_append history (event ∷ events) others = history_after_append (recorded (entry_of history event) history)
     events others
 
+-- the rows of some lines, and of others behind them
 rows_after_append : (history : History) (items others : List InputLine) →
     answered_lines_after history (items ++ others) ≡ answered_lines_after history items
     ++ answered_lines_after (history_after history (events_in items)) others
@@ -33,6 +36,7 @@ rows_after_append history (happening piece event ∷ items) others =
     ap (λ rows. answered piece (entry_of history event) ∷ rows)
     (rows_after_append (recorded (entry_of history event) history) items others)
 
+-- the text of some rows, and of others behind them
 rows_text_append : (rows others : List AnsweredLine)
     → answered_texts (rows ++ others) ≡ answered_texts rows ++ answered_texts others
 rows_text_append [] others = refl
@@ -40,6 +44,7 @@ rows_text_append (row ∷ rows) others =
     ap (λ text. answered_text row ++ text) (rows_text_append rows others)
     ∙ sym (append_assoc (answered_text row) (answered_texts rows) (answered_texts others))
 
+-- the lines of whole lines' bytes, and of others behind them
 items_of_append : (done more : List ℕ) → IsTrue (is_whole done) → input_lines_of (done ++ more) ≡ input_lines_of done
     ++ input_lines_of more
 items_of_append done more whole = ap (map input_line_of) (pieces_append done more whole)

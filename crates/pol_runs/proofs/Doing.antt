@@ -97,6 +97,7 @@ halted chart log seen halts =
     (run_next (unless_whole (first_unhold seen (owed seen log (active chart log)))
     (next_after chart (chart_entries log) seen))))
 
+-- an entry that a run says is the chart's own
 run_said : (next : CursorNext) (entry : LogEntry) → Did entry ≡ run_next next → next ≡ Entry entry
 run_said (Entry other) entry is = let same : other ≡ entry = cc in ap Entry same
 run_said (Wait obstacle) entry is = cc
@@ -114,6 +115,7 @@ broken_is step (sight.Is view) entry is = go (is_broken_state view.control.state
     go true is = let same : Broke step.name view.control.state ≡ entry = cc in ap is_broke (sym same)
     go false is = cc
 
+-- the first broken step is told by such an entry
 first_is : (seen : Sights) (each : List PlainStep) (entry : LogEntry) → first_broken seen each ≡ Some entry →
     is_broke entry ≡ true
 first_is seen [] entry is = cc
@@ -164,6 +166,7 @@ pub record IsLeft (found : Option RunningStep) (entry : LogEntry) : Type 0 where
   pub is : found ≡ Some step
   pub leaves : Leaves entry step.name
 
+-- an entry that a stop says leaves its step
 stop_said : (step service tag : List ℕ) (seen : Sight) (entry : LogEntry) →
     Did entry ≡ stop_step step service tag seen →
     Leaves entry step
@@ -182,6 +185,7 @@ stop_said step service tag (sight.Is view) entry is = go (is_none (forbidden_by 
         subst (λ entry. Leaves entry step) same
         (record { other = refl; broke = refl; stopped = refl; says = λ other. refl })
 
+-- and so the first that the stop of all steps says
 first_said : (seen : Sights) (broken : Bool) (each : List Placed) (entry : LogEntry) →
     Did entry ≡ stop_next seen broken (map (λ placed. placed.step) each) → IsLeft (first_step each) entry
 first_said seen broken [] entry is = cc
@@ -212,6 +216,7 @@ ComesAfter run seen entry log asked =
 abbrev pub IsNoBroke : LogEntry → Type 0
 IsNoBroke entry = (step : List ℕ) (state : State) → entry ≡ Broke step state → ⊥
 
+-- an entry of another kind tells no broken step
 not_broke : (entry : LogEntry) → IsNoBroke entry → is_broke entry ≡ false
 not_broke (Broke step state) other = absurd (other step state refl)
 not_broke _ other = refl
@@ -231,6 +236,7 @@ module _ (run : PlainRun) (log : List LogEntry) (asked : List (List ℕ)) (seen 
         keeps_the_run (plain_chart run.chart) (chart_entries log) seen entry valid partial next,
       )
 
+  -- a run that goes on is a part of its chart's with the entry
   pub may_go : run.course ≡ Running → IsNoBroke entry →
       IsPartial (plain_chart run.chart) (chart_entries log ++ entry ∷ [])
   may_go is no_broke = (goes_on is (not_broke entry no_broke)).1
@@ -294,6 +300,7 @@ with_holds run log holds proceeds held =
 
 module _ (run : PlainRun) (log : List LogEntry) (entry : LogEntry) (holds : PlainHolds)
     (moves : Moves (plain_chart run.chart) entry run.holds holds) (follows : Follows run log) where
+  -- the flags are those of the log with the entry
   held_after : AreHeld (plain_chart run.chart) holds (log ++ entry ∷ [])
   held_after = held_moves (plain_chart run.chart) log entry run.holds holds moves follows.held
 

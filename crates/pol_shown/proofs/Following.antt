@@ -37,10 +37,12 @@ abbrev history_at : PlainEntry → History → Bool → History
 history_at entry older below = if below then entry ∷ older else older
 
 module _ {A : Type 0} (shown : History → A) (entry : PlainEntry) (older : History) where
+  -- what is shown at a place, by whether it lies below a bound
   at_bound : (word bound : ℕ) (below : Bool) → nat_lt word bound ≡ below →
       shown (history_at entry older (nat_lt word bound)) ≡ shown (history_at entry older below)
   at_bound word bound below is = ap (λ below. shown (history_at entry older below)) is
 
+  -- between two bounds nothing changes
   same_between : (low high word : ℕ) → low ≤ high →
       (low ≤ word → word < high → shown older ≡ shown (entry ∷ older)) →
       shown (history_at entry older (nat_lt word low)) ≡ shown (history_at entry older (nat_lt word high))
@@ -53,6 +55,7 @@ module _ {A : Type 0} (shown : History → A) (entry : PlainEntry) (older : Hist
       (λ past. sym (at_bound word high false (le-ltb word high past))) (cases_lt word high))
       (cases_lt word low)
 
+  -- nor above the upper one
   same_above : (bound word : ℕ) → (bound ≤ word → shown older ≡ shown (entry ∷ older)) →
       shown (history_at entry older (nat_lt word bound)) ≡ shown (entry ∷ older)
   same_above bound word above =
@@ -134,31 +137,39 @@ one_higher at word other =
 module _ (site : PlainSite) (entry : PlainEntry) (older : History) (word : ℕ) (unit : PlainSiteModule)
     (there : slice_get site.modules (word / 32) ≡ Some unit) (accepted : is_accepted_of unit.tag entry ≡ true)
     (before after : Displayed) (shows : ShowsBelow word site entry older before) where
+  -- the history that the words up to this one show
   abbrev at_word : ℕ → History
   at_word at = history_at entry older (nat_lt at word)
 
+  -- and that which they show once it is written
   abbrev at_next : ℕ → History
   at_next at = history_at entry older (nat_lt at (suc word))
 
+  -- a word isn't below itself
   at_itself : nat_lt word word ≡ false
   at_itself = le-ltb word word (omega arith)
 
+  -- but below the next
   at_after : nat_lt word (suc word) ≡ true
   at_after = lt-ltb word (suc word) (omega arith)
 
+  -- the name at the word is that of its service
   name_before : name_in before.names word ≡ service_of_word site older word
   name_before =
       shows.names word
       ∙ at_bound (λ history. service_of_word site history word) entry older word word false at_itself
 
+  -- and the word says what the board shows of it
   word_before : slice_index before.words word ≡ said_by (board_word site older word)
   word_before =
       shows.words word
       ∙ at_bound (λ history. said_by (board_word site history word)) entry older word word false at_itself
 
+  -- the word is one of a module's
   inside : word < 32 * length site.modules
   inside = let few = slice_get_within site.modules (word / 32) unit there in omega (arith, few)
 
+  -- the word that is written says what the board then shows
   word_here : (words : List ℕ) →
       words ≡ published (shown_by (name_in before.names word) entry.event) word (suc (length older)) before.words →
       slice_index words word ≡ said_by (board_word site (at_next word) word)
@@ -171,6 +182,7 @@ module _ (site : PlainSite) (entry : PlainEntry) (older : History) (word : ℕ) 
       ∙ ap said_by (sym (word_followed site entry older word unit there accepted))
       ∙ sym (at_bound (λ history. said_by (board_word site history word)) entry older word (suc word) true at_after)
 
+  -- and so does each other one
   word_elsewhere : (words : List ℕ) (at : ℕ) → at ≢ word →
       words ≡ published (shown_by (name_in before.names word) entry.event) word (suc (length older)) before.words →
       slice_index words at ≡ said_by (board_word site (at_next at) at)
@@ -181,6 +193,7 @@ module _ (site : PlainSite) (entry : PlainEntry) (older : History) (word : ℕ) 
       ∙ shows.words at
       ∙ ap (λ below. said_by (board_word site (history_at entry older below) at)) (one_higher at word other)
 
+  -- the name that is written is that of its service
   name_here : (names : List (Option (List ℕ))) →
       names ≡ slice_set before.names word (name_after (word % 32) entry.event (name_in before.names word)) →
       name_in names word ≡ service_of_word site (at_next word) word
@@ -192,6 +205,7 @@ module _ (site : PlainSite) (entry : PlainEntry) (older : History) (word : ℕ) 
       ∙ sym (name_followed site entry older word unit there accepted)
       ∙ sym (at_bound (λ history. service_of_word site history word) entry older word (suc word) true at_after)
 
+  -- and so is each other one
   name_elsewhere : (names : List (Option (List ℕ))) (at : ℕ) → at ≢ word →
       names ≡ slice_set before.names word (name_after (word % 32) entry.event (name_in before.names word)) →
       name_in names at ≡ service_of_word site (at_next at) at

@@ -16,6 +16,7 @@ pub no_fault : {E : Type 0} (fault : Option E) → done_unless fault ≡ Ok tt �
 no_fault None is = refl
 no_fault (Some fault) is = cc
 
+-- where the last value of each is none, none is found
 nothing_left :
     {A : Type 0} (nothing : Option A) → nothing ≡ None → (found : Option (Option A))
     → option_and_then (λ last. last) (option_map (λ last. nothing) found) ≡ None
@@ -30,6 +31,7 @@ forgotten_nothing old new forgets = record {
   values = λ name. ap (λ found. option_and_then (λ last. last) found) (forgets.values name) ∙ nothing_left None refl _;
 }
 
+-- a berth without a ticket is docked with what was reported
 docked_reported : (berth : Berth) → ticket_in berth ≡ None → berth ≡ Docked (reported_in berth)
 docked_reported (Docked reported) is = refl
 docked_reported (Away kept) is = cc

@@ -4,6 +4,7 @@ use Rattle.std.specs.Prelude.{option_map}
 use Rattle.std.specs.Map.{lookup}
 use Rattle.indexmap.specs.IndexMap.{set_value_at}
 
+-- a key with its value forgotten, before others with theirs forgotten
 found_none : {X : Type 0} (test : Bool) (value : Option X) (here there : Option (Option X))
     → here ≡ option_map (λ last. None) there
     → cond test (Some None) here ≡ option_map (λ last. None) (cond test (Some value) there)
@@ -17,11 +18,13 @@ module _ {K X : Type 0} where
   forgotten (suc count) [] = []
   forgotten (suc count) (entry ∷ entries) = (entry.0, None) ∷ forgotten count entries
 
+  -- to forget values makes no list shorter
   pub length_forgotten : (count : ℕ) (entries : List (K × Option X)) → length (forgotten count entries) ≡ length entries
   length_forgotten zero entries = refl
   length_forgotten (suc count) [] = refl
   length_forgotten (suc count) (entry ∷ entries) = ap suc (length_forgotten count entries)
 
+  -- the next value is forgotten
   next : (entries : List (K × Option X)) (place : ℕ) → set_value_at (forgotten place entries) place None
       ≡ forgotten (suc place) entries
   next [] zero = refl

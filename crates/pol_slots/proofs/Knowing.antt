@@ -3,6 +3,7 @@ use Rattle.std.proofs.Common.{◌≡◌, Bool, true, false, ◌||◌, cond, List
 use Rattle.std.specs.Prelude.{option_and_then, find, if◌then◌else◌}
 use Rattle.std.specs.List.{list_any}
 
+-- one is found where it or one of the rest passes
 found_or : {Y : Type 0} (passes : Bool) (y : Y) (rest : Option Y) (others : Bool) → is_some rest ≡ others
     → is_some (cond passes (Some y) rest) ≡ (passes || others)
 found_or true y rest others same = refl
@@ -16,6 +17,7 @@ found_where_any view test (x ∷ xs) =
     found_or (test (view x)) (view x) (find test (map view xs)) (list_any (λ x. test (view x)) xs)
     (found_where_any view test xs)
 
+-- something is known where any is
 known_if : {A : Type 0} (any : Bool) (last : A) → is_some (if any then Some last else None) ≡ any
 known_if true last = refl
 known_if false last = refl
@@ -28,6 +30,7 @@ pub known_where_found :
 known_where_found view test xs found is = ap is_some is ∙ known_if (list_any (λ x. test (view x)) xs) None
     ∙ sym (found_where_any view test xs)
 
+-- and nothing where the last is none
 nothing_if : {A : Type 0} (any : Bool) (last : Option A) → last ≡ None
     → option_and_then (λ last. last) (if any then Some last else None) ≡ None
 nothing_if true last is = is

@@ -78,6 +78,7 @@ mutual
       refl
       (open_uses body (n + 1) f role service none)
 
+  -- nodes in turn that use no such service have none of it open
   turn_uses : (ts : Trees) (n : ℕ) (f : Marks) (role service : List ℕ) → some_uses ts role service ≡ false
       → any_open role service (open_in_seq ts n f) ≡ false
   turn_uses no_trees n f role service none = refl
@@ -86,6 +87,7 @@ mutual
       either role service (is_done (course each n) f) (open_in_seq others (n + size each) f) (open_nodes each n f)
       (turn_uses others (n + size each) f role service parts.1) (open_uses each n f role service parts.0)
 
+  -- nor have nodes at once
   once_uses : (ts : Trees) (n : ℕ) (f : Marks) (role service : List ℕ) → some_uses ts role service ≡ false
       → any_open role service (open_in_par ts n f) ≡ false
   once_uses no_trees n f role service none = refl
@@ -96,6 +98,7 @@ mutual
       ∙ none_from _ _ (open_uses each n f role service parts.0)
       (once_uses others (n + size each) f role service parts.1)
 
+  -- nor have arms
   arms_use : (arms : Arms) (n place : ℕ) (f : Marks) (role service : List ℕ) → arm_uses arms role service ≡ false
       → any_open role service (open_in_arm arms n place f) ≡ false
   arms_use no_arms n place f role service none = refl
@@ -192,6 +195,7 @@ used tree number marks role service is = go (uses tree role service) refl
     go false e = let clash : false ≡ true = sym (open_uses tree number marks role service e) ∙ is in cc
 
 mutual
+  -- the promise: open steps use different services
   pub spots_apart : OpenStepsAreApart
   spots_apart (leaf step) n f clear = step_apart n (leaf step) (f n)
   spots_apart (seq each) n f clear = turn_apart each (n + 1) f clear
@@ -203,6 +207,7 @@ mutual
       loop-apart n (loop body until) (is_done (course body (n + 1)) f) (open_nodes body (n + 1) f) (f n)
       (spots_apart body (n + 1) f clear)
 
+  -- the open steps of nodes in turn do, where each node is clear
   turn_apart : (ts : Trees) (n : ℕ) (f : Marks) → AllClear ts → AreApart (open_in_seq ts n f)
   turn_apart no_trees n f clear = tt
   turn_apart (more_trees each others) n f clear =
@@ -210,6 +215,7 @@ mutual
       (turn_apart others (n + size each) f clear.1)
       (spots_apart each n f clear.0)
 
+  -- so do those of nodes at once, where no two of them use one service
   once_apart : (ts : Trees) (n : ℕ) (f : Marks) → AllClear ts → Disjoint ts → AreApart (open_in_par ts n f)
   once_apart no_trees n f clear apart = tt
   once_apart (more_trees each others) n f clear apart =
@@ -218,6 +224,7 @@ mutual
       (λ role service is. once_uses others (n + size each) f role service
       (apart.0 role service (used each n f role service is)))
 
+  -- and those of arms
   arms_apart : (arms : Arms) (n place : ℕ) (f : Marks) → ArmsClear arms → AreApart (open_in_arm arms n place f)
   arms_apart no_arms n place f clear = tt
   arms_apart (more_arms when each others) n zero f clear = spots_apart each n f clear.0

@@ -43,6 +43,7 @@ mutual
   on_steps chart (choice each) n d k h = on_arms chart each (n + 1) (d + 1) k h.1
   on_steps chart (loop body until) n d k h = on_steps chart body (n + 1) (d + 1) k h.1
 
+  -- so for the steps of some nodes
   on_all : (chart : PlainChart) (ts : Trees) (n d k : ℕ) → Each (Faultless chart) (all_visits ts n d k)
       → Each (Unclashed (clashes chart.root)) (all_steps ts n)
   on_all chart no_trees n d k h = tt
@@ -53,6 +54,7 @@ mutual
       (on_all chart ts (n + size t) d (k + step_count t)
       (each_back (Faultless chart) (visits t n d k) (all_visits ts (n + size t) d (k + step_count t)) h))
 
+  -- and for those of some arms
   on_arms : (chart : PlainChart) (ts : Arms) (n d k : ℕ) → Each (Faultless chart) (arm_visits ts n d k)
       → Each (Unclashed (clashes chart.root)) (arm_steps ts n)
   on_arms chart no_arms n d k h = tt
@@ -75,6 +77,7 @@ lies_wider low high low1 high1 (p ∷ ps) l h (each, others) =
     ((omega (arith, each.0, l), omega (arith, each.1, h)), lies_wider low high low1 high1 ps l h others)
 
 mutual
+  -- the steps of a node have numbers within the node's
   lies : (t : Tree) (n : ℕ) → Each (Lies n (n + size t)) (steps t n)
   lies (leaf step) n = ((omega arith, omega arith), tt)
   lies (seq each) n = lies_wider (n + 1) (n + 1 + sizes each) n (n + (1 + sizes each)) (all_steps each (n + 1))
@@ -86,6 +89,7 @@ mutual
   lies (loop body until) n = lies_wider (n + 1) (n + 1 + size body) n (n + (1 + size body)) (steps body (n + 1))
       (omega arith) (omega arith) (lies body (n + 1))
 
+  -- those of some nodes within theirs
   lies_all : (ts : Trees) (n : ℕ) → Each (Lies n (n + sizes ts)) (all_steps ts n)
   lies_all no_trees n = tt
   lies_all (more_trees t ts) n =
@@ -94,6 +98,7 @@ mutual
       (lies_wider (n + size t) (n + size t + sizes ts) n (n + (size t + sizes ts)) (all_steps ts (n + size t))
       (omega arith) (omega arith) (lies_all ts (n + size t)))
 
+  -- and those of some arms within theirs
   lies_arms : (ts : Arms) (n : ℕ) → Each (Lies n (n + arm_sizes ts)) (arm_steps ts n)
   lies_arms no_arms n = tt
   lies_arms (more_arms when t ts) n =
@@ -113,6 +118,7 @@ abbrev NoUser : List ℕ → List ℕ → List Placed → Type 0
 NoUser role service ps = Each (λ placed. is_user role service placed ≡ false) ps
 
 mutual
+  -- a node none of whose steps uses a service doesn't use it
   unused : (t : Tree) (n : ℕ) (role service : List ℕ) → NoUser role service (steps t n) → uses t role service ≡ false
   unused (leaf step) n role service none = none.0
   unused (seq each) n role service none = unused_all each (n + 1) role service none
@@ -120,6 +126,7 @@ mutual
   unused (choice each) n role service none = unused_arms each (n + 1) role service none
   unused (loop body until) n role service none = unused body (n + 1) role service none
 
+  -- nor do some nodes
   unused_all : (ts : Trees) (n : ℕ) (role service : List ℕ) → NoUser role service (all_steps ts n)
       → some_uses ts role service ≡ false
   unused_all no_trees n role service none = refl
@@ -127,6 +134,7 @@ mutual
       none_from _ _ (unused t n role service (each_front _ (steps t n) (all_steps ts (n + size t)) none))
       (unused_all ts (n + size t) role service (each_back _ (steps t n) (all_steps ts (n + size t)) none))
 
+  -- nor do some arms
   unused_arms : (ts : Arms) (n : ℕ) (role service : List ℕ) → NoUser role service (arm_steps ts n)
       → arm_uses ts role service ≡ false
   unused_arms no_arms n role service none = refl
@@ -161,6 +169,7 @@ retold one other low high (p ∷ ps) same (lie, lies) (each, others) =
     (same p.number p.step.role p.step.service lie.0 lie.1 each, retold one other low high ps same lies others)
 
 mutual
+  -- a node none of whose steps clashes is clear
   clear_tree : (t : Tree) (n : ℕ) → Each (Unclashed (λ m. clashes t (m - n))) (steps t n) → Clear t
   clear_tree (leaf step) n each = tt
   clear_tree (seq ts) n each =
@@ -185,6 +194,7 @@ mutual
       (λ m role service l h none. subst (λ i. clashes body i role service ≡ false) (omega arith) none)
       (lies body (n + 1)) each)
 
+  -- and so are nodes in turn
   clear_all : (ts : Trees) (n : ℕ) → Each (Unclashed (λ m. clashes_in_turn ts (m - n))) (all_steps ts n) → AllClear ts
   clear_all no_trees n each = tt
   clear_all (more_trees t ts) n each = (
@@ -204,6 +214,7 @@ mutual
         each)),
   )
 
+  -- nodes at once are clear each
   clear_once : (ts : Trees) (n : ℕ) → Each (Unclashed (λ m. clashes_at_once ts (m - n))) (all_steps ts n) → AllClear ts
   clear_once no_trees n each = tt
   clear_once (more_trees t ts) n each = (
@@ -225,6 +236,7 @@ mutual
         each)),
   )
 
+  -- and no two of them use one service
   apart_once : (ts : Trees) (n : ℕ) → Each (Unclashed (λ m. clashes_at_once ts (m - n))) (all_steps ts n) → Disjoint ts
   apart_once no_trees n each = tt
   apart_once (more_trees t ts) n each = (
@@ -249,6 +261,7 @@ mutual
         each)),
   )
 
+  -- arms are clear
   clear_arms : (ts : Arms) (n : ℕ) → Each (Unclashed (λ m. clashes_in_arms ts (m - n))) (arm_steps ts n) → ArmsClear ts
   clear_arms no_arms n each = tt
   clear_arms (more_arms when t ts) n each = (

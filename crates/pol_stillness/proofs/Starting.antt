@@ -42,6 +42,7 @@ Formed placed = is_step_formed placed.step ≡ true
 
 -- each step of a formed tree is formed
 mutual
+  -- the steps of a node in form are in form
   formed_steps : (t : Tree) (n : ℕ) → is_tree_formed t ≡ true → Each Formed (steps t n)
   formed_steps (leaf step) n is = (is, tt)
   formed_steps (seq each) n is = formed_all each (n + 1) (and_parts _ (are_trees_formed each) is).1
@@ -49,6 +50,7 @@ mutual
   formed_steps (choice each) n is = formed_arms each (n + 1) (and_parts _ (are_arms_formed each) is).1
   formed_steps (loop body until) n is = formed_steps body (n + 1) (and_parts (is_tree_formed body) _ is).0
 
+  -- and so are those of some nodes
   formed_all : (ts : Trees) (n : ℕ) → are_trees_formed ts ≡ true → Each Formed (all_steps ts n)
   formed_all no_trees n is = tt
   formed_all (more_trees each others) n is =
@@ -56,6 +58,7 @@ mutual
       each_append Formed (steps each n) (all_steps others (n + size each)) (formed_steps each n parts.0)
       (formed_all others (n + size each) parts.1)
 
+  -- and of some arms
   formed_arms : (arms : Arms) (n : ℕ) → are_arms_formed arms ≡ true → Each Formed (arm_steps arms n)
   formed_arms no_arms n is = tt
   formed_arms (more_arms when each others) n is =

@@ -13,6 +13,7 @@ use Rattle.pol_table.specs.declared.seat.Seat.{Seat}
 use Rattle.pol_table.proofs.Tags.{one_tag, same_itself}
 use Rattle.pol_table.proofs.Views.{look_rows_of, length_rows_of}
 
+-- what is none isn't some
 none_is_none : {A : Type 0} (found : Option A) (value : A) → found ≡ None → found ≡ Some value → ⊥
 none_is_none found value none some = true≢false (sym (ap is_some some) ∙ ap is_some none)
 
@@ -53,6 +54,7 @@ module _ {T : Type 0} (tag : List ℕ) (seat : Seat) (part : T) (old new : List 
   elsewhere other value found same = true≢false (sym (docks.sound.occupied other value found)
       ∙ ap is_some (ap (part_at parts) same ∙ docks.vacant))
 
+  -- seats with one more are sound over the parts with one more
   pub sound_docked : IsSound new after
   sound_docked = record {
     unique = docks.unique;
@@ -126,6 +128,7 @@ module _ {T : Type 0} (tag : List ℕ) (seat : Seat) (old new : List (List ℕ �
       let one : tag ≡ other = leaves.sound.apart tag other seat value leaves.seated found (sym same) in
       true≢false (sym (same_itself other) ∙ subst (λ name. bytes_eq name other ≡ false) one apart)
 
+  -- and over the parts where a free place was used
   pub sound_left : IsSound new after
   sound_left = record {
     unique = leaves.unique;

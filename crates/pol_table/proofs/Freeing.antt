@@ -16,6 +16,7 @@ keys_changed : {K X : Type 0} (change : X → X) (entries : List (K × X))
 keys_changed change [] = refl
 keys_changed change (entry ∷ entries) = ap (λ keys. entry.0 ∷ keys) (keys_changed change entries)
 
+-- a change of each value makes no list longer
 length_changed : {K X : Type 0} (change : X → X) (entries : List (K × X))
     → length {A = K × X} (map (λ entry. (entry.0, change entry.1)) entries) ≡ length entries
 length_changed change [] = refl
@@ -27,6 +28,7 @@ module _ {T : Type 0} (seats : List (List ℕ × Seat)) (parts : List (Option T)
   abbrev free_seats : List (List ℕ × Seat)
   free_seats = map (λ entry. (entry.0, seat_freed_from batch entry.1)) seats
 
+  -- seats freed from a batch are sound
   pub sound_freed : IsSound (map (λ entry. (entry.0, seat_freed_from batch entry.1)) seats) parts
   sound_freed =
       sound_changed parts seats free_seats (λ tag. seat_freed_from batch) (λ tag seat. refl)
@@ -34,6 +36,7 @@ module _ {T : Type 0} (seats : List (List ℕ × Seat)) (parts : List (Option T)
       (rw (keys_changed (seat_freed_from batch) seats) sound.unique)
       (rw (length_changed (seat_freed_from batch) seats) sound.few)
 
+  -- a row freed from a batch has the freed seat's holder
   alike : (seat : Seat) (found : Option T)
       → option_map (λ part. let row : HeldRow T =
       record { part = part; holder = (seat_freed_from batch seat).holder } in row) found
@@ -42,6 +45,7 @@ module _ {T : Type 0} (seats : List (List ℕ × Seat)) (parts : List (Option T)
   alike seat None = refl
   alike seat (Some part) = refl
 
+  -- so what is found of a tag is freed from the batch
   pub look_freed : (tag : List ℕ)
       → look tag (rows_of (map (λ entry. (entry.0, seat_freed_from batch entry.1)) seats) parts)
       ≡ option_map (freed_from batch) (look tag (rows_of seats parts))
@@ -51,6 +55,7 @@ module _ {T : Type 0} (seats : List (List ℕ × Seat)) (parts : List (Option T)
       (λ tag. freed_from batch)
       (λ tag seat. alike seat (part_at parts seat.place))
 
+  -- and there are as many rows
   pub length_freed : length (rows_of (map (λ entry. (entry.0, seat_freed_from batch entry.1)) seats) parts)
       ≡ length (rows_of seats parts)
   length_freed = length_rows_of free_seats parts sound_freed ∙ length_changed (seat_freed_from batch) seats

@@ -22,6 +22,7 @@ first_alike one other same [] = refl
 first_alike one other same (item ∷ items) = rw (same item, first_alike one other same items) refl
 
 module _ {T : Type 0} (seats : List (List ℕ × Seat)) (parts : List (Option T)) (sound : IsSound seats parts) where
+  -- a tag is missing among the seats where it is among the rows
   missing_alike : (tag : List ℕ) → seat_missing_at seats tag ≡ missing_at (rows_of seats parts) tag
   missing_alike tag = rw (look_rows_of seats parts sound tag) (go (lookup (bytes_eq tag) seats) refl)
     where
@@ -34,6 +35,7 @@ module _ {T : Type 0} (seats : List (List ℕ × Seat)) (parts : List (Option T)
               → None ≡ missing_reason tag (is_some (row_at parts seat))
           step (part, there) = rw there refl
 
+  -- and busy where it is among the rows
   busy_alike : (tag : List ℕ) → seat_busy_at seats tag ≡ busy_at (rows_of seats parts) tag
   busy_alike tag = ap (busy_reason tag) (sym (holder_rows_of seats parts sound tag))
 
@@ -59,6 +61,7 @@ pub record Holds {T : Type 0} (tags : List (List ℕ)) (batch : List ℕ) (old n
 
 module _ {T : Type 0} (tags : List (List ℕ)) (batch : List ℕ) (old new : List (List ℕ × Seat)) (parts : List (Option T))
     (holds : Holds tags batch old new parts) where
+  -- to hold a seat doesn't move it
   in_place : (tag : List ℕ) (seat : Seat)
       → (if is_among tags tag then seat_held_by batch seat else seat).place ≡ seat.place
   in_place tag seat = go (is_among tags tag)
@@ -67,12 +70,14 @@ module _ {T : Type 0} (tags : List (List ℕ)) (batch : List ℕ) (old new : Lis
       go true = refl
       go false = refl
 
+  -- so seats that are held are sound
   pub sound_held : IsSound new parts
   sound_held =
       sound_changed parts old new (λ tag seat. if is_among tags tag then seat_held_by batch seat else seat) in_place
       holds.held holds.sound
       holds.unique (rw holds.len holds.sound.few)
 
+  -- a row that is held has the held seat's holder
   alike : (among : Bool) (seat : Seat) (found : Option T)
       → option_map (λ part. let row : HeldRow T = record {
         part = part;
@@ -86,11 +91,13 @@ module _ {T : Type 0} (tags : List (List ℕ)) (batch : List ℕ) (old new : Lis
   alike false seat None = refl
   alike false seat (Some part) = refl
 
+  -- and the part that it had
   placed : (among : Bool) (seat : Seat) → part_at parts (if among then seat_held_by batch seat else seat).place
       ≡ part_at parts seat.place
   placed true seat = refl
   placed false seat = refl
 
+  -- so what is found of a tag is held where the tag is among those
   pub look_held : (tag : List ℕ)
       → look tag (rows_of new parts)
       ≡ option_map (λ row. if is_among tags tag then held_by batch row else row) (look tag (rows_of old parts))
@@ -100,5 +107,6 @@ module _ {T : Type 0} (tags : List (List ℕ)) (batch : List ℕ) (old new : Lis
       (λ tag row. if is_among tags tag then held_by batch row else row)
       (λ tag seat. rw (placed (is_among tags tag) seat) (alike (is_among tags tag) seat (part_at parts seat.place)))
 
+  -- and there are as many rows
   pub length_held : length (rows_of new parts) ≡ length (rows_of old parts)
   length_held = length_rows_of new parts sound_held ∙ holds.len ∙ sym (length_rows_of old parts holds.sound)

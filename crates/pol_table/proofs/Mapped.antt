@@ -20,12 +20,14 @@ before change (Some old) value is = (old, refl, same_Some _ _ is)
 module _ {T : Type 0} (parts : List (Option T)) (old new : List (List ℕ × Seat)) (change : List ℕ → Seat → Seat)
     (in_place : (tag : List ℕ) (seat : Seat) → (change tag seat).place ≡ seat.place)
     (changed : (tag : List ℕ) → lookup (bytes_eq tag) new ≡ option_map (change tag) (lookup (bytes_eq tag) old)) where
+  -- a tag that has a seat had one in the same place
   was : (tag : List ℕ) (seat : Seat) → lookup (bytes_eq tag) new ≡ Some seat
       → (first : Seat) × (lookup (bytes_eq tag) old ≡ Some first) × (first.place ≡ seat.place)
   was tag seat found =
       let back = before (change tag) (lookup (bytes_eq tag) old) seat (sym (changed tag) ∙ found) in
       (back.0, back.1, sym (in_place tag back.0) ∙ ap (λ s. s.place) back.2)
 
+  -- so seats that stay in their places are sound
   pub sound_changed : IsSound old parts → IsDistinct bytes_eq (keys_of new) → length new ≤ MOST_MODULES
       → IsSound new parts
   sound_changed sound unique few = record {

@@ -7,6 +7,7 @@ module _ {K X : Type 0} (change : X → X) where
   abbrev pub written : ℕ → List (K × X) → List (K × X)
   written count entries = map (λ entry. (entry.0, change entry.1)) (take count entries) ++ drop count entries
 
+  -- the next entry is written as the change says
   write_next : (entries : List (K × X)) (index : ℕ) (key : K) (value : X)
       → slice_get (written index entries) index ≡ Some (key, value)
       → set_value_at (written index entries) index (change value) ≡ written (suc index) entries

@@ -5,9 +5,11 @@ use Rattle.std.specs.List.{AllByRecursion, IsDistinct}
 use Rattle.std.specs.Map.{lookup, keys_of}
 use Rattle.std.specs.Str.{bytes_eq}
 
+-- a tag has the bytes that it has
 pub same_itself : (tag : List ℕ) → bytes_eq tag tag ≡ true
 same_itself tag = (bytes_eq-Decides tag tag).1 refl
 
+-- tags of the same bytes are the same tag
 pub one_tag : (tag other : List ℕ) → bytes_eq tag other ≡ true → tag ≡ other
 one_tag tag other = (bytes_eq-Decides tag other).0
 
@@ -18,6 +20,7 @@ module _ {X : Type 0} where
   not_later tag [] apart = refl
   not_later tag (entry ∷ entries) apart = rw apart.0 (not_later tag entries apart.1)
 
+  -- what is none isn't some, whatever was to be shown
   clash : (found : Option X) (value : X) → found ≡ None → found ≡ Some value → (goal : Type 0) → goal
   clash found value none some goal = absurd (cc)
 

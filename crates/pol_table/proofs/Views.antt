@@ -12,10 +12,12 @@ use Rattle.pol_table.specs.Places.{part_at, row_at, rows_of, seat_holder, IsSoun
 use Rattle.pol_table.specs.declared.seat.Seat.{Seat}
 use Rattle.pol_table.proofs.Tags.{each_entry}
 
+-- what is some has a value
 pub some_of : {A : Type 0} (found : Option A) → IsSome found → (value : A) × (found ≡ Some value)
 some_of None is = absurd (true≢false (sym is))
 some_of (Some value) is = (value, refl)
 
+-- what is made of the first that is found, or of the rest
 first_or_rest : {A B : Type 0} (same : Bool) (f : A → Option B) (first : A) (rest : Option A) (value : B)
     → f first ≡ Some value
     → cond same (Some value) (option_and_then f rest) ≡ option_and_then f (cond same (Some first) rest)
@@ -23,24 +25,28 @@ first_or_rest true f first rest value at = sym at
 first_or_rest false f first rest value at = refl
 
 module _ {T : Type 0} where
+  -- the part of a row is the one that was found
   same_part : (found : Option T) (holder : Option (List ℕ))
       → option_map (λ row. row.part)
       (option_map (λ part. let row : HeldRow T = record { part = part; holder = holder } in row) found) ≡ found
   same_part None holder = refl
   same_part (Some part) holder = refl
 
+  -- its holder is the seat's
   same_holder : (found : Option T) (holder : Option (List ℕ)) → IsSome found
       → option_and_then (λ row. row.holder)
       (option_map (λ part. let row : HeldRow T = record { part = part; holder = holder } in row) found) ≡ holder
   same_holder None holder is = absurd (true≢false (sym is))
   same_holder (Some part) holder is = refl
 
+  -- and the row is there
   some_row : (found : Option T) (holder : Option (List ℕ)) → IsSome found
       → is_some (option_map (λ part. let row : HeldRow T = record { part = part; holder = holder } in row) found)
       ≡ true
   some_row None holder is = is
   some_row (Some part) holder is = refl
 
+  -- the row of a tag is that of its seat
   found_in : (seats : List (List ℕ × Seat)) (parts : List (Option T))
       → AllByRecursion (λ entry. IsSome (part_at parts entry.1.place)) seats
       → (tag : List ℕ) → look tag (rows_of seats parts) ≡ option_and_then (row_at parts)
@@ -59,6 +65,7 @@ module _ {T : Type 0} where
           (first_or_rest (bytes_eq tag entry.0) (row_at parts) entry.1 (lookup (bytes_eq tag) seats)
           (record { part = part; holder = entry.1.holder }) row)
 
+  -- there are as many rows as seats
   count_of : (seats : List (List ℕ × Seat)) (parts : List (Option T))
       → AllByRecursion (λ entry. IsSome (part_at parts entry.1.place)) seats
       → length (rows_of seats parts) ≡ length seats
