@@ -42,7 +42,7 @@ told_here P (Ok x) told = told
 told_here P (Err kind) told = tt
 
 -- a value that is given where a test holds
-told_if : {A : Type 0} (P : A → Type 0) (test : Bool) (x : A) (kind : FaultKind) → (test ≡ true → P x)
+pub told_if : {A : Type 0} (P : A → Type 0) (test : Bool) (x : A) (kind : FaultKind) → (test ≡ true → P x)
     → IfOk (if test then Ok x else Err kind) P
 told_if P true x kind has = has refl
 told_if P false x kind has = tt

@@ -1,2 +1,3 @@
 pub mod OverZeros
 pub mod Ascii
+pub mod Names

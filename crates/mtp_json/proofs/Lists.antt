@@ -13,7 +13,7 @@ pub length_of_view : (values : List Value) → items_len (items_view values) ≡
 length_of_view values = items_len-items_view values
 
 -- one of what is made of each passes a test where one of them does
-any_map : {X Y : Type 0} (view : X → Y) (test : Y → Bool) (xs : List X)
+pub any_map : {X Y : Type 0} (view : X → Y) (test : Y → Bool) (xs : List X)
     → list_any test (map view xs) ≡ list_any (λ x. test (view x)) xs
 any_map view test [] = refl
 any_map view test (x ∷ xs) = ap (λ b. test (view x) || b) (any_map view test xs)

@@ -6,6 +6,7 @@ use Rattle.std.specs.Str.{bytes_eq}
 use Rattle.std.proofs.Math.Seq.{take-suc}
 use Rattle.std.proofs.lemmas.Option.{same_Some, slice_get-get_or, slice_get-map, slice_get_within, get_or_from_slice_get}
 use Rattle.std.proofs.lemmas.Slice.Eq.{bytes_eq-Decides}
+use Rattle.std.proofs.lemmas.Bool.{or_parts}
 use Rattle.indexmap.specs.IndexSet.{insert_key}
 use Rattle.mtp_json.specs.Form.{repeats_by}
 use Rattle.mtp_json.proofs.Lists.{repeats_map}
@@ -41,11 +42,6 @@ turned one other = go (bytes_eq one other) refl (bytes_eq other one) refl
         in
         absurd (true≢false (sym again ∙ was))
 
--- of two tests that don't hold together, neither does
-pub neither : (one other : Bool) → (one || other) ≡ false → (one ≡ false) × (other ≡ false)
-neither true other is = absurd (true≢false is)
-neither false other is = (refl, is)
-
 -- where no name is there twice, the one at a place isn't among those before it
 fresh : (names : List (List ℕ)) (i : ℕ) (name : List ℕ) → slice_get names i ≡ Some name
     → repeats_by bytes_eq names ≡ false →
@@ -53,7 +49,7 @@ fresh : (names : List (List ℕ)) (i : ℕ) (name : List ℕ) → slice_get name
 fresh [] i name at unlike = cc
 fresh (first ∷ others) zero name at unlike = refl
 fresh (first ∷ others) (suc i) name at unlike =
-    let parts = neither (list_any (bytes_eq first) others) (repeats_by bytes_eq others) unlike in
+    let parts = or_parts (list_any (bytes_eq first) others) (repeats_by bytes_eq others) unlike in
     rw (turned name first, none_at (bytes_eq first) others i name parts.0 at, fresh others i name at parts.1) refl
 
 -- the names of the first services are the first names

@@ -4,6 +4,7 @@ use Rattle.std.specs.Prelude.{nat_lt, is_some, slice_get, slice_set, ifâ—Œthenâ—
 use Rattle.std.specs.Str.{bytes_eq}
 use Rattle.std.proofs.lemmas.Option.{same_Some}
 use Rattle.mtp_codes.specs.Faults.{when}
+use Rattle.mtp_codes.proofs.Names.{same_true}
 use Rattle.chart_cursor.specs.Commands.{Sent, sent_by}
 use Rattle.pol_events.specs.Events.{PlainEntry, PlainEvent, start, advance, desk}
 use Rattle.pol_events.specs.declared.answer.Answer.{Answer}
@@ -12,7 +13,6 @@ use Rattle.pol_events.specs.declared.answer.Rule.TheVariants.{HistoryFull}
 use Rattle.pol_history.specs.Answers.{answer_of, is_full, rules}
 use Rattle.pol_history.specs.Looking.{History, is_accepted, is_batch, past, subject}
 use Rattle.pol_history.proofs.Accepted.{paired}
-use Rattle.pol_history.proofs.Names.{same_true}
 use Rattle.pol_history.specs.Modules.{is_moving}
 use Rattle.pol_site.specs.Actors.{owner_of}
 use Rattle.pol_site.specs.Commanded.{IsCommanded}
@@ -20,6 +20,7 @@ use Rattle.pol_site.specs.Following.{IsAllowed, ordered}
 use Rattle.pol_site.specs.Settled.{waits_to_order}
 use Rattle.pol_site.specs.Sites.{PlainSite, PlainSiteModule, PlainSiteBatch, PlainSiteDesk}
 use Rattle.pol_site.specs.Stories.{if_to}
+use Rattle.pol_simulated.proofs.Values.{place_within}
 use Rattle.pol_stillness.proofs.Desks.{desks_refused}
 use Rattle.pol_actors.specs.Batches.{batch_event, stage_after}
 use Rattle.pol_actors.specs.Kept.{AreStages, IsKept, IsStage, IsUnit}
@@ -31,7 +32,7 @@ use Rattle.pol_actors.specs.declared.exchanger.Exchanger.{Exchanger}
 use Rattle.pol_actors.specs.declared.unit.Unit.{Unit as Module}
 use Rattle.pol_actors.proofs.Commanded.{commanded_more, unmoved, untouched}
 use Rattle.pol_actors.proofs.Exchanging.{exchanger_other}
-use Rattle.pol_actors.proofs.Numbers.{lt_not, set_got, set_long, within_item}
+use Rattle.pol_actors.proofs.Numbers.{lt_not, set_got, set_long}
 use Rattle.pol_actors.proofs.Owners.{names_apart, owned_more, owner_batch, owner_desk}
 use Rattle.pol_actors.proofs.Stages.{IsBatchTurn, batch_turn, stage_other}
 use Rattle.pol_actors.proofs.Stamped.{IsNext, allowed_stamped, entry_at, next_kept, owner_stamped}
@@ -215,7 +216,7 @@ desk_kept site older by exchanger units stages own at event room is kept =
               (kept.stages_are n batch stage at' at'');
           stage_count = kept.stage_count;
           desk_is = let before = kept.desk_is in one_more own.ordered (ordered older) before;
-          desk_within = within_item site.desk (ordered older) order at_ordered;
+          desk_within = place_within site.desk (ordered older) order at_ordered;
         }
       where
         sent : PlainEvent

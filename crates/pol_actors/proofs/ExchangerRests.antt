@@ -6,6 +6,7 @@ use Rattle.std.specs.Str.{bytes_eq}
 use Rattle.std.proofs.lemmas.Bool.{and_right}
 use Rattle.std.proofs.lemmas.Map.Keys.{any_passes_from_place}
 use Rattle.std.proofs.lemmas.Option.{cond_some}
+use Rattle.mtp_codes.proofs.Names.{same_true, same_refl}
 use Rattle.pol_events.specs.Events.{PlainEvent, exchange_begin, exchange_end, exchange_cancel}
 use Rattle.pol_events.specs.declared.answer.Answer.{Answer}
 use Rattle.pol_events.specs.declared.answer.Answer.TheVariants.{Ticket, Closed, Refused}
@@ -14,7 +15,6 @@ use Rattle.pol_history.specs.Answers.{answer_of}
 use Rattle.pol_history.specs.Looking.{History, recipes}
 use Rattle.pol_history.specs.Modules.{Docking, absent, docked, away, docking_of, ticket_of}
 use Rattle.pol_history.specs.Runs.{IsLegal}
-use Rattle.pol_history.proofs.Names.{same_refl, same_true}
 use Rattle.pol_core.specs.Calls.{refusal}
 use Rattle.pol_site.specs.Following.{FollowsSite, IsAllowed, ended_with, exchanging, none_open, opened, openings, was_begun}
 use Rattle.pol_site.specs.Plans.{begun_in}

@@ -5,6 +5,7 @@ use Rattle.std.specs.Str.{bytes_eq}
 use Rattle.std.proofs.lemmas.List.Quantifiers.{position-Some}
 use Rattle.std.proofs.lemmas.Option.{get_or_from_slice_get, same_Some}
 use Rattle.mtp_codes.specs.Faults.{when}
+use Rattle.mtp_codes.proofs.Names.{same_true, same_refl, apart_back}
 use Rattle.pol_events.specs.Events.{PlainEntry, PlainEvent, plug, exchange_begin, exchange_cancel}
 use Rattle.pol_events.specs.declared.answer.Answer.{Answer}
 use Rattle.pol_events.specs.declared.answer.Answer.TheVariants.{Done, Ticket, Did, Waiting, Closed, Refused}
@@ -15,7 +16,6 @@ use Rattle.pol_history.specs.Looking.{History, is_accepted, is_batch, is_module,
 use Rattle.pol_history.specs.Modules.{Docking, absent, docked, away, docking_of, is_moving}
 use Rattle.pol_history.specs.Rules.{tag_taken}
 use Rattle.pol_history.proofs.Accepted.{accepted_none, accepted_otherwise, paired}
-use Rattle.pol_history.proofs.Names.{same_refl, same_true}
 use Rattle.pol_safety.specs.Known.{is_there}
 use Rattle.pol_site.specs.Following.{FollowsSite, exchanging, ordered, was_begun}
 use Rattle.pol_site.specs.Plans.{begun_in}
@@ -65,15 +65,6 @@ module _ (older : History) where
       sent_command (answer_of older event) ≡ None
   silent event none =
       sends_none (when (is_full older) HistoryFull ∷ rules older event) (otherwise older event) none
-
--- two tags the other way round
-turned : (one other : List ℕ) → bytes_eq one other ≡ false → bytes_eq other one ≡ false
-turned one other apart = go (bytes_eq other one) refl
-  where
-    go : (same : Bool) → bytes_eq other one ≡ same → same ≡ false
-    go false is = refl
-    go true is =
-        let clash : false ≡ true = sym apart ∙ ap (bytes_eq one) (same_true other one is) ∙ same_refl one in cc
 
 -- a module that was plugged wasn't there
 untaken : (docking : Docking) → tag_taken docking ≡ None → is_there docking ≡ false
@@ -146,7 +137,7 @@ module _ (site : PlainSite) (older : History) (at : ℕ) (n : ℕ) (unit : Plain
           (ap (λ tag. is_there (docking_of older tag)) (sym named) ∙ there) is
       go false apart =
           unit_untouched site older entry unit own
-          (apart_free entry unit.tag (turned unit.tag tag apart) (silent older (exchange_begin 0 tag) refl)) is
+          (apart_free entry unit.tag (apart_back unit.tag tag apart) (silent older (exchange_begin 0 tag) refl)) is
 
   -- one that is cancelled
   cancelled : (tag : List ℕ) (ticket : ℕ) → is_there (docking_of older tag) ≡ true →
@@ -166,7 +157,7 @@ module _ (site : PlainSite) (older : History) (at : ℕ) (n : ℕ) (unit : Plain
           (ap (λ tag. is_there (docking_of older tag)) (sym named) ∙ there) is
       go false apart =
           unit_untouched site older entry unit own
-          (apart_free entry unit.tag (turned unit.tag tag apart) (silent older (exchange_cancel 0 tag ticket) refl)) is
+          (apart_free entry unit.tag (apart_back unit.tag tag apart) (silent older (exchange_cancel 0 tag ticket) refl)) is
 
   -- and one that ends
   ended : (tag : List ℕ) (ticket place : ℕ) (exchange : PlainSiteExchange) →
@@ -203,7 +194,7 @@ module _ (site : PlainSite) (older : History) (at : ℕ) (n : ℕ) (unit : Plain
       go true same = by (is_accepted (answer_of older event)) refl (sym (same_true unit.tag tag same))
       go false apart =
           unit_untouched site older (entry_at older at event) unit own
-          (apart_free (entry_at older at event) unit.tag (turned unit.tag tag apart) (silent older event refl)) is
+          (apart_free (entry_at older at event) unit.tag (apart_back unit.tag tag apart) (silent older event refl)) is
 
   -- by the kind of the errand
   unit_next : (errand : Errand) (event : PlainEvent) → IsErrandKind site older errand event → Goal errand event

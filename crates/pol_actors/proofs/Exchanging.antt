@@ -1,6 +1,6 @@
 -- The exchanger: where it stands after one more entry, and what it does next.
 use Rattle.std.proofs.Common.{◌≡◌, ◌<◌, ◌≤◌, ◌+◌, ℕ, suc, zero, Bool, true, false, cond, not, List, [], ◌∷◌, length, map, Option, Some, None, refl, ap, sym, ◌∙◌, subst, arith, length-append}
-use Rattle.std.specs.Prelude.{◌&&◌, ◌||◌, ◌==◌, pred, nat_lt, is_some, filter, option_map, option_and_then, slice_get, if◌then◌else◌}
+use Rattle.std.specs.Prelude.{◌&&◌, ◌||◌, ◌==◌, pred, nat_lt, is_some, option_map, option_and_then, slice_get, if◌then◌else◌}
 use Rattle.std.specs.Option.{option_or}
 use Rattle.std.specs.Str.{bytes_eq}
 use Rattle.std.proofs.lemmas.Bool.{eqb-true}
@@ -9,6 +9,7 @@ use Rattle.std.proofs.lemmas.List.{length-map}
 use Rattle.std.proofs.lemmas.Option.{same_Some}
 use Rattle.mtp_codes.specs.declared.limits.TheConstants.{MOST_MODULES}
 use Rattle.mtp_codes.specs.Faults.{when, first_of}
+use Rattle.mtp_codes.proofs.Names.{same_true, same_refl}
 use Rattle.mtp_assembly.specs.declared.control.ServiceControl.{ServiceControl}
 use Rattle.mtp_desc.specs.Plain.{PlainDescription, PlainService}
 use Rattle.chart_core.specs.Trees.{PlainStep}
@@ -28,7 +29,7 @@ use Rattle.pol_history.specs.Modules.{Docking, absent, docked, away, control_by,
 use Rattle.pol_history.specs.Rules.{active_step, module_not_at_rest, no_module, not_in_exchange, plant_full, tag_taken}
 use Rattle.pol_history.specs.Runs.{IsLegal}
 use Rattle.pol_history.proofs.Accepted.{paired, with_room}
-use Rattle.pol_history.proofs.Names.{same_refl, same_true}
+use Rattle.pol_history.proofs.Filters.{length_filter}
 use Rattle.pol_core.specs.Calls.{refusal}
 use Rattle.pol_safety.specs.Known.{is_there}
 use Rattle.pol_site.specs.Actors.{owner_of}
@@ -41,6 +42,7 @@ use Rattle.pol_site.specs.Sound.{IsSite}
 use Rattle.pol_stillness.specs.Exchanges.{open_ticket}
 use Rattle.pol_stillness.proofs.Exchanges.{open_away}
 use Rattle.pol_simulated.proofs.Places.{lt_fails}
+use Rattle.pol_simulated.proofs.Values.{place_within}
 use Rattle.pol_actors.specs.Exchanges.{begin_errand, begun_standing, ended_standing, end_event, errand_of, event_of, exchange_errand, exchanger_after, exchanging_in, is_refusal_busy, know_event, plug_event}
 use Rattle.pol_actors.specs.Kept.{IsExchanger, is_begun}
 use Rattle.pol_actors.specs.Stamps.{stamped}
@@ -50,7 +52,7 @@ use Rattle.pol_actors.specs.declared.exchanger.Exchanger.{Exchanger}
 use Rattle.pol_actors.specs.declared.exchanger.Standing.{Standing}
 use Rattle.pol_actors.specs.declared.exchanger.Standing.TheVariants as standing
 use Rattle.pol_actors.proofs.Owners.{owner_exchanger}
-use Rattle.pol_actors.proofs.Numbers.{IsEither, all_at, of_first, of_second, either_item, item_within, lt_holds, lt_not, within_item}
+use Rattle.pol_actors.proofs.Numbers.{IsEither, all_at, of_first, of_second, either_item, item_within, lt_holds, lt_not}
 
 -- ---- entries of others
 
@@ -218,16 +220,6 @@ know_errand site older exchanger each sound less at listed stands =
     behind : (place : ℕ) → length site.recipes + place < suc (opened older) → ⊥
     behind place there = omega (arith, there, less, opened_is)
 
--- a filter keeps no more than there were
-filter_short : {A : Type 0} (keeps : A → Bool) (xs : List A) → length (filter keeps xs) ≤ length xs
-filter_short keeps [] = omega arith
-filter_short {A} keeps (x ∷ xs) = go (keeps x) (filter_short keeps xs)
-  where
-    go : (kept : Bool) → length (filter keeps xs) ≤ length xs →
-        length (cond kept (x ∷ filter keeps xs) (filter keeps xs)) ≤ length (x ∷ xs)
-    go true less = omega (arith, less)
-    go false less = omega (arith, less)
-
 -- a plug of a tag that isn't there is accepted, where the history and the plant have room
 plug_taken : (older : History) (at : ℕ) (tag : List ℕ) (description : PlainDescription) → is_full older ≡ false →
     length (present_tags older) < MOST_MODULES → is_accepted (answer_of older (plug at tag description)) ≡ false →
@@ -282,7 +274,7 @@ plug_errand site older exchanger place unit room most is at listed stands =
     opened_is = stands.opened_is
 
     inside : place < length site.modules
-    inside = within_item site.modules place unit at
+    inside = place_within site.modules place unit at
 
     few_before : length (present_tags older) < MOST_MODULES
     few_before = go (length (present_tags older)) stands.few
@@ -296,7 +288,7 @@ plug_errand site older exchanger place unit room most is at listed stands =
     few_after false some = let before = stands.few some in omega (arith, before)
     few_after true some =
         go (length (present_tags older)) stands.few
-        (filter_short (λ other. not (bytes_eq other unit.tag)) (present_tags older))
+        (length_filter (λ other. not (bytes_eq other unit.tag)) (present_tags older))
       where
         go : (n : ℕ) → (0 < n → n + length site.recipes ≤ opened older) →
             length (tags_without unit.tag (present_tags older)) ≤ n →
@@ -456,7 +448,7 @@ module _ (site : PlainSite) (older : History) (exchanger : Exchanger) (sound : I
       let found = has_at site.modules exchange.tag
       (all_at (λ (exchange : PlainSiteExchange). has_module site.modules exchange.tag) site.exchanges place exchange
       sound.known_tags listed) in
-      let within = within_item site.modules found.0 found.1 found.2 in
+      let within = place_within site.modules found.0 found.1 found.2 in
       ap (λ tag. is_there (docking_of older tag)) (sym found.3)
       ∙ stands.there found.0 found.1 found.2 (omega (arith, within, opened_all))
 
@@ -466,7 +458,7 @@ module _ (site : PlainSite) (older : History) (exchanger : Exchanger) (sound : I
       (place : ℕ) (unit : PlainSiteModule) → slice_get site.modules place ≡ Some unit →
       is_there (docking_by (cond (own unit.tag) (entry ∷ past unit.tag older) (past unit.tag older))) ≡ true
   moved_there entry own moved place unit at =
-      let within = within_item site.modules place unit at in
+      let within = place_within site.modules place unit at in
       there_after entry (past unit.tag older) (own unit.tag) (moved unit.tag)
       (stands.there place unit at (omega (arith, within, opened_all)))
 
@@ -500,7 +492,7 @@ module _ (site : PlainSite) (older : History) (exchanger : Exchanger) (sound : I
           standing_is = standing_is_that answer;
           unexchanged = λ less. absurd (none_left less);
           within = stands.within;
-          begun_within = let less = within_item site.exchanges (begun_in older) exchange at in omega (arith, less);
+          begun_within = let less = place_within site.exchanges (begun_in older) exchange at in omega (arith, less);
           listed = λ is. ap is_some at;
           there = λ place unit at' less. moved_there (paired (exchange_begin stamp exchange.tag) answer)
               (λ tag. bytes_eq exchange.tag tag && is_accepted answer) (λ tag. refl) place unit at';

@@ -1,8 +1,6 @@
 -- What is kept at first.
-use Rattle.std.proofs.Common.{◌≡◌, ◌<◌, ◌+◌, ℕ, suc, zero, List, [], ◌∷◌, length, Some, None, refl, sym, subst, arith}
-use Rattle.std.specs.Prelude.{slice_get}
-use Rattle.std.specs.List.{AllByRecursion}
-use Rattle.std.proofs.lemmas.Option.{same_Some}
+use Rattle.std.proofs.Common.{◌≡◌, ◌<◌, ◌+◌, ℕ, List, [], ◌∷◌, length, None, refl, sym, subst, arith}
+use Rattle.mtp_sim.proofs.Edges.{all_at}
 use Rattle.pol_site.specs.Sites.{PlainSite, PlainSiteModule}
 use Rattle.pol_site.specs.Sound.{IsSite}
 use Rattle.pol_actors.specs.Exchanges.{first_exchanger}
@@ -11,13 +9,6 @@ use Rattle.pol_actors.specs.declared.batch.Stage.{Stage}
 use Rattle.pol_actors.specs.declared.batch.Stage.TheVariants as stage
 use Rattle.pol_actors.specs.declared.exchanger.Exchanger.{Exchanger}
 use Rattle.pol_actors.specs.declared.unit.Unit.{Unit as Module}
-
--- what holds of all items holds of the one at a place
-each_at : {A : Type 0} (P : A → Type 0) (xs : List A) (n : ℕ) (x : A) → AllByRecursion P xs → slice_get xs n ≡ Some x →
-    P x
-each_at P [] n x all at = cc
-each_at P (first ∷ others) zero x all at = subst P (same_Some first x at) all.0
-each_at P (first ∷ others) (suc n) x all at = each_at P others n x all.1 at
 
 -- the exchanger
 first_exchanger_is : (site : PlainSite) → IsExchanger site [] first_exchanger
@@ -64,10 +55,10 @@ first_kept site exchanger units stages sound is first_units first_stages =
       owned = refl;
       exchanger_is = subst (IsExchanger site []) (sym is) (first_exchanger_is site);
       units_are = λ n unit own at at'. first_unit site unit own
-          (each_at (λ (own : Module). (own.made ≡ None) × (own.brought ≡ None)) units n own first_units.1 at');
+          (all_at (λ (own : Module). (own.made ≡ None) × (own.brought ≡ None)) units n own first_units.1 at');
       unit_count = first_units.0;
       stages_are = λ n batch one at at'. subst (IsStage [] batch.batch)
-          (sym (each_at (λ each. each ≡ stage.Unsent) stages n one first_stages.1 at')) (refl, refl);
+          (sym (all_at (λ each. each ≡ stage.Unsent) stages n one first_stages.1 at')) (refl, refl);
       stage_count = first_stages.0;
       desk_is = refl;
       desk_within = omega arith;

@@ -4,6 +4,7 @@ use Rattle.std.specs.Prelude.{is_some, option_map, if◌then◌else◌}
 use Rattle.std.specs.Option.{option_or}
 use Rattle.std.specs.Str.{bytes_eq}
 use Rattle.std.proofs.lemmas.List.{length-map, length-reverse, length-take-le, map-append, reverse-append}
+use Rattle.mtp_codes.proofs.Names.{same_true}
 use Rattle.chart_core.specs.declared.entry.LogEntry.{LogEntry}
 use Rattle.chart_core.specs.declared.entry.LogEntry.TheVariants.{Start, Finish, Reset, End, Chose, Turn, Leave, Stop, Broke, Left, StopAsked, Hold, Unhold, Asked}
 use Rattle.chart_cursor.specs.Commands.{Sent, sent_by}
@@ -12,11 +13,10 @@ use Rattle.pol_events.specs.declared.answer.Answer.{Answer}
 use Rattle.pol_events.specs.declared.answer.Answer.TheVariants.{Did}
 use Rattle.pol_events.specs.declared.event.Entry.{Entry}
 use Rattle.pol_history.specs.Looking.{History}
-use Rattle.pol_history.proofs.Names.{same_true}
 use Rattle.pol_history.specs.Batches.{taken}
 use Rattle.pol_site.specs.Stories.{if_to, sent_to}
-use Rattle.pol_core.specs.Commands as plant
 use Rattle.pol_core.specs.declared.commands.Sent.{Sent as Order}
+use Rattle.pol_core.specs.Commands as plant
 use Rattle.pol_simulated.specs.Places.{Found, found_at, next_command}
 use Rattle.pol_simulated.proofs.Places.{le_true, lt_fails}
 use Rattle.pol_stillness.specs.Phases.{asked_in}

@@ -3,6 +3,7 @@ use Rattle.std.proofs.Common.{◌≡◌, ◌⊎◌, inl, inr, ◌≤◌, ◌+◌
 use Rattle.std.specs.Prelude.{◌&&◌, slice_get, slice_set}
 use Rattle.std.specs.Str.{bytes_eq}
 use Rattle.std.proofs.lemmas.Option.{same_Some}
+use Rattle.mtp_codes.proofs.Names.{same_true}
 use Rattle.mtp_sim.specs.declared.report.SimReport.{SimReport}
 use Rattle.mtp_sim.specs.declared.report.SimReport.TheVariants.{Service, Variable}
 use Rattle.pol_events.specs.Events.{PlainEntry, PlainEvent}
@@ -12,7 +13,6 @@ use Rattle.pol_history.specs.Answers.{answer_of, is_full}
 use Rattle.pol_history.specs.Looking.{History, is_accepted_of, is_batch, past, subject}
 use Rattle.pol_history.specs.Modules.{docking_of}
 use Rattle.pol_history.proofs.Accepted.{paired}
-use Rattle.pol_history.proofs.Names.{same_true}
 use Rattle.pol_safety.specs.Known.{is_there}
 use Rattle.pol_site.specs.Actors.{owner_of}
 use Rattle.pol_site.specs.Commanded.{times_changed}

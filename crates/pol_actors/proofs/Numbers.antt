@@ -19,12 +19,6 @@ item_within [] n less = absurd (omega (arith, less))
 item_within (first ∷ others) zero less = (first, refl)
 item_within (first ∷ others) (suc n) less = item_within others n (omega (arith, less))
 
--- where there is an item, that is within the list
-pub within_item : {A : Type 0} (xs : List A) (n : ℕ) (x : A) → slice_get xs n ≡ Some x → n < length xs
-within_item [] n x at = cc
-within_item (first ∷ others) zero x at = omega arith
-within_item (first ∷ others) (suc n) x at = let less = within_item others n x at in omega (arith, less)
-
 -- behind a list there is none
 pub none_behind : {A : Type 0} (xs : List A) (n : ℕ) → slice_get xs n ≡ None → length xs ≤ n
 none_behind [] n at = omega arith

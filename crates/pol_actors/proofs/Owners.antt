@@ -6,12 +6,12 @@ use Rattle.std.specs.Str.{bytes_eq}
 use Rattle.std.proofs.lemmas.Bool.Decides.{nat_tests}
 use Rattle.std.proofs.lemmas.List.{map-append, reverse-append}
 use Rattle.std.proofs.lemmas.Option.{same_Some}
+use Rattle.std.proofs.lemmas.Bool.{or_parts}
+use Rattle.mtp_codes.proofs.Names.{same_true, same_refl}
 use Rattle.mtp_json.specs.Form.{repeats_by}
 use Rattle.mtp_sim.proofs.Edges.{none_at}
-use Rattle.mtp_sim.proofs.Indexed.{neither}
 use Rattle.pol_events.specs.Events.{PlainEntry}
 use Rattle.pol_history.specs.Looking.{History}
-use Rattle.pol_history.proofs.Names.{same_refl, same_true}
 use Rattle.pol_site.specs.Actors.{the_exchanger, a_module, a_batch, the_desk, actors, has_batch, has_tag, is_desk, is_exchanger, owner_of}
 use Rattle.pol_site.specs.Sites.{PlainSite, PlainSiteModule, PlainSiteBatch}
 use Rattle.pol_site.specs.Rules.{same_batch, same_tag}
@@ -69,7 +69,7 @@ position_named name_of test change (first ∷ others) ys zero item named unlike 
     (named first ∙ ap (λ each. bytes_eq (name_of each) (name_of item)) (same_Some first item at)
     ∙ same_refl (name_of item))
 position_named name_of test change (first ∷ others) ys (suc place) item named unlike at =
-    let parts = neither (list_any (λ other. bytes_eq (name_of first) (name_of other)) others)
+    let parts = or_parts (list_any (λ other. bytes_eq (name_of first) (name_of other)) others)
     (repeats_by (λ one other. bytes_eq (name_of one) (name_of other)) others) unlike in
     position_later test (change first) (map change others ++ ys)
     (named first ∙ none_at (λ other. bytes_eq (name_of first) (name_of other)) others place item parts.0 at)
@@ -84,7 +84,7 @@ position_at name_of (first ∷ others) zero x name unlike at named =
     position_here (λ each. bytes_eq (name_of each) name) first others
     (ap (λ each. bytes_eq (name_of each) name) (same_Some first x at) ∙ named)
 position_at name_of (first ∷ others) (suc place) x name unlike at named =
-    let parts = neither (list_any (λ other. bytes_eq (name_of first) (name_of other)) others)
+    let parts = or_parts (list_any (λ other. bytes_eq (name_of first) (name_of other)) others)
     (repeats_by (λ one other. bytes_eq (name_of one) (name_of other)) others) unlike in
     position_later (λ each. bytes_eq (name_of each) name) first others
     (ap (bytes_eq (name_of first)) (sym (same_true (name_of x) name named))

@@ -5,6 +5,7 @@ use Rattle.std.specs.Option.{option_or}
 use Rattle.std.specs.Str.{bytes_eq}
 use Rattle.std.proofs.lemmas.Option.{same_Some}
 use Rattle.mtp_codes.specs.Faults.{when}
+use Rattle.mtp_codes.proofs.Names.{same_refl}
 use Rattle.chart_core.specs.declared.next.Next.{Next}
 use Rattle.chart_core.specs.declared.next.Next.TheVariants as next
 use Rattle.chart_core.specs.declared.next.Outcome.{Outcome}
@@ -21,7 +22,6 @@ use Rattle.pol_history.specs.Looking.{History, is_accepted, is_batch, past, past
 use Rattle.pol_history.specs.Rules.{no_batch}
 use Rattle.pol_history.specs.Runs.{IsLegal, IsOrderly}
 use Rattle.pol_history.proofs.Accepted.{paired, with_room}
-use Rattle.pol_history.proofs.Names.{same_refl}
 use Rattle.pol_core.specs.Calls.{open_next, refusal}
 use Rattle.pol_safety.proofs.Advances.{started_charted}
 use Rattle.pol_site.specs.Following.{IsAllowed, is_put_off, is_stepped, last_entry_of}

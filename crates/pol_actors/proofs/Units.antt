@@ -3,6 +3,7 @@ use Rattle.std.proofs.Common.{◌≡◌, ℕ, true, false, cond, List, [], ◌�
 use Rattle.std.specs.Prelude.{◌||◌, pred, is_some, option_map, slice_get, if◌then◌else◌}
 use Rattle.std.specs.Str.{bytes_eq}
 use Rattle.std.proofs.lemmas.Bool.{and_from, and_right}
+use Rattle.mtp_codes.proofs.Names.{same_refl}
 use Rattle.mtp_json.specs.Form.{repeats_by}
 use Rattle.mtp_modes.specs.declared.view.ServiceView.{ServiceView}
 use Rattle.mtp_sim.specs.declared.report.SimReport.{SimReport}
@@ -11,7 +12,7 @@ use Rattle.chart_core.specs.declared.entry.LogEntry.{LogEntry}
 use Rattle.chart_cursor.specs.Commands.{Sent, sent_by}
 use Rattle.pol_events.specs.Events.{PlainEntry, plug, report, variable, advance, exchange_begin, exchange_end, exchange_cancel}
 use Rattle.pol_events.specs.declared.answer.Answer.{Answer}
-use Rattle.pol_events.specs.declared.answer.Answer.TheVariants.{Done, Ticket, Did, Waiting, Closed, Refused}
+use Rattle.pol_events.specs.declared.answer.Answer.TheVariants.{Done, Did}
 use Rattle.pol_events.specs.declared.answer.Rule.{Rule}
 use Rattle.pol_history.specs.Answers.{first_rule}
 use Rattle.pol_history.specs.Commands.{sent_command}
@@ -19,7 +20,6 @@ use Rattle.pol_history.specs.Looking.{History, is_accepted, is_accepted_of, is_m
 use Rattle.pol_history.specs.Modules.{description_by, docking_by, docking_of, is_moving, seen_with, reported, since_docking, view_by, view_of}
 use Rattle.pol_history.specs.Runs.{IsLegal, IsOrderly}
 use Rattle.pol_history.proofs.Accepted.{paired}
-use Rattle.pol_history.proofs.Names.{same_refl}
 use Rattle.pol_safety.specs.Known.{is_there}
 use Rattle.pol_site.specs.Commanded.{IsCommanded}
 use Rattle.pol_site.specs.Following.{FollowsSite, exchanging, was_begun}
@@ -33,6 +33,7 @@ use Rattle.pol_simulated.proofs.Planned.{ends_bring, plugs_bring}
 use Rattle.pol_stillness.specs.KeepingUp.{KeepsUp}
 use Rattle.pol_stillness.proofs.KeepingUp.{others_up, sends_up}
 use Rattle.pol_stillness.proofs.Still.{sent_still}
+use Rattle.pol_stillness.proofs.Owing.{refused_silent}
 use Rattle.pol_actors.specs.Kept.{IsBrought, IsMadeUp, IsUnit}
 use Rattle.pol_actors.specs.Turning.{origin_of}
 use Rattle.pol_actors.specs.declared.simulation.Simulation.{Simulation}
@@ -248,15 +249,6 @@ sends_none [] answer none = none
 sends_none (Some rule ∷ rules) answer none = refl
 sends_none (None ∷ rules) answer none = sends_none rules answer none
 
--- a refusal sends nothing
-pub refused_none : (answer : Answer) → is_accepted answer ≡ false → sent_command answer ≡ None
-refused_none (Refused rule) refused = refl
-refused_none Done refused = cc
-refused_none (Ticket ticket) refused = cc
-refused_none (Did entry) refused = cc
-refused_none (Waiting obstacle) refused = cc
-refused_none (Closed outcome) refused = cc
-
 -- an entry that isn't the module's, or was refused, and sends nothing
 pub touches_none : (tag : List ℕ) (entry : PlainEntry) → is_accepted_of tag entry ≡ false →
     sent_command entry.answer ≡ None → touches tag entry ≡ false
@@ -267,4 +259,4 @@ touches_none tag entry apart none =
 pub touches_refused : (tag : List ℕ) (entry : PlainEntry) → is_accepted entry.answer ≡ false → touches tag entry ≡ false
 touches_refused tag entry refused =
     touches_none tag entry (and_right (is_module tag (subject entry.event)) (is_accepted entry.answer) refused)
-    (refused_none entry.answer refused)
+    (refused_silent entry.answer refused)

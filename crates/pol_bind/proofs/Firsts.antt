@@ -3,6 +3,7 @@ use Rattle.std.specs.Prelude.{ℕ, ◌≡◌, ◌+◌, List, [], ◌∷◌, ◌+
 use Rattle.std.specs.List.{list_any}
 use Rattle.std.specs.Option.{option_or}
 use Rattle.std.proofs.Common.{refl, ap, sym, ◌∙◌}
+use Rattle.std.proofs.lemmas.Bool.{and_right}
 use Rattle.mtp_codes.specs.Names.{same_name}
 use Rattle.mtp_desc.specs.Plain.{PlainDescription}
 use Rattle.chart_core.specs.Formulas.{Formula, Formulas, constant, all_of, any_of, not_of, test, no_formulas, more_formulas}
@@ -193,11 +194,6 @@ none_of_variable role variable description (x ∷ xs) none =
     ∙ none_of_variable role variable description xs (rest_none (is_test_misfit_for role description x)
     (list_any (is_test_misfit_for role description) xs) none)
 
--- nor are both
-and_none : (one other : Bool) → other ≡ false → (one && other) ≡ false
-and_none true other h = h
-and_none false other h = refl
-
 -- where none passes none is found
 none_found : {X Y : Type 0} (part : X → Y) (property : X → Bool) → ((x : X) → property x ≡ false) → (xs : List X)
     → option_map part (find property xs) ≡ None
@@ -212,7 +208,7 @@ pub none_refused :
 none_refused root role description none =
     let no_misfit = sym (found_where_any (is_test_misfit_for role description) (tests_in root)) ∙ ap is_some none in
     none_found (λ test. test.variable) (is_test_refused root role description)
-    (λ test. and_none (same_name test.role role) (list_any (is_test_misfit_of role test.variable description)
+    (λ test. and_right (same_name test.role role) (list_any (is_test_misfit_of role test.variable description)
     (tests_in root))
     (none_of_variable role test.variable description (tests_in root) no_misfit))
     (tests_in root)

@@ -7,6 +7,7 @@ use Rattle.std.proofs.Math.Path.{fun_ext}
 use Rattle.mtp_codes.specs.Faults.{first_of}
 use Rattle.std.specs.Str.{bytes_eq}
 use Rattle.mtp_codes.specs.declared.cover.CoverFault.{CoverFault}
+use Rattle.mtp_codes.proofs.Names.{same_true}
 use Rattle.mtp_desc.specs.Plain.{PlainDescription}
 use Rattle.mtp_procs.specs.Covers.{cover_fault, missing_by}
 use Rattle.chart_core.specs.Charts.{plain_chart}
@@ -21,7 +22,6 @@ use Rattle.pol_history.specs.Looking.{History, past, past_of_batch, recipes}
 use Rattle.pol_history.specs.Modules.{dockings_by}
 use Rattle.pol_history.specs.Rules.{uncovered_by, uncovered_in, held_back}
 use Rattle.pol_history.proofs.Accepted.{paired}
-use Rattle.pol_history.proofs.Names.{same_true}
 use Rattle.pol_slots.specs.Slots.{slot_ticket, slot_begins, IsDocked}
 use Rattle.pol_slots.specs.declared.slot.Slot.{Slot}
 use Rattle.pol_table.specs.Rows as tables

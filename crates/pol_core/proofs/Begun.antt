@@ -11,6 +11,7 @@ use Rattle.std.specs.declared.sync.Arc.{Arc}
 use Rattle.mtp_codes.specs.Faults.{when, first_of, done_unless}
 use Rattle.mtp_codes.specs.Names.{is_among}
 use Rattle.mtp_codes.specs.declared.limits.TheConstants.{MOST_BATCHES}
+use Rattle.mtp_codes.proofs.Names.{same_true, same_refl}
 use Rattle.chart_core.specs.Charts.{plain_chart}
 use Rattle.chart_core.specs.Roles.{PlainChart, role_names}
 use Rattle.chart_core.specs.declared.chart.Chart.{Chart}
@@ -30,7 +31,6 @@ use Rattle.pol_history.specs.Looking.{History, past_of_batch, recipes}
 use Rattle.pol_history.specs.Rules.{batch_known, batches_full, busy_module, role_unbound, role_unknown, one_module_twice, watched_step, steps_in, modules_unfit, busy}
 use Rattle.pol_history.proofs.Accepted.{paired}
 use Rattle.pol_history.proofs.Binds.{IsFitting, fitting, binds_known, given_known, tags_by_role, unknown_parts}
-use Rattle.pol_history.proofs.Names.{same_refl, same_true}
 use Rattle.pol_history.proofs.Holders.{started}
 use Rattle.pol_slots.specs.declared.slot.Slot.{Slot}
 use Rattle.pol_table.specs.Answers.{missing_at, busy_at, holding}

@@ -2,9 +2,9 @@
 use Rattle.std.proofs.Common.{◌≡◌, ℕ, Bool, true, false, cond, List, [], ◌∷◌, ◌++◌, Option, Some, None, is_some, refl, ap, sym, ◌∙◌, subst}
 use Rattle.std.specs.Prelude.{◌&&◌, ◌||◌, not, if◌then◌else◌, unwrap_or, Result, Ok, Err, OnOk, OnErr, ⊤}
 use Rattle.std.specs.Map.{lookup}
-use Rattle.std.specs.Option.{option_or}
 use Rattle.std.specs.Str.{bytes_eq}
 use Rattle.mtp_codes.specs.Faults.{when, done_unless}
+use Rattle.mtp_codes.proofs.Names.{same_true}
 use Rattle.chart_core.specs.Charts.{plain_chart}
 use Rattle.chart_core.specs.declared.entry.LogEntry.TheVariants.{StopAsked}
 use Rattle.chart_core.specs.declared.next.Outcome.{Outcome}
@@ -15,14 +15,13 @@ use Rattle.pol_events.specs.declared.answer.Answer.TheVariants.{Done, Did, Refus
 use Rattle.pol_events.specs.declared.answer.Rule.{Rule}
 use Rattle.pol_events.specs.declared.answer.Rule.TheVariants.{BatchClosed, AlreadyFrozen, NotFrozen}
 use Rattle.pol_history.specs.Answers.{first_rule, rules, otherwise, answer_of, is_full}
-use Rattle.pol_history.specs.Batches.{starting, start_by, closing, outcome_by, outcome_of, freezing, holds, is_frozen_by, is_holding_by, asked_by, log_by}
+use Rattle.pol_history.specs.Batches.{starting, start_by, closing, outcome_by, outcome_of, holds, is_frozen_by, is_holding_by, asked_by, log_by}
 use Rattle.pol_history.specs.Looking.{History, of_batch, subject, is_accepted, past_of_batch, recipes, last_of}
 use Rattle.pol_history.specs.Modules.{present_tags}
 use Rattle.pol_history.specs.Refused.{ChangesNothing}
 use Rattle.pol_history.specs.Rules.{no_batch, batch_closed, already_frozen, not_frozen}
 use Rattle.pol_history.specs.Runs.{entry_of}
 use Rattle.pol_history.proofs.Accepted.{paired, with_room}
-use Rattle.pol_history.proofs.Names.{same_true}
 use Rattle.pol_history.proofs.Pasts.{log_grows}
 use Rattle.pol_history.proofs.Refused.{refused_nothing}
 use Rattle.pol_slots.specs.declared.slot.Slot.{Slot}

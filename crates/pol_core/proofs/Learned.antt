@@ -7,6 +7,7 @@ use Rattle.std.specs.Str.{bytes_eq}
 use Rattle.std.specs.declared.sync.Arc.{Arc}
 use Rattle.mtp_codes.specs.Faults.{when}
 use Rattle.mtp_codes.specs.declared.limits.TheConstants.{MOST_RECIPES}
+use Rattle.mtp_codes.proofs.Names.{same_true}
 use Rattle.chart_core.specs.Charts.{plain_chart}
 use Rattle.chart_core.specs.Roles.{PlainChart}
 use Rattle.chart_core.specs.Valid.{IsValid, chart_fault}
@@ -22,7 +23,6 @@ use Rattle.pol_history.specs.Looking.{History, is_accepted, past, past_of_batch,
 use Rattle.pol_history.specs.Rules.{recipes_full}
 use Rattle.pol_history.specs.Runs.{entry_of}
 use Rattle.pol_history.proofs.Accepted.{paired, with_room}
-use Rattle.pol_history.proofs.Names.{same_true}
 use Rattle.pol_history.proofs.Refused.{refused_nothing}
 use Rattle.pol_slots.specs.declared.slot.Slot.{Slot}
 use Rattle.pol_table.specs.Rows.{Rows, look}

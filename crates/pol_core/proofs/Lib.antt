@@ -3,7 +3,6 @@ pub mod Judging
 pub mod Used
 pub mod Seating
 pub mod Telling
-pub mod Runs
 pub mod Sights
 pub mod Closing
 pub mod Stepping

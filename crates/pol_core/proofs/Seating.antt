@@ -2,11 +2,11 @@
 use Rattle.std.proofs.Common.{◌≡◌, ℕ, Bool, true, false, cond, List, ◌∷◌, Option, Some, None, refl, ap, sym, ◌∙◌, subst}
 use Rattle.std.specs.Option.{option_map}
 use Rattle.std.specs.Str.{bytes_eq}
+use Rattle.mtp_codes.proofs.Names.{same_true}
 use Rattle.pol_events.specs.Events.{PlainEntry}
 use Rattle.pol_history.specs.Looking.{History, of_module, subject, past}
 use Rattle.pol_history.specs.Refused.{ChangesNothing}
 use Rattle.pol_core.proofs.Used.{users_same, users_refused}
-use Rattle.pol_history.proofs.Names.{same_true}
 use Rattle.pol_history.proofs.Pasts.{past_apart}
 use Rattle.pol_slots.specs.declared.slot.Slot.{Slot}
 use Rattle.pol_table.specs.Rows.{Row, Rows, look, with_part}

@@ -9,12 +9,12 @@ use Rattle.std.proofs.Math.Path.{fun_ext}
 use Rattle.std.specs.Str.{bytes_eq}
 use Rattle.mtp_codes.specs.Faults.{done_unless, first_of}
 use Rattle.mtp_codes.specs.Names.{is_among}
+use Rattle.mtp_codes.proofs.Names.{same_true, apart_back}
 use Rattle.chart_core.specs.Roles.{PlainChart}
 use Rattle.pol_events.specs.Bound.{PlainAllocation, tags_of}
 use Rattle.pol_history.specs.Batches.{chart_named, holder_of, watchers_of}
 use Rattle.pol_history.specs.Looking.{History, past, past_of_batch, recipes}
-use Rattle.pol_history.proofs.Holders.{started, apart_back}
-use Rattle.pol_history.proofs.Names.{same_true}
+use Rattle.pol_history.proofs.Holders.{started}
 use Rattle.pol_history.proofs.Pasts.{module_past_same}
 use Rattle.pol_slots.specs.declared.slot.Slot.{Slot}
 use Rattle.pol_table.specs.Answers.{missing_at, busy_at, hold_fault, holding}

@@ -5,6 +5,7 @@ use Rattle.std.specs.Map.{lookup}
 use Rattle.std.specs.Option.{option_or, option_map}
 use Rattle.std.specs.Str.{bytes_eq}
 use Rattle.mtp_codes.specs.Faults.{when}
+use Rattle.mtp_codes.proofs.Names.{same_true}
 use Rattle.chart_core.specs.Charts.{plain_chart}
 use Rattle.chart_core.specs.declared.entry.LogEntry.{LogEntry}
 use Rattle.chart_core.specs.declared.entry.LogEntry.TheVariants.{Hold}
@@ -15,13 +16,12 @@ use Rattle.pol_events.specs.Bound.{given}
 use Rattle.pol_events.specs.Events.{PlainEntry, advance}
 use Rattle.pol_events.specs.declared.answer.Rule.TheVariants.{BatchClosed}
 use Rattle.pol_history.specs.Answers.{advanced, first_rule, answer_of, is_full}
-use Rattle.pol_history.specs.Batches.{Started, closing, outcome_by, is_frozen_by, is_holding_by, asked_by, frozen_so, freezing_by, log_by}
+use Rattle.pol_history.specs.Batches.{Started, closing, outcome_by, is_frozen_by, asked_by, frozen_so, freezing_by, log_by}
 use Rattle.pol_history.specs.Following.{sights_by, next_of_started, next_of}
 use Rattle.pol_history.specs.Looking.{History, of_batch, subject, is_accepted, past, past_of_batch, recipes}
 use Rattle.pol_history.specs.Rules.{no_batch, batch_closed}
 use Rattle.pol_history.specs.Runs.{entry_of}
 use Rattle.pol_history.proofs.Accepted.{paired, with_room}
-use Rattle.pol_history.proofs.Names.{same_true}
 use Rattle.pol_history.proofs.Pasts.{log_grows, batch_recipes_same, batch_past_apart, batch_past_own}
 use Rattle.pol_slots.specs.declared.slot.Slot.{Slot}
 use Rattle.pol_table.specs.Rows.{Rows, look}

@@ -1,9 +1,10 @@
 -- The table of modules after a report, and after a variable's value.
 use Rattle.std.proofs.Common.{◌≡◌, ℕ, Bool, true, false, cond, List, ◌∷◌, Option, Some, None, is_some, refl, ap, sym, ◌∙◌, subst}
-use Rattle.std.specs.Prelude.{Result, Ok, Err, ⊤, OnOk, OnErr, IfOk, is_ok}
+use Rattle.std.specs.Prelude.{Result, Ok, Err, ⊤, OnOk, OnErr, is_ok}
 use Rattle.std.specs.Borrow.{Bor}
 use Rattle.std.specs.Option.{option_map, option_copied}
 use Rattle.std.specs.Str.{bytes_eq}
+use Rattle.mtp_codes.proofs.Names.{same_true}
 use Rattle.pol_events.specs.Events.{PlainEvent, PlainEntry}
 use Rattle.pol_events.specs.declared.answer.Answer.{Answer}
 use Rattle.pol_events.specs.declared.answer.Rule.{Rule}
@@ -11,7 +12,6 @@ use Rattle.pol_history.specs.Answers.{answer_of}
 use Rattle.pol_history.specs.Looking.{History, of_module, subject, is_accepted, past}
 use Rattle.pol_history.specs.Modules.{absent, docking_by, present_tags}
 use Rattle.pol_history.specs.Runs.{entry_of}
-use Rattle.pol_history.proofs.Names.{same_true}
 use Rattle.pol_history.proofs.Pasts.{past_own}
 use Rattle.pol_history.proofs.Refused.{refused_nothing}
 use Rattle.pol_slots.specs.declared.slot.Slot.{Slot}
@@ -103,16 +103,6 @@ seats_unmoved history entry tag slot rows is accepted found keeps mirror =
         go true here = ap (λ name. look name rows) (sym (same_true tag other here)) ∙ found
         go false apart = refl
 
--- what follows from what holds after success
-pub on_ok : {X E : Type 0} {A B : Type 0} (result : Result X E) → (A → B) → OnOk result A → OnOk result B
-on_ok (Ok done) f holds = f holds
-on_ok (Err fault) f holds = tt
-
--- what follows from what holds after an error
-pub on_err : {X E : Type 0} {A B : Type 0} (result : Result X E) → (A → B) → OnErr result A → OnErr result B
-on_err (Ok done) f holds = tt
-on_err (Err fault) f holds = f holds
-
 -- after an event that is refused, or that is done
 pub slot_told : (history : History) (event : PlainEvent) (tag : List ℕ) (rows : Rows Slot)
     (old new : Slot) (result : Result ⊤ Rule) → subject event ≡ of_module tag →
@@ -149,12 +139,6 @@ part_some (Some row) = refl
 pub copied_some : {T : Type 0} (found : Option (Bor T)) → is_some (option_copied found) ≡ is_some found
 copied_some None = refl
 copied_some (Some part) = refl
-
--- what follows for the value of a success
-pub if_ok : {X E : Type 0} (result : Result X E) (P Q : X → Type 0) → ((x : X) → P x → Q x) →
-    IfOk result P → IfOk result Q
-if_ok (Ok x) P Q f holds = f x holds
-if_ok (Err fault) P Q f holds = tt
 
 -- an event of a module that its slot answers by itself
 pub slot_answered : (history : History) (event : PlainEvent) (tag : List ℕ) (rows : Rows Slot)

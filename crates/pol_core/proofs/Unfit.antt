@@ -17,6 +17,7 @@ use Rattle.pol_history.specs.Following.{sight_in}
 use Rattle.pol_history.specs.Looking.{History, past}
 use Rattle.pol_history.specs.Modules.{Docking, absent, docked, away, docking_by, ticket_of, description_by, view_by}
 use Rattle.pol_history.specs.Rules.{steps_in, watched_step, no_module, not_covered, not_reported, not_idle, unready, not_ready, services_of, module_rules, module_rule, modules_unfit, busy_module, busy_role, busy, one_module_twice, role_unbound, role_unknown}
+use Rattle.pol_history.proofs.Holders.{or_nothing}
 use Rattle.pol_slots.specs.Sights.{slot_sight}
 use Rattle.pol_slots.specs.Slots.{slot_ticket, slot_description}
 use Rattle.pol_slots.specs.declared.slot.Slot.{Slot}
@@ -27,7 +28,7 @@ use Rattle.pol_core.specs.Seats.{Users, users_of, SlotKeeps, IsSeated, SeatsMirr
 use Rattle.pol_core.specs.Walks.{first_said}
 use Rattle.pol_core.proofs.Judging.{there_is}
 use Rattle.pol_core.proofs.Sights.{slot_sight_is}
-use Rattle.pol_core.proofs.Walked.{or_none_right, said, said_is}
+use Rattle.pol_core.proofs.Walked.{said, said_is}
 
 -- ---- the services of a role
 
@@ -103,7 +104,7 @@ slot_rule_same chart role tag slot past keeps = go (slot_ticket slot) refl
         ∙ ap (option_or (option_map (cover_rule role) (cover_fault chart role (slot_description slot))))
         (said_is (step_unready slot tag role) chart.root 0
         ∙ services_same tag role slot past (λ service. service_same tag service slot past keeps is) (steps chart.root 0)
-        ∙ sym (or_none_right (not_ready tag past (services_of chart role))))
+        ∙ sym (or_nothing (not_ready tag past (services_of chart role))))
         ∙ ap (λ description. option_or (not_covered chart role description)
         (option_or (not_ready tag past (services_of chart role)) None)) (sym keeps.description)
         ∙ sym (looked ∙ ap (λ ticket. option_or (in_exchange tag ticket) others) is)

@@ -4,6 +4,7 @@ use Rattle.std.specs.Prelude.{◌||◌, if◌then◌else◌, is_ok, map, slice_g
 use Rattle.mtp_codes.specs.Faults.{first_of}
 use Rattle.std.specs.Str.{bytes_eq}
 use Rattle.mtp_codes.specs.Names.{is_among}
+use Rattle.mtp_codes.proofs.Names.{same_true}
 use Rattle.pol_events.specs.Events.{PlainEntry, unplug}
 use Rattle.pol_events.specs.Refusals.{in_exchange}
 use Rattle.pol_events.specs.declared.answer.Answer.{Answer}
@@ -16,7 +17,6 @@ use Rattle.pol_history.specs.Rules.{watched}
 use Rattle.pol_history.specs.Looking.{History, past}
 use Rattle.pol_history.specs.Modules.{docking_by, ticket_of, present_tags, tags_without}
 use Rattle.pol_history.proofs.Accepted.{paired, with_room}
-use Rattle.pol_history.proofs.Names.{same_true}
 use Rattle.pol_history.proofs.Pasts.{past_own}
 use Rattle.pol_slots.specs.Slots.{slot_ticket}
 use Rattle.pol_slots.specs.declared.slot.Slot.{Slot}

@@ -5,12 +5,8 @@ use Rattle.std.specs.Option.{option_or}
 use Rattle.std.specs.Str.{bytes_eq}
 use Rattle.mtp_codes.specs.Faults.{first_of}
 use Rattle.chart_core.specs.Trees.{PlainStep, Placed, Tree, Trees, Arms, leaf, seq, par, choice, loop, no_trees, more_trees, no_arms, more_arms, size, steps, all_steps, arm_steps}
+use Rattle.pol_history.proofs.Holders.{or_nothing}
 use Rattle.pol_core.specs.Walks.{first_said, first_said_among, first_said_in_arms, settings_if}
-
--- nothing after what is found
-pub or_none_right : {A : Type 0} (found : Option A) → option_or found None ≡ found
-or_none_right None = refl
-or_none_right (Some x) = refl
 
 -- the first of two lists
 first_append : {X A : Type 0} (f : X → Option A) (xs ys : List X) → first_of (map f (xs ++ ys))
@@ -37,7 +33,7 @@ mutual
   -- the walk finds what the steps say first
   pub said_is : {A : Type 0} (says : PlainStep → Option A) (each : Tree) (n : ℕ) →
       first_said says each ≡ said says (steps each n)
-  said_is says (leaf step) n = sym (or_none_right (says step))
+  said_is says (leaf step) n = sym (or_nothing (says step))
   said_is says (seq each) n = said_among_is says each (n + 1)
   said_is says (par each) n = said_among_is says each (n + 1)
   said_is says (choice each) n = said_in_arms_is says each (n + 1)

@@ -1,26 +1,11 @@
 -- Names of a letter and a number.
-use Rattle.std.proofs.Common.{ℕ, ◌≡◌, ◌≤◌, ◌<◌, ◌^◌, List, [], ◌∷◌, ◌++◌, length, length-append, true, IsTrue, decimal, refl, arith}
-use Rattle.std.specs.Int.{IsInRange}
+use Rattle.std.proofs.Common.{ℕ, ◌≡◌, ◌≤◌, ◌<◌, ◌^◌, List, [], ◌∷◌, ◌++◌, length, length-append, true, IsTrue, decimal, arith}
 use Rattle.std.specs.List.{list_all}
-use Rattle.std.specs.Str.Parse.{AllDigits}
 use Rattle.std.proofs.lemmas.Bool.Decides.{nat_tests}
 use Rattle.std.proofs.lemmas.Fmt.{decimal_is_IsNumeral, length-decimal-le}
-use Rattle.std.proofs.lemmas.Str.Parse.{digit_from_value}
 use Rattle.mtp_codes.specs.Names.{is_name, is_name_byte}
+use Rattle.mtp_codes.proofs.Names.{digits_in_name}
 use Rattle.pol_demo.specs.Names.{numbered_name}
-
--- a digit may stand in a name
-digit_in_name : (byte : ℕ) → IsInRange 48 57 byte → is_name_byte byte ≡ true
-digit_in_name byte digit =
-    let low : 48 ≤ byte = digit.0 in
-    let high : byte ≤ 57 = digit.1 in
-    grind (arith, nat_tests, low, high)
-
--- digits may stand in a name
-digits_in_name : (bytes : List ℕ) → AllDigits 10 bytes → list_all is_name_byte bytes ≡ true
-digits_in_name [] digits = refl
-digits_in_name (byte ∷ bytes) digits =
-    rw (digit_in_name byte (digit_from_value byte digits.0), digits_in_name bytes digits.1) refl
 
 -- a short list of bytes that may stand in a name is one
 few_bytes : (bytes : List ℕ) → 0 < length bytes → length bytes ≤ 32 → list_all is_name_byte bytes ≡ true →

@@ -12,15 +12,16 @@ use Rattle.serde_json.specs.Events.{items_len}
 use Rattle.serde_json.specs.Find.{of_integer}
 use Rattle.serde_json.specs.View.{items_of, items_view}
 use Rattle.serde_json.specs.declared.value.Value.{Value}
+use Rattle.serde_json.proofs.Views.{items_len-items_view}
 use Rattle.mtp_codes.specs.declared.value.Reading.{Reading}
 use Rattle.mtp_codes.specs.declared.value.Reading.TheVariants.{Whole, Bit}
+use Rattle.mtp_codes.proofs.Names.{same_refl}
 use Rattle.chart_core.specs.declared.limits.TheConstants.{MOST_READS}
 use Rattle.pol_events.specs.Fields.{PlainField, PlainFieldValue, plain_field, in_order, number, readings, text}
 use Rattle.pol_events.specs.declared.fields.Field.{Field}
 use Rattle.pol_record.specs.Objects.{fields_data, members_in, reading_data, value_data}
 use Rattle.pol_entries.specs.Compared.{are_fields, are_readings, is_field, is_object, is_reading, is_there, is_value, is_whole, same_bit}
 use Rattle.pol_entries.specs.Found.{each_reading, few_readings}
-use Rattle.pol_entries.proofs.Sizes.{length_of_view}
 
 -- ---- goals of loops
 
@@ -30,7 +31,7 @@ pub few_read : (values left : List Value) (front : List Reading) → left ≡ []
     → front ≡ few_readings (items_view values)
 few_read values left front none few read =
     let small : nat_le (items_len (items_view values)) MOST_READS ≡ true =
-    rw (length_of_view values) (le-leb (length values) MOST_READS few) in
+    rw (items_len-items_view values) (le-leb (length values) MOST_READS few) in
     sym (append-nil front) ∙ (rw none at read)
     ∙ sym (ap (λ fits. if fits then each_reading (items_view values) else []) small)
 
@@ -151,10 +152,6 @@ bit_same : (bit : Bool) → same_bit bit bit ≡ true
 bit_same true = refl
 bit_same false = refl
 
--- bytes are compared equal to themselves
-bytes_same : (bytes : List ℕ) → bytes_eq bytes bytes ≡ true
-bytes_same bytes = (bytes_eq-Decides bytes bytes).1 refl
-
 -- a number is compared equal to itself
 number_same : (n : ℕ) → (n == n) ≡ true
 number_same n = (Decides-eqb n n).1 refl
@@ -172,14 +169,14 @@ readings_same (reading ∷ others) = rw (reading_same reading, readings_same oth
 
 -- the value of what a field tells is compared equal to that
 value_same : (told : PlainFieldValue) → is_value told (value_data told) ≡ true
-value_same (text told) = bytes_same told
+value_same (text told) = same_refl told
 value_same (number told) = number_same told
 value_same (readings told) = readings_same told
 
 -- the members of fields are compared equal to them
 members_same : (fields : List PlainField) → are_fields fields (members_in fields) ≡ true
 members_same [] = refl
-members_same (field ∷ fields) = rw (bytes_same field.key, value_same field.value, members_same fields) refl
+members_same (field ∷ fields) = rw (same_refl field.key, value_same field.value, members_same fields) refl
 
 -- the object of fields is compared equal to them
 pub object_same : (fields : List PlainField) → is_object fields (fields_data fields) ≡ true

@@ -1,4 +1,3 @@
-pub mod Sizes
 pub mod Compared
 pub mod Again
 pub mod Told

@@ -24,17 +24,6 @@ use Rattle.pol_events.specs.declared.event.Event.{Event}
 abbrev as_read : PlainEvent → ReadResult PlainEvent
 as_read event = Ok event
 
--- an event is an event whose chart has no fault
-pub line_ok : (said : ReadResult PlainEvent) (event : PlainEvent) → of_line said ≡ Ok event
-    → (said ≡ Ok event) × (fault_within event ≡ None)
-line_ok (Err fault) event is = absurd cc
-line_ok (Ok own) event is = go (fault_within own) refl is
-  where
-    go : (fault : Option ChartFault) → fault_within own ≡ fault → unless_faulty own fault ≡ Ok event
-        → (as_read own ≡ as_read event) × (fault_within event ≡ None)
-    go None none is = let same : own ≡ event = cc in (ap as_read same, ap fault_within (sym same) ∙ none)
-    go (Some fault) none is = absurd cc
-
 -- the fault of a chart is that of an event that was read
 pub line_chart : (said : ReadResult PlainEvent) (fault : ChartFault) → of_line said ≡ Err (Chart fault)
     → (event : PlainEvent) × (said ≡ Ok event) × (fault_within event ≡ Some fault)

@@ -15,7 +15,7 @@ use pol_events::{Answer, Entry, Event, LineFault, LineRefusal, event_from};
 use serde_json::Value;
 use std::alloc::Global;
 
-#[tactic(auto, using(crate::proofs::Lines::line_ok, crate::proofs::Lines::line_chart, crate::proofs::Lines::line_json, crate::proofs::Lines::line_short))]
+#[tactic(auto, using(pol_events::proofs::Versions::line_parts, crate::proofs::Lines::line_chart, crate::proofs::Lines::line_json, crate::proofs::Lines::line_short))]
 fn event_here(alloc: Global, value: &Value) -> Result<Result<Event, ChartFault>, JsonRefusal>
     ensures gives { ReadsAs plain_event (λ event. event) result (event_in (view value.now)) }
     ensures orderly { IfOk result (λ asked. IfOk asked (λ event. IsTrue (is_orderly (plain_event event)))) }

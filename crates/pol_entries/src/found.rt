@@ -103,7 +103,7 @@ fn reading_of(value: &Value) -> Reading
     }
 }
 
-#[tactic(auto, using(crate::proofs::Sizes::length_of_view, crate::proofs::Compared::few_read))]
+#[tactic(auto, using(mtp_json::proofs::Lists::length_of_view, crate::proofs::Compared::few_read))]
 fn few_readings(values: &[Value]) -> Readings
     ensures { result ≡ few_readings (items_view values.now) }
 {

@@ -1,13 +1,13 @@
 -- The binds of a start: those of the modules that it holds, and those of the modules that it watches.
-use Rattle.std.proofs.Common.{◌≡◌, ℕ, Bool, true, false, not, cond, ◌&&◌, List, [], ◌∷◌, ◌++◌, Some, refl, sym, ◌∙◌}
+use Rattle.std.proofs.Common.{◌≡◌, ℕ, Bool, true, false, not, cond, ◌&&◌, List, [], ◌∷◌, ◌++◌, Some, refl, ◌∙◌}
 use Rattle.std.specs.Prelude.{find, is_some, length, nat_le, option_map}
 use Rattle.mtp_codes.specs.declared.limits.TheConstants.{MOST_BINDS}
+use Rattle.mtp_codes.proofs.Names.{apart_back}
 use Rattle.std.specs.List.{list_all, list_any}
 use Rattle.std.specs.Option.{option_or}
 use Rattle.std.specs.Str.{bytes_eq}
 use Rattle.std.proofs.lemmas.Bool.{and_parts, or_parts, not-true}
 use Rattle.std.proofs.lemmas.List.Folds.{list_all-append}
-use Rattle.std.proofs.lemmas.Slice.Eq.{bytes_eq-Decides}
 use Rattle.pol_events.specs.Bound.{PlainAllocation, bound_role, bound_tag, given, shares_a_role}
 use Rattle.pol_events.specs.Orderly.{are_listed, is_allocation, rise, roles_once}
 use Rattle.pol_events.specs.declared.event.Bind.{Bind}
@@ -26,16 +26,6 @@ role_given binds tag = found_append (λ bind. bind.role) (λ bind. bytes_eq bind
 
 -- ---- no role stands twice
 
--- a role that isn't another is not that one the other way round either
-same_back : (one other : List ℕ) → bytes_eq one other ≡ false → bytes_eq other one ≡ false
-same_back one other apart = go (bytes_eq other one) refl
-  where
-    go : (same : Bool) → bytes_eq other one ≡ same → bytes_eq other one ≡ false
-    go false is = is
-    go true is =
-        let clash : true ≡ false =
-        sym ((bytes_eq-Decides one other).1 (sym ((bytes_eq-Decides other one).0 is))) ∙ apart in cc
-
 -- where no bind has the role, each bind's role is another
 none_has : (role : List ℕ) (binds : List Bind) → is_some (bound_tag binds role) ≡ false
     → list_all (λ other. not (bytes_eq role other.role)) binds ≡ true
@@ -48,7 +38,7 @@ none_has role (bind ∷ binds) none = go (bytes_eq bind.role role) refl none (no
         (is_some (bound_tag binds role) ≡ false → list_all (λ other. not (bytes_eq role other.role)) binds ≡ true) →
         (not (bytes_eq role bind.role) && list_all (λ other. not (bytes_eq role other.role)) binds) ≡ true
     go true is none rest = cc
-    go false is none rest = rw (same_back bind.role role is, rest none) refl
+    go false is none rest = rw (apart_back bind.role role is, rest none) refl
 
 -- two lists of which no role stands twice, nor in both, make one of which none does
 once_both : (held watched : List Bind) → roles_once held ≡ true → roles_once watched ≡ true

@@ -3,20 +3,12 @@ use Rattle.std.proofs.Common.{◌≡◌, ℕ, Bool, true, false, List, Option, S
 use Rattle.std.specs.Prelude.{find, option_map}
 use Rattle.std.specs.List.{Contains}
 use Rattle.std.specs.Str.{bytes_eq}
-use Rattle.std.proofs.lemmas.Slice.Eq.{bytes_eq-Decides}
 use Rattle.mtp_codes.specs.Names.{same_name}
+use Rattle.mtp_codes.proofs.Names.{same_true, same_refl}
 use Rattle.pol_events.specs.Bound.{bound_tag, bound_role, ArePaired, is_tag}
 use Rattle.pol_events.specs.declared.event.Bind.{Bind}
 use Rattle.pol_events.proofs.Lists.{found_member, none_found}
 use Rattle.pol_events.proofs.Options.{no_image}
-
--- names of the same bytes are the same name
-same_true : (one other : List ℕ) → bytes_eq one other ≡ true → one ≡ other
-same_true one other = (bytes_eq-Decides one other).0
-
--- a name has the bytes that it has
-same_refl : (name : List ℕ) → bytes_eq name name ≡ true
-same_refl name = (bytes_eq-Decides name name).1 refl
 
 -- the bind by which a name is bound, looked up by one of its two names
 found_bind : (key value : Bind → List ℕ) (binds : List Bind) (name bound : List ℕ) →

@@ -56,7 +56,7 @@ value_alike value =
     go (Ok done) (Ok kind) = kind_alike value kind
 
 -- an event that is read and whose chart has no fault
-line_parts : (read : ReadResult PlainEvent) (event : PlainEvent) → of_line read ≡ Ok event →
+pub line_parts : (read : ReadResult PlainEvent) (event : PlainEvent) → of_line read ≡ Ok event →
     (read ≡ Ok event) × (fault_within event ≡ None)
 line_parts (Err fault) event is = cc
 line_parts (Ok found) event is =

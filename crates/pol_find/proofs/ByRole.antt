@@ -8,13 +8,13 @@ use Rattle.std.specs.Str.{bytes_eq}
 use Rattle.std.proofs.lemmas.Bool.{and_parts, not-true}
 use Rattle.std.proofs.lemmas.Cmp.{nat_list_eq_equiv}
 use Rattle.std.proofs.lemmas.Map.Lookups.{exact_bytes}
+use Rattle.mtp_codes.proofs.Names.{same_true, same_refl}
 use Rattle.chart_core.proofs.Lawful.{member_cases}
 use Rattle.pol_events.specs.Binds.{by_role, with_bind}
 use Rattle.pol_events.specs.Bound.{bound_tag}
 use Rattle.pol_events.specs.Orderly.{roles_once}
 use Rattle.pol_events.specs.declared.event.Bind.{Bind}
 use Rattle.pol_events.proofs.Lists.{member_first, member_later, no_member}
-use Rattle.pol_history.proofs.Names.{same_refl, same_true}
 
 -- the first bind's tag where it has the role, else that of the others
 pub first_bound : (bind : Bind) (binds : List Bind) (role : List ℕ) →

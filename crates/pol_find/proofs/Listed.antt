@@ -5,6 +5,7 @@ use Rattle.std.specs.List.{Contains}
 use Rattle.std.specs.Option.{option_or}
 use Rattle.std.specs.Str.{bytes_eq}
 use Rattle.std.proofs.lemmas.Bool.{and_parts}
+use Rattle.mtp_codes.proofs.Names.{same_true, same_refl}
 use Rattle.chart_core.specs.Roles.{PlainChart, is_chart_form}
 use Rattle.chart_core.proofs.Lawful.{member_cases}
 use Rattle.pol_events.specs.Events.{PlainEntry, PlainEvent, abandon, advance, desk, exchange_begin, exchange_cancel, exchange_end, freeze, plug, recipe, report, start, stop_batch, thaw, unplug, variable}
@@ -16,9 +17,9 @@ use Rattle.pol_history.specs.Looking.{History, is_accepted, is_accepted_recipe, 
 use Rattle.pol_history.specs.Runs.{IsLegal, IsOrderly}
 use Rattle.pol_history.proofs.Accepted.{accepted_none}
 use Rattle.pol_history.proofs.Binds.{when_none}
-use Rattle.pol_history.proofs.Names.{same_refl, same_true}
+use Rattle.pol_history.proofs.Watchers.{member_reversed}
 use Rattle.pol_find.specs.Recipes.{PlainRecipe, made_known, recipe_in, recipes_of}
-use Rattle.pol_find.proofs.Lists.{made_of, member_turned}
+use Rattle.pol_find.proofs.Lists.{made_of}
 
 -- an entry that makes a recipe known is an accepted recipe of its name and its chart
 record IsMaking (recipe : PlainRecipe) (entry : PlainEntry) : Type 0 where
@@ -137,4 +138,4 @@ pub is_listed : (history : History) (told : PlainRecipe) → IsLegal history →
     Contains (recipes_of history) told → IsListed history told
 is_listed history told legal orderly inside =
     let (entry, turned, made) = made_of made_known (reverse history) told inside in
-    made_listed history told entry legal orderly (member_turned history entry turned) made
+    made_listed history told entry legal orderly (member_reversed history entry turned) made

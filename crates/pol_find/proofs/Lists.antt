@@ -1,11 +1,9 @@
 -- Members of lists.
-use Rattle.std.proofs.Common.{◌≡◌, Bool, true, false, cond, Option, Some, None, List, [], ◌∷◌, map, refl, sym, ◌∙◌, ap, inl, inr}
-use Rattle.std.specs.Prelude.{filter_map, find, reverse}
-use Rattle.std.specs.List.{AllByRecursion, Contains, cons_option, list_all, list_any}
+use Rattle.std.proofs.Common.{◌≡◌, Bool, true, false, cond, Option, Some, None, List, [], ◌∷◌, map, refl, ◌∙◌, ap, inl, inr}
+use Rattle.std.specs.Prelude.{filter_map, find}
+use Rattle.std.specs.List.{AllByRecursion, Contains, cons_option, list_any}
 use Rattle.std.specs.Option.{option_or}
-use Rattle.std.proofs.lemmas.Bool.{and_parts}
 use Rattle.std.proofs.lemmas.List.Folds.{Any-from_list_any}
-use Rattle.std.proofs.lemmas.List.Sorted.{Contains-permutation, IsPermutation-reverse, IsPermutation-sym}
 use Rattle.mtp_codes.specs.Faults.{first_of}
 use Rattle.chart_core.proofs.Lawful.{member_cases}
 use Rattle.pol_events.proofs.Lists.{member_first, member_later, no_member}
@@ -39,17 +37,6 @@ pub one_passes : {X : Type 0} (test : X → Bool) (xs : List X) → list_any tes
 one_passes test xs some =
     let found = Any-from_list_any test xs some in (found.1, (found.0, found.2, found.3), found.4)
 
--- where all pass, each member does
-pub each_passes : {X : Type 0} (test : X → Bool) (xs : List X) (x : X) → list_all test xs ≡ true → Contains xs x →
-    test x ≡ true
-each_passes test [] x all inside = no_member x inside
-each_passes test (y ∷ xs) x all inside =
-    let parts = and_parts (test y) (list_all test xs) all in
-    elim (member_cases y x xs inside) [
-      | inl same ↦ ap test (sym same) ∙ parts.0
-      | inr later ↦ each_passes test xs x parts.1 later
-    ]
-
 -- what is made of some of a list's members is made of one of them
 pub made_of : {X Y : Type 0} (make : X → Option Y) (xs : List X) (y : Y) → Contains (filter_map make xs) y →
     (x : X) × Contains xs x × (make x ≡ Some y)
@@ -65,8 +52,3 @@ made_of {X} {Y} make (x ∷ xs) y inside = go (make x) refl inside (made_of make
           | inl same ↦ (x, member_first x xs, is ∙ ap Some same)
           | inr behind ↦ let (other, later, made) = rest behind in (other, member_later x other xs later, made)
         ]
-
--- a member of a list that is turned round is a member of the list
-pub member_turned : {X : Type 0} (xs : List X) (x : X) → Contains (reverse xs) x → Contains xs x
-member_turned xs x inside =
-    Contains-permutation (reverse xs) xs x (IsPermutation-sym xs (reverse xs) (IsPermutation-reverse xs)) inside

@@ -2,18 +2,12 @@
 use Rattle.std.proofs.Common.{◌≡◌, ℕ, List, [], ◌∷◌, ◌++◌, append_assoc, codes, map, refl}
 use Rattle.json.specs.Token as token
 use Rattle.json.specs.Token.{Token}
-use Rattle.json.specs.Tree.{items_tokens, members_tokens}
+use Rattle.json.specs.Tree.{items_tokens}
 use Rattle.serde_json.specs.Data.{Data, string}
 use Rattle.serde_json.specs.View.{items_of}
-use Rattle.serde_json.specs.Written.{items_outline, members_outline}
-use Rattle.pol_events.specs.Written.{bind_members}
-use Rattle.pol_events.specs.declared.event.Bind.{Bind}
+use Rattle.serde_json.specs.Written.{items_outline}
 use Rattle.pol_record.specs.Objects.{data_tokens}
 use Rattle.pol_find.specs.Lines.{bind_object, short_object}
-
--- the tokens of the last binds of an object, and its bracket
-abbrev pub binds_tokens : List Bind → List Token
-binds_tokens binds = members_tokens (members_outline (bind_members binds))
 
 -- the tokens of the last names of a list, and its bracket
 abbrev pub names_tokens : List (List ℕ) → List Token

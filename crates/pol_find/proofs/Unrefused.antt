@@ -1,5 +1,5 @@
 -- No rule refuses a start with a binding to the candidates.
-use Rattle.std.proofs.Common.{◌≡◌, ◌≢◌, ◌<◌, ◌≤◌, ℕ, suc, Bool, true, false, cond, not, ◌&&◌, ◌||◌, Option, Some, None, List, [], ◌∷◌, map, filter, length, refl, sym, ◌∙◌, ap, subst, arith, inl, inr, append-nil}
+use Rattle.std.proofs.Common.{◌≡◌, ◌≢◌, ◌<◌, ◌≤◌, ℕ, suc, Bool, true, false, not, ◌&&◌, ◌||◌, Option, Some, None, List, [], ◌∷◌, map, filter, length, refl, sym, ◌∙◌, ap, subst, arith, append-nil}
 use Rattle.std.specs.Prelude.{filter_map, is_none, is_some, nat_le, option_map}
 use Rattle.std.specs.List.{AllPairs, Contains, cons_option, list_all, list_any}
 use Rattle.std.specs.Option.{option_or}
@@ -12,11 +12,11 @@ use Rattle.mtp_codes.specs.Names.{is_among, same_name}
 use Rattle.mtp_codes.specs.Numbers.{is_between}
 use Rattle.mtp_codes.specs.declared.cover.CoverFault.{CoverFault}
 use Rattle.mtp_codes.specs.declared.limits.TheConstants.{MOST_BATCHES, MOST_BINDS}
+use Rattle.mtp_codes.proofs.Names.{same_true}
 use Rattle.chart_core.specs.Form.{are_distinct}
 use Rattle.chart_core.specs.Form.{is_tree_formed}
 use Rattle.chart_core.specs.Roles.{PlainChart, are_roles_formed, is_chart_form, role_names}
 use Rattle.chart_core.specs.declared.limits.TheConstants.{LONGEST_WANTED, MOST_ROLES}
-use Rattle.chart_core.proofs.Lawful.{member_cases}
 use Rattle.mtp_procs.specs.Covers.{cover_fault}
 use Rattle.pol_events.specs.BindRules.{first_name, has_step, is_bound_before, one_module_twice, role_unbound, role_unknown, twice, watched_step}
 use Rattle.pol_events.specs.Binds.{by_role}
@@ -25,7 +25,7 @@ use Rattle.pol_events.specs.Orderly.{is_allocation, roles_once}
 use Rattle.pol_events.specs.Refusals.{cover_rule, in_exchange}
 use Rattle.pol_events.specs.declared.answer.Rule.TheVariants as rule
 use Rattle.pol_events.specs.declared.event.Bind.{Bind}
-use Rattle.pol_events.proofs.Lists.{among_member, image_member, member_among, member_first, member_image, member_later, no_member}
+use Rattle.pol_events.proofs.Lists.{among_member, image_member, member_among, member_first, member_image, member_later}
 use Rattle.pol_events.proofs.Rising.{by_role_few, by_role_rises}
 use Rattle.pol_history.specs.Answers.{start_rules}
 use Rattle.pol_history.specs.Batches.{is_start, start_of}
@@ -33,13 +33,13 @@ use Rattle.pol_history.specs.Looking.{History, past}
 use Rattle.pol_history.specs.Modules.{ticket_of}
 use Rattle.pol_history.specs.Rules.{batch_known, busy, busy_module, busy_role, module_rule, modules_unfit, no_module, not_covered, not_idle, not_reported, services_of, steps_in, unready}
 use Rattle.pol_history.proofs.Accepted.{NoneHolds}
-use Rattle.pol_history.proofs.Names.{same_refl, same_true}
+use Rattle.pol_history.proofs.Binds.{all_member, tags_by_role}
 use Rattle.pol_match.specs.Bindings.{IsBinding, is_bound_well}
 use Rattle.pol_match.specs.Fits.{PlainCandidate, fits_role, services_in, steps_of}
 use Rattle.pol_find.specs.Candidates.{candidates_of}
-use Rattle.pol_find.proofs.ByRole.{by_role_member, first_bound, same_bound}
+use Rattle.pol_find.proofs.ByRole.{by_role_member, same_bound}
 use Rattle.pol_find.proofs.Free.{IsFree, IsIdle, candidate_free}
-use Rattle.pol_find.proofs.Lists.{each_passes, no_first, none_passes, one_passes}
+use Rattle.pol_find.proofs.Lists.{no_first, none_passes, one_passes}
 
 -- ---- binds by their roles
 
@@ -71,30 +71,6 @@ distinct_once (bind ∷ binds) distinct =
     out : (among : Bool) → not among ≡ true → among ≡ false
     out true is = sym is
     out false is = refl
-
--- each bind is found by its role then
-own_bound : (binds : List Bind) (bind : Bind) → roles_once binds ≡ true → Contains binds bind →
-    bound_tag binds bind.role ≡ Some bind.tag
-own_bound [] bind once inside = no_member bind inside
-own_bound (first ∷ binds) bind once inside =
-    let parts = and_parts (list_all (λ other. not (bytes_eq first.role other.role)) binds) (roles_once binds) once in
-    elim (member_cases first bind binds inside) [
-      | inl same ↦
-          first_bound first binds bind.role
-          ∙ ap (λ found. cond found (Some first.tag) (bound_tag binds bind.role))
-          (ap (λ (bind : Bind). bytes_eq first.role bind.role) (sym same) ∙ same_refl first.role)
-          ∙ ap (λ (bind : Bind). Some bind.tag) same
-      | inr later ↦
-          first_bound first binds bind.role
-          ∙ ap (λ found. cond found (Some first.tag) (bound_tag binds bind.role))
-          (apart (bytes_eq first.role bind.role)
-          (each_passes (λ other. not (bytes_eq first.role other.role)) binds bind parts.0 later))
-          ∙ own_bound binds bind parts.1 later
-    ]
-  where
-    apart : (same : Bool) → not same ≡ true → same ≡ false
-    apart true is = sym is
-    apart false is = refl
 
 -- ---- the module of one bind
 
@@ -150,7 +126,7 @@ fit_module history chart role candidate fit free =
     let ready = no_first (unready candidate.tag own) (services_of chart role)
     (λ service inside. idle_ready history candidate.tag service (free.idle service
     (among_member candidate.idle service
-    (each_passes (is_among candidate.idle) (services_in role (steps_of chart)) service parts.1 inside)))) in
+    (all_member (is_among candidate.idle) (services_in role (steps_of chart)) service parts.1 inside)))) in
     rw (there, here, covered, ready) refl
 
 -- ---- all binds of a binding
@@ -212,7 +188,7 @@ module _ (history : History) (chart : PlainChart) (binds : List Bind)
 
   -- what is held finds each bind by its role
   held_bound : (bind : Bind) → Contains binds bind → bound_tag bound.held bind.role ≡ Some bind.tag
-  held_bound bind inside = same_bound binds once bind.role ∙ own_bound binds bind once inside
+  held_bound bind inside = same_bound binds once bind.role ∙ tags_by_role binds bind once inside
 
   -- so does all that is given
   given_bound : (bind : Bind) → Contains binds bind → bound_tag (given bound) bind.role ≡ Some bind.tag

@@ -4,6 +4,7 @@ use Rattle.std.specs.Prelude.{if◌then◌else◌}
 use Rattle.std.specs.Option.{option_or, option_eq}
 use Rattle.std.specs.Str.{bytes_eq}
 use Rattle.mtp_codes.specs.Names.{is_among}
+use Rattle.mtp_codes.proofs.Names.{same_true, same_refl, apart_back}
 use Rattle.chart_core.specs.declared.next.Outcome.{Outcome}
 use Rattle.pol_events.specs.Events.{PlainEvent, PlainEntry, start}
 use Rattle.pol_events.specs.Bound.{PlainAllocation, tags_of}
@@ -11,7 +12,6 @@ use Rattle.pol_events.specs.declared.answer.Answer.TheVariants.{Done}
 use Rattle.pol_history.specs.Looking.{History, of_module, of_batch, of_recipe, subject, is_accepted, past_of_batch, last_of}
 use Rattle.pol_history.specs.Batches.{starting, taking, takes, closing, outcome_by, outcome_of, if_open, holder_of}
 use Rattle.pol_history.proofs.Accepted.{paired}
-use Rattle.pol_history.proofs.Names.{same_true, same_refl}
 use Rattle.pol_history.proofs.Pasts.{batch_past_own, batch_past_apart, batch_past_same, recipe_batch_past_same}
 
 -- ---- an event that takes no module
@@ -81,15 +81,6 @@ holder_if (Some outcome) batch holder = if option_eq bytes_eq holder (Some batch
 pub or_nothing : {A : Type 0} (found : Option A) → option_or found None ≡ found
 or_nothing None = refl
 or_nothing (Some x) = refl
-
--- a name that isn't another's is not that other's
-pub apart_back : (one other : List ℕ) → bytes_eq one other ≡ false → bytes_eq other one ≡ false
-apart_back one other apart = back (bytes_eq other one) refl
-  where
-    back : (same : Bool) → bytes_eq other one ≡ same → bytes_eq other one ≡ false
-    back false is = is
-    back true is =
-        let clash : true ≡ false = sym (same_refl one) ∙ ap (bytes_eq one) (sym (same_true other one is)) ∙ apart in cc
 
 -- the batch itself, where it was open: it is freed where it is closed now
 own_freed : (closes : Option Outcome) (batch : List ℕ) →

@@ -1,18 +1,9 @@
 -- Equal names, and names among others.
-use Rattle.std.proofs.Common.{◌≡◌, ℕ, true, cond, List, Some, IsSome, refl, sym, subst}
+use Rattle.std.proofs.Common.{◌≡◌, ℕ, cond, List, Some, IsSome, refl, sym, subst}
 use Rattle.std.proofs.lemmas.Cmp.{nat_list_eq_equiv}
 use Rattle.std.proofs.lemmas.Map.{lookup-set_value}
-use Rattle.std.proofs.lemmas.Slice.Eq.{bytes_eq-Decides}
 use Rattle.std.specs.Map.{lookup, set_value}
 use Rattle.std.specs.Str.{bytes_eq}
-
--- names that compare as equal are one
-pub same_true : (a b : List ℕ) → bytes_eq a b ≡ true → a ≡ b
-same_true a b = (bytes_eq-Decides a b).0
-
--- a name is equal to itself
-pub same_refl : (a : List ℕ) → bytes_eq a a ≡ true
-same_refl a = (bytes_eq-Decides a a).1 refl
 
 -- a value that is written over the one before it under a name finds its way to each look-up
 pub written : {X : Type 0} (name other : List ℕ) (values : List (List ℕ × X)) (before after : X) →

@@ -7,6 +7,7 @@ use Rattle.std.proofs.lemmas.Bool.{and_parts, and_from}
 use Rattle.std.proofs.lemmas.List.{reverse-append}
 use Rattle.mtp_codes.specs.declared.state.State.{State}
 use Rattle.mtp_codes.specs.Faults.{when}
+use Rattle.mtp_codes.proofs.Names.{same_true}
 use Rattle.mtp_machine.specs.Machine.{is_path}
 use Rattle.mtp_assembly.specs.declared.control.ServiceControl.{ServiceControl}
 use Rattle.pol_events.specs.Events.{PlainEvent, plug, unplug, report, variable, recipe, start, advance, freeze, thaw, stop_batch, abandon, desk, exchange_begin, exchange_end, exchange_cancel, PlainEntry}
@@ -18,7 +19,6 @@ use Rattle.pol_history.specs.Rules.{no_module}
 use Rattle.pol_history.specs.Answers.{answer_of, rules}
 use Rattle.pol_history.specs.Runs.{entry_of, IsLegal}
 use Rattle.pol_history.specs.Paths.{ReportsArePaths}
-use Rattle.pol_history.proofs.Names.{same_true}
 use Rattle.pol_history.proofs.Accepted.{NoneHolds, accepted_none, paired}
 
 -- the same from the newest state on: each may follow the one after it

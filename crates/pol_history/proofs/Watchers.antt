@@ -1,5 +1,5 @@
 -- Who watches a module after one more entry.
-use Rattle.std.proofs.Common.{◌≡◌, ℕ, Bool, true, false, not, cond, List, [], ◌∷◌, ◌++◌, reverse, Option, Some, None, is_none, refl, ap, sym, ◌∙◌, subst, inl, inr, ◌⊎◌}
+use Rattle.std.proofs.Common.{◌≡◌, ℕ, Bool, true, false, not, cond, List, [], ◌∷◌, ◌++◌, reverse, Option, Some, None, is_none, refl, ap, sym, ◌∙◌, subst, ◌⊎◌}
 use Rattle.std.specs.Prelude.{◌&&◌, filter, filter_map, if◌then◌else◌}
 use Rattle.std.specs.List.{Contains, cons_option}
 use Rattle.std.specs.Option.{option_or}
@@ -7,19 +7,18 @@ use Rattle.std.specs.Str.{bytes_eq}
 use Rattle.std.proofs.Math.Path.{fun_ext}
 use Rattle.std.proofs.lemmas.Bool.{and_parts}
 use Rattle.std.proofs.lemmas.List.{reverse-append}
-use Rattle.std.proofs.lemmas.List.Elements.{Contains-append_cases, Contains-append_left, Contains-append_right}
+use Rattle.std.proofs.lemmas.List.Sorted.{Contains-permutation, IsPermutation-reverse, IsPermutation-sym}
 use Rattle.mtp_codes.specs.Names.{is_among}
+use Rattle.mtp_codes.proofs.Names.{same_true, same_refl, apart_back}
 use Rattle.chart_core.specs.declared.next.Outcome.{Outcome}
 use Rattle.pol_events.specs.Events.{PlainEvent, PlainEntry, start}
 use Rattle.pol_events.specs.Bound.{PlainAllocation, tags_of}
 use Rattle.pol_events.specs.declared.event.Bind.{Bind}
-use Rattle.pol_events.proofs.Lists.{no_member, member_first, member_later, member_kept, kept_member, member_among, image_member}
-use Rattle.chart_core.proofs.Lawful.{member_cases}
+use Rattle.pol_events.proofs.Lists.{member_first, member_later, member_kept, kept_member, member_among, image_member}
 use Rattle.pol_history.specs.Looking.{History, of_module, of_batch, of_recipe, subject, is_accepted, is_batch, is_accepted_of_batch, past_of_batch}
 use Rattle.pol_history.specs.Batches.{Started, starting, start_by, start_of, watching, watches, closing, outcome_by, outcome_of, is_open, watchers_of}
-use Rattle.pol_history.proofs.Names.{same_true, same_refl}
 use Rattle.pol_history.proofs.Filters.{filter_both, filter_reverse}
-use Rattle.pol_history.proofs.Holders.{started, module_no_start, recipe_no_start, apart_back}
+use Rattle.pol_history.proofs.Holders.{started, module_no_start, recipe_no_start}
 use Rattle.pol_history.proofs.Pasts.{batch_past_own, batch_past_apart, batch_past_same, recipe_batch_past_same}
 
 -- ---- an event that watches no module
@@ -170,27 +169,12 @@ watchers_started history at batch name binds new tag =
 
 -- what is in a list is in it turned round
 pub reversed_member : {X : Type 0} (xs : List X) (x : X) → Contains xs x → Contains (reverse xs) x
-reversed_member [] x inside = no_member x inside
-reversed_member {X} (first ∷ xs) x inside =
-    subst (λ all. Contains all x) (sym (reverse-append (first ∷ []) xs))
-    (elim (member_cases first x xs inside) [
-      | inl same ↦ Contains-append_right (reverse xs) (first ∷ []) x
-          (subst (Contains (first ∷ [])) same (member_first first []))
-      | inr later ↦ Contains-append_left (reverse xs) (first ∷ []) x (reversed_member xs x later)
-    ])
+reversed_member xs x inside = Contains-permutation xs (reverse xs) x (IsPermutation-reverse xs) inside
 
 -- and the other way round
-member_reversed : {X : Type 0} (xs : List X) (x : X) → Contains (reverse xs) x → Contains xs x
-member_reversed [] x inside = inside
-member_reversed {X} (first ∷ xs) x inside =
-    elim (Contains-append_cases (reverse xs) (first ∷ []) x
-    (subst (λ all. Contains all x) (reverse-append (first ∷ []) xs) inside)) [
-      | inl before ↦ member_later first x xs (member_reversed xs x before)
-      | inr one ↦ elim (member_cases first x [] one) [
-        | inl same ↦ subst (Contains (first ∷ xs)) same (member_first first xs)
-        | inr none ↦ no_member x none
-      ]
-    ]
+pub member_reversed : {X : Type 0} (xs : List X) (x : X) → Contains (reverse xs) x → Contains xs x
+member_reversed xs x inside =
+    Contains-permutation (reverse xs) xs x (IsPermutation-sym xs (reverse xs) (IsPermutation-reverse xs)) inside
 
 -- one that watches a module isn't closed, and an accepted start of it watches the module
 pub watcher_parts : (history : History) (tag batch : List ℕ) → Contains (watchers_of history tag) batch →

@@ -17,11 +17,12 @@ use Rattle.pol_jobs.specs.Written.{WritesSome}
 use Rattle.pol_jobs.proofs.Serving.{replies_append}
 use Rattle.pol_jobs.proofs.Written.{all_written, some_of_more}
 use Rattle.pol_record.specs.Lines.{answered_lines_after, answered_texts, closing_text, events_in, input_line_of}
+use Rattle.pol_record.proofs.Appending.{history_after_append}
 use Rattle.pol_replay.specs.Replay.{replay_work}
 use Rattle.pol_replay.proofs.Replaying.{after_rows, replies_rows}
 use Rattle.pol_store.specs.Keeping.{StoreState}
 use Rattle.pol_store.specs.Stands.{StandsFor, events_of}
-use Rattle.pol_store.proofs.Histories.{events-cons, history_after-append, recorded_is}
+use Rattle.pol_store.proofs.Histories.{events-cons, recorded_is}
 use Rattle.pol_keep.specs.Keeping.{Calls, GoesOn, IsKept, StandsForFirst, StandsForMost, Telling, after_lines}
 use Rattle.pol_keep.specs.Kept.{StandsForAnswered, StandsForMore, answers_with, events_with, kept_events, kept_output, run_with}
 
@@ -60,7 +61,7 @@ module _ (history : History) (is : history ≡ history_after [] (events_of histo
   after_run : (parts : List (List ℕ)) → after_all replay_work history parts ≡ run_with (events_of history) parts
   after_run parts =
       after_rows history parts ∙ (ap (λ history. history_after history (events_in (map input_line_of parts))) is
-      ∙ sym (history_after-append [] (events_of history) (events_in (map input_line_of parts))))
+      ∙ sym (history_after_append [] (events_of history) (events_in (map input_line_of parts))))
 
   -- its events
   events_run : (parts : List (List ℕ)) →

@@ -1,13 +1,10 @@
 -- The text of a freeze is a line that says the freeze.
 use Rattle.std.proofs.Common.{◌≡◌, ℕ, ◌≤◌, ◌<◌, ◌^◌, ◌&&◌, ◌==◌, nat_lt, nat_le, List, [], ◌∷◌, ◌++◌, length, length-append, Bool, true, false, not, Ok, Some, IsTrue, codes, decimal, refl, ap, sym, ◌∙◌, arith, append_assoc, append-nil, option_and_then}
 use Rattle.std.specs.List.{list_all}
-use Rattle.std.specs.Int.{IsInRange}
-use Rattle.std.specs.Str.Parse.{AllDigits}
 use Rattle.std.proofs.lemmas.Bool.{and_parts, and_from, leb-true}
 use Rattle.std.proofs.lemmas.Bool.Decides.{nat_tests}
 use Rattle.std.proofs.lemmas.Fmt.{decimal_is_IsNumeral, length-decimal-le}
 use Rattle.std.proofs.lemmas.List.Folds.{list_all-append}
-use Rattle.std.proofs.lemmas.Str.Parse.{digit_from_value}
 use Rattle.json.specs.Json as json
 use Rattle.json.specs.Print.{escape, escape_byte}
 use Rattle.json.specs.Token.{Token}
@@ -24,6 +21,7 @@ use Rattle.serde_json.proofs.OnLiterals.{serde_json_on_literals}
 use Rattle.serde_json.proofs.Texts.{print-outline}
 use Rattle.mtp_codes.specs.Names.{is_name, is_name_byte}
 use Rattle.mtp_codes.specs.Numbers.{greatest_u64, is_between}
+use Rattle.mtp_codes.proofs.Names.{digits_in_name}
 use Rattle.pol_io.specs.Pieces.{has_no_feed}
 use Rattle.pol_io.specs.declared.limits.TheConstants.{LONGEST_LINE}
 use Rattle.pol_events.specs.Events.{freeze}
@@ -34,19 +32,6 @@ use Rattle.pol_events.proofs.Again.{freeze_again, line_again}
 use Rattle.pol_record.specs.Lines.{an_event, meaning_of}
 
 -- ---- bytes that may stand in a name
-
--- a digit may stand in a name
-digit_in_name : (byte : ℕ) → IsInRange 48 57 byte → is_name_byte byte ≡ true
-digit_in_name byte digit =
-    let low : 48 ≤ byte = digit.0 in
-    let high : byte ≤ 57 = digit.1 in
-    grind (arith, nat_tests, low, high)
-
--- so may digits
-digits_in_name : (bytes : List ℕ) → AllDigits 10 bytes → list_all is_name_byte bytes ≡ true
-digits_in_name [] digits = refl
-digits_in_name (byte ∷ bytes) digits =
-    rw (digit_in_name byte (digit_from_value byte digits.0), digits_in_name bytes digits.1) refl
 
 -- and the digits of a number
 decimal_in_name : (n : ℕ) → n < 2 ^ 64 → list_all is_name_byte (decimal n) ≡ true

@@ -5,6 +5,7 @@ use Rattle.std.specs.List.{Any, list_any}
 use Rattle.std.proofs.lemmas.Bool.{and_from, and_parts, or_cases, or_left, or_right}
 use Rattle.std.proofs.lemmas.Slice.Eq.{bytes_eq-Decides}
 use Rattle.mtp_codes.specs.Names.{same_name, is_among}
+use Rattle.mtp_codes.proofs.Names.{same_name_is}
 use Rattle.pol_policy.specs.Belonging.{BelongsTo, IsChain, has_member}
 use Rattle.pol_policy.specs.Deciding.{belongs_to_one, is_below, is_next, leads_through}
 use Rattle.pol_policy.specs.Policies.{PlainGroup}
@@ -70,13 +71,9 @@ in_some Fits items some = (some.1, at_in items some.0 some.1 some.2 some.3, some
 pub same_is : (name other : List ℕ) → same_name name other ≡ true → name ≡ other
 same_is name other same = (bytes_eq-Decides name other).0 same
 
--- one name has equal bytes
-pub is_same : (name other : List ℕ) → name ≡ other → same_name name other ≡ true
-is_same name other is = (bytes_eq-Decides name other).1 is
-
 -- a name in a list is found among its names
 pub among_in : (names : List (List ℕ)) (name : List ℕ) → IsIn name names → is_among names name ≡ true
-among_in names name inside = any_in (λ each. same_name each name) names name inside (is_same name name refl)
+among_in names name inside = any_in (λ each. same_name each name) names name inside (same_name_is name name refl)
 
 -- a name found among the names of a list is in it
 pub in_among : (names : List (List ℕ)) (name : List ℕ) → is_among names name ≡ true → IsIn name names
@@ -168,7 +165,7 @@ member_of : (groups : List PlainGroup) (group : PlainGroup) (name : List ℕ) �
 member_of groups group name inside among =
     any_in (λ each. same_name each.group group.group && is_among each.members name) groups group inside
     (and_from (same_name group.group group.group) (is_among group.members name)
-    (is_same group.group group.group refl) among)
+    (same_name_is group.group group.group refl) among)
 
 -- where groups lead there is a chain
 pub leads_belongs : (groups through : List PlainGroup) (from to : PlainGroup)
@@ -217,7 +214,7 @@ chain_leads groups name [] person chain =
       among = parts.1;
       leads = leads_once is_next groups found.0 found.0
           (or_left (same_name found.0.group found.0.group) (is_among found.0.members found.0.group)
-          (is_same found.0.group found.0.group refl));
+          (same_name_is found.0.group found.0.group refl));
     }
 chain_leads groups name (next ∷ between) person chain =
     let found = in_any (λ each. same_name each.group name && is_among each.members next) groups chain.0 in

@@ -142,12 +142,6 @@ pub any_alike : {A : Type 0} (one other : A → Bool) (items : List A) → ((ite
 any_alike one other [] same = refl
 any_alike one other (item ∷ items) same = rw (same item, any_alike one other items same) refl
 
--- some item of a list seen through a view
-pub any_map : {A B : Type 0} (view : A → B) (test : B → Bool) (items : List A)
-    → list_any test (map view items) ≡ list_any (λ item. test (view item)) items
-any_map view test [] = refl
-any_map view test (item ∷ items) = ap (λ b. test (view item) || b) (any_map view test items)
-
 -- a test that no item passes is passed by none of a list
 pub any_never : {A : Type 0} (test : A → Bool) (items : List A) → ((item : A) → test item ≡ false)
     → list_any test items ≡ false

@@ -2,6 +2,7 @@
 use Rattle.std.proofs.Common.{ℕ, ◌≡◌, ◌&&◌, Bool, false, List, [], ◌∷◌, map, Option, Some, None, refl, sym, ap, ◌∙◌, ⊎_elim}
 use Rattle.std.specs.List.{list_any}
 use Rattle.mtp_codes.specs.Names.{same_name, is_among}
+use Rattle.mtp_json.proofs.Lists.{any_map}
 use Rattle.pol_policy.specs.Allowing.{lists}
 use Rattle.pol_policy.specs.Deciding.{admits_person, is_next, leads_through}
 use Rattle.pol_policy.specs.Names.{name_has}
@@ -11,7 +12,7 @@ use Rattle.pol_policy.specs.Tables.{above_has, is_next_group, member_has}
 use Rattle.pol_policy.specs.declared.name_index.NameIndex.{NameIndex}
 use Rattle.pol_policy.specs.declared.parts.Group.{Group}
 use Rattle.pol_policy.specs.declared.parts.PolicyRule.{PolicyRule}
-use Rattle.pol_policy.proofs.Passing.{and_false, any_alike, any_map, any_never, at_place, passes_map}
+use Rattle.pol_policy.proofs.Passing.{and_false, any_alike, any_never, at_place, passes_map}
 
 -- groups seen as plain data lead where they lead
 leads_map : (through : List Group) (from to : Group)

@@ -17,7 +17,7 @@ events_in_append (faulty piece fault ∷ items) others = events_in_append items 
 events_in_append (happening piece event ∷ items) others = ap (λ events. event ∷ events) (events_in_append items others)
 
 -- the history after some events, and others behind them
-history_after_append : (history : History) (events others : List PlainEvent)
+pub history_after_append : (history : History) (events others : List PlainEvent)
     → history_after history (events ++ others) ≡ history_after (history_after history events) others
 history_after_append history [] others = refl
 history_after_append history (event ∷ events) others = history_after_append (recorded (entry_of history event) history)

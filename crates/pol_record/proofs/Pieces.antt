@@ -13,7 +13,7 @@ pub printed : (value : Data) → print (data_tokens value) ≡ compact_text valu
 printed value = print-outline value
 
 -- the text of an answer and an event
-entry_text : (answer event : Data) → compact_text (entry_object answer event)
+pub entry_text : (answer event : Data) → compact_text (entry_object answer event)
     ≡ codes "{\"answer\":" ++ (compact_text answer ++ (codes ",\"event\":" ++ (compact_text event ++ codes "}")))
 unfolding serde_json_on_literals entry_object
 entry_text answer event = refl

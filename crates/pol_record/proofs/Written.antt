@@ -3,8 +3,9 @@ use Rattle.std.proofs.Common.{◌≡◌, ℕ, Bool, true, false, cond, List, [],
 use Rattle.std.specs.Map.{lookup, set_value}
 use Rattle.std.specs.Option.{option_map_or}
 use Rattle.std.specs.Str.{bytes_eq}
+use Rattle.mtp_codes.proofs.Names.{same_true}
 use Rattle.pol_events.specs.Events.{PlainEntry}
-use Rattle.pol_history.proofs.Names.{same_true, written}
+use Rattle.pol_history.proofs.Names.{written}
 use Rattle.pol_record.specs.Gathered.{record_by, with_entry, plain_record, known_of}
 use Rattle.pol_record.specs.declared.records.BatchRecord.{BatchRecord}
 

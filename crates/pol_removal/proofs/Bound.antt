@@ -4,11 +4,11 @@ use Rattle.std.specs.List.{AllByRecursion, cons_option}
 use Rattle.std.specs.Str.{bytes_eq}
 use Rattle.std.proofs.lemmas.Bool.{and_parts, or_left, or_right}
 use Rattle.mtp_codes.specs.Names.{is_among}
+use Rattle.mtp_codes.proofs.Names.{same_refl}
 use Rattle.pol_events.specs.Events.{PlainEvent, start, PlainEntry}
 use Rattle.pol_history.specs.Looking.{History, Subject, of_module, of_batch, of_recipe, subject, is_accepted}
 use Rattle.pol_history.specs.Batches.{started_batch}
 use Rattle.pol_history.specs.Runs.{is_recorded, recorded}
-use Rattle.pol_history.proofs.Names.{same_refl}
 use Rattle.pol_removal.specs.Removal.{binds_one, bound_batch, bound_batches, is_of}
 use Rattle.pol_removal.proofs.Each.{all_map}
 use Rattle.pol_removal.proofs.Sparing.{Covered}

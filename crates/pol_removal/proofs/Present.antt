@@ -4,12 +4,12 @@ use Rattle.std.specs.Prelude.{filter}
 use Rattle.std.specs.Str.{bytes_eq}
 use Rattle.std.proofs.lemmas.Bool.{and_from, both_ways, not-true, true_from_ne_false}
 use Rattle.mtp_codes.specs.Names.{is_among}
+use Rattle.mtp_codes.proofs.Names.{same_true, same_refl}
 use Rattle.pol_events.specs.Events.{PlainEvent, plug, unplug, PlainEntry}
 use Rattle.pol_events.specs.declared.answer.Answer.{Answer}
 use Rattle.pol_history.specs.Looking.{History, subject, is_accepted, is_module}
 use Rattle.pol_history.specs.Modules.{tags_without, present_after, present_tags}
 use Rattle.pol_history.proofs.Accepted.{paired}
-use Rattle.pol_history.proofs.Names.{same_true, same_refl}
 use Rattle.pol_history.proofs.Filters.{filter_kept, filter_filter, all_of, length_filter}
 use Rattle.pol_removal.specs.Removal.{is_of, stays}
 use Rattle.pol_removal.proofs.Sparing.{of_module_stays, stays_parts}

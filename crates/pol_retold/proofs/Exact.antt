@@ -17,10 +17,10 @@ use Rattle.json.proofs.Printed.Utf8.{IsUtf8-are_ascii}
 use Rattle.serde_json.specs.Data.{Data, null, boolean, number, string, array, object, Items, no_items, item, Members, no_members, member, depth, items_depth, members_depth}
 use Rattle.serde_json.specs.Read.{max_depth, of_json, read}
 use Rattle.serde_json.specs.Written.{compact_text, items_outline, members_outline, outline}
-use Rattle.serde_json.proofs.OnLiterals.{serde_json_on_literals}
 use Rattle.serde_json.proofs.Texts.{print-outline}
 use Rattle.pol_record.specs.Texts.{entry_object}
 use Rattle.pol_record.specs.Exact.{IsExact}
+use Rattle.pol_record.proofs.Pieces.{entry_text}
 
 -- ---- a value and its outline
 
@@ -110,18 +110,12 @@ sound_exact value shallow sound = record { utf8 = sound.utf8; tokens_are = token
 
 -- ---- an entry
 
--- the text of an answer and an event
-entry_text_is : (answer event : Data) → compact_text (entry_object answer event)
-    ≡ codes "{\"answer\":" ++ (compact_text answer ++ (codes ",\"event\":" ++ (compact_text event ++ codes "}")))
-unfolding serde_json_on_literals entry_object
-entry_text_is answer event = refl
-
 -- the object of a sound answer and a sound event is sound
 pub entry_sound : (answer event : Data) → IsSound answer → IsSound event → IsSound (entry_object answer event)
 unfolding entry_object
 entry_sound answer event told happened =
     record {
-      utf8 = subst IsUtf8 (sym (entry_text_is answer event)) texts;
+      utf8 = subst IsUtf8 (sym (entry_text answer event)) texts;
       numbers = (told.numbers, (happened.numbers, tt));
       again = rw (told.again, happened.again) refl;
     }

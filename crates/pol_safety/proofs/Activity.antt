@@ -5,6 +5,7 @@ use Rattle.mtp_codes.specs.declared.mode.Speaker.TheVariants.{Recipe}
 use Rattle.mtp_codes.specs.declared.command.Command.TheVariants as command
 use Rattle.mtp_codes.specs.Faults.{when}
 use Rattle.mtp_codes.specs.Names.{same_name}
+use Rattle.mtp_codes.proofs.Names.{same_true}
 use Rattle.chart_core.specs.Active.{Phase, idle, started, finished, was_reset, or_earlier, last_of, phase_by, or_idle, is_running, is_active}
 use Rattle.chart_core.specs.Roles.{PlainChart, role_names}
 use Rattle.chart_core.specs.Trees.{Placed, steps}
@@ -22,7 +23,6 @@ use Rattle.chart_cursor.specs.Logs.{chart_entries}
 use Rattle.pol_events.specs.declared.event.Bind.{Bind}
 use Rattle.pol_history.specs.Looking.{History, past}
 use Rattle.pol_history.specs.Following.{sights_by}
-use Rattle.pol_history.proofs.Names.{same_true}
 use Rattle.pol_events.proofs.Lists.{among_member}
 use Rattle.pol_history.proofs.Binds.{IsFitting}
 use Rattle.pol_safety.proofs.Seen.{IsLive, IsSeen, seen_of, tag_of_bound}

@@ -5,6 +5,7 @@ use Rattle.std.specs.List.{Contains, cons_option}
 use Rattle.std.specs.Option.{option_or}
 use Rattle.std.specs.Str.{bytes_eq}
 use Rattle.mtp_codes.specs.Names.{is_among}
+use Rattle.mtp_codes.proofs.Names.{same_refl}
 use Rattle.chart_core.specs.Roles.{PlainChart, role_names}
 use Rattle.chart_core.specs.Trees.{Placed, steps}
 use Rattle.pol_events.specs.Events.{PlainEvent, start, PlainEntry}
@@ -22,7 +23,6 @@ use Rattle.pol_history.specs.Looking.{History, past_of_batch, recipes, is_accept
 use Rattle.pol_history.specs.Batches.{Started, starting, start_by, start_of, chart_named, chart_by, outcome_by, outcome_of, taking, takes, watches, if_open, holder_of, watchers_of}
 use Rattle.pol_history.specs.Rules.{busy_module, busy_role}
 use Rattle.pol_history.specs.Runs.{IsLegal, IsOrderly}
-use Rattle.pol_history.proofs.Names.{same_refl}
 use Rattle.pol_safety.specs.Kept.{HoldersAreOpen, WatchersAreOpen}
 use Rattle.pol_events.proofs.Options.{no_both}
 use Rattle.pol_events.proofs.Lists.{no_member, member_image, image_member, member_among, among_member, none_first}

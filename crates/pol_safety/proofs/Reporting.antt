@@ -5,6 +5,7 @@ use Rattle.std.specs.List.{Contains}
 use Rattle.std.specs.Option.{option_or, option_and_then}
 use Rattle.std.specs.Str.{bytes_eq}
 use Rattle.std.proofs.lemmas.Bool.{both_ways}
+use Rattle.mtp_codes.proofs.Names.{same_refl}
 use Rattle.chart_core.specs.Active.{is_active}
 use Rattle.chart_core.specs.Roles.{PlainChart}
 use Rattle.chart_core.specs.Trees.{Placed, steps}
@@ -26,7 +27,6 @@ use Rattle.pol_history.specs.Rules.{not_in_exchange, active_step_on, active_step
 use Rattle.pol_history.specs.Answers.{advanced, otherwise}
 use Rattle.pol_history.specs.Runs.{IsLegal, IsOrderly}
 use Rattle.pol_history.proofs.Accepted.{paired}
-use Rattle.pol_history.proofs.Names.{same_refl}
 use Rattle.pol_events.proofs.Options.{no_image}
 use Rattle.pol_events.proofs.Lists.{none_found, kept_member, image_member}
 use Rattle.pol_safety.proofs.Sides.{Sides, sides, accepted, Comes, IsKeptBy, always, at_own}

@@ -5,6 +5,7 @@ use Rattle.std.specs.List.{cons_option}
 use Rattle.std.specs.Option.{option_or}
 use Rattle.std.specs.Str.{bytes_eq}
 use Rattle.std.proofs.lemmas.Bool.{and_parts, cond_both}
+use Rattle.mtp_codes.proofs.Names.{same_true}
 use Rattle.pol_events.specs.Events.{PlainEvent, PlainEntry}
 use Rattle.pol_events.specs.Orderly.{is_orderly}
 use Rattle.pol_history.specs.Looking.{History, is_accepted, past, past_of_batch, last_of}
@@ -12,7 +13,6 @@ use Rattle.pol_history.specs.Looking as looking
 use Rattle.pol_history.specs.Batches.{taking, takes, watching, watches}
 use Rattle.pol_history.specs.Answers.{rules, otherwise, answer_of}
 use Rattle.pol_history.specs.Runs.{entry_of, IsLegal, IsOrderly}
-use Rattle.pol_history.proofs.Names.{same_true}
 use Rattle.pol_history.proofs.Refused.{refused_nothing}
 use Rattle.pol_history.proofs.Accepted.{NoneHolds, accepted_none, accepted_otherwise, paired}
 

@@ -6,6 +6,7 @@ use Rattle.std.specs.Option.{option_or}
 use Rattle.std.specs.Str.{bytes_eq}
 use Rattle.std.proofs.lemmas.Bool.{and_parts, or_left, or_right}
 use Rattle.mtp_codes.specs.Names.{same_name}
+use Rattle.mtp_codes.proofs.Names.{same_true, same_refl}
 use Rattle.chart_core.specs.Roles.{PlainChart, role_names, is_chart_form}
 use Rattle.chart_core.specs.Trees.{PlainStep, Placed, steps}
 use Rattle.chart_core.specs.Valid.{IsValid, chart_fault}
@@ -24,7 +25,6 @@ use Rattle.pol_history.specs.Rules.{no_batch, batch_closed, role_unbound, role_u
 use Rattle.pol_history.specs.Answers.{start_rules, otherwise}
 use Rattle.pol_history.specs.Runs.{IsLegal, IsOrderly}
 use Rattle.pol_history.proofs.Accepted.{NoneHolds}
-use Rattle.pol_history.proofs.Names.{same_true, same_refl}
 use Rattle.pol_events.proofs.Options.{not_some, no_both, some_same}
 use Rattle.pol_safety.proofs.Sides.{Sides, sides, accepted, Comes, IsKeptBy, always, at_own}
 use Rattle.pol_history.proofs.Binds.{IsFitting, fitting, given_known, step_unwatched, when_none}

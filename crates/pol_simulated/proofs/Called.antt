@@ -4,11 +4,11 @@ use Rattle.std.specs.Prelude.{◌||◌, find, map, slice_get, slice_set}
 use Rattle.std.specs.List.{list_any}
 use Rattle.std.specs.Str.{bytes_eq}
 use Rattle.std.proofs.lemmas.Option.{same_Some}
+use Rattle.std.proofs.lemmas.Bool.{or_parts}
+use Rattle.mtp_codes.proofs.Names.{same_true, same_refl}
 use Rattle.mtp_json.specs.Form.{repeats_by}
 use Rattle.mtp_sim.proofs.Edges.{none_at}
-use Rattle.mtp_sim.proofs.Indexed.{neither}
 use Rattle.mtp_sim.specs.declared.service.SimService.{SimService}
-use Rattle.pol_history.proofs.Names.{same_true, same_refl}
 
 -- the name of a service
 abbrev pub service_name : SimService → List ℕ
@@ -35,7 +35,7 @@ called_set {A} name_of (first ∷ others) zero old new name unlike at named =
     go a b true e f = rw (e, f) refl
     go a b false e f = rw (e, f) refl
 called_set {A} name_of (first ∷ others) (suc place) old new name unlike at named =
-    let parts = neither (list_any (λ other. bytes_eq (name_of first) (name_of other)) others)
+    let parts = or_parts (list_any (λ other. bytes_eq (name_of first) (name_of other)) others)
     (repeats_by (λ one other. bytes_eq (name_of one) (name_of other)) others) unlike in
     let other : bytes_eq (name_of first) (name_of old) ≡ false =
     none_at (λ other. bytes_eq (name_of first) (name_of other)) others place old parts.0 at in

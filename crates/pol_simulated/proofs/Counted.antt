@@ -3,6 +3,7 @@ use Rattle.std.proofs.Common.{◌≡◌, ◌≤◌, ◌<◌, ◌+◌, ℕ, suc, 
 use Rattle.std.specs.Prelude.{nat_le, is_some, filter, if◌then◌else◌}
 use Rattle.std.specs.List.{cons_option}
 use Rattle.std.specs.Str.{bytes_eq}
+use Rattle.std.proofs.lemmas.Bool.{or_parts}
 use Rattle.mtp_codes.specs.declared.command.Command.{Command}
 use Rattle.mtp_assembly.specs.declared.control.ServiceControl.{ServiceControl}
 use Rattle.mtp_desc.specs.Plain.{PlainDescription}
@@ -18,13 +19,12 @@ use Rattle.pol_site.specs.Commanded.{changes_by, is_change_by}
 use Rattle.pol_simulated.specs.Units.{IsServiceTold, IsServiceCounted, service_called}
 use Rattle.pol_simulated.specs.Places.{before, StaysFrom}
 use Rattle.pol_simulated.specs.Laws.{UntouchedKeeps, CountsGiveCommanded}
-use Rattle.mtp_sim.proofs.Indexed.{neither}
 use Rattle.pol_simulated.proofs.Places.{before_all, before_later, le_holds, le_fails}
 
 -- an entry that doesn't touch a module
 pub untouched_kept : UntouchedKeeps
 untouched_kept tag history entry free =
-    let parts = neither (is_accepted_of tag entry) (is_some (sent_to tag entry)) free in (
+    let parts = or_parts (is_accepted_of tag entry) (is_some (sent_to tag entry)) free in (
       ap (λ own. cond own (entry ∷ past tag history) (past tag history)) parts.0,
       ap
           (λ own. cond own (entry ∷ story tag history) (story tag history)) free,

@@ -3,13 +3,13 @@ use Rattle.std.proofs.Common.{◌≡◌, ℕ, suc, zero, ◌+◌, Bool, true, fa
 use Rattle.std.specs.Prelude.{◌&&◌, pred, slice_get, if◌then◌else◌}
 use Rattle.std.specs.Str.{bytes_eq}
 use Rattle.std.proofs.lemmas.Option.{same_Some}
+use Rattle.mtp_codes.proofs.Names.{same_refl}
 use Rattle.pol_events.specs.Events.{PlainEvent, PlainEntry, exchange_begin, exchange_end, exchange_cancel}
 use Rattle.pol_events.specs.declared.answer.Answer.{Answer}
 use Rattle.pol_events.specs.declared.answer.Answer.TheVariants.{Ticket, Refused}
 use Rattle.pol_events.specs.declared.answer.Rule.TheVariants.{HeldBack}
 use Rattle.pol_history.specs.Looking.{History, is_accepted_of, past}
 use Rattle.pol_history.specs.Modules.{is_begin}
-use Rattle.pol_history.proofs.Names.{same_refl}
 use Rattle.pol_site.specs.Following.{FollowsSite, IsAllowed, ended_with, exchanging, was_begun}
 use Rattle.pol_site.specs.Plans.{begun_in, exchanges_of}
 use Rattle.pol_site.specs.Sites.{PlainSite, PlainSiteModule, PlainSiteExchange}

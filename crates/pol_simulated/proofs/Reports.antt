@@ -6,6 +6,7 @@ use Rattle.std.specs.Option.{option_or}
 use Rattle.std.proofs.lemmas.Option.{same_Some}
 use Rattle.mtp_codes.specs.declared.state.State.{State}
 use Rattle.mtp_codes.specs.Faults.{when}
+use Rattle.mtp_codes.proofs.Names.{same_refl}
 use Rattle.mtp_machine.specs.Machine.{is_edge, same_state, every_state}
 use Rattle.mtp_machine.proofs.EveryState.{of_each_state}
 use Rattle.mtp_assembly.specs.declared.control.ServiceControl.{ServiceControl}
@@ -28,7 +29,6 @@ use Rattle.pol_site.specs.Stories.{controls_in}
 use Rattle.pol_simulated.specs.Units.{newest, IsTold, IsServiceTold}
 use Rattle.pol_simulated.specs.Laws.{ReportsAreAccepted}
 use Rattle.pol_simulated.proofs.Called.{called_at}
-use Rattle.pol_history.proofs.Names.{same_refl}
 
 -- what a service reported last is the newest of its controls
 pub last_newest : (service : List ℕ) (entries : History)

@@ -17,9 +17,9 @@ use Rattle.mtp_sim.specs.Ticks.{is_state, is_untold, is_silent, control_now, run
 use Rattle.mtp_sim.specs.Sims.{PlainSim}
 use Rattle.mtp_sim.specs.Commands.{sent_to, service_took, procedure_after, with_service, place_of, took_at, after_command}
 use Rattle.mtp_codes.specs.declared.command.Command.TheVariants.{Complete}
+use Rattle.mtp_codes.proofs.Names.{same_true}
 use Rattle.pol_history.specs.Looking.{History}
 use Rattle.pol_history.specs.Modules.{since_docking}
-use Rattle.pol_history.proofs.Names.{same_true}
 use Rattle.pol_site.specs.Sites.{PlainSite}
 use Rattle.pol_site.specs.Stories.{controls_in}
 use Rattle.pol_site.specs.Commanded.{changes_by, is_change_by, is_own_change}
@@ -162,7 +162,7 @@ position_passes : {A : Type 0} (test : A → Bool) (xs : List A) (i : ℕ) (x : 
 position_passes test xs i x at is = ap test (sym (get_or_from_slice_get xs i x x is)) ∙ (position-Some test xs i x at).1
 
 -- more may have been sent
-more_counted : (d : PlainDescription) (name : List ℕ) (found : Option SimService) (controls : List ServiceControl)
+pub more_counted : (d : PlainDescription) (name : List ℕ) (found : Option SimService) (controls : List ServiceControl)
     (sent more : Command → ℕ) →
     ((command : Command) → sent command ≤ more command) → IsServiceCounted d name found controls sent
     → IsServiceCounted d name found controls more

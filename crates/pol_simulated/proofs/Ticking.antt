@@ -9,9 +9,9 @@ use Rattle.std.specs.List.{cons_option}
 use Rattle.std.specs.Str.{bytes_eq}
 use Rattle.mtp_codes.specs.declared.command.Command.{Command}
 use Rattle.mtp_codes.specs.declared.state.State.{State}
+use Rattle.mtp_codes.proofs.Names.{same_true}
 use Rattle.std.proofs.lemmas.Option.{same_Some}
 use Rattle.std.proofs.lemmas.Bool.{and_from}
-use Rattle.pol_history.proofs.Names.{same_true}
 use Rattle.mtp_machine.specs.Machine.{own_target, command_target}
 use Rattle.mtp_assembly.specs.declared.control.ServiceControl.{ServiceControl}
 use Rattle.mtp_json.specs.Form.{repeats_by}

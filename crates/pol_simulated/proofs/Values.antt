@@ -9,6 +9,7 @@ use Rattle.std.proofs.lemmas.Option.{same_Some, get_or_from_slice_get}
 use Rattle.mtp_codes.specs.Numbers.{is_between, is_within, least_i32, greatest_i32}
 use Rattle.mtp_codes.specs.declared.value.Value.{Value}
 use Rattle.mtp_codes.specs.declared.value.Value.TheVariants.{Whole}
+use Rattle.mtp_codes.proofs.Names.{same_refl}
 use Rattle.mtp_assembly.specs.Fits.{view_fault}
 use Rattle.mtp_assembly.specs.Plain.{PlainVariable}
 use Rattle.mtp_assembly.specs.declared.variable.ViewKind.{ViewKind}
@@ -28,7 +29,6 @@ use Rattle.mtp_sim.proofs.Edges.{all_at, all_set}
 use Rattle.pol_events.specs.Refusals.{value_misfit, no_variable}
 use Rattle.pol_history.specs.Looking.{past}
 use Rattle.pol_history.specs.Modules.{value_by}
-use Rattle.pol_history.proofs.Names.{same_refl}
 use Rattle.pol_site.specs.declared.limits.TheConstants.{MOST_DRIFTS, MOST_TICKS}
 use Rattle.pol_site.specs.Plans.{drifts_in, whole_in}
 use Rattle.pol_site.specs.Rules.{can_drift, found_drifts, is_drift_sound, same_drift}
@@ -284,7 +284,7 @@ from_drift sim name value is = go (service_here sim) is
         holds true is = cc
 
 -- the item at a place stands within the list
-place_within : {A : Type 0} (xs : List A) (i : ℕ) (x : A) → slice_get xs i ≡ Some x → i < length xs
+pub place_within : {A : Type 0} (xs : List A) (i : ℕ) (x : A) → slice_get xs i ≡ Some x → i < length xs
 place_within [] i x at = cc
 place_within (first ∷ others) zero x at = omega arith
 place_within (first ∷ others) (suc i) x at = let within : i < length others = place_within others i x at in omega arith

@@ -1,7 +1,6 @@
 -- Asking a rule of items one after the other, as a loop does.
-use Rattle.std.proofs.Common.{◌≡◌, ℕ, suc, ◌+◌, ◌≤◌, ◌<◌, Bool, List, [], ◌∷◌, length, get_or, drop, map, Result, Ok, Err, refl, sym, ap, ◌∙◌, arith}
+use Rattle.std.proofs.Common.{◌≡◌, ℕ, suc, ◌+◌, ◌≤◌, ◌<◌, List, [], ◌∷◌, length, get_or, drop, map, Result, Ok, Err, refl, sym, ap, ◌∙◌, arith}
 use Rattle.std.specs.Prelude.{⊤, ◌||◌}
-use Rattle.std.specs.List.{list_any}
 use Rattle.std.proofs.lemmas.List.{drop_all}
 use Rattle.std.proofs.Math.Seq.{drop-cons}
 use Rattle.mtp_json.specs.declared.fault.JsonRefusal.{JsonRefusal}
@@ -64,9 +63,3 @@ asks_done plain rule items i total past so_far =
     let none : drop i items ≡ [] = drop_all i items past in
     let one : each_ruled rule i (map plain (drop i items)) ≡ Ok tt = rw none refl in
     sym so_far ∙ one
-
--- some view passes where some item does whose view passes
-pub any_viewed : {X Y : Type 0} (view : X → Y) (test : Y → Bool) (xs : List X)
-    → list_any test (map view xs) ≡ list_any (λ x. test (view x)) xs
-any_viewed view test [] = refl
-any_viewed view test (x ∷ xs) = ap (λ b. test (view x) || b) (any_viewed view test xs)

@@ -1,6 +1,6 @@
 -- What is read as a site keeps the ranges of its form and its own rules.
-use Rattle.std.proofs.Common.{◌≡◌, ℕ, suc, ℤ, Bool, true, false, not, List, [], ◌∷◌, Ok, Err, Option, Some, None, refl}
-use Rattle.std.specs.Prelude.{IfOk, codes, ⊤, ◌&&◌, is_none, is_some, if◌then◌else◌}
+use Rattle.std.proofs.Common.{◌≡◌, ℕ, suc, ℤ, Bool, true, false, not, List, [], ◌∷◌, Ok, Option, Some, None, refl}
+use Rattle.std.specs.Prelude.{IfOk, codes, ⊤, ◌&&◌, is_none, is_some}
 use Rattle.std.specs.List.{list_all}
 use Rattle.std.proofs.lemmas.Bool.{and_parts}
 use Rattle.std.proofs.lemmas.Result.{IfOk-weaker}
@@ -24,7 +24,7 @@ use Rattle.chart_core.specs.Valid.{chart_fault}
 use Rattle.chart_core.specs.declared.fault.ChartFault.{ChartFault}
 use Rattle.chart_json.specs.Form.{are_roles_sized, chart_from, roles_of, same_role, tree_of}
 use Rattle.chart_json.proofs.Formed.{chart_formed, roles_sized, tree_formed}
-use Rattle.chart_json.proofs.Told.{IsListOf, any_before, kept, told_at, told_before, told_count, told_inside, told_items, told_list, told_need}
+use Rattle.chart_json.proofs.Told.{IsListOf, any_before, kept, told_at, told_before, told_count, told_inside, told_items, told_list, told_need, told_if}
 use Rattle.pol_events.specs.Binds.{allocation_from, binds_of, binds_or_none}
 use Rattle.pol_events.specs.Events.{recipe, start}
 use Rattle.pol_events.specs.Orderly.{is_orderly, is_valid}
@@ -37,12 +37,6 @@ use Rattle.pol_site.specs.Sites.{PlainSite, PlainSiteRecipe}
 use Rattle.pol_site.specs.Sound.{IsSite, is_drift_ranged, is_plan_ranged, is_plan_sound, is_plan_unlike}
 
 -- ---- what is read
-
--- a value that is given where a test holds
-told_if : {A : Type 0} (P : A → Type 0) (test : Bool) (x : A) (kind : FaultKind) → (test ≡ true → P x)
-    → IfOk (if test then Ok x else Err kind) P
-told_if P true x kind has = has refl
-told_if P false x kind has = tt
 
 -- a whole number from low to high
 told_whole_in : (low high : ℤ) (found : Option ℤ) → IfOk (whole_in low high found) (λ z. is_within low high z ≡ true)

@@ -201,7 +201,7 @@ fn any_with_tag(modules: &[SiteModule], tag: Name) -> bool
     modules.iter().any(|unit| unit.tag == tag)
 }
 
-#[tactic(auto, using(crate::proofs::Asking::any_viewed))]
+#[tactic(auto, using(mtp_json::proofs::Lists::any_map))]
 fn has_module(modules: &[SiteModule], tag: Name) -> bool
     ensures { result ≡ has_module (map plain_module modules.now) tag }
 {

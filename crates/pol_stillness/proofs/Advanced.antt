@@ -10,6 +10,7 @@ use Rattle.mtp_codes.specs.declared.command.Command.{Command}
 use Rattle.mtp_codes.specs.declared.command.Command.TheVariants as command
 use Rattle.mtp_codes.specs.declared.state.State.{State}
 use Rattle.mtp_codes.specs.declared.state.State.TheVariants as state
+use Rattle.mtp_codes.proofs.Names.{same_true, same_refl, same_name_is}
 use Rattle.mtp_machine.specs.Machine.{command_target, same_state, every_state}
 use Rattle.mtp_machine.specs.States.{is_idle}
 use Rattle.mtp_machine.proofs.EveryState.{of_each_state}
@@ -37,7 +38,6 @@ use Rattle.pol_history.specs.Batches.{Started, start_of, chart_named, outcome_by
 use Rattle.pol_history.specs.Following.{sights_by}
 use Rattle.pol_history.specs.Runs.{IsLegal, IsOrderly}
 use Rattle.pol_history.proofs.Accepted.{paired}
-use Rattle.pol_history.proofs.Names.{same_true, same_refl}
 use Rattle.pol_safety.specs.Permitted.{WasPermitted}
 use Rattle.pol_history.proofs.Pasts.{log_grows}
 use Rattle.pol_safety.proofs.Courses.{all_follow}
@@ -193,10 +193,6 @@ own_run older at other batch entry same of_run =
 
 -- ---- a command that is sent now
 
--- one name is the same as itself
-name_same : (a b : List ℕ) → a ≡ b → same_name a b ≡ true
-name_same a b same = ap (same_name a) (sym same) ∙ same_refl a
-
 -- where the step stands after it, and the state in which it was sent
 record Sends (step : PlainStep) (entry : LogEntry) (one : State) : Type 0 where
   phase : Phase
@@ -212,7 +208,7 @@ sends_phase seen step (Start name tag service procedure) sent one own sends plai
     let given : command.Start ≡ sent.command = ap (λ (s : Sent). s.command) (same_Some _ sent sends) in
     record {
       phase = started;
-      says = ap (λ b. when b started) (name_same name step.name own.0);
+      says = ap (λ b. when b started) (same_name_is name step.name own.0);
       running = refl;
       waits = ap Some (start_from one plain (ap (λ c. is_some (command_target one c)) given ∙ leads));
     }
@@ -220,7 +216,7 @@ sends_phase seen step (Finish name tag service) sent one own sends plain leads =
     let given : command.Complete ≡ sent.command = ap (λ (s : Sent). s.command) (same_Some _ sent sends) in
     record {
       phase = finished;
-      says = ap (λ b. when b finished) (name_same name step.name own.0);
+      says = ap (λ b. when b finished) (same_name_is name step.name own.0);
       running = refl;
       waits = ap Some (complete_from one plain (ap (λ c. is_some (command_target one c)) given ∙ leads));
     }
@@ -228,7 +224,7 @@ sends_phase seen step (Reset name tag service) sent one own sends plain leads =
     let given : command.Reset ≡ sent.command = ap (λ (s : Sent). s.command) (same_Some _ sent sends) in
     record {
       phase = was_reset;
-      says = ap (λ b. when b was_reset) (name_same name step.name own.0);
+      says = ap (λ b. when b was_reset) (same_name_is name step.name own.0);
       running = refl;
       waits = ap Some (reset_from one plain (ap (λ c. is_some (command_target one c)) given ∙ leads));
     }
@@ -317,7 +313,7 @@ end_due was_reset step one due waits = ap is_idle (sym (same_Some state.Complete
 is_for_service : (t s tag service : List ℕ) (sent : Sent) → sent.service ≡ s → t ≡ tag → s ≡ service
     → is_for service (if bytes_eq t tag then Some sent else None) ≡ true
 is_for_service t s tag service sent sent_is tag_is service_is =
-    ap (λ b. is_for service (if b then Some sent else None)) (name_same t tag tag_is) ∙ name_same sent.service service
+    ap (λ b. is_for service (if b then Some sent else None)) (same_name_is t tag tag_is) ∙ same_name_is sent.service service
     (sent_is ∙ service_is)
 
 -- an entry that sends the service nothing says nothing of the step that is owed

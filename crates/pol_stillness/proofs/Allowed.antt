@@ -1,5 +1,6 @@
 -- What a simulated module reports is allowed by its site.
 use Rattle.std.proofs.Common.{◌≡◌, Some, ap, sym, ◌∙◌}
+use Rattle.mtp_codes.proofs.Names.{same_refl}
 use Rattle.mtp_sim.specs.declared.report.SimReport.{SimReport}
 use Rattle.mtp_sim.specs.declared.report.SimReport.TheVariants.{Service, Variable}
 use Rattle.mtp_sim.specs.Ticks.{tick_report, ticked_service, limit_of, control_now}
@@ -7,7 +8,6 @@ use Rattle.mtp_sim.proofs.Edges.{name_ticked}
 use Rattle.mtp_assembly.specs.declared.control.ServiceControl.{ServiceControl}
 use Rattle.pol_history.specs.Looking.{past, is_accepted}
 use Rattle.pol_history.specs.Answers.{answer_of}
-use Rattle.pol_history.proofs.Names.{same_refl}
 use Rattle.pol_site.specs.Following.{IsAllowed, control_due}
 use Rattle.pol_site.specs.Stories.{story}
 use Rattle.pol_simulated.specs.Units.{report_event}

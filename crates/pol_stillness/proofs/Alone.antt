@@ -4,6 +4,7 @@ use Rattle.std.specs.Prelude.{◌||◌, if◌then◌else◌}
 use Rattle.std.specs.List.{list_any, Contains}
 use Rattle.std.proofs.lemmas.Bool.{and_from}
 use Rattle.mtp_codes.specs.Names.{same_name}
+use Rattle.mtp_codes.proofs.Names.{same_refl}
 use Rattle.chart_core.specs.Trees.{PlainStep, Placed, Tree, leaf, seq, par, choice, loop, steps}
 use Rattle.chart_core.specs.Runs.{course_of, word}
 use Rattle.chart_core.specs.Active.{Phase, is_running, or_idle, phase_after, active_steps}
@@ -25,7 +26,6 @@ use Rattle.chart_core.proofs.Link.{stands_of}
 use Rattle.chart_core.specs.Progress.{Marks, Stands}
 use Rattle.chart_core.specs.Names.{names}
 use Rattle.chart_cursor.proofs.Sending.{StepEntry, starts, finishes, resets_started, resets_finished, ends, NodeEntry, OnEntries, sent_among}
-use Rattle.pol_history.proofs.Names.{same_refl}
 use Rattle.pol_stillness.specs.Apart.{is_step_of, any_open, IsApart, AreApart, NextStepsAreAlone, CompleteRunsAreStill, is_due}
 use Rattle.pol_stillness.proofs.Apart.{spots_apart}
 use Rattle.pol_stillness.proofs.Clear.{valid_clear}

@@ -1,7 +1,7 @@
 -- Open steps of a chart are of different services.
 use Rattle.std.proofs.Common.{◌≡◌, ℕ, suc, zero, ◌+◌, Bool, true, false, cond, List, [], ◌∷◌, ◌++◌, refl, ap, sym, ◌∙◌}
 use Rattle.std.specs.Prelude.{◌||◌}
-use Rattle.std.proofs.lemmas.Bool.{and_from}
+use Rattle.std.proofs.lemmas.Bool.{and_from, or_parts, or_from}
 use Rattle.chart_core.specs.Trees.{Tree, Trees, Arms, leaf, seq, par, choice, loop, no_trees, more_trees, no_arms, more_arms, size}
 use Rattle.chart_core.specs.Valid.{uses, some_uses, arm_uses}
 use Rattle.chart_core.specs.Runs.{course}
@@ -10,21 +10,16 @@ use Rattle.chart_core.specs.Changes.{is_done}
 use Rattle.chart_core.specs.declared.progress.Progress.{Progress}
 use Rattle.chart_core.specs.declared.progress.Progress.TheVariants.{Untouched, Begun, Finished, WasReset, Ended, Chosen, Left}
 use Rattle.chart_cursor.specs.OpenNodes.{OpenNode, open_nodes, open_in_step, open_in_choice, open_in_loop, open_in_seq, open_in_par, open_in_arm}
-use Rattle.pol_history.proofs.Names.{same_refl}
 use Rattle.pol_stillness.specs.Apart.{is_step_of, any_open, IsApart, AreApart, AllClear, ArmsClear, Disjoint, OpenStepsAreApart}
 use Rattle.std.proofs.lemmas.List.Folds.{list_any-append}
-use Rattle.mtp_sim.proofs.Indexed.{neither}
-
--- of two tests that both fail neither holds
-pub none_from : (a b : Bool) → a ≡ false → b ≡ false → (a || b) ≡ false
-none_from a b e f = rw (e, f) refl
+use Rattle.mtp_codes.proofs.Names.{same_refl}
 
 -- what is open at a selection and at a loop
 choice_none : (role service : List ℕ) (n : ℕ) (node : Tree) (arm : ℕ → List OpenNode) (p : Progress)
     → is_step_of role service node ≡ false
     → ((place : ℕ) → any_open role service (arm place) ≡ false)
     → any_open role service (open_in_choice n node arm p) ≡ false
-choice_none role service n node arm Untouched none arms = none_from _ false none refl
+choice_none role service n node arm Untouched none arms = or_from _ false none refl
 choice_none role service n node arm Begun none arms = refl
 choice_none role service n node arm Finished none arms = refl
 choice_none role service n node arm WasReset none arms = refl
@@ -36,7 +31,7 @@ choice_none role service n node arm Left none arms = refl
 loop-none : (role service : List ℕ) (n : ℕ) (node : Tree) (done : Bool) (body : List OpenNode) (p : Progress)
     → is_step_of role service node ≡ false
     → any_open role service body ≡ false → any_open role service (open_in_loop n node done body p) ≡ false
-loop-none role service n node true body Untouched none inside = none_from _ false none refl
+loop-none role service n node true body Untouched none inside = or_from _ false none refl
 loop-none role service n node false body Untouched none inside = inside
 loop-none role service n node done body Begun none inside = refl
 loop-none role service n node done body Finished none inside = refl
@@ -48,10 +43,10 @@ loop-none role service n node done body Left none inside = refl
 -- the same of a step
 step_none : (role service : List ℕ) (n : ℕ) (node : Tree) (p : Progress) → is_step_of role service node ≡ false
     → any_open role service (open_in_step n node p) ≡ false
-step_none role service n node Untouched none = none_from _ false none refl
-step_none role service n node Begun none = none_from _ false none refl
-step_none role service n node Finished none = none_from _ false none refl
-step_none role service n node WasReset none = none_from _ false none refl
+step_none role service n node Untouched none = or_from _ false none refl
+step_none role service n node Begun none = or_from _ false none refl
+step_none role service n node Finished none = or_from _ false none refl
+step_none role service n node WasReset none = or_from _ false none refl
 step_none role service n node Ended none = refl
 step_none role service n node (Chosen arm) none = refl
 step_none role service n node Left none = refl
@@ -83,7 +78,7 @@ mutual
       → any_open role service (open_in_seq ts n f) ≡ false
   turn_uses no_trees n f role service none = refl
   turn_uses (more_trees each others) n f role service none =
-      let parts = neither (uses each role service) (some_uses others role service) none in
+      let parts = or_parts (uses each role service) (some_uses others role service) none in
       either role service (is_done (course each n) f) (open_in_seq others (n + size each) f) (open_nodes each n f)
       (turn_uses others (n + size each) f role service parts.1) (open_uses each n f role service parts.0)
 
@@ -92,10 +87,10 @@ mutual
       → any_open role service (open_in_par ts n f) ≡ false
   once_uses no_trees n f role service none = refl
   once_uses (more_trees each others) n f role service none =
-      let parts = neither (uses each role service) (some_uses others role service) none in
+      let parts = or_parts (uses each role service) (some_uses others role service) none in
       list_any-append (λ spot. is_step_of role service spot.node) (open_nodes each n f)
       (open_in_par others (n + size each) f)
-      ∙ none_from _ _ (open_uses each n f role service parts.0)
+      ∙ or_from _ _ (open_uses each n f role service parts.0)
       (once_uses others (n + size each) f role service parts.1)
 
   -- nor have arms
@@ -103,10 +98,10 @@ mutual
       → any_open role service (open_in_arm arms n place f) ≡ false
   arms_use no_arms n place f role service none = refl
   arms_use (more_arms when each others) n zero f role service none =
-      open_uses each n f role service (neither (uses each role service) (arm_uses others role service) none).0
+      open_uses each n f role service (or_parts (uses each role service) (arm_uses others role service) none).0
   arms_use (more_arms when each others) n (suc place) f role service none =
       arms_use others (n + size each) place f role service
-      (neither (uses each role service) (arm_uses others role service) none).1
+      (or_parts (uses each role service) (arm_uses others role service) none).1
 
 -- two lists of open nodes of which none of the first has the role and service of one of the second
 apart_append : (xs ys : List OpenNode) → AreApart xs → AreApart ys →
@@ -129,7 +124,7 @@ apart_append (x ∷ xs) ys one other cross = (
     here : (node : Tree) → x.node ≡ node → IsApart node xs → IsApart node (xs ++ ys)
     here (leaf step) is apart =
         list_any-append (λ spot. is_step_of step.role step.service spot.node) xs ys
-        ∙ none_from _ _ apart (cross step.role step.service
+        ∙ or_from _ _ apart (cross step.role step.service
         (first (is_step_of step.role step.service x.node) (any_open step.role step.service xs)
         (ap (is_step_of step.role step.service) is ∙ and_from _ _ (same_refl step.role) (same_refl step.service))))
     here (seq each) is apart = tt

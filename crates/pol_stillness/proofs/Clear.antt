@@ -1,18 +1,16 @@
 -- In a valid chart no two branches of a parallel have a step of one role and service.
 use Rattle.std.proofs.Common.{◌≡◌, ℕ, ◌+◌, ◌-◌, ◌<◌, ◌≤◌, Bool, true, false, List, [], ◌∷◌, None, refl, ap, sym, ◌∙◌, subst, arith}
 use Rattle.std.specs.Prelude.{◌&&◌}
-use Rattle.std.proofs.lemmas.Bool.{and_parts}
+use Rattle.std.proofs.lemmas.Bool.{and_parts, or_parts, or_from}
 use Rattle.mtp_codes.specs.Names.{same_name}
 use Rattle.mtp_codes.specs.Faults.{when}
+use Rattle.mtp_codes.proofs.Names.{same_true}
 use Rattle.chart_core.specs.Trees.{Placed, Tree, Trees, Arms, leaf, seq, par, choice, loop, no_trees, more_trees, no_arms, more_arms, size, sizes, arm_sizes, steps, all_steps, arm_steps}
 use Rattle.chart_core.specs.Roles.{PlainChart}
 use Rattle.chart_core.specs.Valid.{Visit, visit, visits, all_visits, arm_visits, step_count, node_faults, node_fault, first_fault, uses, some_uses, arm_uses, clashes, clashes_in_turn, clashes_at_once, clashes_in_arms}
 use Rattle.chart_core.specs.declared.fault.ChartFault.TheVariants.{SameService}
 use Rattle.chart_core.proofs.Validity.{Each, each_append, each_front, each_back, no_fault, first_clear, none_first}
-use Rattle.pol_history.proofs.Names.{same_true}
 use Rattle.pol_stillness.specs.Apart.{Clear, AllClear, ArmsClear, Disjoint, ValidChartsAreClear}
-use Rattle.mtp_sim.proofs.Indexed.{neither}
-use Rattle.pol_stillness.proofs.Apart.{none_from}
 use Rattle.pol_simulated.proofs.Places.{lt_true, lt_false}
 
 -- by this test no step clashes
@@ -131,7 +129,7 @@ mutual
       → some_uses ts role service ≡ false
   unused_all no_trees n role service none = refl
   unused_all (more_trees t ts) n role service none =
-      none_from _ _ (unused t n role service (each_front _ (steps t n) (all_steps ts (n + size t)) none))
+      or_from _ _ (unused t n role service (each_front _ (steps t n) (all_steps ts (n + size t)) none))
       (unused_all ts (n + size t) role service (each_back _ (steps t n) (all_steps ts (n + size t)) none))
 
   -- nor do some arms
@@ -139,7 +137,7 @@ mutual
       → arm_uses ts role service ≡ false
   unused_arms no_arms n role service none = refl
   unused_arms (more_arms when t ts) n role service none =
-      none_from _ _ (unused t n role service (each_front _ (steps t n) (arm_steps ts (n + size t)) none))
+      or_from _ _ (unused t n role service (each_front _ (steps t n) (arm_steps ts (n + size t)) none))
       (unused_arms ts (n + size t) role service (each_back _ (steps t n) (arm_steps ts (n + size t)) none))
 
 -- a step whose role and service the tree doesn't use isn't of those that it uses
@@ -230,7 +228,7 @@ mutual
         (λ m role service l h none. let past : size t ≤ m - n = omega
         (arith, l) in (let both = rw (lt_false (m - n) (size t) past) at none in subst
         (λ i. clashes_at_once ts i role service ≡ false) (omega arith)
-        (neither (uses t role service) (clashes_at_once ts (m - n - size t) role service) both).1))
+        (or_parts (uses t role service) (clashes_at_once ts (m - n - size t) role service) both).1))
         (lies_all ts (n + size t))
         (each_back (Unclashed (λ m. clashes_at_once (more_trees t ts) (m - n))) (steps t n) (all_steps ts (n + size t))
         each)),
@@ -245,7 +243,7 @@ mutual
         (all_steps ts (n + size t))
         (λ m role service l h none. let past : size t ≤ m - n = omega
         (arith, l) in (let both = rw (lt_false (m - n) (size t) past) at
-        none in (neither (uses t role service) (clashes_at_once ts (m - n - size t) role service) both).0))
+        none in (or_parts (uses t role service) (clashes_at_once ts (m - n - size t) role service) both).0))
         (lies_all ts (n + size t))
         (each_back (Unclashed (λ m. clashes_at_once (more_trees t ts) (m - n))) (steps t n) (all_steps ts (n + size t))
         each)))),
@@ -255,7 +253,7 @@ mutual
         (λ m role service l h none. let past : size t ≤ m - n = omega
         (arith, l) in (let both = rw (lt_false (m - n) (size t) past) at none in subst
         (λ i. clashes_at_once ts i role service ≡ false) (omega arith)
-        (neither (uses t role service) (clashes_at_once ts (m - n - size t) role service) both).1))
+        (or_parts (uses t role service) (clashes_at_once ts (m - n - size t) role service) both).1))
         (lies_all ts (n + size t))
         (each_back (Unclashed (λ m. clashes_at_once (more_trees t ts) (m - n))) (steps t n) (all_steps ts (n + size t))
         each)),

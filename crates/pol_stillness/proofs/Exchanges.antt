@@ -11,6 +11,7 @@ use Rattle.mtp_procs.specs.Covers.{cover_fault, missing_by}
 use Rattle.pol_events.specs.Bound.{bound_role, given}
 use Rattle.pol_history.specs.Batches.{chart_by, holder_of, start_by, watchers_of}
 use Rattle.mtp_codes.specs.declared.cover.CoverFault.{CoverFault}
+use Rattle.mtp_codes.proofs.Names.{same_true}
 use Rattle.pol_events.specs.Events.{PlainEvent, PlainEntry, plug, unplug, report, variable, desk, exchange_begin, exchange_end, exchange_cancel}
 use Rattle.pol_events.specs.declared.answer.Answer.{Answer}
 use Rattle.pol_events.specs.declared.answer.Answer.TheVariants.{Done, Refused, Ticket}
@@ -22,7 +23,6 @@ use Rattle.pol_history.specs.Modules.{Docking, absent, docked, away, docking_aft
 use Rattle.pol_history.specs.Rules.{held_back, uncovered_in}
 use Rattle.pol_history.specs.Runs.{is_recorded}
 use Rattle.pol_history.proofs.Accepted.{accepted_otherwise, paired}
-use Rattle.pol_history.proofs.Names.{same_true}
 use Rattle.pol_site.specs.Following.{IsAllowed, Exchanging, ended_with, exchanging, last_exchanging, none_open, was_begun, was_held}
 use Rattle.pol_stillness.specs.Exchanges.{open_ticket, OpenIsAway}
 

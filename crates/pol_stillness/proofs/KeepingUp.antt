@@ -2,10 +2,11 @@
 use Rattle.std.proofs.Common.{◌≡◌, ◌≤◌, ◌<◌, ◌+◌, ℕ, suc, Bool, true, false, List, [], ◌∷◌, length, Option, Some, None, refl, ap, sym, ◌∙◌, subst, arith}
 use Rattle.std.specs.Prelude.{◌&&◌, is_some, option_map, option_and_then, slice_get, if◌then◌else◌}
 use Rattle.std.specs.Str.{bytes_eq}
-use Rattle.std.proofs.lemmas.Bool.{and_right}
+use Rattle.std.proofs.lemmas.Bool.{and_right, or_parts}
 use Rattle.std.proofs.lemmas.Option.{same_Some}
 use Rattle.mtp_codes.specs.declared.command.Command.{Command}
 use Rattle.mtp_codes.specs.declared.command.Command.TheVariants as command
+use Rattle.mtp_codes.proofs.Names.{same_true, same_refl}
 use Rattle.mtp_machine.specs.Machine.{same_command}
 use Rattle.mtp_assembly.specs.declared.control.ServiceControl.{ServiceControl}
 use Rattle.mtp_desc.specs.Plain.{PlainDescription}
@@ -16,7 +17,6 @@ use Rattle.mtp_sim.specs.declared.service.SimService.{SimService}
 use Rattle.mtp_sim.specs.Sims.{PlainSim}
 use Rattle.mtp_sim.specs.Ticks.{tick_report, ticked, ticked_at, service_here, drift_here}
 use Rattle.mtp_sim.specs.Commands.{took, took_at, place_of, after_command, with_service, service_took}
-use Rattle.mtp_sim.proofs.Indexed.{neither}
 use Rattle.chart_core.specs.declared.entry.LogEntry.{LogEntry}
 use Rattle.chart_core.specs.declared.entry.LogEntry.TheVariants.{Start, Asked}
 use Rattle.chart_cursor.specs.Commands.{Sent, sent_by}
@@ -25,7 +25,6 @@ use Rattle.pol_events.specs.declared.answer.Answer.TheVariants.{Done, Did}
 use Rattle.pol_history.specs.Looking.{History, is_accepted_of, past}
 use Rattle.pol_history.specs.Modules.{since_docking}
 use Rattle.pol_history.proofs.Accepted.{paired}
-use Rattle.pol_history.proofs.Names.{same_refl, same_true}
 use Rattle.pol_site.specs.Sites.{PlainSite}
 use Rattle.pol_site.specs.Stories.{controls_in, if_to, is_for, is_given, sent_to, started_in, story, times_sent}
 use Rattle.pol_simulated.specs.Units.{told, IsInStep, IsCounted, IsServiceCounted, IsServiceTold, service_called}
@@ -35,7 +34,7 @@ use Rattle.pol_simulated.specs.Values.{AreDriftsKept}
 use Rattle.pol_simulated.proofs.Counted.{counted_commanded, sent_later, untouched_kept}
 use Rattle.pol_simulated.proofs.First.{first_in_step, first_of, found_image}
 use Rattle.pol_simulated.proofs.Places.{before_all, before_later, found_within, next_counted}
-use Rattle.pol_simulated.proofs.Taking.{commands_kept}
+use Rattle.pol_simulated.proofs.Taking.{commands_kept, more_counted}
 use Rattle.pol_simulated.proofs.Ticking.{ticks_kept}
 use Rattle.pol_simulated.proofs.Values.{drifts_commanded, drifts_ticked, first_drifts_kept, plans_kept}
 use Rattle.pol_stillness.specs.Phases.{asked_in}
@@ -237,14 +236,6 @@ looks_up site tag from history sim ahead sent calm next sends tag_is up =
 
 -- ---- no command is left
 
--- what is counted against so many commands is counted against more
-counted_more : (d : PlainDescription) (name : List ℕ) (found : Option SimService) (controls : List ServiceControl)
-    (sent other : Command → ℕ) → ((command : Command) → sent command ≤ other command) →
-    IsServiceCounted d name found controls sent → IsServiceCounted d name found controls other
-counted_more d name None controls sent other more counted = tt
-counted_more d name (Some s) controls sent other more counted =
-    λ command. let one = more command in let less = counted command in omega (arith, one, less)
-
 -- where nothing is ahead from a place on, nothing is from a later one
 nothing_ahead : (xs ys : List LogEntry) (ahead : Option LogEntry) → xs ≡ [] → ys ≡ [] → xs ≡ list_of ahead →
     ys ≡ list_of ahead
@@ -256,7 +247,7 @@ idles_up site tag from history sim none up =
     record {
       step = up.step;
       kept = up.kept;
-      counted = λ name. counted_more sim.description name (service_called name sim.services)
+      counted = λ name. more_counted sim.description name (service_called name sim.services)
           (controls_in name (since_docking (past tag history)))
           (λ command. times_sent tag name command (story tag (before from history)))
           (λ command. times_sent tag name command (story tag (before (length history) history)))
@@ -294,7 +285,7 @@ others_up site tag from older entry sim free up =
     let same = untouched_kept tag older entry free in
     let later = before_later from entry older up.within in
     let silent : is_some (sent_to tag entry) ≡ false =
-    (neither (is_accepted_of tag entry) (is_some (sent_to tag entry)) free).1 in
+    (or_parts (is_accepted_of tag entry) (is_some (sent_to tag entry)) free).1 in
     record {
       step = subst (λ p. IsInStep site tag p sim) (sym same.0) up.step;
       kept = up.kept;

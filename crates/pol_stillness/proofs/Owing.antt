@@ -4,6 +4,7 @@ use Rattle.std.specs.Prelude.{◌&&◌, if◌then◌else◌}
 use Rattle.std.specs.List.{Contains}
 use Rattle.std.specs.Str.{bytes_eq}
 use Rattle.std.proofs.lemmas.Bool.{and_right}
+use Rattle.mtp_codes.proofs.Names.{same_true}
 use Rattle.chart_core.specs.Active.{active_steps}
 use Rattle.chart_core.specs.Runs.{IsComplete}
 use Rattle.chart_core.specs.declared.entry.LogEntry.{LogEntry}
@@ -25,7 +26,6 @@ use Rattle.pol_history.specs.Following.{sights_by, next_of}
 use Rattle.pol_history.specs.Answers.{advanced, otherwise, answer_of}
 use Rattle.pol_history.specs.Runs.{IsLegal, IsOrderly, is_recorded}
 use Rattle.pol_history.proofs.Accepted.{accepted_none, accepted_otherwise, paired}
-use Rattle.pol_history.proofs.Names.{same_true}
 use Rattle.pol_safety.proofs.Courses.{all_follow}
 use Rattle.pol_safety.proofs.Nexts.{HasNext, has_next, next_at}
 use Rattle.pol_safety.proofs.Sides.{accepted, Comes}
@@ -191,7 +191,7 @@ accepted_owing site older event comes legal allowed answered follows plain again
     (λ recipe chart found. chart_stays older event recipe chart comes found) again
 
 -- a refusal sends nothing
-refused_silent : (answer : Answer) → is_accepted answer ≡ false → sent_command answer ≡ None
+pub refused_silent : (answer : Answer) → is_accepted answer ≡ false → sent_command answer ≡ None
 refused_silent (Did entry) refused = cc
 refused_silent _ refused = refl
 

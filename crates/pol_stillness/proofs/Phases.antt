@@ -8,6 +8,7 @@ use Rattle.std.proofs.lemmas.Option.{same_Some}
 use Rattle.mtp_codes.specs.declared.command.Command.{Command}
 use Rattle.mtp_codes.specs.declared.command.Command.TheVariants as command
 use Rattle.mtp_codes.specs.declared.state.State.{State}
+use Rattle.mtp_codes.proofs.Names.{same_refl}
 use Rattle.mtp_machine.specs.Machine.{command_target, own_target, same_command}
 use Rattle.mtp_assembly.specs.declared.control.ServiceControl.{ServiceControl}
 use Rattle.mtp_modes.specs.declared.view.ServiceView.{ServiceView}
@@ -26,7 +27,6 @@ use Rattle.pol_history.specs.Looking.{History, past, last_of}
 use Rattle.pol_history.specs.Modules.{since_docking, control_by, description_by, completes_by, seen_with}
 use Rattle.pol_history.specs.Batches.{taken}
 use Rattle.pol_history.proofs.Accepted.{paired}
-use Rattle.pol_history.proofs.Names.{same_refl}
 use Rattle.pol_site.specs.Stories.{story, if_to, is_for, started_in, procedure_started, answering, is_answered, controls_in}
 use Rattle.pol_simulated.specs.Units.{newest}
 use Rattle.pol_simulated.proofs.Taking.{moved_untold, told_state}

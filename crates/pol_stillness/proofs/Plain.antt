@@ -20,7 +20,6 @@ use Rattle.chart_core.specs.Entries.{chart_entry}
 use Rattle.chart_core.specs.Roles.{PlainChart}
 use Rattle.chart_core.specs.Trees.{PlainStep}
 use Rattle.chart_core.specs.declared.entry.LogEntry.{LogEntry}
-use Rattle.chart_core.specs.declared.why.Why.TheVariants as why
 use Rattle.chart_core.specs.declared.entry.LogEntry.TheVariants.{Start, Finish, Reset, Stop, Broke, StopAsked, Hold, Unhold, Asked}
 use Rattle.chart_cursor.specs.Commands.{Sent, sent_by}
 use Rattle.chart_cursor.specs.Next.{next_after}
@@ -47,7 +46,6 @@ use Rattle.pol_history.specs.Commands.{sent_command}
 use Rattle.pol_history.specs.Following.{sights_by, next_of}
 use Rattle.pol_history.specs.Answers.{advanced, otherwise, answer_of}
 use Rattle.pol_history.proofs.Accepted.{accepted_none, accepted_otherwise, paired}
-use Rattle.pol_history.proofs.Names.{same_refl}
 use Rattle.pol_history.proofs.Pasts.{log_grows}
 use Rattle.pol_safety.proofs.Advances.{thawed_so}
 use Rattle.pol_safety.proofs.Courses.{log_stays}
@@ -66,6 +64,7 @@ use Rattle.chart_cursor.specs.Freezing.{Freezing, thawed}
 use Rattle.chart_cursor.specs.Logs.{active, chart_entries, has_broken, holding_by, is_broke, is_stop_asked, was_held, was_stopped}
 use Rattle.chart_core.specs.Active.{or_earlier, last_of}
 use Rattle.mtp_codes.specs.Names.{same_name}
+use Rattle.mtp_codes.proofs.Names.{same_refl}
 
 -- ---- states
 

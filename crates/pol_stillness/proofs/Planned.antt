@@ -5,12 +5,12 @@ use Rattle.std.specs.Option.{option_or}
 use Rattle.std.specs.Str.{bytes_eq}
 use Rattle.mtp_desc.specs.Plain.{PlainDescription}
 use Rattle.mtp_codes.specs.Names.{is_among}
+use Rattle.mtp_codes.proofs.Names.{same_true, same_refl}
 use Rattle.mtp_sim.specs.Sims.{PlainPlan}
 use Rattle.pol_events.specs.Events.{PlainEntry, PlainEvent, plug, recipe, unplug}
 use Rattle.pol_events.specs.declared.answer.Answer.{Answer}
 use Rattle.pol_history.specs.Looking.{History, is_accepted, is_accepted_of, past}
 use Rattle.pol_history.specs.Modules.{present_after, present_tags, tags_without}
-use Rattle.pol_history.proofs.Names.{same_refl, same_true}
 use Rattle.pol_safety.specs.Known.{is_there}
 use Rattle.pol_safety.proofs.Present.{tags_counted}
 use Rattle.pol_site.specs.Following.{FollowsSite, IsAllowed, opened}

@@ -7,6 +7,7 @@ use Rattle.std.specs.Str.{bytes_eq}
 use Rattle.std.proofs.lemmas.Bool.{and_parts, not-true}
 use Rattle.std.proofs.lemmas.Option.{same_Some}
 use Rattle.mtp_codes.specs.declared.state.State.{State}
+use Rattle.mtp_codes.proofs.Names.{same_true, same_refl}
 use Rattle.mtp_machine.specs.States.{is_execute}
 use Rattle.mtp_assembly.specs.declared.control.ServiceControl.{ServiceControl}
 use Rattle.mtp_desc.specs.Plain.{PlainDescription, PlainService}
@@ -21,7 +22,6 @@ use Rattle.pol_events.specs.Events.{PlainEntry}
 use Rattle.pol_history.specs.Looking.{History, is_accepted_of, last_of, past}
 use Rattle.pol_history.specs.Modules.{control_by, description_by, is_moving, reported, seen_with, since_docking, view_by}
 use Rattle.pol_history.specs.Runs.{IsLegal}
-use Rattle.pol_history.proofs.Names.{same_refl, same_true}
 use Rattle.pol_safety.specs.Permitted.{WasPermitted}
 use Rattle.pol_safety.proofs.Sending.{sent_was_permitted}
 use Rattle.pol_site.specs.Plans.{drifts_in, plan_by}

@@ -3,8 +3,9 @@ use Rattle.std.proofs.Common.{◌≡◌, ℕ, suc, ℤ, Bool, true, false, cond,
 use Rattle.std.specs.Prelude.{◌&&◌, ◌||◌, map, find, is_some, is_none, slice_get}
 use Rattle.std.specs.List.{list_all, list_any}
 use Rattle.std.specs.Str.{bytes_eq}
-use Rattle.std.proofs.lemmas.Bool.{and_from, and_parts, not-true}
+use Rattle.std.proofs.lemmas.Bool.{and_from, and_parts, not-true, or_parts}
 use Rattle.std.proofs.lemmas.Option.{same_Some}
+use Rattle.mtp_codes.proofs.Names.{same_refl}
 use Rattle.mtp_machine.specs.States.{is_execute}
 use Rattle.mtp_desc.specs.Plain.{PlainDescription, PlainService}
 use Rattle.mtp_sim.specs.declared.plan.Drift.{Drift}
@@ -13,10 +14,8 @@ use Rattle.mtp_sim.specs.declared.service.SimService.{SimService}
 use Rattle.mtp_sim.specs.Sims.{PlainSim, drift_in}
 use Rattle.mtp_sim.specs.Ticks.{changes, control_now, is_executing, is_left, is_pending, is_silent, is_untold, next_value}
 use Rattle.mtp_sim.proofs.Edges.{none_at}
-use Rattle.mtp_sim.proofs.Indexed.{neither}
 use Rattle.pol_history.specs.Looking.{History, past}
 use Rattle.pol_history.specs.Modules.{control_by, since_docking, value_by, view_by}
-use Rattle.pol_history.proofs.Names.{same_refl}
 use Rattle.pol_site.specs.Plans.{whole_in}
 use Rattle.pol_site.specs.Settled.{is_quiet_module, is_read, is_running, is_some_running, is_spent, is_still}
 use Rattle.pol_site.specs.Sites.{PlainSite}
@@ -83,7 +82,7 @@ none_found : (test own : SimService → Bool) (services : List SimService) (s : 
     list_any test services ≡ false → find own services ≡ Some s → test s ≡ false
 none_found test own [] s none found = cc
 none_found test own (first ∷ others) s none found =
-    let parts = neither (test first) (list_any test others) none in
+    let parts = or_parts (test first) (list_any test others) none in
     go (own first) found parts.0 (none_found test own others s parts.1)
   where
     go : (here : Bool) → cond here (Some first) (find own others) ≡ Some s → test first ≡ false →
@@ -146,7 +145,7 @@ rest_quiet site tag past sim step calm still left =
     d = sim.description
 
     parts : (list_any is_untold sim.services ≡ false) × (list_any is_silent sim.drifts ≡ false)
-    parts = neither (list_any is_untold sim.services) (list_any is_silent sim.drifts) calm
+    parts = or_parts (list_any is_untold sim.services) (list_any is_silent sim.drifts) calm
 
     tells : (place : ℕ) (s : SimService) → slice_get sim.services place ≡ Some s → is_untold s ≡ false
     tells place s here = none_at is_untold sim.services place s parts.0 here
@@ -193,7 +192,7 @@ rests_settled site tag from count history sim legal orderly follows commanded do
     let quiet = rest_quiet site tag (past tag history) sim up.step calm
     (not-true (list_any (changes sim.description) sim.services) second.0)
     (not-true (is_executing sim.services && list_any is_left sim.drifts) second.1) in
-    let told = neither (list_any is_untold sim.services) (list_any is_silent sim.drifts) calm in
+    let told = or_parts (list_any is_untold sim.services) (list_any is_silent sim.drifts) calm in
     let answered = rest_answered site history tag sim from legal orderly follows commanded up.step none
     (λ name service called. (
       none_found is_untold (λ service. bytes_eq service.name name) sim.services service told.0 called,

@@ -7,6 +7,7 @@ use Rattle.std.specs.Str.{bytes_eq}
 use Rattle.std.proofs.lemmas.Bool.{and_from, and_right}
 use Rattle.std.proofs.lemmas.Option.{same_Some}
 use Rattle.std.proofs.lemmas.List.{append-nil}
+use Rattle.mtp_codes.proofs.Names.{same_true, same_refl}
 use Rattle.mtp_sim.specs.declared.service.SimService.{SimService}
 use Rattle.mtp_sim.specs.Commands.{asked_procedure}
 use Rattle.mtp_sim.specs.Ticks.{control_now, is_untold, service_ticked, is_reported}
@@ -26,7 +27,6 @@ use Rattle.pol_history.specs.Batches.{taken}
 use Rattle.pol_history.specs.Following.{next_of}
 use Rattle.pol_history.specs.Answers.{advanced, answer_of}
 use Rattle.pol_history.proofs.Accepted.{accepted_none, accepted_otherwise, paired}
-use Rattle.pol_history.proofs.Names.{same_true, same_refl}
 use Rattle.pol_safety.proofs.Nexts.{has_next}
 use Rattle.pol_safety.proofs.Starts.{is_open_batch}
 use Rattle.pol_site.specs.Stories.{sent_to, if_to, touches, story, is_for, is_answered, is_sent_answered, controls_in}

@@ -9,6 +9,7 @@ use Rattle.mtp_desc.specs.Lookup.{procedure_at}
 use Rattle.mtp_procs.specs.Covers.{role_fault, role_named, is_refused, is_refused_step, refused_step, refused_variable, cover_fault}
 use Rattle.mtp_procs.specs.Demands.{procedure_fault, step_fault}
 use Rattle.mtp_codes.specs.declared.cover.CoverFault.TheVariants.{NotCovered}
+use Rattle.mtp_codes.proofs.Names.{same_refl}
 use Rattle.mtp_sim.specs.Commands.{default_number, asked_procedure}
 use Rattle.chart_core.specs.Form.{is_step_formed, is_tree_formed, are_trees_formed, are_arms_formed}
 use Rattle.chart_core.specs.Roles.{PlainChart, role_names}
@@ -24,7 +25,6 @@ use Rattle.pol_history.specs.Looking.{past}
 use Rattle.pol_history.specs.Modules.{description_by}
 use Rattle.pol_history.specs.Batches.{log_of}
 use Rattle.pol_history.specs.Following.{sights_by}
-use Rattle.pol_history.proofs.Names.{same_refl}
 use Rattle.pol_safety.proofs.Covering.{Covers, all_cover}
 use Rattle.pol_safety.proofs.Seen.{tag_of_bound}
 use Rattle.pol_safety.proofs.Starts.{IsGoodChart, sound, running_fits}

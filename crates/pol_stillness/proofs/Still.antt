@@ -3,6 +3,7 @@ use Rattle.std.proofs.Common.{◌≡◌, ℕ, Bool, true, false, not, List, Opti
 use Rattle.std.specs.Prelude.{◌&&◌, ◌||◌, is_some}
 use Rattle.std.specs.List.{AllByRecursion}
 use Rattle.std.proofs.lemmas.Option.{same_Some}
+use Rattle.std.proofs.lemmas.Bool.{true_from_ne_false}
 use Rattle.mtp_codes.specs.declared.command.Command.{Command}
 use Rattle.mtp_codes.specs.declared.command.Command.TheVariants as command
 use Rattle.mtp_codes.specs.declared.state.State.{State}
@@ -133,11 +134,6 @@ event_answered site older (desk at tag service given) answer sent accepted allow
     let clash : false ≡ true = sym ((desks_refused site older follows).refused at tag service given) ∙ accepted in cc
 event_answered site older _ answer sent accepted allowed follows legal orderly plain sends owed = cc
 
--- what isn't false is true
-answered : (b : Bool) → (b ≡ false → ⊥) → b ≡ true
-answered true never = refl
-answered false never = absurd (never refl)
-
 -- the law of commands
 pub sent_still : CommandsFindServicesStill
 sent_still site older entry sent legal orderly follows commanded sends =
@@ -156,8 +152,8 @@ sent_still site older entry sent legal orderly follows commanded sends =
       still =
           still was.view.self_completes was.view.control.state sent.command plain_command
           (view_plain older sent.tag sent.service was.view plain was.seen) was.permitted.leads was.permitted.completes;
-      answered =
-          answered (is_answered sent.tag (story sent.tag older) sent.service)
+      true_from_ne_false =
+          true_from_ne_false (is_answered sent.tag (story sent.tag older) sent.service)
           (λ un. event_answered site older entry.event entry.answer sent accepted follows.0 follows.1 legal.2 orderly.1
           plain given
           (owing site older legal.2 orderly.1 follows.1 commanded sent.tag sent.service un));

@@ -5,6 +5,7 @@ use Rattle.std.specs.List.{position, prefix_len}
 use Rattle.std.specs.Str.{bytes_eq}
 use Rattle.std.proofs.lemmas.List.Quantifiers.{position-Some}
 use Rattle.std.proofs.lemmas.Option.{same_Some, slice_get-get_or}
+use Rattle.mtp_codes.proofs.Names.{same_true, same_refl}
 use Rattle.mtp_desc.specs.Plain.{PlainDescription}
 use Rattle.mtp_json.specs.Form.{repeats_by}
 use Rattle.mtp_sim.specs.declared.drift.SimDrift.{SimDrift}
@@ -17,7 +18,6 @@ use Rattle.pol_events.specs.Events.{report, PlainEntry}
 use Rattle.pol_events.specs.declared.answer.Answer.TheVariants.{Done}
 use Rattle.pol_history.specs.Looking.{History}
 use Rattle.pol_history.proofs.Accepted.{paired}
-use Rattle.pol_history.proofs.Names.{same_true, same_refl}
 use Rattle.pol_site.specs.Stories.{if_to, story, is_for}
 use Rattle.pol_simulated.specs.Units.{service_called, is_same_service}
 use Rattle.mtp_sim.proofs.Edges.{name_ticked}

@@ -1,5 +1,5 @@
 -- A legal history is the run of its events.
-use Rattle.std.proofs.Common.{◌≡◌, ◌<◌, ◌≤◌, Bool, true, false, List, [], ◌∷◌, ◌++◌, length, map, refl, sym, ◌∙◌, ap, arith}
+use Rattle.std.proofs.Common.{◌≡◌, ◌<◌, ◌≤◌, Bool, true, false, [], ◌∷◌, ◌++◌, length, map, refl, sym, ◌∙◌, ap, arith}
 use Rattle.std.specs.Prelude.{nat_le}
 use Rattle.std.proofs.lemmas.Bool.{leb-false, lt-leb}
 use Rattle.pol_history.proofs.Recording.{recorded_with_room}
@@ -10,6 +10,7 @@ use Rattle.pol_core.specs.Plants.{PlainPlant, plant_history}
 use Rattle.pol_history.specs.Looking.{History}
 use Rattle.pol_history.specs.Runs.{IsLegal, entry_of, is_recorded, recorded, history_after}
 use Rattle.pol_history.specs.Answers.{answer_of}
+use Rattle.pol_record.proofs.Appending.{history_after_append}
 use Rattle.pol_store.specs.Stands.{events_of}
 
 -- the events of a history with one entry more
@@ -27,13 +28,6 @@ pub length-plant : (plant : PlainPlant) → length (events_of (plant_history pla
 length-plant plant =
     length-events (plant_history plant) ∙ length-reverse (map plain_entry plant.entries)
     ∙ length-map plant.entries plain_entry
-
--- the events of two lists, one after the other
-pub history_after-append : (history : History) (events others : List PlainEvent) →
-    history_after history (events ++ others) ≡ history_after (history_after history events) others
-history_after-append history [] others = refl
-history_after-append history (event ∷ events) others =
-    history_after-append (recorded (entry_of history event) history) events others
 
 -- where the answer is recorded, the entry is new
 pub recorded_is : (history : History) (event : PlainEvent) → is_recorded (answer_of history event) ≡ true →
@@ -55,7 +49,7 @@ runs_legal (entry ∷ history) legal =
     ap (λ (e : PlainEntry). e ∷ history) made
     ∙ sym (recorded_is history entry.event told)
     ∙ ap (λ (h : History). recorded (entry_of h entry.event) h) (runs_legal history legal.2)
-    ∙ sym (history_after-append [] (events_of history) (entry.event ∷ []))
+    ∙ sym (history_after_append [] (events_of history) (entry.event ∷ []))
     ∙ ap (history_after []) (sym (events-cons entry history))
 
 -- a legal history has at most 200,000 entries

@@ -16,8 +16,8 @@ use Rattle.std.proofs.lemmas.List.Elements.{All-from_recursion, recursion_from_A
 use Rattle.std.proofs.lemmas.Map.Keys.{IsDistinct-head, IsDistinct-tail}
 use Rattle.std.proofs.lemmas.Map.Lookups.{exact_bytes}
 use Rattle.std.proofs.lemmas.Map.Views.{All-insert_key}
+use Rattle.mtp_codes.proofs.Names.{same_refl, same_true}
 use Rattle.pol_table.specs.ByteOrder.{comes_before, in_byte_order, place_among}
-use Rattle.pol_table.proofs.Tags.{one_tag, same_itself}
 
 -- the order of tags
 abbrev order : List ℕ → List ℕ → Ordering
@@ -39,7 +39,7 @@ apart tag other before = go (bytes_eq tag other) refl
     go false is = is
     go true is =
         let tied : order tag other ≡ Equal =
-        ap (order tag) (sym (one_tag tag other is)) ∙ tied_itself nat_list_cmp_total tag in
+        ap (order tag) (sym (same_true tag other is)) ∙ tied_itself nat_list_cmp_total tag in
         cc
 
 -- what stands before the first of some tags stands before those after it
@@ -137,7 +137,7 @@ count_insert test (first ∷ tags) tag new =
         ≡ length (filter test (tag ∷ first ∷ tags))
     go Less is differs rest = refl
     go Equal is differs rest =
-        absurd (true≢false (sym (same_itself tag) ∙ ap (bytes_eq tag) (exact_bytes tag first is) ∙ differs))
+        absurd (true≢false (sym (same_refl tag) ∙ ap (bytes_eq tag) (exact_bytes tag first is) ∙ differs))
     go Greater is differs rest =
         more (test first) (filter test (insert_key order tags tag)) (filter test (tag ∷ tags)) rest
         ∙ turn (test first) (test tag) (filter test tags)
@@ -217,7 +217,7 @@ member_at (first ∷ tags) tag is = go (bytes_eq tag first) refl is (member_at t
     go : (same : Bool) → bytes_eq tag first ≡ same → same || is_member bytes_eq tags tag ≡ true →
         (is_member bytes_eq tags tag ≡ true → (place : ℕ) × (slice_get tags place ≡ Some tag)) →
         (place : ℕ) × (slice_get (first ∷ tags) place ≡ Some tag)
-    go true same is later = (0, ap Some (sym (one_tag tag first same)))
+    go true same is later = (0, ap Some (sym (same_true tag first same)))
     go false differs is later = let (place, at) = later is in (suc place, at)
 
 -- and what stands somewhere is a member
@@ -226,7 +226,7 @@ at_member : (tags : List (List ℕ)) (place : ℕ) (tag : List ℕ) → slice_ge
 at_member [] place tag at = absurd cc
 at_member (first ∷ tags) zero tag at =
     let same : first ≡ tag = cc in
-    ap (λ b. b || is_member bytes_eq tags tag) (ap (bytes_eq tag) same ∙ same_itself tag)
+    ap (λ b. b || is_member bytes_eq tags tag) (ap (bytes_eq tag) same ∙ same_refl tag)
 at_member (first ∷ tags) (suc place) tag at = go (bytes_eq tag first) (at_member tags place tag at)
   where
     go : (same : Bool) → is_member bytes_eq tags tag ≡ true → same || is_member bytes_eq tags tag ≡ true
@@ -253,14 +253,14 @@ find_wanted test wanted (first ∷ tags) only is =
     later : (tag : List ℕ) (same : Bool) → bytes_eq tag first ≡ same → test first ≡ false → test tag ≡ true →
         same || is_member bytes_eq tags tag ≡ true → is_member bytes_eq tags tag ≡ true
     later tag true same fails passes member =
-        absurd (true≢false (sym passes ∙ ap test (one_tag tag first same) ∙ fails))
+        absurd (true≢false (sym passes ∙ ap test (same_true tag first same) ∙ fails))
     later tag false differs fails passes member = member
 
     go : (passes : Bool) → test first ≡ passes →
         (((tag : List ℕ) → wanted ≡ Some tag → (is_member bytes_eq tags tag ≡ true) × (test tag ≡ true)) →
         find test tags ≡ wanted) →
         cond passes (Some first) (find test tags) ≡ wanted
-    go true passes rest = sym (only first (ap (λ b. b || is_member bytes_eq tags first) (same_itself first)) passes)
+    go true passes rest = sym (only first (ap (λ b. b || is_member bytes_eq tags first) (same_refl first)) passes)
     go false fails rest =
         rest (λ tag it. (
           later tag (bytes_eq tag first) refl fails (is tag it).1 (is tag it).0,
@@ -301,9 +301,9 @@ sorted_same : (tags others : List (List ℕ)) → IsStrictlySortedBy order tags 
 unfolding IsStrictlySortedBy
 sorted_same [] [] sorted after same = refl
 sorted_same [] (other ∷ others) sorted after same =
-    absurd (true≢false (sym (ap (λ b. b || is_member bytes_eq others other) (same_itself other)) ∙ sym (same other)))
+    absurd (true≢false (sym (ap (λ b. b || is_member bytes_eq others other) (same_refl other)) ∙ sym (same other)))
 sorted_same (first ∷ tags) [] sorted after same =
-    absurd (true≢false (sym (ap (λ b. b || is_member bytes_eq tags first) (same_itself first)) ∙ same first))
+    absurd (true≢false (sym (ap (λ b. b || is_member bytes_eq tags first) (same_refl first)) ∙ same first))
 sorted_same (first ∷ tags) (other ∷ others) sorted after same =
     go (order first other) refl (sorted_same tags others sorted.1 after.1)
   where
@@ -313,7 +313,7 @@ sorted_same (first ∷ tags) (other ∷ others) sorted after same =
         is_member bytes_eq (one ∷ ones) one ≡ is_member bytes_eq (next ∷ nexts) one → ⊥
     missing one next ones nexts before later alike =
         true≢false
-        (sym (ap (λ b. b || is_member bytes_eq ones one) (same_itself one))
+        (sym (ap (λ b. b || is_member bytes_eq ones one) (same_refl one))
         ∙ alike
         ∙ none_alike (next ∷ nexts) one (before, before_more one next nexts before later))
 
@@ -324,8 +324,8 @@ sorted_same (first ∷ tags) (other ∷ others) sorted after same =
     behind is tag true here alike =
         let out = none_alike tags first sorted.0 in
         let out_there = none_alike others first (rw is after.0) in
-        ap (is_member bytes_eq tags) (one_tag tag first here) ∙ out
-        ∙ sym (ap (is_member bytes_eq others) (one_tag tag first here) ∙ out_there)
+        ap (is_member bytes_eq tags) (same_true tag first here) ∙ out
+        ∙ sym (ap (is_member bytes_eq others) (same_true tag first here) ∙ out_there)
     behind is tag false differs alike =
         alike ∙ ap (λ b. b || is_member bytes_eq others tag) (sym (ap (bytes_eq tag) is) ∙ differs)
 

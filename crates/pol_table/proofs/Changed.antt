@@ -4,7 +4,7 @@ use Rattle.std.specs.Prelude.{if◌then◌else◌}
 use Rattle.std.specs.Map.{lookup}
 use Rattle.std.specs.Option.{option_map}
 use Rattle.std.specs.Str.{bytes_eq}
-use Rattle.pol_table.proofs.Tags.{one_tag}
+use Rattle.mtp_codes.proofs.Names.{same_true}
 
 module _ {R : Type 0} (tag : List ℕ) (change : R → R) where
   -- the rows, that of the tag changed
@@ -29,7 +29,7 @@ module _ {R : Type 0} (tag : List ℕ) (change : R → R) where
           ≡ option_map (λ row. if bytes_eq tag other then change row else row) (lookup (bytes_eq other) rows)
           → lookup (bytes_eq other) (changed (row ∷ rows))
           ≡ option_map (λ row. if bytes_eq tag other then change row else row) (lookup (bytes_eq other) (row ∷ rows))
-      go true found true same rest = let one = one_tag other row.0 found in rw (same, found, one, same) refl
-      go true found false same rest = let one = one_tag other row.0 found in rw (same, found, one, same) refl
+      go true found true same rest = let one = same_true other row.0 found in rw (same, found, one, same) refl
+      go true found false same rest = let one = same_true other row.0 found in rw (same, found, one, same) refl
       go false found true same rest = rw (same, found) rest
       go false found false same rest = rw (same, found) rest

@@ -7,10 +7,10 @@ use Rattle.std.specs.Map.{lookup, keys_of}
 use Rattle.std.specs.Option.{option_and_then}
 use Rattle.std.specs.Str.{bytes_eq}
 use Rattle.mtp_codes.specs.declared.limits.TheConstants.{MOST_MODULES}
+use Rattle.mtp_codes.proofs.Names.{same_refl, same_true}
 use Rattle.pol_table.specs.HeldRows.{look}
 use Rattle.pol_table.specs.Places.{part_at, row_at, rows_of, IsSound}
 use Rattle.pol_table.specs.declared.seat.Seat.{Seat}
-use Rattle.pol_table.proofs.Tags.{one_tag, same_itself}
 use Rattle.pol_table.proofs.Views.{look_rows_of, length_rows_of}
 
 -- what is none isn't some
@@ -46,7 +46,7 @@ module _ {T : Type 0} (tag : List ℕ) (seat : Seat) (part : T) (old new : List 
     where
       go : (same : Bool) → bytes_eq tag other ≡ same → cond same (Some seat) (lookup (bytes_eq other) old) ≡ Some value
           → ((tag ≡ other) × (value ≡ seat)) ⊎ (lookup (bytes_eq other) old ≡ Some value)
-      go true same is = inl (one_tag tag other same, sym (same_Some _ _ is))
+      go true same is = inl (same_true tag other same, sym (same_Some _ _ is))
       go false same is = inr is
 
   -- a seat from before is at another place
@@ -126,7 +126,7 @@ module _ {T : Type 0} (tag : List ℕ) (seat : Seat) (old new : List (List ℕ �
       → value.place ≢ seat.place
   stays other value apart found same =
       let one : tag ≡ other = leaves.sound.apart tag other seat value leaves.seated found (sym same) in
-      true≢false (sym (same_itself other) ∙ subst (λ name. bytes_eq name other ≡ false) one apart)
+      true≢false (sym (same_refl other) ∙ subst (λ name. bytes_eq name other ≡ false) one apart)
 
   -- and over the parts where a free place was used
   pub sound_left : IsSound new after

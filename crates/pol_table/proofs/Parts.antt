@@ -6,10 +6,11 @@ use Rattle.std.specs.Map.{lookup}
 use Rattle.std.specs.Str.{bytes_eq}
 use Rattle.std.proofs.lemmas.List.{get_or-set_same, get_or-set_other}
 use Rattle.std.proofs.lemmas.Option.{same_Some}
+use Rattle.mtp_codes.proofs.Names.{same_refl, same_true}
 use Rattle.pol_table.specs.HeldRows.{with_part}
 use Rattle.pol_table.specs.Places.{part_at, rows_of, IsSound}
 use Rattle.pol_table.specs.declared.seat.Seat.{Seat}
-use Rattle.pol_table.proofs.Tags.{one_tag, same_itself, each_entry}
+use Rattle.pol_table.proofs.Tags.{each_entry}
 use Rattle.pol_table.proofs.Views.{some_of}
 
 -- a place where a part is lies within the list
@@ -55,10 +56,10 @@ rows_set_part seats parts tag seat part sound found =
     seats sound.unique
     (λ name other at. (
       (λ same.
-          let here : lookup (bytes_eq name) seats ≡ Some seat = rw (← one_tag tag name same) found in
+          let here : lookup (bytes_eq name) seats ≡ Some seat = rw (← same_true tag name same) found in
           ap (λ s. s.place) (same_Some other seat (sym at ∙ here))),
       (λ apart same.
           let one : tag ≡ name = sound.apart tag name seat other found at (sym same) in
-          true≢false (sym (same_itself name) ∙ subst (λ label. bytes_eq label name ≡ false) one apart)),
+          true≢false (sym (same_refl name) ∙ subst (λ label. bytes_eq label name ≡ false) one apart)),
       sound.occupied name other at,
     )))

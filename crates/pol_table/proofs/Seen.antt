@@ -9,6 +9,7 @@ use Rattle.std.specs.Str.{bytes_eq}
 use Rattle.std.proofs.lemmas.List.{length-map}
 use Rattle.std.proofs.Math.Seq.{drop-cons}
 use Rattle.mtp_codes.specs.Names.{is_among}
+use Rattle.mtp_codes.proofs.Names.{same_refl, same_true, apart_back}
 use Rattle.pol_table.specs.HeldRows as held
 use Rattle.pol_table.specs.HeldRows.{HeldRow, HeldRows}
 use Rattle.pol_table.specs.HeldAnswers as held_answers
@@ -18,7 +19,6 @@ use Rattle.pol_table.specs.declared.faults.LeaveFault.TheVariants.{Held, Watched
 use Rattle.pol_table.specs.Reasons.{dock_reason, missing_reason, busy_reason}
 use Rattle.pol_table.specs.Watches.{watchers_in, watches_of, seen_row, seen_rows, AreThere}
 use Rattle.pol_table.specs.declared.watch.Watch.{Watch}
-use Rattle.pol_table.proofs.Tags.{one_tag, same_itself}
 use Rattle.pol_table.proofs.HeldSeats.{first_alike}
 use Rattle.pol_table.proofs.Changed.{look_changed}
 
@@ -26,15 +26,6 @@ use Rattle.pol_table.proofs.Changed.{look_changed}
 clash : {A : Type 0} {B : Type 0} (found : Option A) → found ≡ None → IsSome found → B
 clash None none some = absurd (true≢false (sym some))
 clash (Some value) none some = absurd cc
-
--- a tag that isn't another is not that one the other way round either
-apart_back : (one other : List ℕ) → bytes_eq one other ≡ false → bytes_eq other one ≡ false
-apart_back one other apart = go (bytes_eq other one) refl
-  where
-    go : (same : Bool) → bytes_eq other one ≡ same → bytes_eq other one ≡ false
-    go false is = is
-    go true is =
-        absurd (true≢false (sym (same_itself one) ∙ ap (bytes_eq one) (sym (one_tag other one is)) ∙ apart))
 
 -- where nobody watches the tag, the first watch isn't of it, nor are the others
 first_none : (watch : Watch) (watches : List Watch) (tag : List ℕ) → watchers_in tag (watch ∷ watches) ≡ [] →
@@ -64,7 +55,7 @@ module _ {T : Type 0} where
             look tag (seen_rows watches rows) ≡ option_map (seen_row watches tag) (held.look tag rows) →
             cond same (Some (seen_row watches row.0 row.1)) (look tag (seen_rows watches rows))
             ≡ option_map (seen_row watches tag) (cond same (Some row.1) (held.look tag rows))
-        go true same rest = ap (λ name. Some (seen_row watches name row.1)) (sym (one_tag tag row.0 same))
+        go true same rest = ap (λ name. Some (seen_row watches name row.1)) (sym (same_true tag row.0 same))
         go false same rest = rest
 
     -- there are as many rows as in the holdings
@@ -146,7 +137,7 @@ module _ {T : Type 0} where
       go : (same : Bool) → bytes_eq watch.tag tag ≡ same → watchers_in tag watches ≡ [] →
           cons_option (cond same (Some watch.batch) None) (watchers_in tag watches) ≡ []
       go true same rest =
-          clash (held.look watch.tag rows) (ap (λ name. held.look name rows) (one_tag watch.tag tag same) ∙ none)
+          clash (held.look watch.tag rows) (ap (λ name. held.look name rows) (same_true watch.tag tag same) ∙ none)
           there.0
       go false same rest = rest
 
@@ -188,7 +179,7 @@ module _ {T : Type 0} where
           (option_map (seen_row watches other) (held.look other old))
       go true same =
           ap (λ watchers. Some (record { part = part; holder = None; watchers = watchers }))
-          (unwatched watches old other there (ap (λ name. held.look name old) (sym (one_tag tag other same)) ∙ none))
+          (unwatched watches old other there (ap (λ name. held.look name old) (sym (same_true tag other same)) ∙ none))
       go false same = refl
 
   -- each tag that is watched is still docked
@@ -370,7 +361,7 @@ module _ {T : Type 0} where
       AreThere (watches ++ watches_of batch tags) rows
   added_there batch [] [] rows there docked = tt
   added_there batch (tag ∷ tags) [] rows there docked = (
-    docked tag (or_left (bytes_eq tag tag) (is_among tags tag) (same_itself tag)),
+    docked tag (or_left (bytes_eq tag tag) (is_among tags tag) (same_refl tag)),
     added_there batch tags [] rows there (λ other among. docked other (or_right (bytes_eq tag other)
         (is_among tags other) among)),
   )

@@ -1,17 +1,9 @@
 -- Tags as keys: a tag is equal to itself alone, and distinct tags find what stands with them.
 use Rattle.std.proofs.Common.{◌≡◌, ℕ, Bool, true, false, List, [], ◌∷◌, Option, Some, None, refl}
-use Rattle.std.proofs.lemmas.Slice.Eq.{bytes_eq-Decides}
 use Rattle.std.specs.List.{AllByRecursion, IsDistinct}
 use Rattle.std.specs.Map.{lookup, keys_of}
 use Rattle.std.specs.Str.{bytes_eq}
-
--- a tag has the bytes that it has
-pub same_itself : (tag : List ℕ) → bytes_eq tag tag ≡ true
-same_itself tag = (bytes_eq-Decides tag tag).1 refl
-
--- tags of the same bytes are the same tag
-pub one_tag : (tag other : List ℕ) → bytes_eq tag other ≡ true → tag ≡ other
-one_tag tag other = (bytes_eq-Decides tag other).0
+use Rattle.mtp_codes.proofs.Names.{same_refl, same_true}
 
 module _ {X : Type 0} where
   -- a tag that none of these equals is not found among them
@@ -33,7 +25,7 @@ module _ {X : Type 0} where
       go : (same : Bool) → bytes_eq tag first ≡ same → bytes_eq tag first ≡ false
       go false is = is
       go true is =
-          clash (lookup (bytes_eq tag) entries) value (rw (one_tag tag first is) (not_later first entries apart)) found
+          clash (lookup (bytes_eq tag) entries) value (rw (same_true tag first is) (not_later first entries apart)) found
           (bytes_eq tag first ≡ false)
 
   -- what holds wherever a tag is found holds of each entry, where the tags are distinct
@@ -43,7 +35,7 @@ module _ {X : Type 0} where
   unfolding IsDistinct
   each_entry P [] distinct found = tt
   each_entry P (entry ∷ entries) distinct found = (
-    found entry.0 entry.1 (rw (same_itself entry.0) refl),
+    found entry.0 entry.1 (rw (same_refl entry.0) refl),
     each_entry P entries distinct.1 (λ tag value at. found tag value
         (rw (later entry.0 tag value entries distinct.0 at) at)),
   )

@@ -7,7 +7,7 @@ use Rattle.pol_disk.proofs.Moments.{goes_on}
 use Rattle.pol_texts.specs.Loads.{Loads}
 
 -- what follows from two facts of bytes that may be told
-both : (o : Option (List ℕ)) (A B C : List ℕ → Type 0) → ((all : List ℕ) → A all → B all → C all) → IfSome o A →
+pub both : (o : Option (List ℕ)) (A B C : List ℕ → Type 0) → ((all : List ℕ) → A all → B all → C all) → IfSome o A →
     IfSome o B → IfSome o C
 both None A B C f a b = tt
 both (Some all) A B C f a b = f all a b

@@ -1,6 +1,7 @@
 -- Each kind of event, by what its function ensures.
 use Rattle.std.proofs.Common.{◌≡◌, ◌∙◌, sym, ap, subst, refl, true}
 use Rattle.std.proofs.lemmas.Bool.{and_parts}
+use Rattle.std.proofs.lemmas.Result.{IfOk-weaker, on_err_weaker}
 use Rattle.mtp_desc.specs.PlainDescription.{plain_description}
 use Rattle.chart_core.specs.Charts.{plain_chart}
 use Rattle.chart_core.specs.Roles.{is_chart_form}
@@ -8,13 +9,12 @@ use Rattle.pol_events.specs.Events.{plain_event, plug, unplug, report, variable,
 use Rattle.pol_events.specs.Orderly.{is_allocation, is_orderly, is_valid}
 use Rattle.pol_core.specs.Mirrors.{Answers}
 use Rattle.pol_core.proofs.Learned.{recipe_answered}
-use Rattle.pol_core.proofs.Telling.{if_ok, on_err}
 use Rattle.pol_core.proofs.Together.{module_told, batch_told, module_kept}
 use Rattle.pol_core.proofs.answering.answer_event.Goals as goal
 
 pub returns-in-Plug-clause-answered : goal.returns-in-Plug-clause-answered
 returns-in-Plug-clause-answered c =
-    if_ok c.plug.result _ _ (λ answer answered history mirrors room.
+    IfOk-weaker c.plug.result _ _ (λ answer answered history mirrors room.
     module_told (plug c.in-Plug.at c.in-Plug.tag (plain_description c.in-Plug.desc.value)) c.in-Plug.tag
     (ap plain_event (sym c.in-Plug.is)) refl refl mirrors
     (answered history c.in-Plug.at mirrors.seats mirrors.counted room)) c.plug.ensures.answered
@@ -44,7 +44,7 @@ pub returns-in-Recipe-clause-answered : goal.returns-in-Recipe-clause-answered
 returns-in-Recipe-clause-answered c =
     let event = recipe c.in-Recipe.at c.in-Recipe.name (plain_chart c.in-Recipe.chart.value) in
     let same : event ≡ plain_event c.args.event.now = ap plain_event (sym c.in-Recipe.is) in
-    if_ok c.recipe.result _ _ (λ answer taken history mirrors room.
+    IfOk-weaker c.recipe.result _ _ (λ answer taken history mirrors room.
     subst (λ event. Answers history event answer c.args.modules.now c.args.runs.now.entries
     c.recipe.new.recipes.entries) same
     (recipe_answered history c.in-Recipe.at c.in-Recipe.name
@@ -68,7 +68,7 @@ returns-in-Start-clause-answered c =
     ∙ ap (λ watched. start c.in-Start.at c.in-Start.batch c.in-Start.name
     (record { held = c.in-Start.bind.items; watched = watched })) c.deref-in-Start.ensures.value
     ∙ ap plain_event (sym c.in-Start.is) in
-    if_ok c.start.result _ _ (λ answer taken history mirrors room.
+    IfOk-weaker c.start.result _ _ (λ answer taken history mirrors room.
     subst (λ event. Answers history event answer c.start.new.modules c.start.new.runs.entries
     c.args.recipes.now.entries) same
     (taken history c.in-Start.at mirrors room)) c.start.ensures.answered
@@ -142,7 +142,7 @@ returns-in-ExchangeBegin-clause-answered c =
 
 pub returns-in-ExchangeEnd-clause-answered : goal.returns-in-ExchangeEnd-clause-answered
 returns-in-ExchangeEnd-clause-answered c =
-    if_ok c.exchange_end.result _ _ (λ answer answered history mirrors room.
+    IfOk-weaker c.exchange_end.result _ _ (λ answer answered history mirrors room.
     module_told (exchange_end c.in-ExchangeEnd.at c.in-ExchangeEnd.tag c.in-ExchangeEnd.ticket
     (plain_description c.in-ExchangeEnd.desc.value)) c.in-ExchangeEnd.tag
     (ap plain_event (sym c.in-ExchangeEnd.is)) refl refl mirrors
@@ -151,7 +151,7 @@ returns-in-ExchangeEnd-clause-answered c =
 
 pub returns-in-ExchangeEnd-clause-kept : goal.returns-in-ExchangeEnd-clause-kept
 returns-in-ExchangeEnd-clause-kept c =
-    on_err c.exchange_end.result (λ kept history mirrors.
+    on_err_weaker c.exchange_end.result (λ kept history mirrors.
     let same = kept history mirrors.seats mirrors.counted in
     module_kept history c.args.modules.now c.exchange_end.new.modules c.args.runs.now.entries
     c.args.recipes.now.entries mirrors same.0 same.1) c.exchange_end.ensures.kept

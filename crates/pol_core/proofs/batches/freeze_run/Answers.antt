@@ -5,10 +5,10 @@ use Rattle.std.specs.Option.{option_copied_mut}
 use Rattle.std.specs.Prelude.{OnOk}
 use Rattle.std.specs.Str.{bytes_eq}
 use Rattle.std.proofs.lemmas.Result.{on_err_weaker}
+use Rattle.std.proofs.lemmas.Option.{same_Some}
 use Rattle.pol_runs.specs.Runs.{PlainRun}
 use Rattle.pol_core.specs.Batches.{Freezes}
 use Rattle.pol_history.proofs.Names.{written}
-use Rattle.pol_core.proofs.Runs.{inner_same}
 use Rattle.pol_core.proofs.batches.freeze_run.Goals as goal
 
 -- what follows from two facts, where there is a value
@@ -19,7 +19,7 @@ both_ok (Err fault) follows one other = tt
 pub returns-clause-frozen : goal.returns-clause-frozen
 returns-clause-frozen c =
     both_ok c.freeze.result (λ freeze_is asked run found.
-    let is : c.in-Some.run'.now ≡ run = inner_same c.in-Some.run'.now run (sym (ap option_copied_mut c.in-Some.is)
+    let is : c.in-Some.run'.now ≡ run = same_Some c.in-Some.run'.now run (sym (ap option_copied_mut c.in-Some.is)
     ∙ c.get_mut.ensures.value ∙ found) in
     record {
       after = c.freeze.new.self;
@@ -38,7 +38,7 @@ returns-clause-frozen c =
 pub returns-clause-unchanged : goal.returns-clause-unchanged
 returns-clause-unchanged c =
     on_err_weaker c.freeze.result (λ same run found other.
-    let is : c.in-Some.run'.now ≡ run = inner_same c.in-Some.run'.now run (sym (ap option_copied_mut c.in-Some.is)
+    let is : c.in-Some.run'.now ≡ run = same_Some c.in-Some.run'.now run (sym (ap option_copied_mut c.in-Some.is)
     ∙ c.get_mut.ensures.value ∙ found) in
     ap (lookup (bytes_eq other)) (c.get_mut.follows.holds c.freeze.new.self).0
     ∙ written c.args.batch other c.args.runs.now.entries run c.freeze.new.self found

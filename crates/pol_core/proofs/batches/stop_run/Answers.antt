@@ -3,16 +3,16 @@ use Rattle.std.proofs.Common.{◌≡◌, ◌∙◌, sym, ap, subst, Some, None}
 use Rattle.std.specs.Map.{lookup}
 use Rattle.std.specs.Option.{option_copied_mut}
 use Rattle.std.specs.Str.{bytes_eq}
+use Rattle.std.proofs.lemmas.Option.{same_Some}
 use Rattle.pol_runs.specs.Runs.{PlainRun}
 use Rattle.pol_core.specs.Batches.{Stops}
 use Rattle.pol_history.proofs.Names.{written}
-use Rattle.pol_core.proofs.Runs.{inner_same}
 use Rattle.pol_core.proofs.batches.stop_run.Goals as goal
 
 pub returns-clause-stopped : goal.returns-clause-stopped
 returns-clause-stopped c =
     λ run found.
-    let is : c.in-Some.run'.now ≡ run = inner_same c.in-Some.run'.now run (sym (ap option_copied_mut c.in-Some.is)
+    let is : c.in-Some.run'.now ≡ run = same_Some c.in-Some.run'.now run (sym (ap option_copied_mut c.in-Some.is)
     ∙ c.get_mut.ensures.value ∙ found) in
     record {
       after = c.stop.new.self;

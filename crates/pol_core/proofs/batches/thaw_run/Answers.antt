@@ -4,15 +4,15 @@ use Rattle.pol_runs.specs.declared.freeze.Freeze.TheVariants.{Thawed}
 use Rattle.std.specs.Map.{lookup}
 use Rattle.std.specs.Option.{option_copied_mut}
 use Rattle.std.specs.Str.{bytes_eq}
+use Rattle.std.proofs.lemmas.Option.{same_Some}
 use Rattle.pol_runs.specs.Runs.{PlainRun}
 use Rattle.pol_history.proofs.Names.{written}
-use Rattle.pol_core.proofs.Runs.{inner_same}
 use Rattle.pol_core.proofs.batches.thaw_run.Goals as goal
 
 pub returns-clause-changed : goal.returns-clause-changed
 returns-clause-changed c =
     λ run found other.
-    let is : c.in-Some.run'.now ≡ run = inner_same c.in-Some.run'.now run (sym (ap option_copied_mut c.in-Some.is)
+    let is : c.in-Some.run'.now ≡ run = same_Some c.in-Some.run'.now run (sym (ap option_copied_mut c.in-Some.is)
     ∙ c.get_mut.ensures.value ∙ found) in
     ap (lookup (bytes_eq other)) (c.get_mut.follows.holds c.thaw.new.self).0
     ∙ written c.args.batch other c.args.runs.now.entries run c.thaw.new.self found

@@ -1,13 +1,14 @@
 -- The module that is away is docked again, or a rule is against it.
 use Rattle.std.proofs.Common.{◌≡◌, ◌∙◌, sym, ap, Some, refl}
 use Rattle.std.specs.Option.{option_copied_mut}
+use Rattle.std.proofs.lemmas.Result.{on_err_weaker}
 use Rattle.pol_history.specs.Looking.{past}
 use Rattle.pol_table.specs.Rows.{part_of}
 use Rattle.pol_core.specs.Seats.{done_or_refused}
 use Rattle.pol_core.proofs.Ending.{cancel_judged, cancelled_keeps}
 use Rattle.pol_core.proofs.Keeping.{unchanged_keeps}
 use Rattle.pol_core.proofs.Plugging.{missing_answered}
-use Rattle.pol_core.proofs.Telling.{seated_slot, slot_answered, on_err}
+use Rattle.pol_core.proofs.Telling.{seated_slot, slot_answered}
 use Rattle.pol_core.proofs.exchanges.exchange_cancel.Goals as goal
 
 pub returns-in-None : goal.returns-in-None
@@ -33,7 +34,7 @@ returns-in-Some c = record {
       (cancelled_keeps c.args.tag c.args.ticket c.in-Some.slot.now c.dock_back.new.slot
       (past c.args.tag history) at _ c.dock_back.result
       c.dock_back.ensures.answer c.dock_back.ensures.docked keeps)
-      (on_err c.dock_back.result (λ same.
+      (on_err_weaker c.dock_back.result (λ same.
       unchanged_keeps c.args.tag c.in-Some.slot.now c.dock_back.new.slot (past c.args.tag history)
       same.same_module same.controls same.values keeps) c.dock_back.ensures.unchanged);
 }

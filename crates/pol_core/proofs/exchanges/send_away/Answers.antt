@@ -1,16 +1,16 @@
 -- A module goes away under the next ticket.
 use Rattle.std.proofs.Common.{◌≡◌, ◌∙◌, sym, ap, subst, refl, None}
 use Rattle.std.specs.Option.{option_copied_mut}
+use Rattle.std.proofs.lemmas.Option.{same_Some}
 use Rattle.pol_slots.specs.Slots.{slot_ticket}
 use Rattle.pol_slots.specs.declared.slot.Slot.{Slot}
 use Rattle.pol_core.specs.Exchanges.{GoesAway}
-use Rattle.pol_core.proofs.Runs.{inner_same}
 use Rattle.pol_core.proofs.exchanges.send_away.Goals as goal
 
 pub begin-requires : goal.begin-requires
 begin-requires c =
     let at = c.requires.docked in
-    let is : c.in-Some.slot.now ≡ at.slot = inner_same c.in-Some.slot.now at.slot
+    let is : c.in-Some.slot.now ≡ at.slot = same_Some c.in-Some.slot.now at.slot
     (sym (ap option_copied_mut c.in-Some.is) ∙ c.get_mut.ensures.value ∙ at.found) in
     record {
       docked = subst (λ (slot : Slot). slot_ticket slot ≡ None) (sym is) at.docked;
@@ -21,7 +21,7 @@ begin-requires c =
 pub returns : goal.returns
 returns c =
     λ slot found.
-    let is : c.in-Some.slot.now ≡ slot = inner_same c.in-Some.slot.now slot (sym (ap option_copied_mut c.in-Some.is)
+    let is : c.in-Some.slot.now ≡ slot = same_Some c.in-Some.slot.now slot (sym (ap option_copied_mut c.in-Some.is)
     ∙ c.get_mut.ensures.value ∙ found) in
     record {
       after = c.begin.new.self;

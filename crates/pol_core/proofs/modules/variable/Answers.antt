@@ -1,13 +1,14 @@
 -- A variable is reported.
 use Rattle.std.proofs.Common.{◌≡◌, ◌∙◌, sym, ap, Some, refl}
 use Rattle.std.specs.Option.{option_copied_mut}
+use Rattle.std.proofs.lemmas.Result.{on_ok_weaker, on_err_weaker}
 use Rattle.pol_history.specs.Looking.{past}
 use Rattle.pol_table.specs.Rows.{part_of}
 use Rattle.pol_core.specs.Seats.{done_or_refused}
 use Rattle.pol_core.proofs.Judging.{variable_judged}
 use Rattle.pol_core.proofs.Keeping.{unchanged_keeps, variable_keeps}
 use Rattle.pol_core.proofs.Plugging.{missing_answered}
-use Rattle.pol_core.proofs.Telling.{seated_slot, slot_answered, on_ok, on_err}
+use Rattle.pol_core.proofs.Telling.{seated_slot, slot_answered}
 use Rattle.pol_core.proofs.modules.variable.Goals as goal
 
 pub returns-in-None : goal.returns-in-None
@@ -30,11 +31,11 @@ returns-in-Some c = record {
       (ap done_or_refused c.variable.ensures.answer
       ∙ variable_judged history at c.args.tag c.args.name c.args.value c.in-Some.slot.now room keeps)
       seats counted found
-      (on_ok c.variable.result (λ reported.
+      (on_ok_weaker c.variable.result (λ reported.
       variable_keeps c.args.tag c.in-Some.slot.now c.variable.new.self
       (past c.args.tag history) at c.args.tag c.args.name c.args.value _
       c.variable.ensures.same_module c.variable.ensures.controls reported keeps) c.variable.ensures.reported)
-      (on_err c.variable.result (λ values.
+      (on_err_weaker c.variable.result (λ values.
       unchanged_keeps c.args.tag c.in-Some.slot.now c.variable.new.self (past c.args.tag history)
       c.variable.ensures.same_module c.variable.ensures.controls values keeps) c.variable.ensures.unchanged);
 }

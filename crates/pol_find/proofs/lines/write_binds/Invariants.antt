@@ -2,7 +2,7 @@
 use Rattle.std.proofs.Common.{◌≡◌, ◌++◌, drop}
 use Rattle.pol_events.specs.Written.{written_binds}
 use Rattle.pol_record.specs.Objects.{data_tokens}
-use Rattle.pol_find.proofs.Tokens.{binds_tokens}
+use Rattle.pol_record.proofs.Tokens.{binds_tokens}
 use Rattle.pol_find.proofs.lines.write_binds.Given as goal
 
 abbrev pub invariant-loop-bind : goal.invariant-loop-bind

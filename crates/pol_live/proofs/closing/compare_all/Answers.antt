@@ -1,9 +1,9 @@
 use Rattle.std.proofs.Common.{rules, ◌<◌, ◌≤◌, length, arith}
 use Rattle.std.proofs.lemmas.Result.{err_from_is_err_and}
 use Rattle.pol_site.specs.Actors.{actors}
+use Rattle.pol_simulated.proofs.Values.{place_within}
 use Rattle.pol_live.specs.Parts.{IsPart}
 use Rattle.pol_live.specs.Seats.{Seated}
-use Rattle.pol_actors.proofs.Numbers.{within_item}
 use Rattle.pol_actors.proofs.Owners.{all_from}
 use Rattle.pol_live.proofs.AllCompared.{parts_more, strays_of}
 use Rattle.pol_live.proofs.closing.compare_all.Goals as goal
@@ -32,5 +32,5 @@ returns-clause-ok g c =
     all_from (λ (seat : Seated). IsPart seat.actor 0 c.args.ran.now.by.items c.args.ran.now.history.items seat.list)
     c.args.seats.now
     (λ place seat at.
-    let within = within_item c.args.seats.now place seat at in
+    let within = place_within c.args.seats.now place seat at in
     c.loop-seat.invariant place seat (omega (arith, within, all)) at)

@@ -1,7 +1,7 @@
 use Rattle.std.proofs.Common.{rules, ◌≤◌, length, inl, arith}
 use Rattle.pol_site.specs.Actors.{actors}
 use Rattle.pol_site.specs.Settled.{IsSettledActor}
-use Rattle.pol_actors.proofs.Numbers.{within_item}
+use Rattle.pol_simulated.proofs.Values.{place_within}
 use Rattle.pol_actors.proofs.Owners.{all_from}
 use Rattle.pol_live.specs.Turns.{history_of}
 use Rattle.pol_live.proofs.rounds.round.Goals as goal
@@ -12,5 +12,5 @@ returns g c =
     let site = g.J.Job.site in
     let end : length (actors site) ≤ c.loop-actor.actor = search rules in
     inl (all_from (IsSettledActor site (history_of c.loop-actor.plant)) (actors site)
-    (λ n who at. let within = within_item (actors site) n who at in
+    (λ n who at. let within = place_within (actors site) n who at in
     c.loop-actor.invariant all_rested n who (omega (arith, within, end)) at))
