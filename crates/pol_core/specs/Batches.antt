@@ -1,5 +1,5 @@
 -- What the runs keep of a history: for each batch what looking back gives.
-use Rattle.std.specs.Prelude.{ℕ, ◌≡◌, Bool, not, ◌||◌, List, [], ◌∷◌, ◌++◌, Option, Some, None, is_some, if◌then◌else◌}
+use Rattle.std.specs.Prelude.{ℕ, ◌≡◌, Bool, false, not, ◌||◌, List, [], ◌∷◌, ◌++◌, Option, Some, None, is_some, if◌then◌else◌}
 use Rattle.std.specs.Map.{lookup}
 use Rattle.std.specs.Option.{option_or, option_map}
 use Rattle.std.specs.Str.{bytes_eq}
@@ -17,7 +17,7 @@ use Rattle.pol_events.specs.Events.{PlainEvent}
 use Rattle.pol_events.specs.declared.answer.Answer.{Answer}
 use Rattle.pol_events.specs.declared.answer.Rule.{Rule}
 use Rattle.pol_events.specs.declared.answer.Rule.TheVariants.{NoBatch, BatchClosed}
-use Rattle.pol_history.specs.Answers.{answer_of}
+use Rattle.pol_history.specs.Answers.{answer_of, is_full}
 use Rattle.pol_history.specs.Batches.{start_by, chart_named, outcome_by, is_frozen_by, is_holding_by, asked_by, log_by}
 use Rattle.pol_history.specs.Looking.{History, past_of_batch, recipes}
 use Rattle.pol_history.specs.Runs.{entry_of}
@@ -27,7 +27,7 @@ use Rattle.pol_runs.specs.Freezes.{is_frozen, is_holding, frozen_as, freezing}
 use Rattle.pol_runs.specs.Logs.{Asks, Follows, asked_after, closing_in, log_after}
 use Rattle.pol_runs.specs.declared.freeze.Freeze.TheVariants.{Thawed}
 use Rattle.pol_runs.specs.Runs.{PlainRun, SameBatch}
-use Rattle.pol_core.specs.Seats.{SeatsMirror, IsCounted}
+use Rattle.pol_core.specs.Seats.{SeatsMirror, IsCounted, AnswersModule}
 
 -- the run keeps what its batch's past gives
 pub record RunKeeps (batch : List ℕ) (run : PlainRun) (past recipes : History) : Type 0 where
@@ -132,3 +132,17 @@ pub record AnswersBatch (history : History) (event : PlainEvent) (answer : Answe
   pub seats : SeatsMirror modules (entry_of history event ∷ history)
   pub counted : IsCounted modules (entry_of history event ∷ history)
   pub batches : RunsMirror runs (entry_of history event ∷ history)
+
+-- so it is after each history with room that the tables keep, whatever the event's stamp
+abbrev pub BatchAnswers : (ℕ → PlainEvent) → Rows Slot → List (List ℕ × PlainRun) → Answer → Rows Slot →
+    List (List ℕ × PlainRun) → Type 0
+BatchAnswers event old_modules old answer new_modules new =
+    (history : History) (at : ℕ) → SeatsMirror old_modules history → IsCounted old_modules history
+    → RunsMirror old history → is_full history ≡ false
+    → AnswersBatch history (event at) answer new_modules new
+
+-- and so is the answer to an event of a module that looks at the runs
+abbrev pub ModuleAnswersBeside : List (List ℕ × PlainRun) → (ℕ → PlainEvent) → Rows Slot → Answer → Rows Slot → Type 0
+ModuleAnswersBeside runs event old answer new =
+    (history : History) (at : ℕ) → SeatsMirror old history → IsCounted old history → RunsMirror runs history
+    → is_full history ≡ false → AnswersModule history (event at) answer new

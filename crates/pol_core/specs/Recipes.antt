@@ -1,5 +1,5 @@
 -- What the recipes keep of a history.
-use Rattle.std.specs.Prelude.{ℕ, ◌≡◌, List, ◌∷◌, length, Some}
+use Rattle.std.specs.Prelude.{ℕ, ◌≡◌, false, List, ◌∷◌, length, Some}
 use Rattle.std.specs.Map.{lookup}
 use Rattle.std.specs.Option.{option_map}
 use Rattle.std.specs.Str.{bytes_eq}
@@ -10,7 +10,7 @@ use Rattle.chart_core.specs.Valid.{IsValid}
 use Rattle.chart_core.specs.declared.chart.Chart.{Chart}
 use Rattle.pol_events.specs.Events.{PlainEvent}
 use Rattle.pol_events.specs.declared.answer.Answer.{Answer}
-use Rattle.pol_history.specs.Answers.{answer_of}
+use Rattle.pol_history.specs.Answers.{answer_of, is_full}
 use Rattle.pol_history.specs.Batches.{chart_named}
 use Rattle.pol_history.specs.Looking.{History, recipes}
 use Rattle.pol_history.specs.Runs.{entry_of}
@@ -35,3 +35,10 @@ pub record AnswersRecipe {Z : Type 0} (history : History) (event : PlainEvent) (
   pub known_is : RecipesMirror known (entry_of history event ∷ history)
   pub names : (name : List ℕ) (chart : PlainChart) → chart_named name (recipes history) ≡ Some chart
       → chart_named name (recipes (entry_of history event ∷ history)) ≡ Some chart
+
+-- so it is after each history with room that the recipes keep, whatever the event's stamp
+abbrev pub RecipeAnswers : {Z : Type 0} → (ℕ → PlainEvent) → List (List ℕ × Arc Chart Z) → Answer →
+    List (List ℕ × Arc Chart Z) → Type 0
+RecipeAnswers event old answer new =
+    (history : History) (at : ℕ) → RecipesMirror old history → is_full history ≡ false
+    → AnswersRecipe history (event at) answer new

@@ -8,7 +8,7 @@ use Rattle.pol_events.specs.Events.{PlainEvent}
 use Rattle.pol_events.specs.declared.answer.Answer.{Answer}
 use Rattle.pol_events.specs.declared.answer.Answer.TheVariants.{Done, Did, Refused}
 use Rattle.pol_events.specs.declared.answer.Rule.{Rule}
-use Rattle.pol_history.specs.Answers.{answer_of}
+use Rattle.pol_history.specs.Answers.{answer_of, is_full}
 use Rattle.pol_history.specs.Batches.{holder_of, watchers_of}
 use Rattle.pol_history.specs.Looking.{History, past}
 use Rattle.pol_history.specs.Modules.{present_tags, absent, docking_by, ticket_of, description_by, begins_by, dockings_by, control_by, value_by}
@@ -95,3 +95,9 @@ pub record AnswersModule (history : History) (event : PlainEvent) (answer : Answ
   pub answer_is : answer ≡ answer_of history event
   pub seats : SeatsMirror rows (entry_of history event ∷ history)
   pub counted : IsCounted rows (entry_of history event ∷ history)
+
+-- so it is after each history with room that the table keeps, whatever the event's stamp
+abbrev pub ModuleAnswers : (ℕ → PlainEvent) → Rows Slot → Answer → Rows Slot → Type 0
+ModuleAnswers event old answer new =
+    (history : History) (at : ℕ) → SeatsMirror old history → IsCounted old history → is_full history ≡ false
+    → AnswersModule history (event at) answer new

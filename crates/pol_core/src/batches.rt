@@ -1,5 +1,5 @@
 //! What events of a batch are answered, and what they change in the tables.
-ghost use Rattle.std.specs.Prelude.{false, ◌≡◌, ℕ, ◌∷◌, List, Some, IfOk, IfErr, OnOk, OnErr, ◌&&◌, ◌||◌, not, length, option_copied};
+ghost use Rattle.std.specs.Prelude.{◌≡◌, ℕ, ◌∷◌, List, Some, IfOk, IfErr, OnOk, OnErr, ◌&&◌, ◌||◌, not, length, option_copied};
 ghost use Rattle.std.specs.Map.{lookup};
 ghost use Rattle.std.specs.Str.{bytes_eq};
 ghost use Rattle.mtp_codes.specs.Faults.{done_unless, when};
@@ -7,7 +7,7 @@ ghost use Rattle.chart_core.specs.declared.next.Outcome.TheVariants.{Abandoned};
 ghost use Rattle.chart_cursor.specs.Sights.{Sights};
 ghost use Rattle.pol_events.specs.Events.{advance, freeze, thaw, stop_batch, abandon};
 ghost use Rattle.pol_events.specs.declared.answer.Rule.TheVariants.{AlreadyFrozen, NotFrozen};
-ghost use Rattle.pol_history.specs.Answers.{advanced, is_full};
+ghost use Rattle.pol_history.specs.Answers.{advanced};
 ghost use Rattle.pol_history.specs.Looking.{History};
 ghost use Rattle.pol_slots.specs.declared.slot.Slot.{Slot as slot_type};
 ghost use Rattle.pol_table.specs.Rows.{Rows, look};
@@ -15,9 +15,9 @@ ghost use Rattle.pol_runs.specs.Freezes.{is_frozen, is_holding};
 ghost use Rattle.pol_runs.specs.Logs.{closing_in};
 ghost use Rattle.pol_runs.specs.declared.freeze.Freeze.TheVariants.{Thawed};
 ghost use Rattle.pol_runs.specs.Runs.{PlainRun};
-ghost use Rattle.pol_core.specs.Batches.{AnswersBatch, ChangesRun, ComesNext, FreezesOne, IsOpenRun, RunsMirror, SettlesOne, StopsOne, freed_if, not_open};
+ghost use Rattle.pol_core.specs.Batches.{BatchAnswers, ChangesRun, ComesNext, FreezesOne, IsOpenRun, RunsMirror, SettlesOne, StopsOne, freed_if, not_open};
 ghost use Rattle.pol_core.specs.Calls.{open_next, settings_of};
-ghost use Rattle.pol_core.specs.Seats.{IsCounted, SeatsMirror, done_or_refused};
+ghost use Rattle.pol_core.specs.Seats.{SeatsMirror, done_or_refused};
 ghost use Rattle.pol_core.specs.Seen.{table_sights};
 
 use crate::modules::done_or_refused;
@@ -116,9 +116,8 @@ fn release_closed(modules: &mut Table<Slot>, batch: Name, next: &Next)
 /// A batch does its next entry, waits, or is closed; then its modules are free.
 pub fn advance(modules: &mut Table<Slot>, runs: &mut IndexMap<Name, Run>, batch: Name) -> Answer
     ensures count { length runs.new.entries ≡ length runs.old.entries }
-    ensures answered { (history : History) (at : ℕ) → SeatsMirror modules.old history → IsCounted modules.old history
-        → RunsMirror runs.old.entries history → is_full history ≡ false
-        → AnswersBatch history (advance at batch) result modules.new runs.new.entries }
+    ensures answered { BatchAnswers (λ at. advance at batch) modules.old runs.old.entries
+        result modules.new runs.new.entries }
 {
     let next = match open_run(runs, batch) {
         Ok(run) => next_of(modules, run),
@@ -150,9 +149,8 @@ fn freeze_run(runs: &mut IndexMap<Name, Run>, batch: Name, hold: bool) -> Result
 /// A batch waits until it is thawed, and where `hold` is true its services are held meanwhile.
 pub fn freeze(runs: &mut IndexMap<Name, Run>, batch: Name, hold: bool) -> Answer
     ensures count { length runs.new.entries ≡ length runs.old.entries }
-    ensures answered { (history : History) (at : ℕ) (modules : Rows slot_type) → SeatsMirror modules history
-        → IsCounted modules history → RunsMirror runs.old.entries history → is_full history ≡ false
-        → AnswersBatch history (freeze at batch hold) result modules runs.new.entries }
+    ensures answered { (modules : Rows slot_type) → BatchAnswers (λ at. freeze at batch hold) modules runs.old.entries
+        result modules runs.new.entries }
 {
     if let Err(rule) = open_run(runs, batch) {
         return Answer::Refused(rule);
@@ -178,9 +176,8 @@ fn thaw_run(runs: &mut IndexMap<Name, Run>, batch: Name) -> Result<(), Rule>
 /// A batch that is frozen goes on.
 pub fn thaw(runs: &mut IndexMap<Name, Run>, batch: Name) -> Answer
     ensures count { length runs.new.entries ≡ length runs.old.entries }
-    ensures answered { (history : History) (at : ℕ) (modules : Rows slot_type) → SeatsMirror modules history
-        → IsCounted modules history → RunsMirror runs.old.entries history → is_full history ≡ false
-        → AnswersBatch history (thaw at batch) result modules runs.new.entries }
+    ensures answered { (modules : Rows slot_type) → BatchAnswers (λ at. thaw at batch) modules runs.old.entries
+        result modules runs.new.entries }
 {
     if let Err(rule) = open_run(runs, batch) {
         return Answer::Refused(rule);
@@ -204,9 +201,8 @@ fn stop_run(runs: &mut IndexMap<Name, Run>, batch: Name) -> bool
 /// A batch is to be stopped step by step. Its freeze ends, whether that is new or not.
 pub fn stop(runs: &mut IndexMap<Name, Run>, batch: Name) -> Answer
     ensures count { length runs.new.entries ≡ length runs.old.entries }
-    ensures answered { (history : History) (at : ℕ) (modules : Rows slot_type) → SeatsMirror modules history
-        → IsCounted modules history → RunsMirror runs.old.entries history → is_full history ≡ false
-        → AnswersBatch history (stop_batch at batch) result modules runs.new.entries }
+    ensures answered { (modules : Rows slot_type) → BatchAnswers (λ at. stop_batch at batch) modules runs.old.entries
+        result modules runs.new.entries }
 {
     if let Err(rule) = open_run(runs, batch) {
         return Answer::Refused(rule);
@@ -234,9 +230,8 @@ fn give_up(runs: &mut IndexMap<Name, Run>, batch: Name)
 /// A batch is given up where it stands, and its modules are free.
 pub fn abandon(modules: &mut Table<Slot>, runs: &mut IndexMap<Name, Run>, batch: Name) -> Answer
     ensures count { length runs.new.entries ≡ length runs.old.entries }
-    ensures answered { (history : History) (at : ℕ) → SeatsMirror modules.old history → IsCounted modules.old history
-        → RunsMirror runs.old.entries history → is_full history ≡ false
-        → AnswersBatch history (abandon at batch) result modules.new runs.new.entries }
+    ensures answered { BatchAnswers (λ at. abandon at batch) modules.old runs.old.entries
+        result modules.new runs.new.entries }
 {
     if let Err(rule) = open_run(runs, batch) {
         return Answer::Refused(rule);

@@ -1,5 +1,5 @@
 //! Modules that are exchanged.
-ghost use Rattle.std.specs.Prelude.{◌≡◌, ℕ, List, map, Some, None, IsSome, IfOk, OnOk, OnErr, false, option_map, option_and_then};
+ghost use Rattle.std.specs.Prelude.{◌≡◌, ℕ, List, map, Some, None, IsSome, IfOk, OnOk, OnErr, option_map, option_and_then};
 ghost use Rattle.mtp_codes.specs.Faults.{first_of, done_unless};
 ghost use Rattle.mtp_desc.specs.PlainDescription.{plain_description};
 ghost use Rattle.mtp_procs.specs.Covers.{cover_fault, missing_by};
@@ -7,16 +7,16 @@ ghost use Rattle.chart_core.specs.Charts.{plain_chart};
 ghost use Rattle.chart_cursor.specs.Logs.{active};
 ghost use Rattle.pol_events.specs.Bound.{bound_role, step_on, ArePaired};
 ghost use Rattle.pol_events.specs.Events.{exchange_begin, exchange_end, exchange_cancel};
-ghost use Rattle.pol_history.specs.Answers.{is_full, rules};
+ghost use Rattle.pol_history.specs.Answers.{rules};
 ghost use Rattle.pol_history.specs.Looking.{History};
 ghost use Rattle.pol_history.specs.Rules.{active_step, held_back};
 ghost use Rattle.pol_slots.specs.Slots.{slot_description, slot_ticket, IsDocked, IsUnchanged};
 ghost use Rattle.pol_slots.specs.declared.slot.Slot.{Slot as slot_type};
 ghost use Rattle.pol_table.specs.Rows.{holder_of, part_of, watchers_of};
 ghost use Rattle.pol_runs.specs.Logs.{Follows};
-ghost use Rattle.pol_core.specs.Batches.{RunsMirror};
+ghost use Rattle.pol_core.specs.Batches.{ModuleAnswersBeside, RunsMirror};
 ghost use Rattle.pol_core.specs.Exchanges.{HaveBegunFew, IsDockedAt, SendsAway, DocksAgain, StaysAway, lacks, ticket_rule};
-ghost use Rattle.pol_core.specs.Seats.{IsCounted, SeatsMirror, AnswersModule};
+ghost use Rattle.pol_core.specs.Seats.{IsCounted, ModuleAnswers, SeatsMirror};
 
 use crate::modules::done_or_refused;
 use indexmap::IndexMap;
@@ -75,9 +75,7 @@ fn send_away(modules: &mut Table<Slot>, tag: Name) -> u32
 /// A module is taken away to be exchanged; the answer is its ticket.
 pub fn exchange_begin(modules: &mut Table<Slot>, runs: &IndexMap<Name, Run>, tag: Name) -> Answer
     requires few { HaveBegunFew modules.old }
-    ensures answered { (history : History) (at : ℕ) → SeatsMirror modules.old history → IsCounted modules.old history
-        → RunsMirror runs.now.entries history → is_full history ≡ false
-        → AnswersModule history (exchange_begin at tag) result modules.new }
+    ensures answered { ModuleAnswersBeside runs.now.entries (λ at. exchange_begin at tag) modules.old result modules.new }
 {
     if let Some(rule) = begin_rule(modules, runs, tag) {
         return Answer::Refused(rule);
@@ -213,9 +211,8 @@ pub fn exchange_end(
     ticket: u32,
     desc: &Arc<Description>,
 ) -> Result<Answer, AllocError>
-    ensures answered { IfOk result (λ answer. (history : History) (at : ℕ) → SeatsMirror modules.old history
-        → IsCounted modules.old history → RunsMirror runs.now.entries history → is_full history ≡ false
-        → AnswersModule history (exchange_end at tag ticket (plain_description desc.now.value)) answer modules.new) }
+    ensures answered { IfOk result (λ answer. ModuleAnswersBeside runs.now.entries
+        (λ at. exchange_end at tag ticket (plain_description desc.now.value)) modules.old answer modules.new) }
     ensures kept { OnErr result ((history : History) → SeatsMirror modules.old history → IsCounted modules.old history
         → SeatsMirror modules.new history × IsCounted modules.new history) }
 {
@@ -246,8 +243,7 @@ fn dock_back(slot: &mut Slot, ticket: u32) -> Result<(), Rule>
 
 /// An exchange is cancelled: the module that is away is docked again.
 pub fn exchange_cancel(modules: &mut Table<Slot>, tag: Name, ticket: u32) -> Answer
-    ensures answered { (history : History) (at : ℕ) → SeatsMirror modules.old history → IsCounted modules.old history
-        → is_full history ≡ false → AnswersModule history (exchange_cancel at tag ticket) result modules.new }
+    ensures answered { ModuleAnswers (λ at. exchange_cancel at tag ticket) modules.old result modules.new }
 {
     match modules.get_mut(tag) {
         None => Answer::Refused(Rule::NoModule { tag }),

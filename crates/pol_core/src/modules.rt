@@ -1,14 +1,13 @@
 //! What events of a module are answered, and what they change in the table of modules.
-ghost use Rattle.std.specs.Prelude.{◌≡◌, ◌≢◌, ℕ, Some, IfOk, IfNone, IfSome, OnErr, false, slice_get};
+ghost use Rattle.std.specs.Prelude.{◌≡◌, ◌≢◌, ℕ, Some, IfOk, IfNone, IfSome, OnErr, slice_get};
 ghost use Rattle.mtp_desc.specs.PlainDescription.{plain_description};
 ghost use Rattle.pol_events.specs.Events.{plug, unplug, report, variable, desk};
-ghost use Rattle.pol_history.specs.Answers.{is_full};
 ghost use Rattle.pol_history.specs.Batches.{holder_of};
 ghost use Rattle.pol_history.specs.Looking.{History};
 ghost use Rattle.pol_history.specs.Modules.{absent, description_of, docking_of, present_tags, view_of};
 ghost use Rattle.pol_core.specs.Calls.{module_sight, plain_docking};
 ghost use Rattle.pol_core.specs.Exchanges.{HaveBegunFew};
-ghost use Rattle.pol_core.specs.Seats.{AnswersModule, IsCounted, SeatsMirror, asked_answer, done_or_refused, slot_asked};
+ghost use Rattle.pol_core.specs.Seats.{IsCounted, ModuleAnswers, SeatsMirror, asked_answer, done_or_refused, slot_asked};
 ghost use Rattle.pol_table.specs.ByteOrder.{in_byte_order};
 
 use crate::docking::Docking;
@@ -40,9 +39,8 @@ pub fn plug(
     tag: Name,
     description: &Arc<Description>,
 ) -> Result<Answer, AllocError>
-    ensures answered { IfOk result (λ answer. (history : History) (at : ℕ) → SeatsMirror modules.old history
-        → IsCounted modules.old history → is_full history ≡ false
-        → AnswersModule history (plug at tag (plain_description description.now.value)) answer modules.new) }
+    ensures answered { IfOk result (λ answer.
+        ModuleAnswers (λ at. plug at tag (plain_description description.now.value)) modules.old answer modules.new) }
     ensures unchanged { OnErr result (modules.new ≡ modules.old) }
 {
     if modules.get(tag).is_some() {
@@ -63,8 +61,7 @@ pub fn plug(
 
 /// A module leaves, where no batch holds or watches it.
 pub fn unplug(modules: &mut Table<Slot>, tag: Name) -> Answer
-    ensures answered { (history : History) (at : ℕ) → SeatsMirror modules.old history → IsCounted modules.old history
-        → is_full history ≡ false → AnswersModule history (unplug at tag) result modules.new }
+    ensures answered { ModuleAnswers (λ at. unplug at tag) modules.old result modules.new }
 {
     let Some(slot) = modules.get(tag) else {
         return Answer::Refused(Rule::NoModule { tag });
@@ -91,8 +88,7 @@ pub fn report(
     service: Name,
     control: ServiceControl,
 ) -> Answer
-    ensures answered { (history : History) (at : ℕ) → SeatsMirror modules.old history → IsCounted modules.old history
-        → is_full history ≡ false → AnswersModule history (report at tag service control) result modules.new }
+    ensures answered { ModuleAnswers (λ at. report at tag service control) modules.old result modules.new }
 {
     match modules.get_mut(tag) {
         None => Answer::Refused(Rule::NoModule { tag }),
@@ -102,8 +98,7 @@ pub fn report(
 
 /// A variable is reported.
 pub fn variable(modules: &mut Table<Slot>, tag: Name, name: Name, value: Value) -> Answer
-    ensures answered { (history : History) (at : ℕ) → SeatsMirror modules.old history → IsCounted modules.old history
-        → is_full history ≡ false → AnswersModule history (variable at tag name value) result modules.new }
+    ensures answered { ModuleAnswers (λ at. variable at tag name value) modules.old result modules.new }
 {
     match modules.get_mut(tag) {
         None => Answer::Refused(Rule::NoModule { tag }),
@@ -121,8 +116,7 @@ fn ask(slot: &Slot, tag: Name, service: Name, command: Command) -> Result<LogEnt
 
 /// The operator commands a service of a module.
 pub fn desk(modules: &Table<Slot>, tag: Name, service: Name, command: Command) -> Answer
-    ensures answered { (history : History) (at : ℕ) → SeatsMirror modules.now history → IsCounted modules.now history
-        → is_full history ≡ false → AnswersModule history (desk at tag service command) result modules.now }
+    ensures answered { ModuleAnswers (λ at. desk at tag service command) modules.now result modules.now }
 {
     let Some(slot) = modules.get(tag) else {
         return Answer::Refused(Rule::NoModule { tag });

@@ -1,13 +1,11 @@
 //! Recipes that are made known.
-ghost use Rattle.std.specs.Prelude.{◌≡◌, ℕ, ◌+◌, List, length, Some, None, IfOk, OnOk, OnErr, false, true, if◌then◌else◌};
+ghost use Rattle.std.specs.Prelude.{◌≡◌, ℕ, ◌+◌, List, length, Some, None, IfOk, OnOk, OnErr, true, if◌then◌else◌};
 ghost use Rattle.std.specs.Map.{lookup};
 ghost use Rattle.std.specs.Str.{bytes_eq};
 ghost use Rattle.chart_core.specs.Charts.{plain_chart};
 ghost use Rattle.pol_events.specs.Events.{recipe};
 ghost use Rattle.pol_events.specs.Orderly.{is_valid};
-ghost use Rattle.pol_history.specs.Answers.{is_full};
-ghost use Rattle.pol_history.specs.Looking.{History};
-ghost use Rattle.pol_core.specs.Recipes.{RecipesMirror, AnswersRecipe};
+ghost use Rattle.pol_core.specs.Recipes.{RecipeAnswers};
 
 use chart_core::Chart;
 use indexmap::IndexMap;
@@ -41,9 +39,8 @@ pub fn recipe(
     chart: &Arc<Chart>,
 ) -> Result<Answer, AllocError>
     requires { is_valid (plain_chart chart.now.value) ≡ true }
-    ensures answered { IfOk result (λ answer. (history : History) (at : ℕ)
-        → RecipesMirror recipes.old.entries history → is_full history ≡ false
-        → AnswersRecipe history (recipe at name (plain_chart chart.now.value)) answer recipes.new.entries) }
+    ensures answered { IfOk result (λ answer. RecipeAnswers (λ at. recipe at name (plain_chart chart.now.value))
+        recipes.old.entries answer recipes.new.entries) }
     ensures unchanged { OnErr result (recipes.new.entries ≡ recipes.old.entries) }
 {
     if recipes.contains_key(&name) {

@@ -95,7 +95,7 @@ returns-in-Freeze-clause-answered c =
     batch_told (freeze c.in-Freeze.at c.in-Freeze.batch c.in-Freeze.hold) c.in-Freeze.batch
     (ap plain_event (sym c.in-Freeze.is)) refl refl
     mirrors
-    (c.freeze.ensures.answered history c.in-Freeze.at c.args.modules.now mirrors.seats mirrors.counted
+    (c.freeze.ensures.answered c.args.modules.now history c.in-Freeze.at mirrors.seats mirrors.counted
     mirrors.batches room)
     c.freeze.ensures.count
 
@@ -104,7 +104,7 @@ returns-in-Thaw-clause-answered c =
     λ history mirrors room.
     batch_told (thaw c.in-Thaw.at c.in-Thaw.batch) c.in-Thaw.batch (ap plain_event (sym c.in-Thaw.is)) refl refl
     mirrors
-    (c.thaw.ensures.answered history c.in-Thaw.at c.args.modules.now mirrors.seats mirrors.counted mirrors.batches room)
+    (c.thaw.ensures.answered c.args.modules.now history c.in-Thaw.at mirrors.seats mirrors.counted mirrors.batches room)
     c.thaw.ensures.count
 
 pub returns-in-StopBatch-clause-answered : goal.returns-in-StopBatch-clause-answered
@@ -113,7 +113,7 @@ returns-in-StopBatch-clause-answered c =
     batch_told (stop_batch c.in-StopBatch.at c.in-StopBatch.batch) c.in-StopBatch.batch
     (ap plain_event (sym c.in-StopBatch.is)) refl refl
     mirrors
-    (c.stop.ensures.answered history c.in-StopBatch.at c.args.modules.now mirrors.seats mirrors.counted
+    (c.stop.ensures.answered c.args.modules.now history c.in-StopBatch.at mirrors.seats mirrors.counted
     mirrors.batches room)
     c.stop.ensures.count
 

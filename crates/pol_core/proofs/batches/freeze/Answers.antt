@@ -11,14 +11,14 @@ use Rattle.pol_core.proofs.batches.freeze.Goals as goal
 
 pub returns-in-Err-clause-answered : goal.returns-in-Err-clause-answered
 returns-in-Err-clause-answered c =
-    λ history at modules seats counted batches room.
+    λ modules history at seats counted batches room.
     not_open_answered history (freeze at c.args.batch c.args.hold) c.args.batch
     (already_frozen c.args.hold (past_of_batch c.args.batch history) ∷ []) c.in-Err.rule modules
     c.args.runs.now.entries refl room seats counted batches c.in-Err.ensures.rule
 
 pub returns-clause-answered : goal.returns-clause-answered
 returns-clause-answered c =
-    λ history at modules seats counted batches room.
+    λ modules history at seats counted batches room.
     let open' = c.in_default.ensures.run in
     let run = c.in_default.field-0.now in
     subst (λ answer. AnswersBatch history (freeze at c.args.batch c.args.hold) answer modules

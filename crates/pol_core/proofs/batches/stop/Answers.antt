@@ -10,13 +10,13 @@ use Rattle.pol_core.proofs.batches.stop.Goals as goal
 
 pub returns-in-Err-clause-answered : goal.returns-in-Err-clause-answered
 returns-in-Err-clause-answered c =
-    λ history at modules seats counted batches room.
+    λ modules history at seats counted batches room.
     not_open_answered history (stop_batch at c.args.batch) c.args.batch [] c.in-Err.rule modules c.args.runs.now.entries
     refl room seats counted batches c.in-Err.ensures.rule
 
 pub returns-then-stop_run-clause-answered : goal.returns-then-stop_run-clause-answered
 returns-then-stop_run-clause-answered c =
-    λ history at modules seats counted batches room.
+    λ modules history at seats counted batches room.
     let open' = c.in_default.ensures.run in
     subst (λ is_new. AnswersBatch history (stop_batch at c.args.batch)
     (if is_new then Did StopAsked else Done) modules c.stop_run.new.runs.entries) c.if-stop_run.true
@@ -26,7 +26,7 @@ returns-then-stop_run-clause-answered c =
 
 pub returns-else-stop_run-clause-answered : goal.returns-else-stop_run-clause-answered
 returns-else-stop_run-clause-answered c =
-    λ history at modules seats counted batches room.
+    λ modules history at seats counted batches room.
     let open' = c.in_default.ensures.run in
     subst (λ is_new. AnswersBatch history (stop_batch at c.args.batch)
     (if is_new then Did StopAsked else Done) modules c.stop_run.new.runs.entries) c.if-stop_run.false

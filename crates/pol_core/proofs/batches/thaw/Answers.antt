@@ -10,14 +10,14 @@ use Rattle.pol_core.proofs.batches.thaw.Goals as goal
 
 pub returns-in-Err-clause-answered : goal.returns-in-Err-clause-answered
 returns-in-Err-clause-answered c =
-    λ history at modules seats counted batches room.
+    λ modules history at seats counted batches room.
     not_open_answered history (thaw at c.args.batch) c.args.batch
     (not_frozen (past_of_batch c.args.batch history) ∷ []) c.in-Err.rule modules
     c.args.runs.now.entries refl room seats counted batches c.in-Err.ensures.rule
 
 pub returns-clause-answered : goal.returns-clause-answered
 returns-clause-answered c =
-    λ history at modules seats counted batches room.
+    λ modules history at seats counted batches room.
     let open' = c.in_default.ensures.run in
     subst (λ answer. AnswersBatch history (thaw at c.args.batch) answer modules c.thaw_run.new.runs.entries)
     (sym (c.done_or_refused.ensures
