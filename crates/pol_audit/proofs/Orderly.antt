@@ -11,12 +11,12 @@ use Rattle.mtp_json.specs.Form.{nested, nothing_but, object_here}
 use Rattle.mtp_json.specs.ReadResult.{ReadResult}
 use Rattle.pol_events.specs.Events.{PlainEntry}
 use Rattle.pol_events.specs.Forms.{event_in}
-use Rattle.pol_events.specs.Lines.{fault_within}
+use Rattle.pol_events.specs.Lines.{fault_within, unless_faulty}
 use Rattle.pol_events.specs.Orderly.{is_orderly}
 use Rattle.pol_events.specs.declared.fault.LineFault.{LineFault}
 use Rattle.pol_events.proofs.Orderly.{IsOrderly, value_orderly}
 use Rattle.pol_entries.specs.Answers.{answer_form}
-use Rattle.pol_entries.specs.Entries.{entry_form, entry_of, of_line, read_of, unless_faulty}
+use Rattle.pol_entries.specs.Entries.{entry_form, entry_of, of_line, read_of}
 use Rattle.pol_history.specs.Runs as runs
 use Rattle.pol_audit.specs.Verdict.{Line, entry_on, entries_of, run_from}
 

@@ -34,6 +34,7 @@ use Rattle.pol_entries.specs.Candidates.{entry_named, obstacle_named, outcome_na
 use Rattle.pol_entries.specs.Compared.{same_bit}
 use Rattle.pol_entries.specs.Found.{Lookup, forbid_words}
 use Rattle.pol_entries.specs.Same.{same_answer, same_field, same_fields, same_reading, same_readings, same_value}
+use Rattle.pol_entries.proofs.Again.{forbid_again}
 
 -- ---- fields tell what they are of
 
@@ -104,13 +105,6 @@ command_told command.Resume = refl
 command_told command.Abort = refl
 command_told command.Restart = refl
 command_told command.Complete = refl
-
--- the name of why a command is forbidden tells why
-forbid_told : (each : Forbid) → unwrap_or (meaning_of (forbid_name each) forbid_words) forbid.NotEnabled ≡ each
-forbid_told forbid.ModeForbids = refl
-forbid_told forbid.SelfCompletes = refl
-forbid_told forbid.StateForbids = refl
-forbid_told forbid.NotEnabled = refl
 
 -- the rule of a refusal's fields
 abbrev rule_of : List PlainField → Option Rule
@@ -190,7 +184,7 @@ obstacle_told why.Frozen = refl
 obstacle_told (why.Away tag) = refl
 obstacle_told (why.NotReported tag named) = refl
 obstacle_told (why.InState step state) = rw (state_told state) refl
-obstacle_told (why.Forbidden step by) = rw (forbid_told by) refl
+obstacle_told (why.Forbidden step by) = rw (forbid_again by) refl
 obstacle_told (why.Unmet step) = refl
 obstacle_told (why.NoArm node) = refl
 

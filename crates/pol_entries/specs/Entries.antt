@@ -1,5 +1,5 @@
 -- The entry of a history that a line says: an object of an answer and an event.
-use Rattle.std.specs.Prelude.{◌≡◌, ℕ, List, codes, Option, Some, None, Result, Ok, Err}
+use Rattle.std.specs.Prelude.{◌≡◌, ℕ, List, codes, Some, None, Result, Ok, Err}
 use Rattle.serde_json.specs.Data.{Data}
 use Rattle.chart_core.specs.declared.fault.ChartFault.{ChartFault}
 use Rattle.mtp_json.specs.Form.{nested, nothing_but, object_here}
@@ -9,12 +9,10 @@ use Rattle.mtp_json.specs.ReadResult.{ReadResult, ◌>>=◌, here}
 use Rattle.mtp_json.specs.declared.fault.JsonRefusal.{JsonRefusal}
 use Rattle.pol_events.specs.Events.{PlainEntry, PlainEvent, plain_entry}
 use Rattle.pol_events.specs.Forms.{event_in}
-use Rattle.pol_events.specs.Lines.{fault_within}
+use Rattle.pol_events.specs.Lines.{TellsAs, fault_within, of_read}
 use Rattle.pol_events.specs.declared.event.Entry.{Entry}
 use Rattle.pol_events.specs.declared.fault.LineFault.{LineFault}
-use Rattle.pol_events.specs.declared.fault.LineFault.TheVariants.{Json, Chart}
 use Rattle.pol_events.specs.declared.fault.LineRefusal.{LineRefusal}
-use Rattle.pol_events.specs.declared.fault.LineRefusal.TheVariants.{Fault, Memory}
 use Rattle.pol_entries.specs.Answers.{answer_form}
 
 -- the object of an entry
@@ -30,29 +28,17 @@ entry_form value =
 abbrev pub read_of : List ℕ → ReadResult PlainEntry
 read_of line = here (json_of line) >>= entry_form
 
--- an entry, unless the chart that its event makes known has a fault
-abbrev pub unless_faulty : PlainEntry → Option ChartFault → Result PlainEntry LineFault
-unless_faulty entry None = Ok entry
-unless_faulty entry (Some fault) = Err (Chart fault)
-
--- what was read, with its fault as a fault of the line; where all was read, the chart is asked
+-- what was read, with its fault as a fault of the line; where all was read, the chart of its event is asked
 abbrev pub of_line : ReadResult PlainEntry → Result PlainEntry LineFault
-of_line (Ok entry) = unless_faulty entry (fault_within entry.event)
-of_line (Err fault) = Err (Json fault)
+of_line read = of_read (λ entry. entry.event) read
 
 -- the entry of a line, or the line's first fault
 unfoldable pub entry_of : List ℕ → Result PlainEntry LineFault
 entry_of line = of_line (read_of line)
 
--- a refusal is the line's fault, or want of memory
-abbrev pub IsLineFaultOrMemory : LineRefusal → Result PlainEntry LineFault → Type 0
-IsLineFaultOrMemory Memory said = Unit {0}
-IsLineFaultOrMemory (Fault fault) said = said ≡ Err fault
-
--- the result is the entry that the line says, or the line's fault, unless there was no memory
+-- the result is the entry that the line says
 abbrev pub Tells : Result Entry LineRefusal → Result PlainEntry LineFault → Type 0
-Tells (Ok entry) said = said ≡ Ok (plain_entry entry)
-Tells (Err refusal) said = IsLineFaultOrMemory refusal said
+Tells result said = TellsAs plain_entry result said
 
 -- what was read is this, of which the chart may have a fault
 abbrev pub Sound : {X Y : Type 0} → (X → Y) → (Y → PlainEvent) → Result X ChartFault → ReadResult Y → Type 0

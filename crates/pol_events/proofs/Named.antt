@@ -15,8 +15,8 @@ use Rattle.pol_events.specs.declared.kind.EventKind.{EventKind}
 use Rattle.pol_events.specs.declared.kind.EventKind.TheVariants.{Plug, Unplug, Report, Variable, Recipe, Start, Advance, Freeze, Thaw, Stop, Abandon, Desk, ExchangeBegin, ExchangeEnd, ExchangeCancel}
 use Rattle.pol_events.specs.Events.{PlainEvent, plain_event}
 use Rattle.pol_events.specs.Forms.{plug_in, tag_in, report_in, variable_in, desk_in, exchange_end_in, exchange_cancel_in, recipe_in, start_in, freeze_in, batch_in, event_by}
-use Rattle.pol_events.specs.Guarded.{PlainGuarded, TellsGuarded, guarded_by, guarded_desk_in, guarded_in, guarded_of, guarded_read_of, guarded_unless, is_desk, is_desk_kind, of_guarded, plain_guarded, unnamed}
-use Rattle.pol_events.specs.Lines.{fault_within}
+use Rattle.pol_events.specs.Guarded.{PlainGuarded, TellsGuarded, guarded_by, guarded_desk_in, guarded_in, guarded_of, guarded_read_of, is_desk, is_desk_kind, of_guarded, plain_guarded, unnamed}
+use Rattle.pol_events.specs.Lines.{fault_within, unless_faulty}
 use Rattle.pol_events.specs.Orderly.{is_orderly}
 use Rattle.pol_events.proofs.Orderly.{IsOrderly, kind_orderly}
 
@@ -90,7 +90,7 @@ pub record IsSaid (guarded : PlainGuarded) : Type 0 where
 
 -- what was read and has no fault in its chart is orderly and named
 valid_said : (found guarded : PlainGuarded) (fault : Option ChartFault) → fault_within found.event ≡ fault
-    → IsNamed found → guarded_unless found fault ≡ Ok guarded → IsSaid guarded
+    → IsNamed found → unless_faulty found fault ≡ Ok guarded → IsSaid guarded
 valid_said found guarded None none told is =
     let same : found ≡ guarded = cc in rw (← same) (record { orderly = told.orderly none; named = told.named })
 valid_said found guarded (Some fault) some told is = absurd cc

@@ -1,7 +1,6 @@
 -- What a line of a journal says under a policy: an event, and for a command of the desk the person who gives it.
-use Rattle.std.specs.Prelude.{◌≡◌, ℕ, Bool, true, false, List, Option, Some, None, codes, Result, Ok, Err, if◌then◌else◌}
+use Rattle.std.specs.Prelude.{ℕ, Bool, true, false, List, Option, Some, None, codes, Result, Ok, if◌then◌else◌}
 use Rattle.serde_json.specs.Data.{Data}
-use Rattle.chart_core.specs.declared.fault.ChartFault.{ChartFault}
 use Rattle.mtp_codes.specs.Codes.{command_codes}
 use Rattle.mtp_codes.specs.Numbers.{greatest_u64}
 use Rattle.mtp_json.specs.Form.{required, object_here, nothing_but}
@@ -9,15 +8,13 @@ use Rattle.mtp_json.specs.Leaf.{code, count, name, word}
 use Rattle.mtp_json.specs.Parse.{json_of}
 use Rattle.mtp_json.specs.ReadResult.{ReadResult, ◌>>=◌, here}
 use Rattle.pol_events.specs.declared.fault.LineFault.{LineFault}
-use Rattle.pol_events.specs.declared.fault.LineFault.TheVariants.{Json, Chart}
 use Rattle.pol_events.specs.declared.fault.LineRefusal.{LineRefusal}
-use Rattle.pol_events.specs.declared.fault.LineRefusal.TheVariants.{Fault, Memory}
 use Rattle.pol_events.specs.declared.guarded.Guarded.{Guarded}
 use Rattle.pol_events.specs.declared.kind.EventKind.{EventKind}
 use Rattle.pol_events.specs.declared.kind.EventKind.TheVariants.{Desk}
 use Rattle.pol_events.specs.Events.{PlainEvent, plain_event, desk}
 use Rattle.pol_events.specs.Forms.{event_by}
-use Rattle.pol_events.specs.Lines.{fault_within}
+use Rattle.pol_events.specs.Lines.{TellsAs, of_read}
 use Rattle.pol_events.specs.Words.{kind_words}
 
 -- an event, and the person who gives it, where it is a command of the desk
@@ -69,26 +66,14 @@ guarded_in value =
 abbrev pub guarded_read_of : List ℕ → ReadResult PlainGuarded
 guarded_read_of line = here (json_of line) >>= guarded_in
 
--- an event, unless its chart has a fault
-abbrev pub guarded_unless : PlainGuarded → Option ChartFault → Result PlainGuarded LineFault
-guarded_unless guarded None = Ok guarded
-guarded_unless guarded (Some fault) = Err (Chart fault)
-
--- what was read, with its fault as a fault of the line; where all was read, the chart is asked
+-- what was read, with its fault as a fault of the line
 abbrev pub of_guarded : ReadResult PlainGuarded → Result PlainGuarded LineFault
-of_guarded (Ok guarded) = guarded_unless guarded (fault_within guarded.event)
-of_guarded (Err fault) = Err (Json fault)
+of_guarded read = of_read (λ guarded. guarded.event) read
 
 -- the event of a line that isn't too long with who gives it, or the line's first fault
 unfoldable pub guarded_of : List ℕ → Result PlainGuarded LineFault
 guarded_of line = of_guarded (guarded_read_of line)
 
--- a refusal is the line's fault, or want of memory
-abbrev pub FailsGuarded : LineRefusal → Result PlainGuarded LineFault → Type 0
-FailsGuarded Memory said = Unit {0}
-FailsGuarded (Fault fault) said = said ≡ Err fault
-
--- the result is what the line says, or the line's fault, unless there was no memory
+-- the result is what the line says
 abbrev pub TellsGuarded : Result Guarded LineRefusal → Result PlainGuarded LineFault → Type 0
-TellsGuarded (Ok guarded) said = said ≡ Ok (plain_guarded guarded)
-TellsGuarded (Err refusal) said = FailsGuarded refusal said
+TellsGuarded result said = TellsAs plain_guarded result said

@@ -25,26 +25,34 @@ abbrev pub fault_within : PlainEvent → Option ChartFault
 fault_within (recipe at name chart) = chart_fault chart
 fault_within _ = None
 
--- an event, unless its chart has a fault
-abbrev pub unless_faulty : PlainEvent → Option ChartFault → Result PlainEvent LineFault
-unless_faulty event None = Ok event
-unless_faulty event (Some fault) = Err (Chart fault)
+-- what was read, unless its chart has a fault
+abbrev pub unless_faulty : {X : Type 0} → X → Option ChartFault → Result X LineFault
+unless_faulty read None = Ok read
+unless_faulty read (Some fault) = Err (Chart fault)
 
--- what was read, with its fault as a fault of the line; where all was read, the chart is asked
+-- what was read, with its fault as a fault of the line; where all was read, the chart of its event is asked
+abbrev pub of_read : {X : Type 0} → (X → PlainEvent) → ReadResult X → Result X LineFault
+of_read event (Ok read) = unless_faulty read (fault_within (event read))
+of_read event (Err fault) = Err (Json fault)
+
+-- an event that was read so
 abbrev pub of_line : ReadResult PlainEvent → Result PlainEvent LineFault
-of_line (Ok event) = unless_faulty event (fault_within event)
-of_line (Err fault) = Err (Json fault)
+of_line read = of_read (λ event. event) read
 
 -- the event of a line that isn't too long, or the line's first fault
 unfoldable pub event_of : List ℕ → Result PlainEvent LineFault
 event_of line = of_line (read_of line)
 
 -- a refusal is the line's fault, or want of memory
-abbrev pub Fails : LineRefusal → Result PlainEvent LineFault → Type 0
+abbrev pub Fails : {X : Type 0} → LineRefusal → Result X LineFault → Type 0
 Fails Memory said = Unit {0}
 Fails (Fault fault) said = said ≡ Err fault
 
--- the result is the event that the line says, or the line's fault, unless there was no memory
+-- the result, seen plainly, is what the line says, or the line's fault, unless there was no memory
+abbrev pub TellsAs : {X Y : Type 0} → (X → Y) → Result X LineRefusal → Result Y LineFault → Type 0
+TellsAs view (Ok read) said = said ≡ Ok (view read)
+TellsAs view (Err refusal) said = Fails refusal said
+
+-- the result is the event that the line says
 abbrev pub Tells : Result Event LineRefusal → Result PlainEvent LineFault → Type 0
-Tells (Ok event) said = said ≡ Ok (plain_event event)
-Tells (Err refusal) said = Fails refusal said
+Tells result said = TellsAs plain_event result said
