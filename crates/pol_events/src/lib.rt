@@ -49,5 +49,6 @@ pub use reading::{event_from, read_event};
 pub use rule_table::RuleRow;
 pub use subject::Subject;
 pub use version_1::read_event_of_version_1;
+pub use words::{mode_word, origin_word};
 pub use writing::event_value;
 pub use written_binds::write_binds;

@@ -6,36 +6,17 @@ ghost use Rattle.pol_events.specs.Events.{advance, desk, plain_event, report, va
 ghost use Rattle.pol_events.specs.Lines.{event_of};
 ghost use Rattle.pol_events.specs.Orderly.{is_orderly};
 ghost use Rattle.pol_events.specs.Ranges.{is_in_range};
-ghost use Rattle.pol_events.specs.Written.{mode_word, origin_word, written_batch, written_desk, written_event, written_report, written_variable};
+ghost use Rattle.pol_events.specs.Written.{written_batch, written_desk, written_event, written_report, written_variable};
 ghost use Rattle.pol_record.specs.Objects.{data_tokens};
 ghost use Rattle.pol_store.specs.Stands.{event_text};
 ghost use Rattle.pol_store.specs.Written.{IsReadBack, IsTold, Wrote, control_tokens};
 
 use json::Writer;
 use mtp_assembly::ServiceControl;
-use mtp_codes::{Command, Mode, Name, Origin, Value};
-use pol_events::{Event, event_value};
+use mtp_codes::{Command, Name, Value};
+use pol_events::{Event, event_value, mode_word, origin_word};
 use std::alloc::{AllocError, Global};
 use std::mem;
-
-fn mode_word(mode: Mode) -> &'static str
-    ensures { result.now ≡ mode_word mode }
-{
-    match mode {
-        Mode::Off => "Off",
-        Mode::Operator => "Operator",
-        Mode::Automatic => "Automatic",
-    }
-}
-
-fn origin_word(origin: Origin) -> &'static str
-    ensures { result.now ≡ origin_word origin }
-{
-    match origin {
-        Origin::Internal => "Internal",
-        Origin::External => "External",
-    }
-}
 
 // A key with a whole number.
 fn write_number(writer: &mut Writer, key: &str, number: u64) -> Result<(), AllocError>
