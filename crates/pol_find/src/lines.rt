@@ -1,6 +1,5 @@
 //! The lines of a finder, each a JSON object in compact text and a line feed.
 ghost use Rattle.std.specs.Prelude.{◌≡◌, ◌∷◌, ◌++◌, [], IfOk, OnOk};
-ghost use Rattle.json.specs.Print.{print};
 ghost use Rattle.json.specs.Token as token;
 ghost use Rattle.pol_events.specs.Binds.{by_role, with_bind};
 ghost use Rattle.pol_events.specs.Written.{written_binds};
@@ -10,6 +9,7 @@ ghost use Rattle.pol_find.specs.Lines.{bad_object, bad_text, bind_object, bind_t
 use json::Writer;
 use mtp_codes::Name;
 use pol_events::Bind;
+use pol_record::{ended_line, write_binds, write_text};
 use std::alloc::{AllocError, Global};
 use std::cmp::Ordering;
 
@@ -43,29 +43,6 @@ pub(crate) fn by_role(alloc: Global, binds: Vec<Bind>) -> Result<Vec<Bind>, Allo
     Ok(sorted)
 }
 
-// Writes a text under a key.
-fn write_text(writer: &mut Writer, key: &str, text: &str) -> Result<(), AllocError>
-    ensures tokens { OnOk result (writer.new.tokens
-        ≡ writer.old.tokens ++ token.key key.now ∷ token.string text.now ∷ []) }
-    ensures before { writer.new.before ≡ writer.old.before }
-{
-    writer.key(key)?;
-    writer.string(text)
-}
-
-// Writes binds as an object from role to tag.
-#[tactic(auto, unfolding(pol_events::specs::Written::written_binds))]
-fn write_binds(writer: &mut Writer, binds: &[Bind]) -> Result<(), AllocError>
-    ensures tokens { OnOk result (writer.new.tokens ≡ writer.old.tokens ++ data_tokens (written_binds binds.now)) }
-    ensures before { writer.new.before ≡ writer.old.before }
-{
-    writer.begin_object()?;
-    for bind in binds {
-        write_text(writer, bind.role.as_str(), bind.tag.as_str())?;
-    }
-    writer.end_object()
-}
-
 // Writes names as a list of texts.
 fn write_names(writer: &mut Writer, names: &[Name]) -> Result<(), AllocError>
     ensures tokens { OnOk result (writer.new.tokens ≡ writer.old.tokens ++ data_tokens (names_data names.now)) }
@@ -86,15 +63,6 @@ fn write_list(writer: &mut Writer, key: &str, names: &[Name]) -> Result<(), Allo
 {
     writer.key(key)?;
     write_names(writer, names)
-}
-
-// What was written, as a line.
-fn ended_line(writer: Writer) -> Result<Vec<u8>, AllocError>
-    ensures { IfOk result (λ line. line.items ≡ (writer.before ++ print writer.tokens) ++ 10 ∷ []) }
-{
-    let mut line = writer.into_inner();
-    line.push(b'\n')?;
-    Ok(line)
 }
 
 #[tactic(auto, using(crate::proofs::Tokens::bind_tokens))]

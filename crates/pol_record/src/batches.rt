@@ -37,8 +37,9 @@ pub fn write_text(writer: &mut Writer, key: &str, text: &str) -> Result<(), Allo
     writer.string(text)
 }
 
+/// Writes binds as an object from role to tag.
 #[tactic(auto, unfolding(pol_events::specs::Written::written_binds))]
-fn write_binds(writer: &mut Writer, binds: &[Bind]) -> Result<(), AllocError>
+pub fn write_binds(writer: &mut Writer, binds: &[Bind]) -> Result<(), AllocError>
     ensures tokens { OnOk result (writer.new.tokens ≡ writer.old.tokens ++ data_tokens (written_binds binds.now)) }
     ensures before { writer.new.before ≡ writer.old.before }
 {

@@ -15,6 +15,7 @@ use json::Writer;
 use mtp_assembly::ServiceControl;
 use mtp_codes::{Command, Name, Value};
 use pol_events::{Event, event_value, mode_word, origin_word};
+use pol_record::write_text;
 use std::alloc::{AllocError, Global};
 use std::mem;
 
@@ -26,16 +27,6 @@ fn write_number(writer: &mut Writer, key: &str, number: u64) -> Result<(), Alloc
 {
     writer.key(key)?;
     writer.u64(number)
-}
-
-// A key with a text.
-fn write_text(writer: &mut Writer, key: &str, text: &str) -> Result<(), AllocError>
-    ensures tokens { OnOk result (writer.new.tokens
-        ≡ writer.old.tokens ++ token.key key.now ∷ token.string text.now ∷ []) }
-    ensures before { writer.new.before ≡ writer.old.before }
-{
-    writer.key(key)?;
-    writer.string(text)
 }
 
 // The five fields of what a service reports.
