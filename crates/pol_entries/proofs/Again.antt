@@ -133,13 +133,16 @@ readings_again told held =
 
 -- ---- rows
 
--- of two tests that both hold, the first one
-first_held : {one other : Bool} → (one && other) ≡ true → one ≡ true
-first_held {one} {other} held = (and_parts one other held).0
+-- one name in a row
+one_name : (bytes : List ℕ) → (is_name bytes && true) ≡ true → found_or (codes "-") (name (string bytes)) ≡ bytes
+one_name bytes held = name_again bytes (and_parts (is_name bytes) true held).0
 
--- and the second
-rest_held : {one other : Bool} → (one && other) ≡ true → other ≡ true
-rest_held {one} {other} held = (and_parts one other held).1
+-- two names
+two_names : (first second : List ℕ) → (is_name first && (is_name second && true)) ≡ true →
+    (found_or (codes "-") (name (string first)) ≡ first) × (found_or (codes "-") (name (string second)) ≡ second)
+two_names first second held =
+    let both = and_parts (is_name first) (is_name second && true) held in
+    (name_again first both.0, one_name second both.1)
 
 -- the object of a rule is a refusal, and its number and its keys tell the rule
 pub rule_again : (rule : Rule) → are_in_range (rule_row rule).fields ≡ true →
@@ -147,16 +150,21 @@ pub rule_again : (rule : Rule) → are_in_range (rule_row rule).fields ≡ true 
     × (rule_numbered (number_at (codes "refused") (fields_data (refusal_fields rule)))
     (lookup_in (fields_data (refusal_fields rule))) ≡ Some rule)
 rule_again TagTaken held = (refl, refl)
-rule_again (NoModule tag) held = (refl, rw (name_again tag (first_held held)) refl)
+rule_again (NoModule tag) held = (refl, rw (one_name tag held) refl)
 rule_again PlantFull held = (refl, refl)
-rule_again (Held batch) held = (refl, rw (name_again batch (first_held held)) refl)
+rule_again (Held batch) held = (refl, rw (one_name batch held) refl)
 rule_again (InExchange tag ticket) held =
-    (refl, rw (name_again tag (first_held held), number_again ticket (first_held (rest_held held))) refl)
+    let first = and_parts _ _ held in
+    let second = and_parts _ _ first.1 in
+    (refl, rw (name_again tag first.0, number_again ticket second.0) refl)
 rule_again NotInExchange held = (refl, refl)
 rule_again (WrongTicket kept given) held =
-    (refl, rw (number_again kept (first_held held), number_again given (first_held (rest_held held))) refl)
+    let first = and_parts _ _ held in
+    let second = and_parts _ _ first.1 in
+    (refl, rw (number_again kept first.0, number_again given second.0) refl)
 rule_again NoService held = (refl, refl)
-rule_again (NotAnEdge from to) held = (refl, rw (state_again from, state_again to) refl)
+rule_again (NotAnEdge from to) held =
+    (refl, rw (state_again from, state_again to) refl)
 rule_again NoVariable held = (refl, refl)
 rule_again WrongKind held = (refl, refl)
 rule_again RecipeKnown held = (refl, refl)
@@ -164,26 +172,28 @@ rule_again NoRecipe held = (refl, refl)
 rule_again BatchKnown held = (refl, refl)
 rule_again NoBatch held = (refl, refl)
 rule_again BatchClosed held = (refl, refl)
-rule_again (RoleUnbound role) held = (refl, rw (name_again role (first_held held)) refl)
-rule_again (RoleUnknown role) held = (refl, rw (name_again role (first_held held)) refl)
-rule_again (OneModuleTwice tag) held = (refl, rw (name_again tag (first_held held)) refl)
-rule_again (WrongType role) held = (refl, rw (name_again role (first_held held)) refl)
-rule_again (WrongVersion role) held = (refl, rw (name_again role (first_held held)) refl)
-rule_again (NotCovered missing) held = (refl, rw (name_again missing (first_held held)) refl)
+rule_again (RoleUnbound role) held = (refl, rw (one_name role held) refl)
+rule_again (RoleUnknown role) held = (refl, rw (one_name role held) refl)
+rule_again (OneModuleTwice tag) held = (refl, rw (one_name tag held) refl)
+rule_again (WrongType role) held = (refl, rw (one_name role held) refl)
+rule_again (WrongVersion role) held = (refl, rw (one_name role held) refl)
+rule_again (NotCovered missing) held = (refl, rw (one_name missing held) refl)
 rule_again (NotReported tag named) held =
-    (refl, rw (name_again tag (first_held held), name_again named (first_held (rest_held held))) refl)
-rule_again (NotIdle tag service state) held = (
-  refl,
-  rw (name_again tag (first_held held), name_again service (first_held (rest_held held)), state_again state) refl,
-)
+    let names = two_names tag named held in (refl, rw (names.0, names.1) refl)
+rule_again (NotIdle tag service state) held =
+    let first = and_parts _ _ held in
+    let second = and_parts _ _ first.1 in
+    (refl, rw (name_again tag first.0, name_again service second.0, state_again state) refl)
 rule_again (Busy tag batch) held =
-    (refl, rw (name_again tag (first_held held), name_again batch (first_held (rest_held held))) refl)
+    let names = two_names tag batch held in (refl, rw (names.0, names.1) refl)
 rule_again BatchesFull held = (refl, refl)
-rule_again (NotAtRest service state) held = (refl, rw (name_again service (first_held held), state_again state) refl)
+rule_again (NotAtRest service state) held =
+    let first = and_parts _ _ held in
+    (refl, rw (name_again service first.0, state_again state) refl)
 rule_again (ActiveStep batch step) held =
-    (refl, rw (name_again batch (first_held held), name_again step (first_held (rest_held held))) refl)
+    let names = two_names batch step held in (refl, rw (names.0, names.1) refl)
 rule_again (HeldBack batch missing) held =
-    (refl, rw (name_again batch (first_held held), name_again missing (first_held (rest_held held))) refl)
+    let names = two_names batch missing held in (refl, rw (names.0, names.1) refl)
 rule_again ModeForbids held = (refl, refl)
 rule_again StateForbids held = (refl, refl)
 rule_again NotEnabled held = (refl, refl)
@@ -193,8 +203,8 @@ rule_again AlreadyFrozen held = (refl, refl)
 rule_again SelfCompletes held = (refl, refl)
 rule_again RecipesFull held = (refl, refl)
 rule_again HistoryFull held = (refl, refl)
-rule_again (Watched batch) held = (refl, rw (name_again batch (first_held held)) refl)
-rule_again (WatchedStep role) held = (refl, rw (name_again role (first_held held)) refl)
+rule_again (Watched batch) held = (refl, rw (one_name batch held) refl)
+rule_again (WatchedStep role) held = (refl, rw (one_name role held) refl)
 
 -- three names with whatever stands behind them in a row
 three_names : (step tag service : List ℕ) → (rest : Bool) →
@@ -203,22 +213,25 @@ three_names : (step tag service : List ℕ) → (rest : Bool) →
     × ((found_or (codes "-") (name (string tag)) ≡ tag)
     × (found_or (codes "-") (name (string service)) ≡ service))
 three_names step tag service rest held =
-    let row = first_held held in (
-      name_again step (first_held row),
-      (name_again tag (first_held (rest_held row)), name_again service (first_held (rest_held (rest_held row)))),
-    )
+    let row = and_parts _ _ held in
+    let first = and_parts _ _ row.0 in
+    let others = two_names tag service first.1 in
+    (name_again step first.0, others)
 
 -- the name in the object of a log entry and its keys tell the entry
 pub entry_again : (each : LogEntry) → (are_in_range (entry_row each).fields && is_start_in_range each) ≡ true →
     entry_named (text_at (codes "do") (entry_data each)) (lookup_in (entry_data each)) ≡ Some each
 entry_again (entry.Start step tag service procedure) held =
-    let row = first_held held in
-    let third = rest_held (rest_held row) in
+    let both = and_parts _ _ held in
+    let first = and_parts _ _ both.0 in
+    let second = and_parts _ _ first.1 in
+    let third = and_parts _ _ second.1 in
+    let fourth = and_parts _ _ third.1 in
     rw (
-      name_again step (first_held row),
-      name_again tag (first_held (rest_held row)),
-      name_again service (first_held third),
-      half_again procedure (first_held (rest_held third)) (rest_held held),
+      name_again step first.0,
+      name_again tag second.0,
+      name_again service third.0,
+      half_again procedure fourth.0 both.1,
     ) refl
 entry_again (entry.Finish step tag service) held =
     let names = three_names step tag service (is_start_in_range (entry.Finish step tag service)) held in
@@ -226,26 +239,37 @@ entry_again (entry.Finish step tag service) held =
 entry_again (entry.Reset step tag service) held =
     let names = three_names step tag service (is_start_in_range (entry.Reset step tag service)) held in
     rw (names.0, names.1.0, names.1.1) refl
-entry_again (entry.End step) held = rw (name_again step (first_held (first_held held))) refl
+entry_again (entry.End step) held =
+    let both = and_parts _ _ held in
+    let first = and_parts _ _ both.0 in
+    rw (name_again step first.0) refl
 entry_again (entry.Chose node arm values) held =
-    let row = first_held held in
-    rw (
-      number_again node (first_held row),
-      number_again arm (first_held (rest_held row)),
-      readings_again values (first_held (rest_held (rest_held row))),
-    ) refl
+    let both = and_parts _ _ held in
+    let first = and_parts _ _ both.0 in
+    let second = and_parts _ _ first.1 in
+    let third = and_parts _ _ second.1 in
+    rw (number_again node first.0, number_again arm second.0, readings_again values third.0) refl
 entry_again (entry.Turn node values) held =
-    let row = first_held held in
-    rw (number_again node (first_held row), readings_again values (first_held (rest_held row))) refl
+    let both = and_parts _ _ held in
+    let first = and_parts _ _ both.0 in
+    let second = and_parts _ _ first.1 in
+    rw (number_again node first.0, readings_again values second.0) refl
 entry_again (entry.Leave node values) held =
-    let row = first_held held in
-    rw (number_again node (first_held row), readings_again values (first_held (rest_held row))) refl
+    let both = and_parts _ _ held in
+    let first = and_parts _ _ both.0 in
+    let second = and_parts _ _ first.1 in
+    rw (number_again node first.0, readings_again values second.0) refl
 entry_again (entry.Stop step tag service) held =
     let names = three_names step tag service (is_start_in_range (entry.Stop step tag service)) held in
     rw (names.0, names.1.0, names.1.1) refl
 entry_again (entry.Broke step state) held =
-    rw (name_again step (first_held (first_held held)), state_again state) refl
-entry_again (entry.Left step state) held = rw (name_again step (first_held (first_held held)), state_again state) refl
+    let both = and_parts _ _ held in
+    let first = and_parts _ _ both.0 in
+    rw (name_again step first.0, state_again state) refl
+entry_again (entry.Left step state) held =
+    let both = and_parts _ _ held in
+    let first = and_parts _ _ both.0 in
+    rw (name_again step first.0, state_again state) refl
 entry_again entry.StopAsked held = refl
 entry_again (entry.Hold step tag service) held =
     let names = three_names step tag service (is_start_in_range (entry.Hold step tag service)) held in
@@ -254,8 +278,10 @@ entry_again (entry.Unhold step tag service) held =
     let names = three_names step tag service (is_start_in_range (entry.Unhold step tag service)) held in
     rw (names.0, names.1.0, names.1.1) refl
 entry_again (entry.Asked tag service command) held =
-    let row = first_held held in
-    rw (name_again tag (first_held row), name_again service (first_held (rest_held row)), command_again command) refl
+    let both = and_parts _ _ held in
+    let first = and_parts _ _ both.0 in
+    let second = and_parts _ _ first.1 in
+    rw (name_again tag first.0, name_again service second.0, command_again command) refl
 
 -- the object of an obstacle is no refusal, and its name and its keys tell the obstacle
 pub obstacle_again : (each : Why) → are_in_range (obstacle_row each).fields ≡ true →
@@ -264,15 +290,19 @@ pub obstacle_again : (each : Why) → are_in_range (obstacle_row each).fields �
     × (obstacle_named (text_at (codes "wait") (fields_data (obstacle_fields each)))
     (lookup_in (fields_data (obstacle_fields each))) ≡ Some each)
 obstacle_again why.Frozen held = (refl, refl, refl)
-obstacle_again (why.Away tag) held = (refl, refl, rw (name_again tag (first_held held)) refl)
+obstacle_again (why.Away tag) held = (refl, refl, rw (one_name tag held) refl)
 obstacle_again (why.NotReported tag named) held =
-    (refl, refl, rw (name_again tag (first_held held), name_again named (first_held (rest_held held))) refl)
+    let names = two_names tag named held in (refl, refl, rw (names.0, names.1) refl)
 obstacle_again (why.InState step state) held =
-    (refl, refl, rw (name_again step (first_held held), state_again state) refl)
+    let first = and_parts _ _ held in
+    (refl, refl, rw (name_again step first.0, state_again state) refl)
 obstacle_again (why.Forbidden step by) held =
-    (refl, refl, rw (name_again step (first_held held), forbid_again by) refl)
-obstacle_again (why.Unmet step) held = (refl, refl, rw (name_again step (first_held held)) refl)
-obstacle_again (why.NoArm node) held = (refl, refl, rw (number_again node (first_held held)) refl)
+    let first = and_parts _ _ held in
+    (refl, refl, rw (name_again step first.0, forbid_again by) refl)
+obstacle_again (why.Unmet step) held = (refl, refl, rw (one_name step held) refl)
+obstacle_again (why.NoArm node) held =
+    let first = and_parts _ _ held in
+    (refl, refl, rw (number_again node first.0) refl)
 
 -- the name in the object of an outcome tells the outcome
 pub outcome_again : (each : Outcome)
