@@ -98,6 +98,14 @@ of_next finishes progress stage after reset_begun = refl
 of_next finishes progress stage after reset_finished = refl
 of_next finishes progress stage after to_ended = refl
 
+-- a step that has ended stays so
+pub ended_stays : (finishes : Bool) (stage : Option Stage) → next_progress finishes Ended stage ≡ None
+ended_stays finishes None = refl
+ended_stays finishes (Some begin) = refl
+ended_stays finishes (Some finish) = refl
+ended_stays finishes (Some reset) = refl
+ended_stays finishes (Some end) = refl
+
 -- a number is equal to itself
 pub eqb_same : (number : ℕ) → eqb number number ≡ true
 eqb_same number = eq-eqb number number refl

@@ -14,6 +14,7 @@ pub mod Fronts
 pub mod Latest
 pub mod Logs
 pub mod Few
+pub mod Sized
 pub mod Lawful
 pub mod Ordered
 pub mod StepNumbers

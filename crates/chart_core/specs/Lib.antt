@@ -3,6 +3,7 @@ pub mod ReadingsFields
 pub mod Formulas
 pub mod Reads
 pub mod Trees
+pub mod Sizes
 pub mod Form
 pub mod Requirements
 pub mod Roles
@@ -14,6 +15,7 @@ pub mod Valid
 pub mod Walks
 pub mod Progress
 pub mod Changes
+pub mod Following
 pub mod Names
 pub mod Standing
 pub mod Deciding

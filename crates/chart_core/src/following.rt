@@ -1,5 +1,5 @@
 //! What one more entry changes, and whether a part of a chart is done.
-ghost use Rattle.std.specs.Prelude.{◌≡◌, ◌+◌, ◌<◌, ◌≤◌, ◌^◌, false, length, is_some, IfSome};
+ghost use Rattle.std.specs.Prelude.{◌≡◌, ◌+◌, ◌<◌, ◌≤◌, ◌^◌, false, length, is_some, IfSome, None};
 ghost use Rattle.chart_core.specs.Formulas.{plain_condition};
 ghost use Rattle.chart_core.specs.Reads.{stored};
 ghost use Rattle.chart_core.specs.Trees.{plain_node, trees, arms, arm_conditions, plain_step, leaf, size, sizes, arm_sizes};
@@ -7,7 +7,8 @@ ghost use Rattle.chart_core.specs.Entries.{chart_entry, stage_of};
 ghost use Rattle.chart_core.specs.Runs.{is_first_true, with_condition, right_arm, decision_at, arm_reads, course, in_turn, at_once, arm_at};
 ghost use Rattle.chart_core.specs.Progress.{marks_of};
 ghost use Rattle.chart_core.specs.Deciding.{judged_until, round_change};
-ghost use Rattle.chart_core.specs.Changes.{is_done, next_progress, put_at, choose_at, change_by, FitsIn};
+ghost use Rattle.chart_core.specs.Changes.{is_done, is_ended, next_progress, put_at, choose_at, change_by, FitsIn};
+ghost use Rattle.chart_core.specs.Following.{change_in, behind_in};
 ghost use Rattle.chart_core.specs.declared.limits.TheConstants.{MOST_READS};
 
 use super::condition::Condition;
@@ -19,23 +20,44 @@ use super::size::{arms_count, node_count};
 use super::truth::is_true;
 use mtp_codes::Reading;
 
-/// What was found of a part of a chart: what the entry changes of it, where it may come next; whether the part is done;
-/// and the number behind its last node.
+/// What was found of a part of a chart.
 #[derive(Clone, Copy)]
-pub struct Followed {
-    pub change: Option<Change>,
-    pub done: bool,
-    pub next: u32,
+pub enum Followed {
+    /// The entry may come next in the part, and changes this.
+    Changes(Change),
+    /// The part is done; this is the number behind its last node.
+    Done(u32),
+    /// Neither: the part isn't done, and the entry may not come next in it.
+    Open,
 }
 
-// A part in which nothing changes.
-fn unchanged(done: bool, next: u32) -> Followed
-    ensures { (result.change ≡ None) × (result.done ≡ done) × (result.next ≡ next) }
+impl Followed {
+    /// What the entry changes, where it may come next.
+    pub fn change(self) -> Option<Change>
+        ensures { result ≡ change_in self }
+    {
+        match self {
+            Followed::Changes(change) => Some(change),
+            _ => None,
+        }
+    }
+
+    /// Whether the part is done.
+    pub fn is_done(self) -> bool
+        ensures { result ≡ is_some (behind_in self) }
+    {
+        matches!(self, Followed::Done(_))
+    }
+}
+
+// What was found of a part that isn't done.
+fn open_or(change: Option<Change>) -> Followed
+    ensures change { change_in result ≡ change }
+    ensures open { behind_in result ≡ None }
 {
-    Followed {
-        change: None,
-        done,
-        next,
+    match change {
+        Some(change) => Followed::Changes(change),
+        None => Followed::Open,
     }
 }
 
@@ -202,110 +224,105 @@ fn choose(place: u32, arm: Option<u32>) -> Option<Change>
     }
 }
 
-/// What the entry changes of this tree, whose first node has this number, and whether the tree is done. `marks` has how
-/// far each node has come. Walks the tree's nodes once.
+// What was found of a step.
+#[tactic(auto, using(crate::proofs::Changing::ended_stays))]
+fn follow_step(step: &Step, number: u32, progress: Progress, entry: &LogEntry) -> Followed
+    requires { number + 1 < 2 ^ 32 }
+    ensures change { change_in result ≡ put_at number (next_progress (is_some (plain_step step.now).finish) progress
+        (stage_of (plain_step step.now) (chart_entry entry.now))) }
+    ensures inside { IfSome (change_in result) (FitsIn (number + 1)) }
+    ensures done { is_some (behind_in result) ≡ is_ended progress }
+    ensures behind { IfSome (behind_in result) (λ behind. behind ≡ number + 1) }
+{
+    match progress {
+        Progress::Ended => Followed::Done(number + 1),
+        _ => open_or(put(number, step_next(step, progress, entry))),
+    }
+}
+
+/// What is found of this tree, whose first node has this number; `marks` has how far each node has come. Walks each of
+/// the tree's nodes at most once, and none behind the one that the entry changes.
 #[cycle(follow)]
 pub fn follow(node: &Node, number: u32, marks: &[Progress], entry: &LogEntry) -> Followed
     requires fits { number + size (plain_node node.now) ≤ length marks.now }
     requires short { length marks.now < 2 ^ 32 }
-    ensures change { result.change ≡ change_by (course (plain_node node.now) number) (marks_of marks.now)
+    ensures change { change_in result ≡ change_by (course (plain_node node.now) number) (marks_of marks.now)
         (with_condition entry.now) }
-    ensures inside { IfSome result.change (FitsIn (number + size (plain_node node.now))) }
-    ensures done { result.done ≡ is_done (course (plain_node node.now) number) (marks_of marks.now) }
-    ensures next { result.next ≡ number + size (plain_node node.now) }
+    ensures inside { IfSome (change_in result) (FitsIn (number + size (plain_node node.now))) }
+    ensures done { is_some (behind_in result) ≡ is_done (course (plain_node node.now) number) (marks_of marks.now) }
+    ensures behind { IfSome (behind_in result) (λ behind. behind ≡ number + size (plain_node node.now)) }
 {
     let progress = marks[number as usize];
     match node {
-        Node::Step(step) => Followed {
-            change: put(number, step_next(step, progress, entry)),
-            done: matches!(progress, Progress::Ended),
-            next: number + 1,
-        },
+        Node::Step(step) => follow_step(step, number, progress, entry),
         Node::Seq(kids) => follow_in_turn(kids, number + 1, marks, entry),
         Node::Par(kids) => follow_at_once(kids, number + 1, marks, entry),
         Node::Sel(each) => match progress {
-            Progress::Untouched => Followed {
-                change: choose(number, choice(each, number, entry)),
-                done: false,
-                next: number + 1 + arms_count(each),
-            },
+            Progress::Untouched => open_or(choose(number, choice(each, number, entry))),
             Progress::Chosen(arm) => follow_arm(each, arm, number + 1, marks, entry),
-            _ => unchanged(false, number + 1 + arms_count(each)),
+            _ => Followed::Open,
         },
         Node::Loop(body, until) => match progress {
-            Progress::Untouched => {
-                let inner = follow(body, number + 1, marks, entry);
-                Followed {
-                    change: if inner.done {
-                        round(number, inner.next, until, entry)
-                    } else {
-                        inner.change
-                    },
-                    done: false,
-                    next: inner.next,
-                }
-            }
-            _ => unchanged(
-                matches!(progress, Progress::Left),
-                number + 1 + node_count(body),
-            ),
+            Progress::Untouched => match follow(body, number + 1, marks, entry) {
+                Followed::Done(below) => open_or(round(number, below, until, entry)),
+                Followed::Changes(change) => Followed::Changes(change),
+                Followed::Open => Followed::Open,
+            },
+            Progress::Left => Followed::Done(number + 1 + node_count(body)),
+            _ => Followed::Open,
         },
     }
 }
 
+// Ends at the first of these that isn't done.
 #[cycle(follow)]
 fn follow_in_turn(kids: &[Node], first: u32, marks: &[Progress], entry: &LogEntry) -> Followed
     requires fits { first + sizes (trees kids.now) ≤ length marks.now }
     requires short { length marks.now < 2 ^ 32 }
-    ensures change { result.change ≡ change_by (in_turn (trees kids.now) first) (marks_of marks.now)
+    ensures change { change_in result ≡ change_by (in_turn (trees kids.now) first) (marks_of marks.now)
         (with_condition entry.now) }
-    ensures inside { IfSome result.change (FitsIn (first + sizes (trees kids.now))) }
-    ensures done { result.done ≡ is_done (in_turn (trees kids.now) first) (marks_of marks.now) }
-    ensures next { result.next ≡ first + sizes (trees kids.now) }
+    ensures inside { IfSome (change_in result) (FitsIn (first + sizes (trees kids.now))) }
+    ensures done { is_some (behind_in result) ≡ is_done (in_turn (trees kids.now) first) (marks_of marks.now) }
+    ensures behind { IfSome (behind_in result) (λ behind. behind ≡ first + sizes (trees kids.now)) }
 {
-    let mut change = None;
-    let mut done = true;
     let mut number = first;
     for kid in kids {
-        let inner = follow(kid, number, marks, entry);
-        if done && !inner.done {
-            change = inner.change;
-            done = false;
+        match follow(kid, number, marks, entry) {
+            Followed::Done(behind) => number = behind,
+            Followed::Changes(change) => return Followed::Changes(change),
+            Followed::Open => return Followed::Open,
         }
-        number = inner.next;
     }
-    Followed {
-        change,
-        done,
-        next: number,
-    }
+    Followed::Done(number)
 }
 
+// Ends at the first of these that the entry changes.
 #[cycle(follow)]
 fn follow_at_once(kids: &[Node], first: u32, marks: &[Progress], entry: &LogEntry) -> Followed
     requires fits { first + sizes (trees kids.now) ≤ length marks.now }
     requires short { length marks.now < 2 ^ 32 }
-    ensures change { result.change ≡ change_by (at_once (trees kids.now) first) (marks_of marks.now)
+    ensures change { change_in result ≡ change_by (at_once (trees kids.now) first) (marks_of marks.now)
         (with_condition entry.now) }
-    ensures inside { IfSome result.change (FitsIn (first + sizes (trees kids.now))) }
-    ensures done { result.done ≡ is_done (at_once (trees kids.now) first) (marks_of marks.now) }
-    ensures next { result.next ≡ first + sizes (trees kids.now) }
+    ensures inside { IfSome (change_in result) (FitsIn (first + sizes (trees kids.now))) }
+    ensures done { is_some (behind_in result) ≡ is_done (at_once (trees kids.now) first) (marks_of marks.now) }
+    ensures behind { IfSome (behind_in result) (λ behind. behind ≡ first + sizes (trees kids.now)) }
 {
-    let mut change = None;
     let mut done = true;
     let mut number = first;
     for kid in kids {
-        let inner = follow(kid, number, marks, entry);
-        if change.is_none() {
-            change = inner.change;
+        match follow(kid, number, marks, entry) {
+            Followed::Changes(change) => return Followed::Changes(change),
+            Followed::Done(behind) => number = behind,
+            Followed::Open => {
+                done = false;
+                number += node_count(kid);
+            }
         }
-        done = done && inner.done;
-        number = inner.next;
     }
-    Followed {
-        change,
-        done,
-        next: number,
+    if done {
+        Followed::Done(number)
+    } else {
+        Followed::Open
     }
 }
 
@@ -313,23 +330,22 @@ fn follow_at_once(kids: &[Node], first: u32, marks: &[Progress], entry: &LogEntr
 fn follow_arm(each: &[Arm], arm: u32, first: u32, marks: &[Progress], entry: &LogEntry) -> Followed
     requires fits { first + arm_sizes (arms each.now) ≤ length marks.now }
     requires short { length marks.now < 2 ^ 32 }
-    ensures change { result.change ≡ change_by (arm_at (arms each.now) first arm) (marks_of marks.now)
+    ensures change { change_in result ≡ change_by (arm_at (arms each.now) first arm) (marks_of marks.now)
         (with_condition entry.now) }
-    ensures inside { IfSome result.change (FitsIn (first + arm_sizes (arms each.now))) }
-    ensures done { result.done ≡ is_done (arm_at (arms each.now) first arm) (marks_of marks.now) }
-    ensures next { result.next ≡ first + arm_sizes (arms each.now) }
+    ensures inside { IfSome (change_in result) (FitsIn (first + arm_sizes (arms each.now))) }
+    ensures done { is_some (behind_in result) ≡ is_done (arm_at (arms each.now) first arm) (marks_of marks.now) }
+    ensures behind { IfSome (behind_in result) (λ behind. behind ≡ first + arm_sizes (arms each.now)) }
 {
     let mut number = first;
     for (i, each_arm) in each.iter().enumerate() {
         if i == arm as usize {
-            let inner = follow(&each_arm.body, number, marks, entry);
-            return Followed {
-                change: inner.change,
-                done: inner.done,
-                next: inner.next + arms_count(&each[i + 1..]),
+            return match follow(&each_arm.body, number, marks, entry) {
+                Followed::Done(behind) => Followed::Done(behind + arms_count(&each[i + 1..])),
+                Followed::Changes(change) => Followed::Changes(change),
+                Followed::Open => Followed::Open,
             };
         }
         number += node_count(&each_arm.body);
     }
-    unchanged(true, number)
+    Followed::Done(number)
 }

@@ -33,7 +33,6 @@ pub use chart::Chart;
 pub use condition::{Condition, Op};
 pub use entry::LogEntry;
 pub use fault::ChartFault;
-pub use following::{Followed, follow};
 pub use laws::{names_are_distinct, nothing_is_partial, steps_have_roles};
 pub use limits::{
     DEEPEST_CONDITION, DEEPEST_NODE, LONGEST_WANTED, MOST_ARMS, MOST_JOINED, MOST_NODES,
@@ -48,6 +47,6 @@ pub use progress::{Change, Progress};
 pub use readings::Readings;
 pub use reads::{Read, Reads, place_among, reads_of_arms, reads_of_condition};
 pub use role::Role;
-pub use size::{arms_count, node_count};
+pub use size::{arms_count, node_count, node_sizes};
 pub use truth::{is_true, passes};
 pub use why::Why;

@@ -71,7 +71,7 @@ pub fn take_entry(chart: &Chart, marks: &mut [Progress], entry: &LogEntry) -> bo
         ≡ moved (marks_of marks.old)
         (change_by (course_of (plain_chart chart.now)) (marks_of marks.old) (with_condition entry.now)) i }
 {
-    match follow(&chart.root, 0, marks, entry).change {
+    match follow(&chart.root, 0, marks, entry).change() {
         Some(change) => {
             make(marks, change);
             true
@@ -90,5 +90,5 @@ pub fn is_done(chart: &Chart, marks: &[Progress]) -> bool
         → IsComplete (plain_chart chart.now) log → IsTrue result }
 {
     // Asked with an entry that is of no node.
-    follow(&chart.root, 0, marks, &LogEntry::StopAsked).done
+    follow(&chart.root, 0, marks, &LogEntry::StopAsked).is_done()
 }

@@ -1,5 +1,6 @@
 //! The number of a step, by its name.
 ghost use Rattle.std.specs.Prelude.{◌≡◌, ◌+◌, ◌<◌, ◌^◌};
+ghost use Rattle.std.specs.Result.{IfErr, result_ok};
 ghost use Rattle.chart_core.specs.Charts.{plain_chart};
 ghost use Rattle.chart_core.specs.Numbers.{number_named, number_in, number_among, number_in_arms};
 ghost use Rattle.chart_core.specs.Trees.{plain_node, trees, arms, size, sizes, arm_sizes, steps};
@@ -7,18 +8,19 @@ ghost use Rattle.chart_core.specs.Valid.{IsValid};
 
 use super::chart::Chart;
 use super::node::{Arm, Node};
-use super::size::node_count;
 use mtp_codes::Name;
 
-// The number of the first step of this tree that has the name; the tree's first node has this number.
+// The number of the first step of this tree that has the name, or where there is none the number behind the tree's last
+// node; the tree's first node has this number.
 #[cycle(numbered)]
-fn number_in(node: &Node, number: u32, name: Name) -> Option<u32>
+fn number_in(node: &Node, number: u32, name: Name) -> Result<u32, u32>
     requires { number + size (plain_node node.now) < 2 ^ 32 }
-    ensures { result ≡ number_in name (plain_node node.now) number }
+    ensures found { result_ok result ≡ number_in name (plain_node node.now) number }
+    ensures behind { IfErr result (λ behind. behind ≡ number + size (plain_node node.now)) }
 {
     match node {
-        Node::Step(step) if step.name == name => Some(number),
-        Node::Step(_) => None,
+        Node::Step(step) if step.name == name => Ok(number),
+        Node::Step(_) => Err(number + 1),
         Node::Seq(kids) => number_among(kids, number + 1, name),
         Node::Par(kids) => number_among(kids, number + 1, name),
         Node::Sel(each) => number_in_arms(each, number + 1, name),
@@ -28,36 +30,36 @@ fn number_in(node: &Node, number: u32, name: Name) -> Option<u32>
 
 // The same among kids, the first of which has this number.
 #[cycle(numbered)]
-fn number_among(kids: &[Node], first: u32, name: Name) -> Option<u32>
+fn number_among(kids: &[Node], first: u32, name: Name) -> Result<u32, u32>
     requires { first + sizes (trees kids.now) < 2 ^ 32 }
-    ensures { result ≡ number_among name (trees kids.now) first }
+    ensures found { result_ok result ≡ number_among name (trees kids.now) first }
+    ensures behind { IfErr result (λ behind. behind ≡ first + sizes (trees kids.now)) }
 {
     let mut number = first;
     for kid in kids {
-        let found = number_in(kid, number, name);
-        if found.is_some() {
-            return found;
+        match number_in(kid, number, name) {
+            Ok(found) => return Ok(found),
+            Err(behind) => number = behind,
         }
-        number += node_count(kid);
     }
-    None
+    Err(number)
 }
 
 // The same among arms, the first of whose bodies has this number.
 #[cycle(numbered)]
-fn number_in_arms(each: &[Arm], first: u32, name: Name) -> Option<u32>
+fn number_in_arms(each: &[Arm], first: u32, name: Name) -> Result<u32, u32>
     requires { first + arm_sizes (arms each.now) < 2 ^ 32 }
-    ensures { result ≡ number_in_arms name (arms each.now) first }
+    ensures found { result_ok result ≡ number_in_arms name (arms each.now) first }
+    ensures behind { IfErr result (λ behind. behind ≡ first + arm_sizes (arms each.now)) }
 {
     let mut number = first;
     for arm in each {
-        let found = number_in(&arm.body, number, name);
-        if found.is_some() {
-            return found;
+        match number_in(&arm.body, number, name) {
+            Ok(found) => return Ok(found),
+            Err(behind) => number = behind,
         }
-        number += node_count(&arm.body);
     }
-    None
+    Err(number)
 }
 
 /// The number of the step with this name in the valid chart; None where no step has it. Walks the chart's nodes once.
@@ -65,5 +67,5 @@ pub fn step_number(chart: &Chart, name: Name) -> Option<u32>
     requires { IsValid (plain_chart chart.now) }
     ensures { result ≡ number_named name (steps (plain_chart chart.now).root 0) }
 {
-    number_in(&chart.root, 0, name)
+    number_in(&chart.root, 0, name).ok()
 }

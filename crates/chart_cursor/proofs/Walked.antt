@@ -1,6 +1,6 @@
 -- What a walk over the open nodes looks at.
 use Rattle.std.specs.Prelude.{ℕ, ◌≡◌, ◌≤◌, ◌+◌, zero, suc, Bool, true, false, List, [], ◌∷◌, length, Option, None, Some, refl, if◌then◌else◌}
-use Rattle.std.specs.List.{fold}
+use Rattle.std.specs.List.{fold, list_any}
 use Rattle.std.proofs.Common.{ap, sym, ◌∙◌, arith}
 use Rattle.std.proofs.lemmas.Bool.{and_parts}
 use Rattle.chart_core.specs.declared.node.Arm.{Arm}
@@ -8,6 +8,7 @@ use Rattle.chart_core.specs.declared.progress.Progress.{Progress}
 use Rattle.chart_core.specs.declared.progress.Progress.TheVariants.{Ended, Chosen, Left}
 use Rattle.chart_core.specs.Trees.{Tree, Trees, Arms, leaf, seq, par, choice, loop, no_trees, more_trees, no_arms, more_arms, plain_node, arms, size, arm_sizes}
 use Rattle.chart_core.specs.Runs.{course, in_turn, at_once, arm_at}
+use Rattle.chart_core.specs.Active.{Phase}
 use Rattle.chart_core.specs.Progress.{Marks}
 use Rattle.chart_core.specs.Changes.{is_done, is_ended, is_left, has_chosen}
 use Rattle.chart_core.proofs.Items.{arm_laid}
@@ -199,6 +200,32 @@ unhold_found sights unhold (spot ∷ others) =
     ∙ first_next_assoc unhold.next
     (unhold_node (sights unhold.seen.now) test spot.number spot.node (phase_of spot.progress))
     (first_unhold_node (sights unhold.seen.now) test others)
+
+-- ---- where no step was held
+
+-- where no flag is set, no node has one
+no_flag : (flags : List Bool) (number : ℕ) → list_any (λ flag. flag) flags ≡ false → flag_at flags number ≡ false
+no_flag [] number none = refl
+no_flag (true ∷ flags) number none = absurd cc
+no_flag (false ∷ flags) zero none = refl
+no_flag (false ∷ flags) (suc number) none = no_flag flags number none
+
+-- a node without a flag comes to nothing
+unheld_node : (seen : Sights) (test : ℕ → Bool) (number : ℕ) (node : Tree) (phase : Phase) → test number ≡ false
+    → unhold_node seen test number node phase ≡ Whole
+unheld_node seen test number (leaf step) phase none = rw none refl
+unheld_node seen test number (seq each) phase none = refl
+unheld_node seen test number (par each) phase none = refl
+unheld_node seen test number (choice each) phase none = refl
+unheld_node seen test number (loop body until) phase none = refl
+
+-- nor do the open nodes
+pub none_held : (seen : Sights) (flags : List Bool) (each : List OpenNode) → list_any (λ flag. flag) flags ≡ false
+    → first_unhold_node seen (flag_at flags) each ≡ Whole
+none_held seen flags [] none = refl
+none_held seen flags (spot ∷ others) none =
+    rw (unheld_node seen (flag_at flags) spot.number spot.node (phase_of spot.progress)
+    (no_flag flags spot.number none)) (none_held seen flags others none)
 
 -- ---- a selection has no more arms than nodes
 

@@ -1,5 +1,6 @@
 //! The first running step of a chart whose service is stopped or aborted, by its marks.
 ghost use Rattle.std.specs.Prelude.{◌≡◌, ◌+◌, ◌<◌, ◌≤◌, ◌^◌, length};
+ghost use Rattle.chart_core.specs.Sizes.{HasSizes, sizes_of};
 ghost use Rattle.chart_core.specs.Trees.{plain_node, plain_step, leaf, size};
 ghost use Rattle.chart_core.specs.Progress.{marks_of};
 ghost use Rattle.chart_cursor.specs.OpenNodes.{phase_of, open_nodes};
@@ -70,14 +71,17 @@ pub fn first_broken<S: Seen>(
     node: &Node,
     number: u32,
     marks: &[Progress],
+    node_sizes: &[u32],
     seen: &S,
 ) -> Option<LogEntry>
     requires fits { number + size (plain_node node.now) ≤ length marks.now }
     requires short { length marks.now < 2 ^ 32 }
+    requires sized { length node_sizes.now ≡ length marks.now }
+    requires sizes { HasSizes (plain_node node.now) number (sizes_of node_sizes.now) }
     ensures { result ≡ first_broken_node (S.sights seen.now)
         (open_nodes (plain_node node.now) number (marks_of marks.now)) }
 {
     let mut broken = FirstBroken { seen, found: None };
-    walk(node, number, marks, &mut broken);
+    walk(node, number, marks, node_sizes, &mut broken);
     broken.found
 }

@@ -22,7 +22,7 @@ use super::next::CursorNext;
 use super::running::{RunningStep, first_running, name_alone, placed_alone};
 use super::scanning::scan;
 use super::sight::Seen;
-use chart_core::{Chart, LogEntry, Progress, take_entry, untouched};
+use chart_core::{Chart, LogEntry, Progress, node_sizes, take_entry, untouched};
 use mtp_codes::Name;
 use std::alloc::{AllocError, Global};
 use std::marker::Model;
@@ -34,6 +34,8 @@ use std::sync::Arc;
 pub struct Cursor {
     chart: Arc<Chart>,
     marks: Vec<Progress>,
+    // How many nodes each node has, by its number, so that a walk steps over them.
+    sizes: Vec<u32>,
 }
 
 impl Model for Cursor {
@@ -48,7 +50,8 @@ impl Model for Cursor {
 
     ghost view = { λ cursor. record { chart = cursor.chart.value; marks = cursor.marks.items } };
 
-    ghost invariant = { λ cursor. IsMarked (record { chart = cursor.chart.value; marks = cursor.marks.items }) };
+    ghost invariant = { λ cursor. IsMarked (record { chart = cursor.chart.value; marks = cursor.marks.items })
+        cursor.sizes.items };
 }
 
 impl Cursor {
@@ -56,14 +59,19 @@ impl Cursor {
     ///
     /// # Errors
     ///
-    /// AllocError where memory is wanting for one mark for each node.
+    /// AllocError where memory is wanting for one mark and one number for each node.
     pub fn new(alloc: Global, chart: Arc<Chart>) -> Result<Cursor, AllocError>
         requires { IsValid (plain_chart chart.value) }
         ensures chart { IfOk result (λ cursor. cursor.chart ≡ chart.value) }
         ensures empty { IfOk result (λ cursor. StandsFor (plain_chart cursor.chart) cursor.marks []) }
     {
         let marks = untouched(alloc, &chart)?;
-        Ok(Cursor { chart, marks })
+        let sizes = node_sizes(alloc, &chart)?;
+        Ok(Cursor {
+            chart,
+            marks,
+            sizes,
+        })
     }
 
     /// The chart that the cursor goes through.
@@ -97,7 +105,7 @@ impl Cursor {
         ensures whole { (word : List LogEntry) → StandsFor (plain_chart self.now.chart) self.now.marks word
             → IsComplete (plain_chart self.now.chart) word → result ≡ Whole }
     {
-        scan(&self.chart.root, 0, &self.marks, seen)
+        scan(&self.chart.root, 0, &self.marks, &self.sizes, seen)
     }
 
     /// The first active step whose node is at least `from`, and of the role where one is given; None where there is no
@@ -106,7 +114,7 @@ impl Cursor {
         ensures { (word : List LogEntry) → StandsFor (plain_chart self.now.chart) self.now.marks word
             → result ≡ first_placed (is_wanted from role) (active_steps (plain_chart self.now.chart) word) }
     {
-        first_running(&self.chart.root, 0, &self.marks, from, role)
+        first_running(&self.chart.root, 0, &self.marks, &self.sizes, from, role)
     }
 
     /// The entry Broke of the first active step whose service is seen stopped or aborted; None where there is none.
@@ -115,7 +123,7 @@ impl Cursor {
         ensures { (word : List LogEntry) → StandsFor (plain_chart self.now.chart) self.now.marks word
             → result ≡ first_broken (S.sights seen.now) (active (plain_chart self.now.chart) word) }
     {
-        first_broken(&self.chart.root, 0, &self.marks, seen)
+        first_broken(&self.chart.root, 0, &self.marks, &self.sizes, seen)
     }
 
     /// The entry Hold of the first active step that a recipe may send Hold, whose node is at least `from` and has no
@@ -125,18 +133,26 @@ impl Cursor {
             → result ≡ first_hold (S.sights seen.now) (map (λ placed. placed.step)
             (numbered (is_unasked from asked.now) (active_steps (plain_chart self.now.chart) word))) }
     {
-        first_hold(&self.chart.root, 0, &self.marks, seen, from, asked)
+        first_hold(
+            &self.chart.root,
+            0,
+            &self.marks,
+            &self.sizes,
+            seen,
+            from,
+            asked,
+        )
     }
 
     /// What comes next of the active steps whose nodes have a flag in `held`, and whose services aren't over: the entry
     /// Unhold of the first that may be unheld; where none may, the obstacle of the first; Whole where there is no such
-    /// step. Walks the chart's nodes once, and takes no memory.
+    /// step. Walks the chart's nodes once, where a flag is set at all, and takes no memory.
     pub fn first_unhold<S: Seen>(&self, seen: &S, held: &[bool]) -> CursorNext
         ensures { (word : List LogEntry) → StandsFor (plain_chart self.now.chart) self.now.marks word
             → result ≡ first_unhold (S.sights seen.now) (under_way (S.sights seen.now) (map (λ placed. placed.step)
             (numbered (flag_at held.now) (active_steps (plain_chart self.now.chart) word)))) }
     {
-        first_unhold(&self.chart.root, 0, &self.marks, seen, held)
+        first_unhold(&self.chart.root, 0, &self.marks, &self.sizes, seen, held)
     }
 
     /// The first active step whose node is at least `from`, with the node's number; None where there is no such active

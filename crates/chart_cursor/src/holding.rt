@@ -2,6 +2,8 @@
 //!
 //! Which of them is told by flags, one for each node, by its number.
 ghost use Rattle.std.specs.Prelude.{◌≡◌, ◌+◌, ◌<◌, ◌≤◌, ◌^◌, length, if◌then◌else◌};
+ghost use Rattle.std.specs.List.{list_any};
+ghost use Rattle.chart_core.specs.Sizes.{HasSizes, sizes_of};
 ghost use Rattle.chart_core.specs.Trees.{plain_node, plain_step, size};
 ghost use Rattle.chart_core.specs.Progress.{marks_of};
 ghost use Rattle.chart_cursor.specs.declared.next.CursorNext.TheVariants.{Whole};
@@ -28,6 +30,13 @@ fn flag_at(flags: &[bool], number: u32) -> bool
         Some(flag) => *flag,
         None => false,
     }
+}
+
+// Whether a flag is set.
+fn has_flag(flags: &[bool]) -> bool
+    ensures { result ≡ list_any (λ flag. flag) flags.now }
+{
+    flags.iter().any(|flag| *flag)
 }
 
 // ---- held
@@ -94,12 +103,15 @@ pub fn first_hold<S: Seen>(
     node: &Node,
     number: u32,
     marks: &[Progress],
+    node_sizes: &[u32],
     seen: &S,
     from: u32,
     asked: &[bool],
 ) -> Option<LogEntry>
     requires fits { number + size (plain_node node.now) ≤ length marks.now }
     requires short { length marks.now < 2 ^ 32 }
+    requires sized { length node_sizes.now ≡ length marks.now }
+    requires sizes { HasSizes (plain_node node.now) number (sizes_of node_sizes.now) }
     ensures { result ≡ first_hold_node (S.sights seen.now) (is_unasked from asked.now)
         (open_nodes (plain_node node.now) number (marks_of marks.now)) }
 {
@@ -109,7 +121,7 @@ pub fn first_hold<S: Seen>(
         asked,
         found: None,
     };
-    walk(node, number, marks, &mut hold);
+    walk(node, number, marks, node_sizes, &mut hold);
     hold.found
 }
 
@@ -202,24 +214,30 @@ impl<'a, S: Seen> Visitor for FirstUnhold<'a, S> {
 
 /// What comes next of the running steps of this tree whose flag is set in `held`, without those whose services are
 /// over: the first Unhold, else the first obstacle; Whole where there is no such step. The tree's first node has the
-/// number `number`. Walks its nodes once.
+/// number `number`. Walks its nodes once, where a flag is set at all.
 pub fn first_unhold<S: Seen>(
     node: &Node,
     number: u32,
     marks: &[Progress],
+    node_sizes: &[u32],
     seen: &S,
     held: &[bool],
 ) -> CursorNext
     requires fits { number + size (plain_node node.now) ≤ length marks.now }
     requires short { length marks.now < 2 ^ 32 }
+    requires sized { length node_sizes.now ≡ length marks.now }
+    requires sizes { HasSizes (plain_node node.now) number (sizes_of node_sizes.now) }
     ensures { result ≡ first_unhold_node (S.sights seen.now) (flag_at held.now)
         (open_nodes (plain_node node.now) number (marks_of marks.now)) }
 {
+    if !has_flag(held) {
+        return CursorNext::Whole;
+    }
     let mut unhold = FirstUnhold {
         seen,
         held,
         next: CursorNext::Whole,
     };
-    walk(node, number, marks, &mut unhold);
+    walk(node, number, marks, node_sizes, &mut unhold);
     unhold.next
 }

@@ -1,5 +1,6 @@
 //! The first step of a chart that runs, by its marks.
 ghost use Rattle.std.specs.Prelude.{◌≡◌, ◌+◌, ◌<◌, ◌≤◌, ◌^◌, length};
+ghost use Rattle.chart_core.specs.Sizes.{HasSizes, sizes_of};
 ghost use Rattle.chart_core.specs.Trees.{plain_node, plain_step, leaf, size};
 ghost use Rattle.chart_core.specs.Progress.{marks_of};
 ghost use Rattle.chart_cursor.specs.OpenNodes.{phase_of, open_nodes};
@@ -101,11 +102,14 @@ pub fn first_running(
     node: &Node,
     number: u32,
     marks: &[Progress],
+    node_sizes: &[u32],
     from: u32,
     role: Option<Name>,
 ) -> Option<RunningStep>
     requires fits { number + size (plain_node node.now) ≤ length marks.now }
     requires short { length marks.now < 2 ^ 32 }
+    requires sized { length node_sizes.now ≡ length marks.now }
+    requires sizes { HasSizes (plain_node node.now) number (sizes_of node_sizes.now) }
     ensures { result ≡ first_running (is_wanted from role)
         (open_nodes (plain_node node.now) number (marks_of marks.now)) }
 {
@@ -114,6 +118,6 @@ pub fn first_running(
         role,
         found: None,
     };
-    walk(node, number, marks, &mut running);
+    walk(node, number, marks, node_sizes, &mut running);
     running.found
 }

@@ -1,30 +1,25 @@
-use Rattle.std.proofs.Common.{◌≡◌, ◌+◌, ◌-◌, ◌≤◌, drop, ◌&&◌, true, IfSome, None, if◌then◌else◌}
+use Rattle.std.proofs.Common.{◌≡◌, ◌+◌, ◌-◌, ◌≤◌, drop, ◌&&◌}
 use Rattle.chart_core.specs.Trees.{trees, arms, sizes, arm_sizes}
 use Rattle.chart_core.specs.Runs.{with_condition, in_turn, at_once, arm_at}
 use Rattle.chart_core.specs.Progress.{marks_of}
-use Rattle.chart_core.specs.Changes.{is_done, change_by, either_change, FitsIn}
+use Rattle.chart_core.specs.Changes.{is_done, change_by}
 use Rattle.chart_core.proofs.following.+follow.Given as goal
 
 abbrev pub invariant-follow_in_turn-loop-kid : goal.invariant-follow_in_turn-loop-kid
 invariant-follow_in_turn-loop-kid l = record {
   room : l.number + sizes (trees (drop l.kid-index l.kids)) ≡ l.first + sizes (trees l.kids);
-  none : l.done ≡ true → l.change ≡ None;
-  inside : IfSome l.change (FitsIn l.number);
-  done : (l.done && is_done (in_turn (trees (drop l.kid-index l.kids)) l.number) (marks_of l.marks))
+  done : is_done (in_turn (trees (drop l.kid-index l.kids)) l.number) (marks_of l.marks)
       ≡ is_done (in_turn (trees l.kids) l.first) (marks_of l.marks);
-  rest : (if l.done then change_by (in_turn (trees (drop l.kid-index l.kids)) l.number) (marks_of l.marks)
-      (with_condition l.entry) else l.change)
+  rest : change_by (in_turn (trees (drop l.kid-index l.kids)) l.number) (marks_of l.marks) (with_condition l.entry)
       ≡ change_by (in_turn (trees l.kids) l.first) (marks_of l.marks) (with_condition l.entry);
 }
 
 abbrev pub invariant-follow_at_once-loop-kid : goal.invariant-follow_at_once-loop-kid
 invariant-follow_at_once-loop-kid l = record {
   room : l.number + sizes (trees (drop l.kid-index l.kids)) ≡ l.first + sizes (trees l.kids);
-  inside : IfSome l.change (FitsIn l.number);
   done : (l.done && is_done (at_once (trees (drop l.kid-index l.kids)) l.number) (marks_of l.marks))
       ≡ is_done (at_once (trees l.kids) l.first) (marks_of l.marks);
-  rest : either_change l.change (change_by (at_once (trees (drop l.kid-index l.kids)) l.number) (marks_of l.marks)
-      (with_condition l.entry))
+  rest : change_by (at_once (trees (drop l.kid-index l.kids)) l.number) (marks_of l.marks) (with_condition l.entry)
       ≡ change_by (at_once (trees l.kids) l.first) (marks_of l.marks) (with_condition l.entry);
 }
 

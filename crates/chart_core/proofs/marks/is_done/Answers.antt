@@ -10,10 +10,10 @@ follow-requires-clause-short c = few_marks c.args.chart.now c.args.marks.now c.r
 pub returns-clause-done : goal.returns-clause-done
 returns-clause-done c =
     λ yes log stands. done_is_complete (plain_chart c.args.chart.now) c.args.marks.now log c.requires.valid stands
-    (sym c.follow.ensures.done ∙ yes)
+    (sym c.follow.ensures.done ∙ sym c.is_done.ensures ∙ yes)
 
 pub returns-clause-complete : goal.returns-clause-complete
 returns-clause-complete c =
     λ log stands complete.
-    c.follow.ensures.done ∙ complete_is_done (plain_chart c.args.chart.now) c.args.marks.now log c.requires.valid
+    c.is_done.ensures ∙ c.follow.ensures.done ∙ complete_is_done (plain_chart c.args.chart.now) c.args.marks.now log c.requires.valid
     stands complete
