@@ -1,6 +1,6 @@
 -- Lines by their parts.
 use Rattle.std.proofs.Common.{◌≡◌, ℕ, suc, ◌≤◌, ◌<◌, List, [], ◌∷◌, length, true, false, Option, Some, None, Ok, Err, refl, ap, ◌∙◌, subst, arith, codes}
-use Rattle.std.specs.Prelude.{IfOk, is_some, option_map}
+use Rattle.std.specs.Prelude.{IfOk, IfSome, IsTrue, is_some, option_map}
 use Rattle.std.specs.Str.{IsUtf8}
 use Rattle.std.proofs.lemmas.Grind.{common_steps}
 use Rattle.std.specs.List.{list_all}
@@ -21,10 +21,13 @@ use Rattle.chart_core.specs.Trees.{Tree}
 use Rattle.chart_json.specs.Form.{are_roles_sized, chart_from, role_of, roles_of, tree_of}
 use Rattle.chart_json.proofs.Formed.{roles_sized, tree_formed}
 use Rattle.pol_events.specs.declared.kind.EventKind.TheVariants.{ExchangeEnd, Plug, Recipe}
-use Rattle.pol_events.specs.Events.{PlainEvent, exchange_end, plug, recipe}
+use Rattle.pol_events.specs.declared.event.Event.{Event}
+use Rattle.pol_events.specs.Events.{PlainEvent, exchange_end, plain_event, plug, recipe}
 use Rattle.pol_events.specs.Forms.{event_in, exchange_end_in, plug_in, recipe_in}
 use Rattle.pol_events.specs.Lines.{event_of, fault_within}
+use Rattle.pol_events.specs.Orderly.{is_orderly}
 use Rattle.pol_events.specs.Words.{kind_words}
+use Rattle.pol_events.proofs.Again.{faultless}
 use Rattle.pol_lines.specs.declared.flat.Member.{Member}
 use Rattle.pol_lines.specs.declared.key.Key.TheVariants as key
 use Rattle.pol_lines.specs.declared.objects.Cut.{Cut}
@@ -81,6 +84,17 @@ line_with_value form made deep line name cut members (Some value) event fits utf
 pub flat_makes : {A : Type 0} (form : Data → ReadResult A) (made : A) (members : List Member)
     → form (flat_data members) ≡ Ok made → Makes form made members []
 flat_makes form made members is found among = ap (λ all. form (object all)) (among.alone refl) ∙ is
+
+-- what flat members say, a line of nothing else says
+pub line_of_flats : (line : List ℕ) (cut : Cut) (members : List Member) (result : Option Event) → IsUtf8 line
+    → Stands 0 line members [] cut → IsEnd cut
+    → IfSome result (λ event. event_in (flat_data members) ≡ Ok (plain_event event))
+    → IfSome result (λ event. IsTrue (is_orderly (plain_event event)))
+    → IfSome result (λ event. event_of line ≡ Ok (plain_event event))
+line_of_flats line cut members None utf8 is ends says orderly = tt
+line_of_flats line cut members (Some event) utf8 is ends says orderly =
+    line_of_object 0 line cut members [] (plain_event event) (omega arith) utf8 is ends
+    (flat_makes event_in (plain_event event) members says) (faultless (plain_event event) orderly)
 
 -- ---- modules
 

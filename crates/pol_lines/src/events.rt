@@ -1,32 +1,19 @@
 //! The events that flat lines say.
-ghost use Rattle.std.specs.Prelude.{◌≡◌, ℕ, List, Ok, IfSome, IsTrue, codes};
-ghost use Rattle.std.specs.List.{list_all};
-ghost use Rattle.mtp_json.specs.Form.{is_listed};
+ghost use Rattle.std.specs.Prelude.{◌≡◌, ℕ, List, Ok, IfSome, IsTrue};
 ghost use Rattle.pol_events.specs.Events.{PlainEvent, plain_event};
 ghost use Rattle.pol_events.specs.Forms.{batch_in, control_in, desk_in, event_in, exchange_cancel_in, report_in, tag_in, variable_in};
 ghost use Rattle.pol_events.specs.Orderly.{is_orderly};
 ghost use Rattle.pol_lines.specs.Flat.{flat_data};
-ghost use Rattle.pol_lines.specs.Keys.{key_text};
 
 use crate::fields::{
     command_at, count_at, kind_at, mode_at, name_at, origin_at, scalar_at, state_at,
 };
 use crate::flat::Member;
 use crate::key::Key;
+use crate::kinds::only;
 use mtp_assembly::ServiceControl;
 use mtp_codes::Name;
 use pol_events::{Event, EventKind};
-
-fn are_of_variable(members: &[Member]) -> bool
-    ensures { result ≡ list_all (λ member. is_listed (codes "ev at tag name value") (key_text member.key)) members.now }
-{
-    members.iter().all(|member| {
-        matches!(
-            member.key,
-            Key::Ev | Key::At | Key::Tag | Key::Name | Key::Value
-        )
-    })
-}
 
 /// A variable's value by its form.
 #[tactic(auto, using(crate::proofs::Lookups::only_listed), unfolding(pol_events::specs::Forms::variable_in))]
@@ -34,7 +21,7 @@ fn read_variable(members: &[Member]) -> Option<Event>
     ensures says { IfSome result (λ event. variable_in (flat_data members.now) ≡ Ok (plain_event event)) }
     ensures orderly { IfSome result (λ event. IsTrue (is_orderly (plain_event event))) }
 {
-    if !are_of_variable(members) {
+    if !only(EventKind::Variable, members) {
         return None;
     }
     let at = count_at(members, Key::At, 0, u64::MAX)?;
@@ -46,26 +33,6 @@ fn read_variable(members: &[Member]) -> Option<Event>
         tag,
         name,
         value,
-    })
-}
-
-fn are_of_report(members: &[Member]) -> bool
-    ensures { result ≡ list_all (λ member.
-        is_listed (codes "ev at tag service StateCur CommandEn Mode Src ProcedureCur") (key_text member.key)) members.now }
-{
-    members.iter().all(|member| {
-        matches!(
-            member.key,
-            Key::Ev
-                | Key::At
-                | Key::Tag
-                | Key::Service
-                | Key::StateCur
-                | Key::CommandEn
-                | Key::Mode
-                | Key::Src
-                | Key::ProcedureCur
-        )
     })
 }
 
@@ -94,7 +61,7 @@ fn read_report(members: &[Member]) -> Option<Event>
     ensures says { IfSome result (λ event. report_in (flat_data members.now) ≡ Ok (plain_event event)) }
     ensures orderly { IfSome result (λ event. IsTrue (is_orderly (plain_event event))) }
 {
-    if !are_of_report(members) {
+    if !only(EventKind::Report, members) {
         return None;
     }
     let at = count_at(members, Key::At, 0, u64::MAX)?;
@@ -109,25 +76,13 @@ fn read_report(members: &[Member]) -> Option<Event>
     })
 }
 
-fn are_of_desk(members: &[Member]) -> bool
-    ensures { result ≡ list_all (λ member. is_listed (codes "ev at tag service CommandOp") (key_text member.key))
-        members.now }
-{
-    members.iter().all(|member| {
-        matches!(
-            member.key,
-            Key::Ev | Key::At | Key::Tag | Key::Service | Key::CommandOp
-        )
-    })
-}
-
 /// An operator's command by its form.
 #[tactic(auto, using(crate::proofs::Lookups::only_listed), unfolding(pol_events::specs::Forms::desk_in))]
 fn read_desk(members: &[Member]) -> Option<Event>
     ensures says { IfSome result (λ event. desk_in (flat_data members.now) ≡ Ok (plain_event event)) }
     ensures orderly { IfSome result (λ event. IsTrue (is_orderly (plain_event event))) }
 {
-    if !are_of_desk(members) {
+    if !only(EventKind::Desk, members) {
         return None;
     }
     let at = count_at(members, Key::At, 0, u64::MAX)?;
@@ -142,19 +97,13 @@ fn read_desk(members: &[Member]) -> Option<Event>
     })
 }
 
-fn are_of_cancel(members: &[Member]) -> bool
-    ensures { result ≡ list_all (λ member. is_listed (codes "ev at tag ticket") (key_text member.key)) members.now }
-{
-    members.iter().all(|member| matches!(member.key, Key::Ev | Key::At | Key::Tag | Key::Ticket))
-}
-
 /// The cancelling of an exchange by its form.
 #[tactic(auto, using(crate::proofs::Lookups::only_listed), unfolding(pol_events::specs::Forms::exchange_cancel_in))]
 fn read_cancel(members: &[Member]) -> Option<Event>
     ensures says { IfSome result (λ event. exchange_cancel_in (flat_data members.now) ≡ Ok (plain_event event)) }
     ensures orderly { IfSome result (λ event. IsTrue (is_orderly (plain_event event))) }
 {
-    if !are_of_cancel(members) {
+    if !only(EventKind::ExchangeCancel, members) {
         return None;
     }
     let at = count_at(members, Key::At, 0, u64::MAX)?;
@@ -167,30 +116,18 @@ fn read_cancel(members: &[Member]) -> Option<Event>
     })
 }
 
-fn are_of_tag(members: &[Member]) -> bool
-    ensures { result ≡ list_all (λ member. is_listed (codes "ev at tag") (key_text member.key)) members.now }
-{
-    members.iter().all(|member| matches!(member.key, Key::Ev | Key::At | Key::Tag))
-}
-
 /// The stamp and the tag of an event that names nothing more.
 #[tactic(auto, using(crate::proofs::Lookups::only_listed), unfolding(pol_events::specs::Forms::tag_in))]
 fn read_of_tag(members: &[Member]) -> Option<(u64, Name)>
     ensures { IfSome result (λ read. (event : ℕ → List ℕ → PlainEvent) → tag_in event (flat_data members.now)
         ≡ Ok (event read.0 read.1)) }
 {
-    if !are_of_tag(members) {
+    if !only(EventKind::Unplug, members) {
         return None;
     }
     let at = count_at(members, Key::At, 0, u64::MAX)?;
     let tag = name_at(members, Key::Tag)?;
     Some((at, tag))
-}
-
-fn are_of_batch(members: &[Member]) -> bool
-    ensures { result ≡ list_all (λ member. is_listed (codes "ev at batch") (key_text member.key)) members.now }
-{
-    members.iter().all(|member| matches!(member.key, Key::Ev | Key::At | Key::Batch))
 }
 
 /// The stamp and the batch of an event that names nothing more.
@@ -199,7 +136,7 @@ fn read_of_batch(members: &[Member]) -> Option<(u64, Name)>
     ensures { IfSome result (λ read. (event : ℕ → List ℕ → PlainEvent) → batch_in event (flat_data members.now)
         ≡ Ok (event read.0 read.1)) }
 {
-    if !are_of_batch(members) {
+    if !only(EventKind::Advance, members) {
         return None;
     }
     let at = count_at(members, Key::At, 0, u64::MAX)?;

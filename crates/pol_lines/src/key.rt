@@ -37,59 +37,85 @@ pub enum Key {
     Op,
 }
 
+/// A key as a line writes it.
+fn piece_of(key: Key) -> &'static [u8]
+    ensures { result.now ≡ key_piece key }
+{
+    match key {
+        Key::At => b"\"at\":",
+        Key::Ev => b"\"ev\":",
+        Key::Tag => b"\"tag\":",
+        Key::TypeName => b"\"type\":",
+        Key::Test => b"\"test\":",
+        Key::Ticket => b"\"ticket\":",
+        Key::Name => b"\"name\":",
+        Key::Number => b"\"number\":",
+        Key::Value => b"\"value\":",
+        Key::Version => b"\"version\":",
+        Key::Service => b"\"service\":",
+        Key::SelfCompleting => b"\"self_completing\":",
+        Key::Step => b"\"step\":",
+        Key::Role => b"\"role\":",
+        Key::Recipe => b"\"recipe\":",
+        Key::Op => b"\"op\":",
+        Key::Procedure => b"\"procedure\":",
+        Key::Kind => b"\"kind\":",
+        Key::Min => b"\"min\":",
+        Key::Max => b"\"max\":",
+        Key::IsDefault => b"\"default\":",
+        Key::Batch => b"\"batch\":",
+        Key::StateCur => b"\"StateCur\":",
+        Key::Src => b"\"Src\":",
+        Key::CommandOp => b"\"CommandOp\":",
+        Key::Mode => b"\"Mode\":",
+        Key::ProcedureCur => b"\"ProcedureCur\":",
+        Key::CommandEn => b"\"CommandEn\":",
+    }
+}
+
+/// The only key that a text may begin with, by its first letters.
+#[inline(always)]
+fn candidate(text: &[u8]) -> Option<Key> {
+    match text {
+        [_, b'a', ..] => Some(Key::At),
+        [_, b'e', ..] => Some(Key::Ev),
+        [_, b't', b'a', ..] => Some(Key::Tag),
+        [_, b't', b'y', ..] => Some(Key::TypeName),
+        [_, b't', b'e', ..] => Some(Key::Test),
+        [_, b't', ..] => Some(Key::Ticket),
+        [_, b'n', b'a', ..] => Some(Key::Name),
+        [_, b'n', ..] => Some(Key::Number),
+        [_, b'v', b'a', ..] => Some(Key::Value),
+        [_, b'v', ..] => Some(Key::Version),
+        [_, b's', _, b'r', ..] => Some(Key::Service),
+        [_, b's', _, b'l', ..] => Some(Key::SelfCompleting),
+        [_, b's', ..] => Some(Key::Step),
+        [_, b'r', b'o', ..] => Some(Key::Role),
+        [_, b'r', ..] => Some(Key::Recipe),
+        [_, b'o', ..] => Some(Key::Op),
+        [_, b'p', ..] => Some(Key::Procedure),
+        [_, b'k', ..] => Some(Key::Kind),
+        [_, b'm', b'i', ..] => Some(Key::Min),
+        [_, b'm', ..] => Some(Key::Max),
+        [_, b'd', ..] => Some(Key::IsDefault),
+        [_, b'b', ..] => Some(Key::Batch),
+        [_, b'S', b't', ..] => Some(Key::StateCur),
+        [_, b'S', ..] => Some(Key::Src),
+        [_, b'C', _, _, _, _, _, _, b'E', ..] => Some(Key::CommandEn),
+        [_, b'C', ..] => Some(Key::CommandOp),
+        [_, b'M', ..] => Some(Key::Mode),
+        [_, b'P', ..] => Some(Key::ProcedureCur),
+        _ => None,
+    }
+}
+
 /// The key at the front of a text, with what follows its colon.
+// It is small, so that the compiler does inline it.
 #[inline(always)]
 pub fn read_key(text: &[u8]) -> Option<(Key, &[u8])>
     ensures { IfSome result (λ read. text.now ≡ key_piece read.0 ++ read.1.now) }
 {
-    if text.len() < 4 {
-        return None;
-    }
-    match text[1] {
-        b'a' => Some((Key::At, eat(text, b"\"at\":")?)),
-        b'e' => Some((Key::Ev, eat(text, b"\"ev\":")?)),
-        b't' => match text[2] {
-            b'a' => Some((Key::Tag, eat(text, b"\"tag\":")?)),
-            b'y' => Some((Key::TypeName, eat(text, b"\"type\":")?)),
-            b'e' => Some((Key::Test, eat(text, b"\"test\":")?)),
-            _ => Some((Key::Ticket, eat(text, b"\"ticket\":")?)),
-        },
-        b'n' => match text[2] {
-            b'a' => Some((Key::Name, eat(text, b"\"name\":")?)),
-            _ => Some((Key::Number, eat(text, b"\"number\":")?)),
-        },
-        b'v' => match text[2] {
-            b'a' => Some((Key::Value, eat(text, b"\"value\":")?)),
-            _ => Some((Key::Version, eat(text, b"\"version\":")?)),
-        },
-        b's' => match text[3] {
-            b'r' => Some((Key::Service, eat(text, b"\"service\":")?)),
-            b'l' => Some((Key::SelfCompleting, eat(text, b"\"self_completing\":")?)),
-            _ => Some((Key::Step, eat(text, b"\"step\":")?)),
-        },
-        b'r' => match text[2] {
-            b'o' => Some((Key::Role, eat(text, b"\"role\":")?)),
-            _ => Some((Key::Recipe, eat(text, b"\"recipe\":")?)),
-        },
-        b'o' => Some((Key::Op, eat(text, b"\"op\":")?)),
-        b'p' => Some((Key::Procedure, eat(text, b"\"procedure\":")?)),
-        b'k' => Some((Key::Kind, eat(text, b"\"kind\":")?)),
-        b'm' => match text[2] {
-            b'i' => Some((Key::Min, eat(text, b"\"min\":")?)),
-            _ => Some((Key::Max, eat(text, b"\"max\":")?)),
-        },
-        b'd' => Some((Key::IsDefault, eat(text, b"\"default\":")?)),
-        b'b' => Some((Key::Batch, eat(text, b"\"batch\":")?)),
-        b'S' => match text[2] {
-            b't' => Some((Key::StateCur, eat(text, b"\"StateCur\":")?)),
-            _ => Some((Key::Src, eat(text, b"\"Src\":")?)),
-        },
-        b'C' => match eat(text, b"\"CommandEn\":") {
-            Some(rest) => Some((Key::CommandEn, rest)),
-            None => Some((Key::CommandOp, eat(text, b"\"CommandOp\":")?)),
-        },
-        b'M' => Some((Key::Mode, eat(text, b"\"Mode\":")?)),
-        b'P' => Some((Key::ProcedureCur, eat(text, b"\"ProcedureCur\":")?)),
-        _ => None,
-    }
+    let key = candidate(text)?;
+    let rest = eat(text, piece_of(key))?;
+    Some((key, rest))
 }

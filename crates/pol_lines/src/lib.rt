@@ -15,6 +15,7 @@ mod events;
 mod fields;
 mod flat;
 mod key;
+mod kinds;
 mod leaf;
 mod lists;
 mod modules;

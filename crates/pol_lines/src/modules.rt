@@ -1,8 +1,7 @@
 //! Lines with a description: a module is plugged, or takes the place of one that is away.
 ghost use Rattle.std.specs.Prelude.{◌≡◌, ◌∷◌, ℕ, [], IfSome, None, Ok, codes};
-ghost use Rattle.std.specs.List.{list_all};
 ghost use Rattle.serde_json.specs.Data.{Data};
-ghost use Rattle.mtp_json.specs.Form.{field, is_listed};
+ghost use Rattle.mtp_json.specs.Form.{field};
 ghost use Rattle.mtp_json.specs.Leaf.{word};
 ghost use Rattle.mtp_desc.specs.PlainDescription.{plain_description};
 ghost use Rattle.mtp_desc.specs.Form.{description_of};
@@ -11,25 +10,19 @@ ghost use Rattle.pol_events.specs.Forms.{event_in};
 ghost use Rattle.pol_events.specs.Lines.{event_of, fault_within};
 ghost use Rattle.pol_events.specs.Words.{kind_words};
 ghost use Rattle.pol_lines.specs.Flat.{flat_data};
-ghost use Rattle.pol_lines.specs.Keys.{key_text};
 ghost use Rattle.pol_lines.specs.Objects.{Makes, Stands};
 
 use crate::descriptions::DescriptionFronts;
 use crate::fields::{count_at, kind_at, name_at};
 use crate::flat::Member;
 use crate::key::Key;
+use crate::kinds::only;
 use crate::objects::{Cut, ends, read_flats, read_value_at};
 use arrayvec::ArrayVec;
 use mtp_desc::Description;
 use pol_events::{Event, EventKind};
 use std::alloc::Global;
 use std::sync::Arc;
-
-fn are_of_plug(members: &[Member]) -> bool
-    ensures { result ≡ list_all (λ member. is_listed (codes "ev at tag desc") (key_text member.key)) members.now }
-{
-    members.iter().all(|member| matches!(member.key, Key::Ev | Key::At | Key::Tag))
-}
 
 /// A plug of these flat members and this description, by its form.
 fn plug_in(members: &[Member], desc: Arc<Description>) -> Option<Event>
@@ -38,19 +31,12 @@ fn plug_in(members: &[Member], desc: Arc<Description>) -> Option<Event>
         → Makes event_in (plain_event event) members.now ((codes "desc", value) ∷ [])) }
     ensures faultless { IfSome result (λ event. fault_within (plain_event event) ≡ None) }
 {
-    if !are_of_plug(members) {
+    if !only(EventKind::Plug, members) {
         return None;
     }
     let at = count_at(members, Key::At, 0, u64::MAX)?;
     let tag = name_at(members, Key::Tag)?;
     Some(Event::Plug { at, tag, desc })
-}
-
-fn are_of_exchange(members: &[Member]) -> bool
-    ensures { result ≡ list_all (λ member. is_listed (codes "ev at tag ticket desc") (key_text member.key))
-        members.now }
-{
-    members.iter().all(|member| matches!(member.key, Key::Ev | Key::At | Key::Tag | Key::Ticket))
 }
 
 /// The end of an exchange of these flat members and this description, by its form.
@@ -60,7 +46,7 @@ fn exchange_in(members: &[Member], desc: Arc<Description>) -> Option<Event>
         → Makes event_in (plain_event event) members.now ((codes "desc", value) ∷ [])) }
     ensures faultless { IfSome result (λ event. fault_within (plain_event event) ≡ None) }
 {
-    if !are_of_exchange(members) {
+    if !only(EventKind::ExchangeEnd, members) {
         return None;
     }
     let at = count_at(members, Key::At, 0, u64::MAX)?;

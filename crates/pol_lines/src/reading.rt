@@ -25,10 +25,7 @@ pub fn read_quick(alloc: Global, line: &[u8]) -> Option<Event>
     match cut {
         Cut::More([b'"', b'd', ..]) => read_described(alloc, line, cut, &mut members),
         Cut::More([b'"', b'r', ..]) => read_recipe(alloc, line, cut, &mut members),
-        _ if ends(cut, line) => {
-            let event = read_members(members.as_slice())?;
-            Some(event)
-        }
+        _ if ends(cut, line) => read_members(members.as_slice()),
         _ => None,
     }
 }

@@ -1,8 +1,6 @@
 //! Lines that make a recipe known.
 ghost use Rattle.std.specs.Prelude.{◌≡◌, ◌∷◌, ℕ, [], IfSome, IsTrue, None, Ok, codes, map};
-ghost use Rattle.std.specs.List.{list_all};
 ghost use Rattle.serde_json.specs.Data.{Data, Items, array};
-ghost use Rattle.mtp_json.specs.Form.{is_listed};
 ghost use Rattle.chart_core.specs.Charts.{plain_chart};
 ghost use Rattle.chart_core.specs.Form.{is_tree_formed};
 ghost use Rattle.chart_core.specs.Roles.{plain_role};
@@ -12,12 +10,12 @@ ghost use Rattle.chart_json.specs.Form.{are_roles_sized, chart_from, roles_of, t
 ghost use Rattle.pol_events.specs.Events.{plain_event};
 ghost use Rattle.pol_events.specs.Forms.{event_in};
 ghost use Rattle.pol_events.specs.Lines.{event_of, fault_within};
-ghost use Rattle.pol_lines.specs.Keys.{key_text};
 ghost use Rattle.pol_lines.specs.Objects.{Makes, Stands};
 
 use crate::fields::{count_at, kind_at, name_at};
 use crate::flat::Member;
 use crate::key::Key;
+use crate::kinds::only;
 use crate::nodes::NodeFronts;
 use crate::objects::{Cut, ends, read_flats, read_list_at, read_value_at};
 use crate::roles::RoleFronts;
@@ -27,13 +25,6 @@ use chart_json::make_chart;
 use pol_events::{Event, EventKind};
 use std::alloc::Global;
 use std::sync::Arc;
-
-fn are_of_recipe(members: &[Member]) -> bool
-    ensures { result ≡ list_all (λ member. is_listed (codes "ev at recipe roles chart") (key_text member.key))
-        members.now }
-{
-    members.iter().all(|member| matches!(member.key, Key::Ev | Key::At | Key::Recipe))
-}
 
 fn fault_of(chart: &Chart) -> Option<ChartFault>
     ensures { result ≡ chart_fault (plain_chart chart.now) }
@@ -71,7 +62,7 @@ fn recipe_in(alloc: Global, members: &[Member], roles: Vec<Role>, root: Node) ->
         ((codes "chart", value) ∷ (codes "roles", array played) ∷ [])) }
     ensures faultless { IfSome result (λ event. fault_within (plain_event event) ≡ None) }
 {
-    if !are_of_recipe(members) {
+    if !only(EventKind::Recipe, members) {
         return None;
     }
     let EventKind::Recipe = kind_at(members, Key::Ev)? else {

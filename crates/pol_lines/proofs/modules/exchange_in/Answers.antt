@@ -7,4 +7,4 @@ pub returns-clause-says : goal.returns-clause-says
 returns-clause-says c = λ value described.
     exchange_of_parts c.args.members.now value c.in_ok-at.at c.in_ok-tag.tag c.in_ok-ticket.ticket
     (plain_description c.args.desc.value) c.requires c.in_ok-at.ensures.value c.in_ok-tag.ensures
-    c.in_ok-ticket.ensures.value (sym c.if-not-are_of_exchange.ensures) described
+    c.in_ok-ticket.ensures.value (sym c.if-not-only.ensures) described

@@ -7,4 +7,4 @@ pub returns-clause-says : goal.returns-clause-says
 returns-clause-says c = λ value described.
     plug_of_parts c.args.members.now value c.in_ok-at.at c.in_ok-tag.tag (plain_description c.args.desc.value)
     c.requires
-    c.in_ok-at.ensures.value c.in_ok-tag.ensures (sym c.if-not-are_of_plug.ensures) described
+    c.in_ok-at.ensures.value c.in_ok-tag.ensures (sym c.if-not-only.ensures) described

@@ -13,4 +13,4 @@ returns-clause-says c = λ played value is_roles is_root.
     (map plain_role c.args.roles.items)
     (plain_node c.args.root) (plain_chart c.in_ok-chart.chart.value) kind c.in_ok-at.ensures.value
     c.in_ok-recipe.ensures
-    (sym c.if-not-are_of_recipe.ensures) is_roles is_root c.in_ok-chart.ensures.made
+    (sym c.if-not-only.ensures) is_roles is_root c.in_ok-chart.ensures.made
