@@ -21,7 +21,8 @@ use Rattle.chart_cursor.specs.declared.running.FirstRunning.{FirstRunning}
 use Rattle.chart_cursor.specs.declared.scanning.FirstReady.{FirstReady}
 use Rattle.chart_cursor.specs.Broken.{broken_node, first_broken_node}
 use Rattle.chart_cursor.specs.Holding.{flag_at, is_unasked, hold_node, first_hold_node, unhold_node, first_unhold_node}
-use Rattle.chart_cursor.specs.Looks.{look_ready, look_running, look_broken, look_hold, look_unhold}
+use Rattle.chart_cursor.specs.declared.both.Both.{Both}
+use Rattle.chart_cursor.specs.Looks.{look_both, look_ready, look_running, look_broken, look_hold, look_unhold}
 use Rattle.chart_cursor.specs.Running.{is_wanted, running_node, first_running}
 use Rattle.chart_cursor.specs.declared.breaking.FirstBroken.{FirstBroken}
 use Rattle.chart_cursor.specs.declared.holding.FirstHold.{FirstHold}
@@ -114,6 +115,13 @@ turn_more after old new each others number marks looked =
     ]) refl
 
 -- ---- what is found at the end of a walk
+
+-- two find together what each finds alone
+pub both_found :
+    {V W : Type 0} (one : V → OpenNode → V) (other : W → OpenNode → W) (both : Both V W) (each : List OpenNode)
+    → fold (look_both one other) both each ≡ record { one = fold one both.one each; other = fold other both.other each }
+both_found one other both [] = refl
+both_found one other both (spot ∷ others) = both_found one other (look_both one other both spot) others
 
 -- the first of three answers
 pub first_next_assoc : (one other third : CursorNext) → first_next (first_next one other) third

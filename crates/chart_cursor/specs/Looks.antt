@@ -7,6 +7,7 @@ use Rattle.chart_cursor.specs.declared.scanning.FirstReady.{FirstReady}
 use Rattle.chart_cursor.specs.Broken.{broken_node}
 use Rattle.chart_cursor.specs.Holding.{flag_at, is_unasked, hold_node, unhold_node}
 use Rattle.chart_cursor.specs.Running.{is_wanted, running_node}
+use Rattle.chart_cursor.specs.declared.both.Both.{Both}
 use Rattle.chart_cursor.specs.declared.breaking.FirstBroken.{FirstBroken}
 use Rattle.chart_cursor.specs.declared.holding.FirstHold.{FirstHold}
 use Rattle.chart_cursor.specs.declared.holding.FirstUnhold.{FirstUnhold}
@@ -15,6 +16,10 @@ use Rattle.chart_cursor.specs.declared.holding.FirstUnhold.{FirstUnhold}
 abbrev pub look_ready : {S : Type 0} → (S → Sights) → FirstReady S → OpenNode → FirstReady S
 look_ready sights ready spot =
     record { seen = ready.seen; next = first_next ready.next (open_node_ready (sights ready.seen.now) spot) }
+
+-- what each of two is after it
+abbrev pub look_both : {V W : Type 0} → (V → OpenNode → V) → (W → OpenNode → W) → Both V W → OpenNode → Both V W
+look_both one other both spot = record { one = one both.one spot; other = other both.other spot }
 
 -- the first wanted step that runs
 abbrev pub look_running : FirstRunning → OpenNode → FirstRunning

@@ -16,7 +16,7 @@ ghost use Rattle.chart_cursor.specs.Holding.{flag_at, is_unasked, numbered, unde
 ghost use Rattle.chart_cursor.specs.NextEntry.{first_broken, first_hold, first_unhold};
 ghost use Rattle.chart_cursor.specs.Running.{is_wanted, first_placed, name_of, placed_of};
 
-use super::breaking::first_broken;
+use super::going::broken_and_next;
 use super::holding::{first_hold, first_unhold};
 use super::next::CursorNext;
 use super::running::{RunningStep, first_running, name_alone, placed_alone};
@@ -117,13 +117,15 @@ impl Cursor {
         first_running(&self.chart.root, 0, &self.marks, &self.sizes, from, role)
     }
 
-    /// The entry Broke of the first active step whose service is seen stopped or aborted; None where there is none.
-    /// Walks the chart's nodes once, and takes no memory.
-    pub fn first_broken<S: Seen>(&self, seen: &S) -> Option<LogEntry>
-        ensures { (word : List LogEntry) → StandsFor (plain_chart self.now.chart) self.now.marks word
-            → result ≡ first_broken (S.sights seen.now) (active (plain_chart self.now.chart) word) }
+    /// The entry Broke of the first active step whose service is seen stopped or aborted, None where there is none; and
+    /// what comes next, as `first_ready` says. Walks the chart's nodes once, and takes no memory.
+    pub fn broken_and_next<S: Seen>(&self, seen: &S) -> (Option<LogEntry>, CursorNext)
+        ensures broken { (word : List LogEntry) → StandsFor (plain_chart self.now.chart) self.now.marks word
+            → result.0 ≡ first_broken (S.sights seen.now) (active (plain_chart self.now.chart) word) }
+        ensures next { (word : List LogEntry) → StandsFor (plain_chart self.now.chart) self.now.marks word
+            → result.1 ≡ next_after (plain_chart self.now.chart) word (S.sights seen.now) }
     {
-        first_broken(&self.chart.root, 0, &self.marks, &self.sizes, seen)
+        broken_and_next(&self.chart.root, 0, &self.marks, &self.sizes, seen)
     }
 
     /// The entry Hold of the first active step that a recipe may send Hold, whose node is at least `from` and has no

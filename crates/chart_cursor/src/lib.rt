@@ -12,9 +12,11 @@
 //! chart, a log and what is seen alone: the crates that look back and those that keep runs cite one text.
 #![tactic(auto)]
 
+mod both;
 mod breaking;
 mod cursor;
 mod following;
+mod going;
 mod holding;
 mod laws;
 mod next;

@@ -96,11 +96,12 @@ pub fn go_on<S: Seen>(cursor: &Cursor, seen: &S, held: &[bool]) -> Next
         (numbered (flag_at held.now) (active_steps (plain_chart cursor.now.chart) word)))))
         (next_after (plain_chart cursor.now.chart) word (S.sights seen.now)))) }
 {
-    if let Some(entry) = cursor.first_broken(seen) {
+    let (broken, ready) = cursor.broken_and_next(seen);
+    if let Some(entry) = broken {
         return Next::Did(entry);
     }
     match cursor.first_unhold(seen, held) {
-        CursorNext::Whole => run_next(cursor.first_ready(seen)),
+        CursorNext::Whole => run_next(ready),
         next => run_next(next),
     }
 }
