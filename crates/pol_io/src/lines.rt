@@ -1,13 +1,15 @@
 //! The lines that come from a source.
 ghost use Rattle.std.specs.Prelude.{◌≡◌, ℕ, IsTrue, true, false, IfOk, IfErr, OnErr, MatchResult};
 ghost use Rattle.std.specs.Borrow.{sem};
+ghost use Rattle.std.specs.Option.{ForSome};
 ghost use Rattle.std.specs.Io.BufRead.{Rests};
 ghost use Rattle.pol_io.specs.Causes.{HasCauseOf};
+ghost use Rattle.pol_io.specs.Cuts.{FeedAt};
 ghost use Rattle.pol_io.specs.Faults.{Stops};
 ghost use Rattle.pol_io.specs.LinesState.{ahead, needs_no_source, Reads};
-ghost use Rattle.pol_io.specs.contracts.lines.Lines.{the_row};
+ghost use Rattle.pol_io.specs.Window.{waiting};
 
-use crate::seek::{cut_line, has_feed};
+use crate::seek::{cut_line, find_feed};
 use crate::source::Source;
 use crate::window::{Cut, Window};
 use std::alloc::{AllocError, Global};
@@ -33,11 +35,14 @@ pub enum Line<'a> {
     End,
 }
 
-/// Cuts what comes from a source into lines, in one buffer.
+/// Cuts what comes from a source into lines, in one buffer. `feed` is the place of the first line feed that waits, where
+/// it was looked for already.
 #[derive(Drop)]
 pub struct Lines {
     window: Window,
+    feed: Option<usize>,
     failed: bool,
+    ghost first: { ForSome feed (λ place. FeedAt (waiting window) place) },
 }
 
 impl Model for Lines {
@@ -58,6 +63,7 @@ impl Model for Lines {
 
 impl Lines {
     ghost use Rattle.std.specs.Prelude.{[]};
+    ghost use Rattle.pol_io.specs.contracts.lines.Lines.{the_row};
 
     /// Takes room for a longest line and its line feed; no later call takes memory.
     pub fn new(alloc: Global) -> Result<Lines, AllocError>
@@ -66,6 +72,7 @@ impl Lines {
     {
         Ok(Lines {
             window: Window::new(alloc)?,
+            feed: None,
             failed: false,
         })
     }
@@ -78,11 +85,14 @@ impl Lines {
     }
 
     /// Whether the next line stands here, or the end of input was seen: then `next_line` asks no source.
-    pub fn has_next(&self) -> bool
-        ensures { result ≡ needs_no_source self.now }
+    #[tactic(auto, using(crate::proofs::Feeds::feed_found))]
+    pub fn has_next(&mut self) -> bool
+        ensures next { result ≡ needs_no_source self.old }
+        ensures same { self.new ≡ self.old }
     {
         let window = &self.window;
-        window.ended || has_feed(&window.buffer[window.start..window.end])
+        self.feed = find_feed(&window.buffer[window.start..window.end]);
+        window.ended || self.feed.is_some()
     }
 
     /// The next line of the bytes that wait here, followed by those that the source has left. It is lent from the
@@ -103,7 +113,7 @@ impl Lines {
         ensures unasked { IsTrue (needs_no_source self.old) → source.new ≡ source.old }
         ensures cause { HasCauseOf IoFault.Read (S.faults source.old) (S.faults source.new) result }
     {
-        match cut_line(&mut self.window, source) {
+        match cut_line(&mut self.window, self.feed.take(), source) {
             Ok(Cut::Text(from, to)) => Ok(Line::Text(&self.window.buffer[from..to])),
             Ok(Cut::TooLong) => Ok(Line::TooLong),
             Ok(Cut::End) => Ok(Line::End),

@@ -1,5 +1,5 @@
 //! Looks for the end of a line.
-ghost use Rattle.std.specs.Prelude.{◌≡◌, ℕ, ◌≤◌, ◌<◌, ◌||◌, not, length, IsTrue, true, false, IfErr, MatchOption, Ok, IfOk, OnOk, OnErr};
+ghost use Rattle.std.specs.Prelude.{◌≡◌, ℕ, ◌≤◌, ◌<◌, ◌||◌, not, length, IsTrue, true, false, IfErr, IfSome, MatchOption, Ok, IfOk, OnOk, OnErr};
 ghost use Rattle.std.specs.Io.KnownBytes.{Keeps, IsAtEnd};
 ghost use Rattle.pol_io.specs.Causes.{HasCauseOf};
 ghost use Rattle.pol_io.specs.Cuts.{FeedAt, CutsLong};
@@ -16,23 +16,21 @@ use crate::source::Source;
 use crate::window::{Cut, Found, Window};
 use memchr::memchr;
 
-// The place of the first line feed.
-fn find_feed(bytes: &[u8]) -> Option<usize>
+/// The place of the first line feed.
+pub fn find_feed(bytes: &[u8]) -> Option<usize>
     ensures { MatchOption result (IsTrue (has_no_feed bytes.now)) (λ i. FeedAt bytes.now i) }
 {
     memchr(b'\n', bytes)
 }
 
-/// Whether a line feed stands among these bytes.
-#[tactic(auto, using(crate::proofs::Feeds::feed_found))]
-pub fn has_feed(bytes: &[u8]) -> bool
-    ensures { result ≡ not (has_no_feed bytes.now) }
-{
-    find_feed(bytes).is_some()
-}
-
-/// Takes bytes until a line feed waits, too many bytes wait, or the input is at its end.
-pub fn seek<S: Source>(window: &mut Window, source: &mut S) -> Result<Found, IoFault>
+/// Takes bytes until a line feed waits, too many bytes wait, or the input is at its end. The place of the first line feed
+/// may be known.
+pub fn seek<S: Source>(
+    window: &mut Window,
+    known: Option<usize>,
+    source: &mut S,
+) -> Result<Found, IoFault>
+    requires { IfSome known (λ place. FeedAt (waiting window.old) place) }
     ensures found { IfOk result (λ found. IsFound (waiting window.new) found) }
     ensures end { result ≡ Ok Found.End
         → IsEnd window.old window.new (S.left source.old) (S.left source.new) }
@@ -49,6 +47,9 @@ pub fn seek<S: Source>(window: &mut Window, source: &mut S) -> Result<Found, IoF
         → (source.new ≡ source.old) × (waiting window.new ≡ waiting window.old) }
     ensures cause { HasCauseOf IoFault.Read (S.faults source.old) (S.faults source.new) result }
 {
+    if let Some(place) = known {
+        return Ok(Found::Feed(place));
+    }
     let mut scanned = 0;
     'scan: loop {
         let from = window.start + scanned;
@@ -93,8 +94,13 @@ fn skip<S: Source>(window: &mut Window, source: &mut S) -> Result<(), IoFault>
     }
 }
 
-/// Cuts a line from the front of the text.
-pub fn cut_line<S: Source>(window: &mut Window, source: &mut S) -> Result<Cut, IoFault>
+/// Cuts a line from the front of the text. The place of the first line feed may be known.
+pub fn cut_line<S: Source>(
+    window: &mut Window,
+    known: Option<usize>,
+    source: &mut S,
+) -> Result<Cut, IoFault>
+    requires { IfSome known (λ place. FeedAt (waiting window.old) place) }
     ensures cut { IfOk result (λ cut. Between (IsCut window.new cut)
         (ahead window.old (S.left source.old)) (ahead window.new (S.left source.new))) }
     ensures fits { IfOk result (λ cut. CutFits window.new cut) }
@@ -110,7 +116,7 @@ pub fn cut_line<S: Source>(window: &mut Window, source: &mut S) -> Result<Cut, I
         → source.new ≡ source.old }
     ensures cause { HasCauseOf IoFault.Read (S.faults source.old) (S.faults source.new) result }
 {
-    let found = seek(window, source)?;
+    let found = seek(window, known, source)?;
     let start = window.start;
     match found {
         Found::Feed(size) => {

@@ -47,7 +47,8 @@ fn next_reply<S: Source, J: LineJob>(
 // Writes a reply. Where the next line doesn't stand there yet, all that was written is handed on: the source is only
 // asked when everybody has their replies.
 #[tactic(auto, using(crate::proofs::Written::nothing_written))]
-fn put_reply<K: Sink>(lines: &Lines, sink: &mut K, reply: &[u8]) -> Result<(), PutFault>
+fn put_reply<K: Sink>(lines: &mut Lines, sink: &mut K, reply: &[u8]) -> Result<(), PutFault>
+    ensures same { lines.new ≡ lines.old }
     ensures text { OnOk result (Appends (K.held sink.old) (K.held sink.new) reply.now) }
     ensures part { OnErr result (WritesSome (K.held sink.old) (K.held sink.new) reply.now) }
     ensures cause { HasCauseOf PutFault.Write (K.faults sink.old) (K.faults sink.new) result }

@@ -21,7 +21,7 @@ loop-out-init g c =
 pub loop-out-preserved : goal.loop-out-preserved
 loop-out-preserved g c =
     let invariant = c.loop-out.invariant in
-    record {
+    rw c.in_ok-put_reply.ensures.same (record {
       served = (served_on g.J.LineJob.work _ _ _ _
           (g.met.J.LineJob.did_more c.args.job.now c.loop-out.job c.next_reply.new.job) _ _ _ _ _ c.in-Some.made _
           invariant.served (rw c.in-Some.is at c.in_ok-made.ensures.next) (rw c.in_ok-made-2.was refl)
@@ -31,7 +31,7 @@ loop-out-preserved g c =
       source_sound = c.in_ok-made.ensures.cause.done ∙ invariant.source_sound;
       sink_sound = c.in_ok-put_reply.ensures.cause.done ∙ invariant.sink_sound;
       empty = c.clear.ensures.items;
-    }
+    })
 
 pub returns-clause-replied : goal.returns-clause-replied
 returns-clause-replied g c =

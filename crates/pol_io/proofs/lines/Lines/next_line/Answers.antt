@@ -26,7 +26,7 @@ returns-in-Ok-Text g c =
       (
         refl,
         λ _. tt,
-        rw (← c.self.view_is) (record {
+        rw (← c.self.view_is, c.in-Ok-Text.field-0-is) (record {
           answers = first_line_known new.ended (slice_range c.deref.result.now from to) _ _ (waiting new)
               (waiting_ended new) lent;
           in_limit = simp (length-take, length-drop) (omega (arith, fits.2));
