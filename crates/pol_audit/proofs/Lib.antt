@@ -1,6 +1,10 @@
+pub mod Listing
+pub mod Among
 pub mod LookingBack
 pub mod Docked
 pub mod Logged
+pub mod Halting
+pub mod Placing
 pub mod AskedSince
 pub mod HeldSteps
 pub mod Seeing

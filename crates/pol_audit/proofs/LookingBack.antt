@@ -1,5 +1,5 @@
 -- Looking back in a history: what a chain of iterators over its entries finds, and how many it counts.
-use Rattle.std.proofs.Common.{◌≡◌, ◌<◌, ◌+◌, ℕ, suc, zero, ◌∷◌, [], ◌++◌, List, Bool, true, false, cond, filter, not, Option, Some, None, refl, sym, ap, ◌∙◌, subst, arith, map, reverse, length, take, if◌then◌else◌}
+use Rattle.std.proofs.Common.{◌≡◌, ◌<◌, ◌+◌, ℕ, suc, zero, ◌∷◌, [], ◌++◌, List, Bool, true, false, cond, filter, not, Option, Some, None, refl, sym, ap, ◌∙◌, subst, arith, map, reverse, take, if◌then◌else◌}
 use Rattle.std.specs.Fn.{Called}
 use Rattle.std.specs.Iterator.{AlwaysYields, Yields}
 use Rattle.std.specs.Iterator.Adapters.{rev_source, rev_steps}
@@ -10,13 +10,14 @@ use Rattle.std.specs.Prelude.{IsTrue}
 use Rattle.std.specs.Slice.Iter.{iter_rest, iter_steps_back}
 use Rattle.std.proofs.lemmas.Iterator.{YieldsList}
 use Rattle.std.proofs.lemmas.Iterator.Adapters.{YieldsList-from_rev_slice}
-use Rattle.std.proofs.lemmas.List.{length-append, map-append, reverse-append}
-use Rattle.std.proofs.lemmas.List.Elements.{filter-append}
+use Rattle.std.proofs.lemmas.List.{map-append, reverse-append}
+use Rattle.std.specs.Borrow.{Bor}
 use denote.Param.Members.{Mut}
 use Rattle.pol_events.specs.Events.{PlainEntry, PlainEvent, plug, plain_entry, plain_history}
 use Rattle.pol_events.specs.declared.event.Entry.{Entry}
 use Rattle.pol_history.specs.Looking.{History, last_of, since, after_last}
 use Rattle.pol_history.specs.Modules.{is_begin, is_plug}
+use Rattle.pol_audit.specs.Listed.{listed}
 
 -- ---- the entries of a history, the newest first
 
@@ -31,22 +32,34 @@ viewed steps view form (_ ∷ views) from here = (
       let rest = here.1 item next step in (ap form rest.0, viewed steps view form views next rest.1),
 )
 
--- entries that are turned round are their history
-turned : (entries : List Entry) → map plain_entry (reverse entries) ≡ plain_history entries
-turned [] = refl
-turned (entry ∷ later) =
-    ap (map plain_entry) (reverse-append (entry ∷ []) later)
-    ∙ map-append plain_entry (reverse later) (entry ∷ [])
-    ∙ ap (λ front. front ++ plain_entry entry ∷ []) (turned later)
-    ∙ sym (reverse-append (plain_entry entry ∷ []) (map plain_entry later))
+-- a list that is turned round has its forms turned round
+turned : {X : Type 0} (form : X → PlainEntry) (entries : List X) → map form (reverse entries) ≡ reverse (map form entries)
+turned form [] = refl
+turned form (entry ∷ later) =
+    ap (map form) (reverse-append (entry ∷ []) later)
+    ∙ map-append form (reverse later) (entry ∷ [])
+    ∙ ap (λ front. front ++ form entry ∷ []) (turned form later)
+    ∙ sym (reverse-append (form entry ∷ []) (map form later))
 
 -- what is gone through from the end is the history
 pub entries_back : {chain : _} (entries : List Entry) → iter_rest (rev_source chain) ≡ entries
     → YieldsList (rev_steps iter_steps_back) (λ entry. plain_entry entry.now) chain (plain_history entries)
 entries_back {chain} entries is =
-    subst (YieldsList (rev_steps iter_steps_back) (λ entry. plain_entry entry.now) chain) (turned entries)
+    subst (YieldsList (rev_steps iter_steps_back) (λ entry. plain_entry entry.now) chain) (turned plain_entry entries)
     (record {
       runs = viewed (rev_steps iter_steps_back) (λ entry. entry.now) plain_entry (reverse entries) chain
+          (YieldsList-from_rev_slice {s = chain} entries is).runs;
+    })
+
+-- and so are listed entries
+pub listed_back : {chain : _} (entries : List (Bor Entry)) → iter_rest (rev_source chain) ≡ entries
+    → YieldsList (rev_steps iter_steps_back) (λ entry. plain_entry entry.now.now) chain (listed entries)
+listed_back {chain} entries is =
+    subst (YieldsList (rev_steps iter_steps_back) (λ entry. plain_entry entry.now.now) chain)
+    (turned (λ entry. plain_entry entry.now) entries)
+    (record {
+      runs = viewed (rev_steps iter_steps_back) (λ entry. entry.now) (λ entry. plain_entry entry.now)
+          (reverse entries) chain
           (YieldsList-from_rev_slice {s = chain} entries is).runs;
     })
 
@@ -157,25 +170,6 @@ last_kept test says (entry ∷ older) = go (test entry) (last_kept test says old
     go false rest = rest
 
 -- ---- how many are counted
-
--- as many entries of a history pass a test as of the list
-pub as_many : (test : PlainEntry → Bool) (entries : List Entry)
-    → length (filter (λ entry. test (plain_entry entry)) entries) ≡ length (filter test (plain_history entries))
-as_many test [] = refl
-as_many test (entry ∷ later) =
-    go (test (plain_entry entry)) (as_many test later)
-    ∙ sym (ap (λ all. length (filter test all)) (reverse-append (plain_entry entry ∷ []) (map plain_entry later))
-    ∙ ap length (filter-append test (plain_history later) (plain_entry entry ∷ []))
-    ∙ length-append (filter test (plain_history later)) (filter test (plain_entry entry ∷ [])))
-  where
-    passing : List Entry
-    passing = filter (λ entry. test (plain_entry entry)) later
-
-    go : (passes : Bool) → length passing ≡ length (filter test (plain_history later))
-        → length (cond passes (entry ∷ passing) passing)
-        ≡ length (filter test (plain_history later)) + length (cond passes (plain_entry entry ∷ []) [])
-    go true others = rw others (omega arith)
-    go false others = rw others (omega arith)
 
 -- where what ends the search isn't counted, it makes no difference whether it is looked at
 pub counted_since : (ends counts : PlainEntry → Bool) →

@@ -1,3 +1,6 @@
+pub mod Listed
+pub mod Halts
+pub mod Placed
 pub mod Dockings
 pub mod Starts
 pub mod Freezes

@@ -1,5 +1,6 @@
 -- What contracts see of a batch's start, and of its active steps.
 use Rattle.std.specs.Prelude.{ℕ, List, Bool}
+use Rattle.std.specs.Borrow.{Bor}
 use Rattle.std.specs.List.{filter_map}
 use Rattle.chart_core.specs.Active.{phase_after, is_running}
 use Rattle.chart_core.specs.Trees.{PlainStep}
@@ -16,8 +17,8 @@ abbrev pub started : Start → Started
 started start = record { recipe = start.recipe; binds = plain_allocation start.binds }
 
 -- those of the batches that these entries start which watch the module and aren't closed, in the order of the entries
-abbrev pub watchers_in : History → List ℕ → List Entry → List (List ℕ)
-watchers_in history tag entries = filter_map (λ entry. if_open history (watches tag (plain_entry entry))) entries
+abbrev pub watchers_in : History → List ℕ → List (Bor Entry) → List (List ℕ)
+watchers_in history tag entries = filter_map (λ entry. if_open history (watches tag (plain_entry entry.now))) entries
 
 -- the step is active after the log
 unfoldable pub is_active_step : List LogEntry → PlainStep → Bool

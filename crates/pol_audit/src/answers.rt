@@ -19,13 +19,15 @@ use crate::batch_rules::{
     active_step, already_frozen, batch_closed, batch_known, batches_full, held_back, no_batch,
     not_frozen, recipe_known, recipes_full, watched,
 };
-use crate::batches::{chart_named, log_of};
-use crate::following::{has_broken, next_of, was_stopped};
+use crate::batches::chart_named;
+use crate::following::next_of;
 use crate::module_rules::{
     forbidden, held, in_exchange, misfit, no_module, no_service, no_variable, not_an_edge,
     not_at_rest, not_in_exchange, not_reported, plant_full, tag_taken, wrong_ticket,
 };
 use crate::modules::next_ticket;
+use crate::past::Past;
+use crate::places::placed;
 use crate::start_rules::{busy, first_of, modules_unfit};
 use chart_core::{Chart, LogEntry, Role};
 use mtp_assembly::ServiceControl;
@@ -35,14 +37,14 @@ use pol_bind::{one_module_twice, role_unbound, role_unknown, watched_step};
 use pol_events::{Allocation, Answer, Entry, Event, Next, Outcome, Rule};
 use std::alloc::{AllocError, Global};
 
-fn plug_rule(alloc: Global, history: &[Entry], tag: Name) -> Result<Option<Rule>, AllocError>
-    ensures { IfOk result (λ rule. rule ≡ first_of
-        (tag_taken (docking_by (past tag (plain_history history.now))) ∷ plant_full (plain_history history.now) ∷ [])) }
+fn plug_rule(history: &Past<'_, '_>, tag: Name) -> Option<Rule>
+    ensures { result ≡ first_of
+        (tag_taken (docking_by (past tag (plain_history history.now))) ∷ plant_full (plain_history history.now) ∷ []) }
 {
-    Ok(first_of(&[tag_taken(history, tag), plant_full(alloc, history)?]))
+    first_of(&[tag_taken(history, tag), plant_full(history)])
 }
 
-fn unplug_rule(history: &[Entry], tag: Name) -> Option<Rule>
+fn unplug_rule(history: &Past<'_, '_>, tag: Name) -> Option<Rule>
     ensures { result ≡ first_of (rules (plain_history history.now) (unplug 0 tag)) }
 {
     first_of(&[
@@ -54,7 +56,7 @@ fn unplug_rule(history: &[Entry], tag: Name) -> Option<Rule>
 }
 
 fn report_rule(
-    history: &[Entry],
+    history: &Past<'_, '_>,
     tag: Name,
     service: Name,
     control: &ServiceControl,
@@ -69,7 +71,7 @@ fn report_rule(
     ])
 }
 
-fn variable_rule(history: &[Entry], tag: Name, name: Name, value: &Value) -> Option<Rule>
+fn variable_rule(history: &Past<'_, '_>, tag: Name, name: Name, value: &Value) -> Option<Rule>
     ensures { result ≡ first_of (rules (plain_history history.now) (variable 0 tag name value.now)) }
 {
     first_of(&[
@@ -80,7 +82,7 @@ fn variable_rule(history: &[Entry], tag: Name, name: Name, value: &Value) -> Opt
     ])
 }
 
-fn recipe_rule(history: &[Entry], name: Name) -> Option<Rule>
+fn recipe_rule(history: &Past<'_, '_>, name: Name) -> Option<Rule>
     ensures { result ≡ first_of
         (recipe_known name (recipes (plain_history history.now))
         ∷ recipes_full (recipes (plain_history history.now)) ∷ []) }
@@ -97,7 +99,7 @@ fn roles_of(chart: &Chart) -> &[Role]
 
 fn start_rule(
     alloc: Global,
-    history: &[Entry],
+    history: &Past<'_, '_>,
     batch: Name,
     name: Name,
     binds: Allocation<'_>,
@@ -122,7 +124,7 @@ fn start_rule(
 }
 
 // The rules that each event of an open batch has.
-fn open_rule(history: &[Entry], batch: Name) -> Option<Rule>
+fn open_rule(history: &Past<'_, '_>, batch: Name) -> Option<Rule>
     ensures { result ≡ first_of
         (no_batch (start_by (past_of_batch batch (plain_history history.now)))
         ∷ batch_closed (past_of_batch batch (plain_history history.now)) ∷ []) }
@@ -130,7 +132,7 @@ fn open_rule(history: &[Entry], batch: Name) -> Option<Rule>
     first_of(&[no_batch(history, batch), batch_closed(history, batch)])
 }
 
-fn freeze_rule(history: &[Entry], batch: Name, hold: bool) -> Option<Rule>
+fn freeze_rule(history: &Past<'_, '_>, batch: Name, hold: bool) -> Option<Rule>
     ensures { result ≡ first_of (rules (plain_history history.now) (freeze 0 batch hold)) }
 {
     first_of(&[
@@ -140,7 +142,7 @@ fn freeze_rule(history: &[Entry], batch: Name, hold: bool) -> Option<Rule>
     ])
 }
 
-fn thaw_rule(history: &[Entry], batch: Name) -> Option<Rule>
+fn thaw_rule(history: &Past<'_, '_>, batch: Name) -> Option<Rule>
     ensures { result ≡ first_of (rules (plain_history history.now) (thaw 0 batch)) }
 {
     first_of(&[
@@ -150,7 +152,7 @@ fn thaw_rule(history: &[Entry], batch: Name) -> Option<Rule>
     ])
 }
 
-fn desk_rule(history: &[Entry], tag: Name, service: Name, command: Command) -> Option<Rule>
+fn desk_rule(history: &Past<'_, '_>, tag: Name, service: Name, command: Command) -> Option<Rule>
     ensures { result ≡ first_of (rules (plain_history history.now) (desk 0 tag service command)) }
 {
     first_of(&[
@@ -162,7 +164,7 @@ fn desk_rule(history: &[Entry], tag: Name, service: Name, command: Command) -> O
     ])
 }
 
-fn begin_rule(alloc: Global, history: &[Entry], tag: Name) -> Result<Option<Rule>, AllocError>
+fn begin_rule(alloc: Global, history: &Past<'_, '_>, tag: Name) -> Result<Option<Rule>, AllocError>
     ensures { IfOk result (λ rule. rule ≡ first_of (rules (plain_history history.now) (exchange_begin 0 tag))) }
 {
     Ok(first_of(&[
@@ -173,7 +175,12 @@ fn begin_rule(alloc: Global, history: &[Entry], tag: Name) -> Result<Option<Rule
     ]))
 }
 
-fn end_rule(history: &[Entry], tag: Name, ticket: u32, description: &Description) -> Option<Rule>
+fn end_rule(
+    history: &Past<'_, '_>,
+    tag: Name,
+    ticket: u32,
+    description: &Description,
+) -> Option<Rule>
     ensures { result ≡ first_of
         (rules (plain_history history.now) (exchange_end 0 tag ticket (plain_description description.now))) }
 {
@@ -185,7 +192,7 @@ fn end_rule(history: &[Entry], tag: Name, ticket: u32, description: &Description
     ])
 }
 
-fn cancel_rule(history: &[Entry], tag: Name, ticket: u32) -> Option<Rule>
+fn cancel_rule(history: &Past<'_, '_>, tag: Name, ticket: u32) -> Option<Rule>
     ensures { result ≡ first_of (rules (plain_history history.now) (exchange_cancel 0 tag ticket)) }
 {
     first_of(&[
@@ -196,7 +203,11 @@ fn cancel_rule(history: &[Entry], tag: Name, ticket: u32) -> Option<Rule>
 }
 
 // The first rule that refuses the event, where the history has room.
-fn event_rule(alloc: Global, history: &[Entry], event: &Event) -> Result<Option<Rule>, AllocError>
+fn event_rule(
+    alloc: Global,
+    history: &Past<'_, '_>,
+    event: &Event,
+) -> Result<Option<Rule>, AllocError>
     ensures { IfOk result (λ rule. rule ≡ first_of (rules (plain_history history.now) (plain_event event.now))) }
 {
     match event {
@@ -219,7 +230,7 @@ fn event_rule(alloc: Global, history: &[Entry], event: &Event) -> Result<Option<
         | Event::Abandon { batch, .. } => Ok(open_rule(history, *batch)),
         Event::Freeze { batch, hold, .. } => Ok(freeze_rule(history, *batch, *hold)),
         Event::Thaw { batch, .. } => Ok(thaw_rule(history, *batch)),
-        Event::Plug { tag, .. } => plug_rule(alloc, history, *tag),
+        Event::Plug { tag, .. } => Ok(plug_rule(history, *tag)),
         Event::Unplug { tag, .. } => Ok(unplug_rule(history, *tag)),
         Event::Report {
             tag,
@@ -263,26 +274,26 @@ fn advanced(next: Option<Next>) -> Answer
 }
 
 // The answer to a stop: StopAsked goes into the log, unless the batch is being stopped already.
-fn stopped(alloc: Global, history: &[Entry], batch: Name) -> Result<Answer, AllocError>
-    ensures { IfOk result (λ answer. answer ≡ stopped (past_of_batch batch (plain_history history.now))) }
+fn stopped(history: &Past<'_, '_>, batch: Name) -> Answer
+    ensures { result ≡ stopped (past_of_batch batch (plain_history history.now)) }
 {
-    let log = log_of(alloc, history, batch)?;
-    if has_broken(&log) || was_stopped(&log) {
-        Ok(Answer::Done)
+    let log = history.log(batch);
+    if log.has_broken() || log.was_stopped() {
+        Answer::Done
     } else {
-        Ok(Answer::Did(LogEntry::StopAsked))
+        Answer::Did(LogEntry::StopAsked)
     }
 }
 
 // The answer to an event that no rule refuses.
-fn otherwise(alloc: Global, history: &[Entry], event: &Event) -> Result<Answer, AllocError>
+fn otherwise(alloc: Global, history: &Past<'_, '_>, event: &Event) -> Result<Answer, AllocError>
     requires orderly { IsOrderly (plain_history history.now) }
     requires few { length history.now ≤ LONGEST_HISTORY }
     ensures { IfOk result (λ answer. answer ≡ otherwise (plain_history history.now) (plain_event event.now)) }
 {
     match event {
         Event::Advance { batch, .. } => Ok(advanced(next_of(alloc, history, *batch)?)),
-        Event::StopBatch { batch, .. } => stopped(alloc, history, *batch),
+        Event::StopBatch { batch, .. } => Ok(stopped(history, *batch)),
         Event::Abandon { .. } => Ok(Answer::Closed(Outcome::Abandoned)),
         Event::Desk {
             tag,
@@ -296,6 +307,21 @@ fn otherwise(alloc: Global, history: &[Entry], event: &Event) -> Result<Answer, 
         })),
         Event::ExchangeBegin { tag, .. } => Ok(Answer::Ticket(next_ticket(history, *tag))),
         _ => Ok(Answer::Done),
+    }
+}
+
+/// The answer to an event after the entries of an indexed history.
+pub fn answered(alloc: Global, history: &Past<'_, '_>, event: &Event) -> Result<Answer, AllocError>
+    requires { IsOrderly (plain_history history.now) }
+    ensures { IfOk result (λ answer. answer
+        ≡ answer_of (plain_history history.now) (plain_event event.now)) }
+{
+    if history.len() >= LONGEST_HISTORY {
+        return Ok(Answer::Refused(Rule::HistoryFull));
+    }
+    match event_rule(alloc, history, event)? {
+        Some(rule) => Ok(Answer::Refused(rule)),
+        None => otherwise(alloc, history, event),
     }
 }
 
@@ -314,11 +340,10 @@ pub fn says(alloc: Global, history: &[Entry], event: &Event) -> Result<Answer, A
     requires { IsOrderly (plain_history history.now) }
     ensures { IfOk result (λ answer. answer ≡ answer_of (plain_history history.now) (plain_event event.now)) }
 {
-    if history.len() >= LONGEST_HISTORY {
-        return Ok(Answer::Refused(Rule::HistoryFull));
-    }
-    match event_rule(alloc, history, event)? {
-        Some(rule) => Ok(Answer::Refused(rule)),
-        None => otherwise(alloc, history, event),
-    }
+    let places = placed(alloc, history)?;
+    let past = Past {
+        entries: history,
+        places: &places,
+    };
+    answered(alloc, &past, event)
 }

@@ -13,10 +13,11 @@ ghost use Rattle.pol_history.specs.Rules.{active_step, active_step_on, already_f
 ghost use Rattle.pol_audit.specs.Starts.{is_active_step, watchers_in};
 
 use crate::batches::{
-    chart_named, holder_of, log_of, outcome_of, recipe_count, start_count, start_of, watcher_by,
+    chart_named, holder_of, outcome_of, recipe_count, start_count, start_of, watcher_by,
 };
 use crate::following::{chart_steps, is_active_step};
 use crate::freezes::{is_frozen, is_holding};
+use crate::past::Past;
 use chart_core::{LogEntry, Step};
 use mtp_codes::{MOST_BATCHES, MOST_RECIPES, Name};
 use mtp_desc::Description;
@@ -25,7 +26,7 @@ use pol_events::{Allocation, Entry, Rule};
 use std::alloc::{AllocError, Global};
 
 /// A recipe of this name is known.
-pub fn recipe_known(history: &[Entry], name: Name) -> Option<Rule>
+pub fn recipe_known(history: &Past<'_, '_>, name: Name) -> Option<Rule>
     ensures { result ≡ recipe_known name (recipes (plain_history history.now)) }
 {
     match chart_named(history, name) {
@@ -35,7 +36,7 @@ pub fn recipe_known(history: &[Entry], name: Name) -> Option<Rule>
 }
 
 /// 64 recipes are known.
-pub fn recipes_full(history: &[Entry]) -> Option<Rule>
+pub fn recipes_full(history: &Past<'_, '_>) -> Option<Rule>
     ensures { result ≡ recipes_full (recipes (plain_history history.now)) }
 {
     if recipe_count(history) >= MOST_RECIPES {
@@ -46,7 +47,7 @@ pub fn recipes_full(history: &[Entry]) -> Option<Rule>
 }
 
 /// The batch was started.
-pub fn batch_known(history: &[Entry], batch: Name) -> Option<Rule>
+pub fn batch_known(history: &Past<'_, '_>, batch: Name) -> Option<Rule>
     ensures { result ≡ batch_known (start_by (past_of_batch batch (plain_history history.now))) }
 {
     match start_of(history, batch) {
@@ -56,7 +57,7 @@ pub fn batch_known(history: &[Entry], batch: Name) -> Option<Rule>
 }
 
 /// The batch wasn't started.
-pub fn no_batch(history: &[Entry], batch: Name) -> Option<Rule>
+pub fn no_batch(history: &Past<'_, '_>, batch: Name) -> Option<Rule>
     ensures { result ≡ no_batch (start_by (past_of_batch batch (plain_history history.now))) }
 {
     match start_of(history, batch) {
@@ -66,7 +67,7 @@ pub fn no_batch(history: &[Entry], batch: Name) -> Option<Rule>
 }
 
 /// The batch is closed.
-pub fn batch_closed(history: &[Entry], batch: Name) -> Option<Rule>
+pub fn batch_closed(history: &Past<'_, '_>, batch: Name) -> Option<Rule>
     ensures { result ≡ batch_closed (past_of_batch batch (plain_history history.now)) }
 {
     match outcome_of(history, batch) {
@@ -76,7 +77,7 @@ pub fn batch_closed(history: &[Entry], batch: Name) -> Option<Rule>
 }
 
 /// The batch is frozen, and either the freeze doesn't hold the services or they are held already.
-pub fn already_frozen(history: &[Entry], batch: Name, hold: bool) -> Option<Rule>
+pub fn already_frozen(history: &Past<'_, '_>, batch: Name, hold: bool) -> Option<Rule>
     ensures { result ≡ already_frozen hold (past_of_batch batch (plain_history history.now)) }
 {
     if is_frozen(history, batch) && (!hold || is_holding(history, batch)) {
@@ -87,7 +88,7 @@ pub fn already_frozen(history: &[Entry], batch: Name, hold: bool) -> Option<Rule
 }
 
 /// The batch isn't frozen.
-pub fn not_frozen(history: &[Entry], batch: Name) -> Option<Rule>
+pub fn not_frozen(history: &Past<'_, '_>, batch: Name) -> Option<Rule>
     ensures { result ≡ not_frozen (past_of_batch batch (plain_history history.now)) }
 {
     if is_frozen(history, batch) {
@@ -98,7 +99,7 @@ pub fn not_frozen(history: &[Entry], batch: Name) -> Option<Rule>
 }
 
 /// 128 batches were started.
-pub fn batches_full(history: &[Entry]) -> Option<Rule>
+pub fn batches_full(history: &Past<'_, '_>) -> Option<Rule>
     ensures { result ≡ batches_full (plain_history history.now) }
 {
     if start_count(history) >= MOST_BATCHES {
@@ -136,7 +137,7 @@ fn step_on(binds: Allocation<'_>, tag: Name, steps: &[&Step], log: &[LogEntry]) 
 // The batch has an active step on the module.
 fn active_step_of(
     alloc: Global,
-    history: &[Entry],
+    history: &Past<'_, '_>,
     tag: Name,
     batch: Name,
 ) -> Result<Option<Rule>, AllocError>
@@ -149,16 +150,20 @@ fn active_step_of(
     let Some(chart) = chart_named(history, start.recipe) else {
         return Ok(None);
     };
-    let log = log_of(alloc, history, batch)?;
+    let log = history.log(batch).whole;
     let steps = chart_steps(alloc, chart)?;
-    match step_on(start.binds, tag, &steps, &log) {
+    match step_on(start.binds, tag, &steps, log) {
         Some(step) => Ok(Some(Rule::ActiveStep { batch, step })),
         None => Ok(None),
     }
 }
 
 /// The batch that holds the module has an active step on it.
-pub fn active_step(alloc: Global, history: &[Entry], tag: Name) -> Result<Option<Rule>, AllocError>
+pub fn active_step(
+    alloc: Global,
+    history: &Past<'_, '_>,
+    tag: Name,
+) -> Result<Option<Rule>, AllocError>
     ensures { IfOk result (λ rule. rule ≡ active_step (plain_history history.now) tag) }
 {
     match holder_of(history, tag) {
@@ -169,7 +174,7 @@ pub fn active_step(alloc: Global, history: &[Entry], tag: Name) -> Result<Option
 
 // What of the batch's chart the new module doesn't cover.
 fn uncovered_by(
-    history: &[Entry],
+    history: &Past<'_, '_>,
     tag: Name,
     description: &Description,
     batch: Name,
@@ -193,11 +198,11 @@ fn uncovered_by(
 }
 
 // The first of the batches that watch the module, as a rule.
-fn first_watcher(history: &[Entry], tag: Name) -> Option<Rule>
+fn first_watcher(history: &Past<'_, '_>, starts: &[&Entry], tag: Name) -> Option<Rule>
     ensures { result ≡ first_of (map (λ batch. Some (Watched batch))
-        (watchers_in (plain_history history.now) tag history.now)) }
+        (watchers_in (plain_history history.now) tag starts.now)) }
 {
-    for entry in history {
+    for entry in starts {
         if let Some(batch) = watcher_by(history, entry, tag) {
             return Some(Rule::Watched { batch });
         }
@@ -206,15 +211,14 @@ fn first_watcher(history: &[Entry], tag: Name) -> Option<Rule>
 }
 
 /// The module is watched.
-#[tactic(auto, using(crate::proofs::Watching::watched_is))]
-pub fn watched(history: &[Entry], tag: Name) -> Option<Rule>
+pub fn watched(history: &Past<'_, '_>, tag: Name) -> Option<Rule>
     ensures { result ≡ watched (plain_history history.now) tag }
 {
-    first_watcher(history, tag)
+    first_watcher(history, history.starts(), tag)
 }
 
 // The new module doesn't cover its role in the batch that holds the tag.
-fn held_back_by_holder(history: &[Entry], tag: Name, description: &Description) -> Option<Rule>
+fn held_back_by_holder(history: &Past<'_, '_>, tag: Name, description: &Description) -> Option<Rule>
     ensures { result ≡ option_and_then
         (uncovered_in (plain_history history.now) tag (plain_description description.now))
         (holder_of (plain_history history.now) tag) }
@@ -224,11 +228,16 @@ fn held_back_by_holder(history: &[Entry], tag: Name, description: &Description) 
 }
 
 // The new module doesn't cover its role in a batch that watches the tag; the first such batch.
-fn held_back_by_watcher(history: &[Entry], tag: Name, description: &Description) -> Option<Rule>
+fn held_back_by_watcher(
+    history: &Past<'_, '_>,
+    starts: &[&Entry],
+    tag: Name,
+    description: &Description,
+) -> Option<Rule>
     ensures { result ≡ first_of (map (uncovered_in (plain_history history.now) tag (plain_description description.now))
-        (watchers_in (plain_history history.now) tag history.now)) }
+        (watchers_in (plain_history history.now) tag starts.now)) }
 {
-    for entry in history {
+    for entry in starts {
         if let Some(batch) = watcher_by(history, entry, tag) {
             if let Some(rule) = uncovered_by(history, tag, description, batch) {
                 return Some(rule);
@@ -239,12 +248,11 @@ fn held_back_by_watcher(history: &[Entry], tag: Name, description: &Description)
 }
 
 /// The new module doesn't cover its role in the batch that holds the tag, or else in one that watches it.
-#[tactic(auto, using(crate::proofs::Watching::held_back_is))]
-pub fn held_back(history: &[Entry], tag: Name, description: &Description) -> Option<Rule>
+pub fn held_back(history: &Past<'_, '_>, tag: Name, description: &Description) -> Option<Rule>
     ensures { result ≡ held_back (plain_history history.now) tag (plain_description description.now) }
 {
     match held_back_by_holder(history, tag, description) {
         Some(rule) => Some(rule),
-        None => held_back_by_watcher(history, tag, description),
+        None => held_back_by_watcher(history, history.starts(), tag, description),
     }
 }

@@ -1,19 +1,18 @@
 //! Looking back at a batch, at the recipes and at the holders of modules.
-ghost use Rattle.std.specs.Prelude.{◌≡◌, IfOk, Some, None, filter, if◌then◌else◌, length};
+ghost use Rattle.std.specs.Prelude.{◌≡◌, Some, filter, length};
 ghost use Rattle.std.specs.Option.{option_map};
 ghost use Rattle.mtp_codes.specs.Names.{is_among};
 ghost use Rattle.chart_core.specs.Charts.{plain_chart};
 ghost use Rattle.pol_events.specs.Events.{plain_entry, plain_event, plain_history};
 ghost use Rattle.pol_events.specs.Bound.{tags_of};
-ghost use Rattle.pol_history.specs.Looking.{is_accepted_of_batch, is_accepted_recipe, past_of_batch, recipes, last_of};
-ghost use Rattle.pol_history.specs.Batches.{starting, start_by, charted, chart_named, closing, outcome_by, if_open, taken, log_by, takes, holder_of, is_start, watches};
+ghost use Rattle.pol_history.specs.Looking.{past_of_batch, recipes, last_of};
+ghost use Rattle.pol_history.specs.Batches.{starting, start_by, charted, chart_named, closing, outcome_by, if_open, taken, takes, holder_of, is_start, watches};
 ghost use Rattle.pol_audit.specs.Starts.{started};
 
-use crate::entries::{is_of_batch, is_of_recipe};
+use crate::past::Past;
 use chart_core::{Chart, LogEntry};
 use mtp_codes::Name;
 use pol_events::{Allocation, Answer, Bind, Entry, Event, Outcome};
-use std::alloc::{AllocError, Global};
 
 /// What a batch was started with.
 #[derive(Clone, Copy)]
@@ -31,36 +30,27 @@ fn charted(event: &Event, name: Name) -> Option<&Chart>
     }
 }
 
-// The chart that an accepted recipe of this name makes known.
-fn charted_by(entry: &Entry, name: Name) -> Option<&Chart>
-    ensures { option_map (λ chart. plain_chart chart.now) result ≡
-        (if is_accepted_recipe (plain_entry entry.now) then charted name (plain_event entry.now.event) else None) }
-{
-    if !is_of_recipe(entry) {
-        return None;
-    }
-    charted(&entry.event, name)
-}
-
 /// The chart of the recipe of this name.
-pub fn chart_named(history: &[Entry], name: Name) -> Option<&Chart>
+pub fn chart_named<'a>(history: &'a Past<'_, '_>, name: Name) -> Option<&'a Chart>
     ensures { option_map (λ chart. plain_chart chart.now) result
         ≡ chart_named name (recipes (plain_history history.now)) }
 {
     history
+        .recipes()
         .iter()
         .rev()
-        .find_map(|entry| charted_by(entry, name))
+        .find_map(|entry| charted(&entry.event, name))
 }
 
 /// How many recipes are known.
-pub fn recipe_count(history: &[Entry]) -> usize
+#[tactic(auto, using(crate::proofs::Listing::as_listed))]
+pub fn recipe_count(history: &Past<'_, '_>) -> usize
     ensures { result ≡ length (recipes (plain_history history.now)) }
 {
-    history.iter().filter(|entry| is_of_recipe(entry)).count()
+    history.recipes().len()
 }
 
-fn starting(event: &Event) -> Option<Start<'_>>
+pub fn starting(event: &Event) -> Option<Start<'_>>
     ensures { option_map started result ≡ starting (plain_event event.now) }
 {
     match event {
@@ -80,28 +70,18 @@ fn starting(event: &Event) -> Option<Start<'_>>
     }
 }
 
-// The start that an accepted entry of the batch is.
-fn started_by(entry: &Entry, batch: Name) -> Option<Start<'_>>
-    ensures { option_map started result ≡
-        (if is_accepted_of_batch batch (plain_entry entry.now) then starting (plain_event entry.now.event) else None) }
-{
-    match starting(&entry.event) {
-        Some(start) if is_of_batch(entry, batch) => Some(start),
-        _ => None,
-    }
-}
-
 /// What the batch was started with.
-pub fn start_of(history: &[Entry], batch: Name) -> Option<Start<'_>>
+pub fn start_of<'a>(history: &'a Past<'_, '_>, batch: Name) -> Option<Start<'a>>
     ensures { option_map started result ≡ start_by (past_of_batch batch (plain_history history.now)) }
 {
     history
+        .starts_of(batch)
         .iter()
         .rev()
-        .find_map(|entry| started_by(entry, batch))
+        .find_map(|entry| starting(&entry.event))
 }
 
-fn closing(answer: &Answer) -> Option<Outcome>
+pub fn closing(answer: &Answer) -> Option<Outcome>
     ensures { result ≡ closing answer.now }
 {
     match answer {
@@ -111,37 +91,23 @@ fn closing(answer: &Answer) -> Option<Outcome>
 }
 
 /// The outcome with which the batch was closed.
-pub fn outcome_of(history: &[Entry], batch: Name) -> Option<Outcome>
+pub fn outcome_of(history: &Past<'_, '_>, batch: Name) -> Option<Outcome>
     ensures { result ≡ outcome_by (past_of_batch batch (plain_history history.now)) }
 {
-    history.iter().rev().find_map(|entry| {
-        closing(&entry.answer).filter(|_| is_of_batch(entry, batch))
-    })
+    history
+        .closings(batch)
+        .iter()
+        .rev()
+        .find_map(|entry| closing(&entry.answer))
 }
 
-fn taken(answer: &Answer) -> Option<LogEntry>
+pub fn taken(answer: &Answer) -> Option<LogEntry>
     ensures { result ≡ taken answer.now }
 {
     match answer {
         Answer::Did(entry) => Some(*entry),
         _ => None,
     }
-}
-
-/// The batch's log, the oldest entry first.
-#[tactic(auto, using(crate::proofs::Logged::log_grows, crate::proofs::Logged::log_stays))]
-pub fn log_of(alloc: Global, history: &[Entry], batch: Name) -> Result<Vec<LogEntry>, AllocError>
-    ensures { IfOk result (λ log. log.items ≡ log_by (past_of_batch batch (plain_history history.now))) }
-{
-    let mut log = Vec::new(alloc);
-    for entry in history {
-        if is_of_batch(entry, batch) {
-            if let Some(taken) = taken(&entry.answer) {
-                log.push(taken)?;
-            }
-        }
-    }
-    Ok(log)
 }
 
 // Whether the tag is bound.
@@ -169,14 +135,18 @@ fn takes(entry: &Entry, tag: Name) -> Option<Name>
 }
 
 // The batch of the last accepted start on the module.
-fn taker(history: &[Entry], tag: Name) -> Option<Name>
+fn taker(history: &Past<'_, '_>, tag: Name) -> Option<Name>
     ensures { result ≡ last_of (takes tag) (plain_history history.now) }
 {
-    history.iter().rev().find_map(|entry| takes(entry, tag))
+    history
+        .starts()
+        .iter()
+        .rev()
+        .find_map(|entry| takes(entry, tag))
 }
 
 // The batch, where it isn't closed.
-fn if_open(history: &[Entry], batch: Name) -> Option<Name>
+fn if_open(history: &Past<'_, '_>, batch: Name) -> Option<Name>
     ensures { result ≡ if_open (plain_history history.now) (Some batch) }
 {
     match outcome_of(history, batch) {
@@ -186,7 +156,7 @@ fn if_open(history: &[Entry], batch: Name) -> Option<Name>
 }
 
 /// The batch that holds the module: that of the last start on it, where that batch isn't closed.
-pub fn holder_of(history: &[Entry], tag: Name) -> Option<Name>
+pub fn holder_of(history: &Past<'_, '_>, tag: Name) -> Option<Name>
     ensures { result ≡ holder_of (plain_history history.now) tag }
 {
     let batch = taker(history, tag)?;
@@ -206,22 +176,17 @@ fn watches(entry: &Entry, tag: Name) -> Option<Name>
 }
 
 /// The batch of the entry, where it is an accepted start that watches the module and that batch isn't closed.
-pub fn watcher_by(history: &[Entry], entry: &Entry, tag: Name) -> Option<Name>
+pub fn watcher_by(history: &Past<'_, '_>, entry: &Entry, tag: Name) -> Option<Name>
     ensures { result ≡ if_open (plain_history history.now) (watches tag (plain_entry entry.now)) }
 {
     let batch = watches(entry, tag)?;
     if_open(history, batch)
 }
 
-fn is_start(entry: &Entry) -> bool
-    ensures { result ≡ is_start (plain_entry entry.now) }
-{
-    matches!(entry.event, Event::Start { .. }) && entry.answer.is_accepted()
-}
-
 /// How many batches were started.
-pub fn start_count(history: &[Entry]) -> usize
+#[tactic(auto, using(crate::proofs::Listing::as_listed))]
+pub fn start_count(history: &Past<'_, '_>) -> usize
     ensures { result ≡ length (filter is_start (plain_history history.now)) }
 {
-    history.iter().filter(|entry| is_start(entry)).count()
+    history.starts().len()
 }

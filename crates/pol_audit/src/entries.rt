@@ -1,19 +1,10 @@
 //! Whom entries of a history are of.
 ghost use Rattle.std.specs.Prelude.{◌≡◌};
 ghost use Rattle.pol_events.specs.Events.{plain_entry, plain_event};
-ghost use Rattle.pol_history.specs.Looking.{subject, is_module, is_batch, is_accepted_of, is_accepted_of_batch, is_accepted_recipe};
+ghost use Rattle.pol_history.specs.Looking.{subject, is_batch, is_accepted_of_batch, is_accepted_recipe};
 
 use mtp_codes::Name;
 use pol_events::{Entry, Event, Subject};
-
-fn is_module(event: &Event, tag: Name) -> bool
-    ensures { result ≡ is_module tag (subject (plain_event event.now)) }
-{
-    match event.subject() {
-        Subject::Module(other) => other == tag,
-        _ => false,
-    }
-}
 
 fn is_batch(event: &Event, batch: Name) -> bool
     ensures { result ≡ is_batch batch (subject (plain_event event.now)) }
@@ -22,13 +13,6 @@ fn is_batch(event: &Event, batch: Name) -> bool
         Subject::Batch(other) => other == batch,
         _ => false,
     }
-}
-
-/// Whether the entry is an accepted event of the module.
-pub fn is_of_module(entry: &Entry, tag: Name) -> bool
-    ensures { result ≡ is_accepted_of tag (plain_entry entry.now) }
-{
-    is_module(&entry.event, tag) && entry.answer.is_accepted()
 }
 
 /// Whether the entry is an accepted event of the batch.

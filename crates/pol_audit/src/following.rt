@@ -18,15 +18,17 @@ ghost use Rattle.pol_history.specs.Runs.{IsOrderly};
 ghost use Rattle.pol_audit.specs.HeldSteps.{plain_sights};
 ghost use Rattle.pol_audit.specs.Starts.{is_active_step};
 
-use crate::batches::{Start, chart_named, log_of, start_of};
+use crate::batches::{Start, chart_named, start_of};
 use crate::freezes::{is_frozen, is_holding};
 use crate::held_steps::{first_hold, first_unhold};
+use crate::log::Log;
+use crate::past::Past;
 use crate::sights::Sights;
 use chart_core::{Chart, LogEntry, Step, Why, is_active, steps_in_order};
 use chart_cursor::{CursorNext, Seen, Sight, next_of_log};
 use mtp_codes::{Command, Name, Speaker, State};
 use mtp_modes::permitted;
-use pol_events::{Entry, Next, Outcome};
+use pol_events::{Next, Outcome};
 use std::alloc::{AllocError, Global};
 
 /// Whether the batch broke.
@@ -58,19 +60,6 @@ pub fn chart_steps(alloc: Global, chart: &Chart) -> Result<Vec<&Step>, AllocErro
         → filter (is_active_step log) (plans_seen steps.items) ≡ active (plain_chart chart.now) log) }
 {
     steps_in_order(alloc, chart)
-}
-
-// The entries of the log that belong to the run of the chart.
-fn chart_entries(alloc: Global, log: &[LogEntry]) -> Result<Vec<LogEntry>, AllocError>
-    ensures { IfOk result (λ entries. entries.items ≡ chart_entries log.now) }
-{
-    let mut entries = Vec::new(alloc);
-    for entry in log {
-        if entry.is_of_chart() {
-            entries.push(*entry)?;
-        }
-    }
-    Ok(entries)
 }
 
 // What an active step of a batch that is stopped comes to, by what is seen of its service.
@@ -175,20 +164,18 @@ fn unhold_or_run(
     alloc: Global,
     chart: &Chart,
     steps: &[&Step],
-    log: &[LogEntry],
+    log: Log<'_>,
     seen: &Sights,
 ) -> Result<CursorNext, AllocError>
     requires { IsValid (plain_chart chart.now) }
     ensures { IfOk result (λ next. next ≡ unless_whole
         (first_unhold (plain_sights seen.now)
-        (owed (plain_sights seen.now) log.now (filter (is_active_step log.now) (plans_seen steps.now))))
-        (next_after (plain_chart chart.now) (chart_entries log.now) (plain_sights seen.now))) }
+        (owed (plain_sights seen.now) log.entry.whole.now
+        (filter (is_active_step log.entry.whole.now) (plans_seen steps.now))))
+        (next_after (plain_chart chart.now) (chart_entries log.entry.whole.now) (plain_sights seen.now))) }
 {
-    match first_unhold(seen, steps, log) {
-        CursorNext::Whole => {
-            let entries = chart_entries(alloc, log)?;
-            next_of_log(alloc, chart, &entries, seen)
-        }
+    match first_unhold(seen, steps, log.whole) {
+        CursorNext::Whole => next_of_log(alloc, chart, log.run(), seen),
         next => Ok(next),
     }
 }
@@ -197,18 +184,19 @@ fn unhold_or_run(
 fn unfrozen_next(
     alloc: Global,
     chart: &Chart,
-    log: &[LogEntry],
+    log: Log<'_>,
     seen: &Sights,
 ) -> Result<Next, AllocError>
     requires { IsValid (plain_chart chart.now) }
-    ensures { IfOk result (λ next. next ≡ unfrozen_next (plain_chart chart.now) log.now (plain_sights seen.now)) }
+    ensures { IfOk result (λ next. next
+        ≡ unfrozen_next (plain_chart chart.now) log.entry.whole.now (plain_sights seen.now)) }
 {
     let steps = chart_steps(alloc, chart)?;
-    let broken = has_broken(log);
-    if broken || was_stopped(log) {
-        return Ok(stop_next(seen, broken, &steps, log));
+    let broken = log.has_broken();
+    if broken || log.was_stopped() {
+        return Ok(stop_next(seen, broken, &steps, log.whole));
     }
-    if let Some(entry) = first_broken(seen, &steps, log) {
+    if let Some(entry) = first_broken(seen, &steps, log.whole) {
         return Ok(Next::Did(entry));
     }
     Ok(run_next(unhold_or_run(alloc, chart, &steps, log, seen)?))
@@ -238,18 +226,19 @@ fn next_by(
     alloc: Global,
     chart: &Chart,
     batch: Name,
-    log: &[LogEntry],
+    log: Log<'_>,
     seen: &Sights,
 ) -> Result<Next, AllocError>
     requires { IsValid (plain_chart chart.now) }
     ensures { IfOk result (λ next. next ≡ next_by (plain_chart chart.now)
-        (freezing_by (past_of_batch batch (plain_history seen.now.history.now))) log.now (plain_sights seen.now)) }
+        (freezing_by (past_of_batch batch (plain_history seen.now.history.now)))
+        log.entry.whole.now (plain_sights seen.now)) }
 {
     if !is_frozen(seen.history, batch) {
         return unfrozen_next(alloc, chart, log, seen);
     }
     if is_holding(seen.history, batch) {
-        return hold_next(alloc, chart, batch, log, seen);
+        return hold_next(alloc, chart, batch, log.whole, seen);
     }
     Ok(Next::Waiting(Why::Frozen))
 }
@@ -257,7 +246,7 @@ fn next_by(
 // The next entry of a batch with this start and this chart.
 fn next_of_start(
     alloc: Global,
-    history: &[Entry],
+    history: &Past<'_, '_>,
     batch: Name,
     start: Start,
     chart: &Chart,
@@ -266,18 +255,23 @@ fn next_of_start(
     ensures { IfOk result (λ next. next ≡ next_by (plain_chart chart.now)
         (freezing_by (past_of_batch batch (plain_history history.now)))
         (log_by (past_of_batch batch (plain_history history.now)))
-        (sights_by (given (plain_allocation start.entry.binds)) (λ tag. past tag (plain_history history.now)))) }
+        (sights_by (given (plain_allocation start.entry.binds))
+        (λ tag. past tag (plain_history history.now)))) }
 {
     let seen = Sights {
         history,
         binds: start.binds,
     };
-    let log = log_of(alloc, history, batch)?;
-    next_by(alloc, chart, batch, &log, &seen)
+    let log = history.log(batch);
+    next_by(alloc, chart, batch, log, &seen)
 }
 
 /// The next entry of the batch; None where it wasn't started.
-pub fn next_of(alloc: Global, history: &[Entry], batch: Name) -> Result<Option<Next>, AllocError>
+pub fn next_of(
+    alloc: Global,
+    history: &Past<'_, '_>,
+    batch: Name,
+) -> Result<Option<Next>, AllocError>
     requires { IsOrderly (plain_history history.now) }
     ensures { IfOk result (λ next. next ≡ next_of (plain_history history.now) batch) }
 {

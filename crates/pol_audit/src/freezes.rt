@@ -6,7 +6,7 @@ ghost use Rattle.pol_history.specs.Looking.{past_of_batch, last_of};
 ghost use Rattle.pol_history.specs.Batches.{asked_by, freezing, held_step, holds, is_frozen_by, is_holding_by};
 ghost use Rattle.pol_audit.specs.Freezes.{asking};
 
-use crate::entries::is_of_batch;
+use crate::past::Past;
 use chart_core::LogEntry;
 use mtp_codes::Name;
 use pol_events::{Answer, Entry, Event};
@@ -23,16 +23,18 @@ fn freezing(event: &Event) -> Option<bool>
 }
 
 // Whether the batch's last freeze, thaw or stop is a freeze.
-fn last_freezing(history: &[Entry], batch: Name) -> Option<bool>
+fn last_freezing(history: &Past<'_, '_>, batch: Name) -> Option<bool>
     ensures { result ≡ last_of (λ entry. freezing entry.event) (past_of_batch batch (plain_history history.now)) }
 {
-    history.iter().rev().find_map(|entry| {
-        freezing(&entry.event).filter(|_| is_of_batch(entry, batch))
-    })
+    history
+        .freezings(batch)
+        .iter()
+        .rev()
+        .find_map(|entry| freezing(&entry.event))
 }
 
 /// Whether the batch is frozen.
-pub fn is_frozen(history: &[Entry], batch: Name) -> bool
+pub fn is_frozen(history: &Past<'_, '_>, batch: Name) -> bool
     ensures { result ≡ is_frozen_by (past_of_batch batch (plain_history history.now)) }
 {
     last_freezing(history, batch).unwrap_or(false)
@@ -48,16 +50,18 @@ fn holds(event: &Event) -> Option<bool>
 }
 
 // Whether the batch's last freeze holds its services.
-fn last_holds(history: &[Entry], batch: Name) -> Option<bool>
+fn last_holds(history: &Past<'_, '_>, batch: Name) -> Option<bool>
     ensures { result ≡ last_of (λ entry. holds entry.event) (past_of_batch batch (plain_history history.now)) }
 {
-    history.iter().rev().find_map(|entry| {
-        holds(&entry.event).filter(|_| is_of_batch(entry, batch))
-    })
+    history
+        .freezings(batch)
+        .iter()
+        .rev()
+        .find_map(|entry| holds(&entry.event))
 }
 
 /// Whether the batch is frozen and its services are held.
-pub fn is_holding(history: &[Entry], batch: Name) -> bool
+pub fn is_holding(history: &Past<'_, '_>, batch: Name) -> bool
     ensures { result ≡ is_holding_by (past_of_batch batch (plain_history history.now)) }
 {
     is_frozen(history, batch) && last_holds(history, batch).unwrap_or(false)
@@ -86,17 +90,19 @@ fn asking(entry: &Entry, name: Name) -> Option<bool>
 }
 
 // What the last of the batch's entries says that is a freeze or asks the step to hold.
-fn last_asking(history: &[Entry], batch: Name, name: Name) -> Option<bool>
+fn last_asking(history: &Past<'_, '_>, batch: Name, name: Name) -> Option<bool>
     ensures { result ≡ last_of (asking name) (past_of_batch batch (plain_history history.now)) }
 {
-    history.iter().rev().find_map(|entry| {
-        asking(entry, name).filter(|_| is_of_batch(entry, batch))
-    })
+    history
+        .askings(batch)
+        .iter()
+        .rev()
+        .find_map(|entry| asking(entry, name))
 }
 
 /// Whether the step of this name was asked to hold since the batch's last freeze.
 #[tactic(auto, using(crate::proofs::AskedSince::asked_since))]
-pub fn was_asked(history: &[Entry], batch: Name, name: Name) -> bool
+pub fn was_asked(history: &Past<'_, '_>, batch: Name, name: Name) -> bool
     ensures { result ≡ is_among (asked_by (past_of_batch batch (plain_history history.now))) name }
 {
     last_asking(history, batch, name).unwrap_or(false)

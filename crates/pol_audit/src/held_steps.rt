@@ -16,7 +16,6 @@ use crate::sights::Sights;
 use chart_core::{LogEntry, Step};
 use chart_cursor::{CursorNext, Seen, earlier, hold_step, unhold_step};
 use mtp_codes::Name;
-use pol_events::Entry;
 
 // ---- held
 

@@ -7,7 +7,9 @@ ghost use Rattle.pol_entries.specs.Same.{same_answer};
 ghost use Rattle.pol_audit.specs.Judging.{Judges, judged};
 ghost use Rattle.pol_audit.specs.declared.judging.TheConstants.{MOST_JUDGED};
 
-use crate::answers::says;
+use crate::answers::answered;
+use crate::past::Past;
+use crate::places::Places;
 use pol_entries::same_answer;
 use pol_events::{Answer, Entry};
 use std::alloc::{AllocError, Global};
@@ -27,16 +29,16 @@ pub enum Judged {
 // The right answer to an entry, where its own is wrong.
 fn wrong_answer(
     alloc: Global,
-    history: &[Entry],
+    history: &Past<'_, '_>,
     entry: &Entry,
 ) -> Result<Option<Answer>, AllocError>
     requires { IsOrderly (plain_history history.now) }
     ensures { IfOk result (λ wrong. wrong
-        ≡ (if same_answer entry.now.answer (answer_of (plain_history history.now) (plain_event entry.now.event)) then
-        None
+        ≡ (if same_answer entry.now.answer
+        (answer_of (plain_history history.now) (plain_event entry.now.event)) then None
         else Some (answer_of (plain_history history.now) (plain_event entry.now.event)))) }
 {
-    let says = says(alloc, history, &entry.event)?;
+    let says = answered(alloc, history, &entry.event)?;
     if same_answer(&entry.answer, &says) {
         Ok(None)
     } else {
@@ -50,13 +52,19 @@ fn first_wrong(alloc: Global, history: &[Entry]) -> Result<Judged, AllocError>
     requires orderly { IsOrderly (plain_history history.now) }
     ensures { IfOk result (λ found. found ≡ judged (map plain_entry history.now)) }
 {
+    let mut places = Places::new(alloc);
     for (place, entry) in history.iter().enumerate() {
-        if let Some(says) = wrong_answer(alloc, &history[..place], entry)? {
+        let past = Past {
+            entries: &history[..place],
+            places: &places,
+        };
+        if let Some(says) = wrong_answer(alloc, &past, entry)? {
             return Ok(Judged::Wrong {
                 place: place as u32,
                 says,
             });
         }
+        places.add(alloc, entry)?;
     }
     Ok(Judged::Good)
 }

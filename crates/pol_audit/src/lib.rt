@@ -26,16 +26,22 @@ mod following;
 mod freezes;
 mod held_steps;
 mod judging;
+mod lists;
+mod log;
 mod module_rules;
 mod modules;
+mod past;
+mod places;
 mod sights;
 mod start_rules;
 mod tails;
+mod whole;
 
 pub use answers::says;
 pub use audit::Audit;
-pub use batches::{Start, log_of, outcome_of, start_of};
+pub use batches::Start;
 pub use judging::{Judged, MOST_JUDGED, judge};
+pub use whole::{log_of, outcome_of, start_of};
 
 /// Where the verdict over some lines is good, the history that their entries spell is legal and its events are as a
 /// line says them.

@@ -1,5 +1,5 @@
 //! The rules that a module's past decides: each tells whether it holds, and with which fields.
-ghost use Rattle.std.specs.Prelude.{◌≡◌, IfOk, map};
+ghost use Rattle.std.specs.Prelude.{◌≡◌, map};
 ghost use Rattle.mtp_desc.specs.PlainService.{plain_service};
 ghost use Rattle.pol_events.specs.Events.{plain_history};
 ghost use Rattle.pol_events.specs.Refusals.{forbidden, in_exchange, value_misfit, no_service, no_variable, not_an_edge, not_at_rest, service_not_at_rest, wrong_ticket};
@@ -10,18 +10,18 @@ ghost use Rattle.pol_history.specs.Rules.{by_description, by_holder, by_view, mo
 ghost use Rattle.pol_audit.specs.Holding.{held_by};
 
 use crate::batches::holder_of;
-use crate::modules::{Docking, control_of, description_of, docking_of, present_tags, view_of};
+use crate::modules::{Docking, control_of, description_of, docking_of, view_of};
+use crate::past::Past;
 use mtp_assembly::check_view;
 use mtp_codes::{Command, MOST_MODULES, Name, Speaker, State, Value};
 use mtp_desc::Service;
 use mtp_machine::{edge, is_at_rest};
 use mtp_modes::{ServiceView, permitted};
-use pol_events::{Entry, Rule};
-use std::alloc::{AllocError, Global};
+use pol_events::Rule;
 
 /// The tag is there already.
 #[tactic(auto, using(crate::proofs::Ruled::taken_is))]
-pub fn tag_taken(history: &[Entry], tag: Name) -> Option<Rule>
+pub fn tag_taken(history: &Past<'_, '_>, tag: Name) -> Option<Rule>
     ensures { result ≡ tag_taken (docking_by (past tag (plain_history history.now))) }
 {
     match docking_of(history, tag) {
@@ -33,7 +33,7 @@ pub fn tag_taken(history: &[Entry], tag: Name) -> Option<Rule>
 
 /// The tag isn't there.
 #[tactic(auto, using(crate::proofs::Ruled::no_module_is))]
-pub fn no_module(history: &[Entry], tag: Name) -> Option<Rule>
+pub fn no_module(history: &Past<'_, '_>, tag: Name) -> Option<Rule>
     ensures { result ≡ no_module tag (docking_by (past tag (plain_history history.now))) }
 {
     match docking_of(history, tag) {
@@ -45,7 +45,7 @@ pub fn no_module(history: &[Entry], tag: Name) -> Option<Rule>
 
 /// The tag's module is away.
 #[tactic(auto, using(crate::proofs::Ruled::in_exchange_is))]
-pub fn in_exchange(history: &[Entry], tag: Name) -> Option<Rule>
+pub fn in_exchange(history: &Past<'_, '_>, tag: Name) -> Option<Rule>
     ensures { result ≡ in_exchange tag (ticket_of (docking_by (past tag (plain_history history.now)))) }
 {
     match docking_of(history, tag) {
@@ -57,7 +57,7 @@ pub fn in_exchange(history: &[Entry], tag: Name) -> Option<Rule>
 
 /// The tag's module isn't away.
 #[tactic(auto, using(crate::proofs::Ruled::not_in_exchange_is))]
-pub fn not_in_exchange(history: &[Entry], tag: Name) -> Option<Rule>
+pub fn not_in_exchange(history: &Past<'_, '_>, tag: Name) -> Option<Rule>
     ensures { result ≡ not_in_exchange (docking_by (past tag (plain_history history.now))) }
 {
     match docking_of(history, tag) {
@@ -69,7 +69,7 @@ pub fn not_in_exchange(history: &[Entry], tag: Name) -> Option<Rule>
 
 /// The ticket isn't that of the exchange.
 #[tactic(auto, using(crate::proofs::Ruled::wrong_ticket_is))]
-pub fn wrong_ticket(history: &[Entry], tag: Name, ticket: u32) -> Option<Rule>
+pub fn wrong_ticket(history: &Past<'_, '_>, tag: Name, ticket: u32) -> Option<Rule>
     ensures { result ≡ wrong_ticket ticket (ticket_of (docking_by (past tag (plain_history history.now)))) }
 {
     match docking_of(history, tag) {
@@ -89,19 +89,18 @@ pub fn wrong_ticket(history: &[Entry], tag: Name, ticket: u32) -> Option<Rule>
 }
 
 /// 64 tags are docked or away.
-pub fn plant_full(alloc: Global, history: &[Entry]) -> Result<Option<Rule>, AllocError>
-    ensures { IfOk result (λ rule. rule ≡ plant_full (plain_history history.now)) }
+pub fn plant_full(history: &Past<'_, '_>) -> Option<Rule>
+    ensures { result ≡ plant_full (plain_history history.now) }
 {
-    let tags = present_tags(alloc, history)?;
-    if tags.len() >= MOST_MODULES {
-        Ok(Some(Rule::PlantFull))
+    if history.present().len() >= MOST_MODULES {
+        Some(Rule::PlantFull)
     } else {
-        Ok(None)
+        None
     }
 }
 
 /// A batch holds the module.
-pub fn held(history: &[Entry], tag: Name) -> Option<Rule>
+pub fn held(history: &Past<'_, '_>, tag: Name) -> Option<Rule>
     ensures { result ≡ by_holder held_by (holder_of (plain_history history.now) tag) }
 {
     let batch = holder_of(history, tag)?;
@@ -109,7 +108,7 @@ pub fn held(history: &[Entry], tag: Name) -> Option<Rule>
 }
 
 /// The module's description lacks the service.
-pub fn no_service(history: &[Entry], tag: Name, service: Name) -> Option<Rule>
+pub fn no_service(history: &Past<'_, '_>, tag: Name, service: Name) -> Option<Rule>
     ensures { result ≡ by_description (no_service service) (description_by (past tag (plain_history history.now))) }
 {
     let description = description_of(history, tag)?;
@@ -120,7 +119,7 @@ pub fn no_service(history: &[Entry], tag: Name, service: Name) -> Option<Rule>
 }
 
 /// The state may not follow the one that the service reported last.
-pub fn not_an_edge(history: &[Entry], tag: Name, service: Name, to: State) -> Option<Rule>
+pub fn not_an_edge(history: &Past<'_, '_>, tag: Name, service: Name, to: State) -> Option<Rule>
     ensures { result ≡ not_an_edge to (control_by service (past tag (plain_history history.now))) }
 {
     let from = control_of(history, tag, service)?.state;
@@ -132,7 +131,7 @@ pub fn not_an_edge(history: &[Entry], tag: Name, service: Name, to: State) -> Op
 }
 
 /// The module's description lacks the variable.
-pub fn no_variable(history: &[Entry], tag: Name, name: Name) -> Option<Rule>
+pub fn no_variable(history: &Past<'_, '_>, tag: Name, name: Name) -> Option<Rule>
     ensures { result ≡ by_description (no_variable name) (description_by (past tag (plain_history history.now))) }
 {
     let description = description_of(history, tag)?;
@@ -143,7 +142,7 @@ pub fn no_variable(history: &[Entry], tag: Name, name: Name) -> Option<Rule>
 }
 
 /// The value doesn't fit the variable.
-pub fn misfit(history: &[Entry], tag: Name, name: Name, value: &Value) -> Option<Rule>
+pub fn misfit(history: &Past<'_, '_>, tag: Name, name: Name, value: &Value) -> Option<Rule>
     ensures { result ≡ by_description (value_misfit name value.now)
         (description_by (past tag (plain_history history.now))) }
 {
@@ -156,7 +155,7 @@ pub fn misfit(history: &[Entry], tag: Name, name: Name, value: &Value) -> Option
 }
 
 /// The service wasn't reported since its module was docked.
-pub fn not_reported(history: &[Entry], tag: Name, service: Name) -> Option<Rule>
+pub fn not_reported(history: &Past<'_, '_>, tag: Name, service: Name) -> Option<Rule>
     ensures { result ≡ not_reported tag service (view_by service (past tag (plain_history history.now))) }
 {
     match view_of(history, tag, service) {
@@ -166,7 +165,7 @@ pub fn not_reported(history: &[Entry], tag: Name, service: Name) -> Option<Rule>
 }
 
 /// The service is in another state than Idle.
-pub fn not_idle(history: &[Entry], tag: Name, service: Name) -> Option<Rule>
+pub fn not_idle(history: &Past<'_, '_>, tag: Name, service: Name) -> Option<Rule>
     ensures { result ≡ not_idle tag service (view_by service (past tag (plain_history history.now))) }
 {
     match view_of(history, tag, service)?.control.state {
@@ -190,7 +189,7 @@ fn forbidden_by_view(view: &ServiceView, command: Command) -> Option<Rule>
 }
 
 /// The operator may not send the command to the service.
-pub fn forbidden(history: &[Entry], tag: Name, service: Name, command: Command) -> Option<Rule>
+pub fn forbidden(history: &Past<'_, '_>, tag: Name, service: Name, command: Command) -> Option<Rule>
     ensures { result ≡ by_view (forbidden command) (view_by service (past tag (plain_history history.now))) }
 {
     let view = view_of(history, tag, service)?;
@@ -198,7 +197,7 @@ pub fn forbidden(history: &[Entry], tag: Name, service: Name, command: Command) 
 }
 
 // The service was reported in a state that isn't at rest.
-fn service_not_at_rest(history: &[Entry], tag: Name, service: Name) -> Option<Rule>
+fn service_not_at_rest(history: &Past<'_, '_>, tag: Name, service: Name) -> Option<Rule>
     ensures { result ≡ service_not_at_rest service (control_by service (past tag (plain_history history.now))) }
 {
     let state = control_of(history, tag, service)?.state;
@@ -210,7 +209,7 @@ fn service_not_at_rest(history: &[Entry], tag: Name, service: Name) -> Option<Ru
 }
 
 // The first of the services that isn't at rest.
-fn first_not_at_rest(history: &[Entry], tag: Name, services: &[Service]) -> Option<Rule>
+fn first_not_at_rest(history: &Past<'_, '_>, tag: Name, services: &[Service]) -> Option<Rule>
     ensures { result ≡ not_at_rest (λ service. control_by service (past tag (plain_history history.now)))
         (map plain_service services.now) }
 {
@@ -223,7 +222,7 @@ fn first_not_at_rest(history: &[Entry], tag: Name, services: &[Service]) -> Opti
 }
 
 /// The module isn't at rest; the first service that isn't, in the description's order.
-pub fn not_at_rest(history: &[Entry], tag: Name) -> Option<Rule>
+pub fn not_at_rest(history: &Past<'_, '_>, tag: Name) -> Option<Rule>
     ensures { result ≡ by_description (module_not_at_rest (past tag (plain_history history.now)))
         (description_by (past tag (plain_history history.now))) }
 {

@@ -1,14 +1,14 @@
 //! Looking back at a module.
-ghost use Rattle.std.specs.Prelude.{◌≡◌, ◌≤◌, IfOk, None, if◌then◌else◌, length};
+ghost use Rattle.std.specs.Prelude.{◌≡◌, ◌≤◌, IfOk, OnOk, length};
 ghost use Rattle.std.specs.Option.{option_map};
 ghost use Rattle.mtp_codes.specs.declared.limits.TheConstants.{LONGEST_HISTORY};
 ghost use Rattle.mtp_desc.specs.PlainDescription.{plain_description};
 ghost use Rattle.pol_events.specs.Events.{plain_entry, plain_event, plain_history};
-ghost use Rattle.pol_history.specs.Looking.{past, last_of, is_accepted, is_accepted_of};
-ghost use Rattle.pol_history.specs.Modules.{is_plug, is_begin, is_moving, begins_by, docking_by, described, description_by, completes_by, reported, control_by, view_by, reported_value, value_by, next_ticket, tags_without, present_after, present_tags};
+ghost use Rattle.pol_history.specs.Looking.{past, last_of, is_accepted};
+ghost use Rattle.pol_history.specs.Modules.{is_plug, is_begin, is_moving, begins_by, docking_by, described, description_by, completes_by, reported, control_by, view_by, reported_value, value_by, next_ticket, tags_without, present_after};
 ghost use Rattle.pol_audit.specs.Dockings.{docking_left, docking_seen};
 
-use crate::entries::is_of_module;
+use crate::past::Past;
 use mtp_assembly::ServiceControl;
 use mtp_codes::{Name, Value};
 use mtp_desc::Description;
@@ -42,17 +42,19 @@ fn docking_left(entry: &Entry) -> Option<Docking>
 }
 
 // The docking that the module's last plug, unplug or exchange left.
-fn last_docking(history: &[Entry], tag: Name) -> Option<Docking>
+fn last_docking(history: &Past<'_, '_>, tag: Name) -> Option<Docking>
     ensures { result ≡ last_of docking_left (past tag (plain_history history.now)) }
 {
-    history.iter().rev().find_map(|entry| {
-        docking_left(entry).filter(|_| is_of_module(entry, tag))
-    })
+    history
+        .moves(tag)
+        .iter()
+        .rev()
+        .find_map(|entry| docking_left(entry))
 }
 
 /// Whether the tag is there, by its last plug, unplug or exchange.
 #[tactic(auto, using(crate::proofs::Docked::docking_is))]
-pub fn docking_of(history: &[Entry], tag: Name) -> Docking
+pub fn docking_of(history: &Past<'_, '_>, tag: Name) -> Docking
     ensures { result ≡ docking_seen (docking_by (past tag (plain_history history.now))) }
 {
     last_docking(history, tag).unwrap_or(Docking::Absent)
@@ -68,30 +70,20 @@ fn described(event: &Event) -> Option<&Description>
     }
 }
 
-// The description that an accepted entry of the module brings.
-fn described_by(entry: &Entry, tag: Name) -> Option<&Description>
-    ensures { option_map (λ description. plain_description description.now) result ≡
-        (if is_accepted_of tag (plain_entry entry.now) then described (plain_event entry.now.event) else None) }
-{
-    match described(&entry.event) {
-        Some(description) if is_of_module(entry, tag) => Some(description),
-        _ => None,
-    }
-}
-
 /// The description of the tag: that of its last plug, or of the last end of an exchange.
-pub fn description_of(history: &[Entry], tag: Name) -> Option<&Description>
+pub fn description_of<'a>(history: &'a Past<'_, '_>, tag: Name) -> Option<&'a Description>
     ensures { option_map (λ description. plain_description description.now) result
         ≡ description_by (past tag (plain_history history.now)) }
 {
     history
+        .moves(tag)
         .iter()
         .rev()
-        .find_map(|entry| described_by(entry, tag))
+        .find_map(|entry| described(&entry.event))
 }
 
-// Whether the event changes whether the module is docked.
-fn is_moving(event: &Event) -> bool
+/// Whether the event changes whether the module is docked.
+pub fn is_moving(event: &Event) -> bool
     ensures { result ≡ is_moving (plain_event event.now) }
 {
     matches!(
@@ -118,13 +110,13 @@ fn reported(event: &Event, service: Name) -> Option<ServiceControl>
 }
 
 /// What the service reported last since its module was docked.
-pub fn control_of(history: &[Entry], tag: Name, service: Name) -> Option<ServiceControl>
+pub fn control_of(history: &Past<'_, '_>, tag: Name, service: Name) -> Option<ServiceControl>
     ensures { result ≡ control_by service (past tag (plain_history history.now)) }
 {
     history
+        .reports(tag)
         .iter()
         .rev()
-        .filter(|entry| is_of_module(entry, tag))
         .take_while(|entry| !is_moving(&entry.event))
         .find_map(|entry| reported(&entry.event, service))
 }
@@ -143,13 +135,13 @@ fn reported_value(event: &Event, name: Name) -> Option<Value>
 }
 
 /// The value with which the variable was reported last since its module was docked.
-pub fn value_of(history: &[Entry], tag: Name, name: Name) -> Option<Value>
+pub fn value_of(history: &Past<'_, '_>, tag: Name, name: Name) -> Option<Value>
     ensures { result ≡ value_by name (past tag (plain_history history.now)) }
 {
     history
+        .values(tag)
         .iter()
         .rev()
-        .filter(|entry| is_of_module(entry, tag))
         .take_while(|entry| !is_moving(&entry.event))
         .find_map(|entry| reported_value(&entry.event, name))
 }
@@ -167,7 +159,7 @@ fn completes(description: Option<&Description>, service: Name, procedure: u16) -
 
 /// What is seen of the service: what it reported last since its module was docked, and whether its procedure completes
 /// by itself.
-pub fn view_of(history: &[Entry], tag: Name, service: Name) -> Option<ServiceView>
+pub fn view_of(history: &Past<'_, '_>, tag: Name, service: Name) -> Option<ServiceView>
     ensures { result ≡ view_by service (past tag (plain_history history.now)) }
 {
     let control = control_of(history, tag, service)?;
@@ -191,21 +183,21 @@ fn is_begin(event: &Event) -> bool
 }
 
 // How many exchanges were begun since the module's last plug.
-fn begin_count(history: &[Entry], tag: Name) -> usize
+fn begin_count(history: &Past<'_, '_>, tag: Name) -> usize
     ensures counted { result ≡ begins_by (past tag (plain_history history.now)) }
     ensures few { result ≤ length history.now }
 {
     history
+        .moves(tag)
         .iter()
         .rev()
-        .filter(|entry| is_of_module(entry, tag))
         .take_while(|entry| !is_plug(&entry.event))
         .filter(|entry| is_begin(&entry.event))
         .count()
 }
 
 /// The ticket of the tag's next exchange: one more than its exchanges since its last plug.
-pub fn next_ticket(history: &[Entry], tag: Name) -> u32
+pub fn next_ticket(history: &Past<'_, '_>, tag: Name) -> u32
     requires { length history.now ≤ LONGEST_HISTORY }
     ensures { result ≡ next_ticket (past tag (plain_history history.now)) }
 {
@@ -224,29 +216,22 @@ fn tags_without(alloc: Global, tag: Name, tags: &[Name]) -> Result<Vec<Name>, Al
     Ok(others)
 }
 
-// The tags with that of a plug, without that of an unplug.
-fn tags_after(alloc: Global, tags: Vec<Name>, entry: &Entry) -> Result<Vec<Name>, AllocError>
-    ensures { IfOk result
-        (λ after. after.items ≡ present_after (plain_event entry.now.event) (is_accepted entry.now.answer) tags.items) }
+/// Makes of the tags that are there those with that of a plug, without that of an unplug.
+pub fn tags_after(alloc: Global, tags: &mut Vec<Name>, entry: &Entry) -> Result<(), AllocError>
+    ensures { OnOk result (tags.new.items
+        ≡ present_after (plain_event entry.now.event) (is_accepted entry.now.answer) tags.old.items) }
 {
     match &entry.event {
         Event::Plug { tag, .. } if entry.answer.is_accepted() => {
-            let mut others = tags_without(alloc, *tag, &tags)?;
+            let mut others = tags_without(alloc, *tag, tags)?;
             others.insert(0, *tag)?;
-            Ok(others)
+            *tags = others;
+            Ok(())
         }
-        Event::Unplug { tag, .. } if entry.answer.is_accepted() => tags_without(alloc, *tag, &tags),
-        _ => Ok(tags),
+        Event::Unplug { tag, .. } if entry.answer.is_accepted() => {
+            *tags = tags_without(alloc, *tag, tags)?;
+            Ok(())
+        }
+        _ => Ok(()),
     }
-}
-
-/// The tags that are docked or away, each once.
-pub fn present_tags(alloc: Global, history: &[Entry]) -> Result<Vec<Name>, AllocError>
-    ensures { IfOk result (λ tags. tags.items ≡ present_tags (plain_history history.now)) }
-{
-    let mut tags = Vec::new(alloc);
-    for entry in history {
-        tags = tags_after(alloc, tags, entry)?;
-    }
-    Ok(tags)
 }

@@ -3,10 +3,11 @@ ghost use Rattle.std.specs.Prelude.{◌≡◌};
 ghost use Rattle.chart_cursor.specs.Sights.{reading_of_value, sight_of_view};
 
 use crate::modules::{Docking, docking_of, value_of, view_of};
+use crate::past::Past;
 use chart_cursor::{ReadingSight, Seen, Sight};
 use mtp_codes::{Name, Reading, Value};
 use mtp_modes::ServiceView;
-use pol_events::{Allocation, Entry};
+use pol_events::Allocation;
 
 fn sight_of_view(view: Option<ServiceView>) -> Sight
     ensures { result ≡ sight_of_view view }
@@ -31,7 +32,7 @@ fn reading_of_value(value: Option<Value>) -> ReadingSight
 /// What a batch with these binds sees of its modules after a history.
 #[derive(Clone, Copy)]
 pub struct Sights<'a> {
-    pub history: &'a [Entry],
+    pub history: &'a Past<'a, 'a>,
     pub binds: Allocation<'a>,
 }
 

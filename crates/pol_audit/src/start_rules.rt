@@ -16,14 +16,15 @@ ghost use Rattle.pol_audit.specs.Holding.{services_in};
 use crate::batches::holder_of;
 use crate::module_rules::{in_exchange, no_module, not_idle, not_reported};
 use crate::modules::description_of;
+use crate::past::Past;
 use chart_core::{Chart, Role, Step, steps_in_order};
 use mtp_codes::Name;
 use pol_bind::covers;
-use pol_events::{Allocation, Bind, Entry, Rule, bound_tag};
+use pol_events::{Allocation, Bind, Rule, bound_tag};
 use std::alloc::{AllocError, Global};
 
 // The module can't play the role.
-fn not_covered(history: &[Entry], chart: &Chart, role: Name, tag: Name) -> Option<Rule>
+fn not_covered(history: &Past<'_, '_>, chart: &Chart, role: Name, tag: Name) -> Option<Rule>
     ensures { result ≡ not_covered (plain_chart chart.now) role
         (description_by (past tag (plain_history history.now))) }
 {
@@ -39,7 +40,7 @@ fn is_of_role(step: &Step, role: Name) -> bool
     step.role == role
 }
 
-fn unready(history: &[Entry], tag: Name, service: Name) -> Option<Rule>
+fn unready(history: &Past<'_, '_>, tag: Name, service: Name) -> Option<Rule>
     ensures { result ≡ unready tag (past tag (plain_history history.now)) service }
 {
     match not_reported(history, tag, service) {
@@ -49,7 +50,7 @@ fn unready(history: &[Entry], tag: Name, service: Name) -> Option<Rule>
 }
 
 // The first service of the role's steps that wasn't reported or isn't idle.
-fn first_unready(history: &[Entry], tag: Name, role: Name, steps: &[&Step]) -> Option<Rule>
+fn first_unready(history: &Past<'_, '_>, tag: Name, role: Name, steps: &[&Step]) -> Option<Rule>
     ensures { result ≡ not_ready tag (past tag (plain_history history.now)) (services_in role (plans_seen steps.now)) }
 {
     for step in steps {
@@ -65,7 +66,7 @@ fn first_unready(history: &[Entry], tag: Name, role: Name, steps: &[&Step]) -> O
 
 // The first thing that is wrong with the module of a role.
 fn module_rule(
-    history: &[Entry],
+    history: &Past<'_, '_>,
     chart: &Chart,
     steps: &[&Step],
     role: Name,
@@ -84,7 +85,7 @@ fn module_rule(
 }
 
 fn first_unfit(
-    history: &[Entry],
+    history: &Past<'_, '_>,
     chart: &Chart,
     binds: Allocation<'_>,
     steps: &[&Step],
@@ -105,7 +106,7 @@ fn first_unfit(
 /// The first thing that is wrong with a module, over the roles of the chart.
 pub fn modules_unfit(
     alloc: Global,
-    history: &[Entry],
+    history: &Past<'_, '_>,
     chart: &Chart,
     binds: Allocation<'_>,
 ) -> Result<Option<Rule>, AllocError>
@@ -117,7 +118,7 @@ pub fn modules_unfit(
     Ok(first_unfit(history, chart, binds, &steps, &chart.roles))
 }
 
-fn busy_role(history: &[Entry], tag: Option<Name>) -> Option<Rule>
+fn busy_role(history: &Past<'_, '_>, tag: Option<Name>) -> Option<Rule>
     ensures { result ≡ busy_role (plain_history history.now) tag }
 {
     let tag = tag?;
@@ -126,7 +127,7 @@ fn busy_role(history: &[Entry], tag: Option<Name>) -> Option<Rule>
 }
 
 /// The first module over these roles that is held.
-pub fn busy(history: &[Entry], binds: &[Bind], roles: &[Role]) -> Option<Rule>
+pub fn busy(history: &Past<'_, '_>, binds: &[Bind], roles: &[Role]) -> Option<Rule>
     ensures { result ≡ busy (plain_history history.now) binds.now (names_in roles.now) }
 {
     for role in roles {

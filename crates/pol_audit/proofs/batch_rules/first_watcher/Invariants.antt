@@ -10,5 +10,5 @@ use Rattle.pol_audit.proofs.batch_rules.first_watcher.Given as goal
 abbrev pub invariant-loop-entry : goal.invariant-loop-entry
 invariant-loop-entry l =
     first_of (map (λ batch. Some (Watched batch))
-    (watchers_in (plain_history l.history) l.tag (drop l.entry-index l.history)))
-    ≡ first_of (map (λ batch. Some (Watched batch)) (watchers_in (plain_history l.history) l.tag l.history))
+    (watchers_in (plain_history l.history) l.tag (drop l.entry-index l.starts)))
+    ≡ first_of (map (λ batch. Some (Watched batch)) (watchers_in (plain_history l.history) l.tag l.starts))

@@ -11,6 +11,6 @@ use Rattle.pol_audit.proofs.batch_rules.held_back_by_watcher.Given as goal
 abbrev pub invariant-loop-entry : goal.invariant-loop-entry
 invariant-loop-entry l =
     first_of (map (uncovered_in (plain_history l.history) l.tag (plain_description l.description))
-    (watchers_in (plain_history l.history) l.tag (drop l.entry-index l.history)))
+    (watchers_in (plain_history l.history) l.tag (drop l.entry-index l.starts)))
     ≡ first_of (map (uncovered_in (plain_history l.history) l.tag (plain_description l.description))
-    (watchers_in (plain_history l.history) l.tag l.history))
+    (watchers_in (plain_history l.history) l.tag l.starts))

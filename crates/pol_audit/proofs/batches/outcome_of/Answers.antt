@@ -1,15 +1,18 @@
-use Rattle.std.proofs.Common.{rules, tests, sym, ◌∙◌}
+use Rattle.std.proofs.Common.{rules, tests, ap, sym, ◌∙◌}
 use Rattle.std.proofs.lemmas.Iterator.Adapters.{option_map_id}
-use Rattle.pol_history.specs.Batches.{closing}
 use Rattle.pol_events.specs.Events.{plain_history}
-use Rattle.pol_history.specs.Looking.{is_accepted_of_batch}
-use Rattle.pol_audit.proofs.LookingBack.{entries_back, if_kept, last_found, last_kept}
+use Rattle.pol_history.specs.Looking.{last_of, past_of_batch}
+use Rattle.pol_history.specs.Batches.{closing}
+use Rattle.pol_audit.specs.Placed.{closes}
+use Rattle.pol_audit.proofs.Among.{last_among, unsaid}
+use Rattle.pol_audit.proofs.LookingBack.{last_found, listed_back}
 use Rattle.pol_audit.proofs.batches.outcome_of.Goals as goal
 
 pub returns : goal.returns
 returns c =
     sym (option_map_id _)
-    ∙ last_found (λ found. found) (if_kept (is_accepted_of_batch c.args.batch) (λ entry. closing entry.answer)) _
-    c.find_map.ensures.runs
-    (entries_back c.args.history.now (cc)) (λ item found after called. search (rules, tests))
-    ∙ last_kept (is_accepted_of_batch c.args.batch) (λ entry. closing entry.answer) (plain_history c.args.history.now)
+    ∙ last_found (λ found. found) (λ entry. closing entry.answer) _ c.find_map.ensures.runs
+    (listed_back c.closings.result.now (cc)) (λ item found after called. search (rules, tests))
+    ∙ ap (last_of (λ entry. closing entry.answer)) c.closings.ensures
+    ∙ last_among closes (λ entry. closing entry.answer) (λ entry is. unsaid (closing entry.answer) is)
+    (past_of_batch c.args.batch (plain_history c.args.history.now))

@@ -17,6 +17,5 @@ returns c =
     (λ next is.
     is
     ∙ ap (λ log. next_by (plain_chart c.args.chart.now)
-    (freezing_by (past_of_batch c.args.batch (plain_history c.args.history.now))) log seen) (c.deref.ensures.value
-    ∙ c.in_ok-log.ensures))
+    (freezing_by (past_of_batch c.args.batch (plain_history c.args.history.now))) log seen) c.log-log.ensures)
     c.next_by.ensures

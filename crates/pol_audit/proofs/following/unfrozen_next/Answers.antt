@@ -13,7 +13,7 @@ use Rattle.pol_audit.proofs.following.unfrozen_next.Goals as goal
 pub returns : goal.returns
 returns c =
     let seen = plain_sights c.args.seen.now in
-    let log = c.args.log.now in
+    let log = c.args.log.whole.now in
     let chart = plain_chart c.args.chart.now in
     let running = filter (is_active_step log) (plans_seen c.in_ok-steps.steps.items) in
     c.run_next.ensures

@@ -1,15 +1,18 @@
-use Rattle.std.proofs.Common.{rules, tests, sym, ◌∙◌}
+use Rattle.std.proofs.Common.{rules, tests, ap, sym, ◌∙◌}
 use Rattle.std.proofs.lemmas.Iterator.Adapters.{option_map_id}
-use Rattle.pol_history.specs.Batches.{freezing}
 use Rattle.pol_events.specs.Events.{plain_history}
-use Rattle.pol_history.specs.Looking.{is_accepted_of_batch}
-use Rattle.pol_audit.proofs.LookingBack.{entries_back, if_kept, last_found, last_kept}
+use Rattle.pol_history.specs.Looking.{last_of, past_of_batch}
+use Rattle.pol_history.specs.Batches.{freezing}
+use Rattle.pol_audit.specs.Placed.{freezes}
+use Rattle.pol_audit.proofs.Among.{last_among, unsaid}
+use Rattle.pol_audit.proofs.LookingBack.{last_found, listed_back}
 use Rattle.pol_audit.proofs.freezes.last_freezing.Goals as goal
 
 pub returns : goal.returns
 returns c =
     sym (option_map_id _)
-    ∙ last_found (λ found. found) (if_kept (is_accepted_of_batch c.args.batch) (λ entry. freezing entry.event)) _
-    c.find_map.ensures.runs
-    (entries_back c.args.history.now (cc)) (λ item found after called. search (rules, tests))
-    ∙ last_kept (is_accepted_of_batch c.args.batch) (λ entry. freezing entry.event) (plain_history c.args.history.now)
+    ∙ last_found (λ found. found) (λ entry. freezing entry.event) _ c.find_map.ensures.runs
+    (listed_back c.freezings.result.now (cc)) (λ item found after called. search (rules, tests))
+    ∙ ap (last_of (λ entry. freezing entry.event)) c.freezings.ensures
+    ∙ last_among freezes (λ entry. freezing entry.event) (λ entry is. unsaid (freezing entry.event) is)
+    (past_of_batch c.args.batch (plain_history c.args.history.now))

@@ -4,7 +4,7 @@ use Rattle.mtp_codes.specs.declared.limits.TheConstants.{LONGEST_HISTORY}
 use Rattle.pol_events.specs.Events.{plain_event, plain_history}
 use Rattle.pol_history.specs.Answers.{otherwise}
 use Rattle.pol_audit.proofs.Answered.{refused_or, answered}
-use Rattle.pol_audit.proofs.answers.says.Goals as goal
+use Rattle.pol_audit.proofs.answers.answered.Goals as goal
 
 pub returns-in-Some : goal.returns-in-Some
 returns-in-Some c =

@@ -1,0 +1,230 @@
+-- The index of a history, with one entry more.
+use Rattle.std.proofs.Common.{◌≡◌, ℕ, Bool, true, false, cond, List, [], ◌∷◌, ◌++◌, append-nil, map, reverse, Option, Some, None, refl, ap, sym, subst, ◌∙◌}
+use Rattle.std.specs.Prelude.{◌&&◌, filter, is_some}
+use Rattle.std.proofs.lemmas.List.Elements.{filter-append}
+use Rattle.chart_core.specs.Entries.{chart_entry}
+use Rattle.chart_cursor.specs.Logs.{chart_entries}
+use Rattle.pol_audit.specs.Halts.{is_halt}
+use Rattle.std.specs.Borrow.{Bor}
+use Rattle.std.specs.List.{cons_option}
+use Rattle.std.specs.Str.{bytes_eq}
+use Rattle.std.specs.declared.vec.Vec.{Vec}
+use Rattle.std.proofs.Math.Bool.{and-false, and-true}
+use Rattle.std.proofs.lemmas.List.{map-append, reverse-append}
+use Rattle.chart_core.specs.declared.entry.LogEntry.{LogEntry}
+use Rattle.pol_events.specs.Events.{PlainEntry, plain_entry, plain_event, plain_history}
+use Rattle.pol_events.specs.Subjects.{Subject, of_module, of_batch, of_recipe, subject}
+use Rattle.pol_events.specs.declared.event.Entry.{Entry}
+use Rattle.pol_history.specs.Looking.{History, is_accepted, is_accepted_of, is_accepted_of_batch, is_accepted_recipe, is_batch, is_module, past, past_of_batch, recipes}
+use Rattle.pol_history.specs.Batches.{is_start, log_by, taken}
+use Rattle.pol_history.specs.Modules.{present_after}
+use Rattle.pol_audit.specs.Listed.{Grows, accepted_batch, accepted_tag, batch_in, is_this, items_under, listed, tag_in}
+use Rattle.pol_audit.specs.Placed.{IsPlaced, asks, closes, freezes, moves, moves_or_reports, moves_or_values, starts}
+use Rattle.pol_audit.specs.declared.places.Places.{Places}
+use Rattle.pol_audit.proofs.Logged.{log_grows, log_stays}
+
+-- lists without items are those of an empty history
+pub nothing_placed : (places : Places) →
+    ((tag : List ℕ) → items_under places.modules.moves.named.entries tag ≡ []) →
+    ((tag : List ℕ) → items_under places.modules.reports.named.entries tag ≡ []) →
+    ((tag : List ℕ) → items_under places.modules.values.named.entries tag ≡ []) →
+    ((batch : List ℕ) → items_under places.batches.starts.named.entries batch ≡ []) →
+    ((batch : List ℕ) → items_under places.batches.closings.named.entries batch ≡ []) →
+    ((batch : List ℕ) → items_under places.batches.freezings.named.entries batch ≡ []) →
+    ((batch : List ℕ) → items_under places.batches.askings.named.entries batch ≡ []) →
+    ((batch : List ℕ) → items_under places.logs.logs.named.entries batch ≡ []) →
+    ((batch : List ℕ) → items_under places.logs.runs.named.entries batch ≡ []) →
+    ((batch : List ℕ) → items_under places.logs.halts.named.entries batch ≡ []) →
+    places.known.recipes.items ≡ [] → places.known.starts.items ≡ [] → places.known.present.items ≡ [] →
+    IsPlaced places []
+nothing_placed places moving reporting valued starting closing freezing asking logs runs halts recipes started present = record {
+  moves = λ tag. ap listed (moving tag);
+  reports = λ tag. ap listed (reporting tag);
+  values = λ tag. ap listed (valued tag);
+  starts = λ batch. ap listed (starting batch);
+  closings = λ batch. ap listed (closing batch);
+  freezings = λ batch. ap listed (freezing batch);
+  askings = λ batch. ap listed (asking batch);
+  logs = logs;
+  runs = runs;
+  halts = halts;
+  recipes = ap listed recipes;
+  started = ap listed started;
+  present = present;
+}
+
+-- one more listed entry is the newest
+listed_more : (old : List (Bor Entry)) (item : Bor Entry)
+    → listed (old ++ item ∷ []) ≡ plain_entry item.now ∷ listed old
+listed_more old item =
+    ap reverse (map-append (λ entry. plain_entry entry.now) old (item ∷ []))
+    ∙ reverse-append (map (λ entry. plain_entry entry.now) old) (plain_entry item.now ∷ [])
+
+-- a list of those that are of one name and of one kind
+grown : (its kind : PlainEntry → Bool) (history : History) (item : Bor Entry) (old new : List (Bor Entry)) →
+    new ≡ old ++ cond (its (plain_entry item.now) && kind (plain_entry item.now)) (item ∷ []) [] →
+    listed old ≡ filter kind (filter its history) →
+    listed new ≡ filter kind (filter its (plain_entry item.now ∷ history))
+grown its kind history item old new is before =
+    ap listed is ∙ go (its (plain_entry item.now)) (kind (plain_entry item.now)) refl
+  where
+    go : (own kept : Bool) → kind (plain_entry item.now) ≡ kept →
+        listed (old ++ cond (own && kept) (item ∷ []) [])
+        ≡ filter kind (cond own (plain_entry item.now ∷ filter its history) (filter its history))
+    go true true same =
+        rw same (listed_more old item ∙ ap (λ found. plain_entry item.now ∷ found) before)
+    go true false same = rw same (ap listed (append-nil old) ∙ before)
+    go false kept same = ap listed (append-nil old) ∙ before
+
+-- a list of those of one kind
+all_grown : (kind : PlainEntry → Bool) (history : History) (item : Bor Entry) (old new : List (Bor Entry)) →
+    new ≡ old ++ cond (kind (plain_entry item.now)) (item ∷ []) [] →
+    listed old ≡ filter kind history → listed new ≡ filter kind (plain_entry item.now ∷ history)
+all_grown kind history item old new is before = ap listed is ∙ go (kind (plain_entry item.now))
+  where
+    go : (kept : Bool) → listed (old ++ cond kept (item ∷ []) [])
+        ≡ cond kept (plain_entry item.now ∷ filter kind history) (filter kind history)
+    go true = listed_more old item ∙ ap (λ found. plain_entry item.now ∷ found) before
+    go false = ap listed (append-nil old) ∙ before
+
+-- an entry is of a module where it is the accepted one's
+its_tag : (tag : List ℕ) (entry : PlainEntry) → is_this tag (accepted_tag entry) ≡ is_accepted_of tag entry
+its_tag tag entry = go (subject entry.event) (is_accepted entry.answer)
+  where
+    go : (of' : Subject) (kept : Bool) → is_this tag (cond kept (tag_in of') None) ≡ (is_module tag of' && kept)
+    go (of_module other) true = sym (and-true (bytes_eq other tag))
+    go (of_module other) false = sym (and-false (bytes_eq other tag))
+    go (of_batch batch) true = refl
+    go (of_batch batch) false = refl
+    go (of_recipe name) true = refl
+    go (of_recipe name) false = refl
+
+-- and of a batch likewise
+its_batch : (batch : List ℕ) (entry : PlainEntry)
+    → is_this batch (accepted_batch entry) ≡ is_accepted_of_batch batch entry
+its_batch batch entry = go (subject entry.event) (is_accepted entry.answer)
+  where
+    go : (of' : Subject) (kept : Bool) → is_this batch (cond kept (batch_in of') None) ≡ (is_batch batch of' && kept)
+    go (of_module tag) true = refl
+    go (of_module tag) false = refl
+    go (of_batch other) true = sym (and-true (bytes_eq other batch))
+    go (of_batch other) false = sym (and-false (bytes_eq other batch))
+    go (of_recipe name) true = refl
+    go (of_recipe name) false = refl
+
+-- of each module
+tag_grown : {Z : Type 0} (kind : PlainEntry → Bool) (history : History) (item : Bor Entry)
+    (old new : List (List ℕ × Vec (Bor Entry) Z)) →
+    Grows old new (accepted_tag (plain_entry item.now)) (kind (plain_entry item.now)) item →
+    ((tag : List ℕ) → listed (items_under old tag) ≡ filter kind (past tag history)) →
+    (tag : List ℕ) → listed (items_under new tag) ≡ filter kind (past tag (plain_entry item.now ∷ history))
+tag_grown kind history item old new grows before tag =
+    grown (is_accepted_of tag) kind history item (items_under old tag) (items_under new tag)
+    (grows tag ∙ ap (λ its. items_under old tag ++ cond (its && kind (plain_entry item.now)) (item ∷ []) [])
+    (its_tag tag (plain_entry item.now)))
+    (before tag)
+
+-- of each batch
+batch_grown : {Z : Type 0} (kind : PlainEntry → Bool) (history : History) (item : Bor Entry)
+    (old new : List (List ℕ × Vec (Bor Entry) Z)) →
+    Grows old new (accepted_batch (plain_entry item.now)) (kind (plain_entry item.now)) item →
+    ((batch : List ℕ) → listed (items_under old batch) ≡ filter kind (past_of_batch batch history)) →
+    (batch : List ℕ) → listed (items_under new batch)
+    ≡ filter kind (past_of_batch batch (plain_entry item.now ∷ history))
+batch_grown kind history item old new grows before batch =
+    grown (is_accepted_of_batch batch) kind history item (items_under old batch) (items_under new batch)
+    (grows batch ∙ ap (λ its. items_under old batch ++ cond (its && kind (plain_entry item.now)) (item ∷ []) [])
+    (its_batch batch (plain_entry item.now)))
+    (before batch)
+
+-- those entries of the log of a batch that pass a test
+kind_logged : (kind : LogEntry → Bool) (batch : List ℕ) (history : History) (entry : PlainEntry)
+    (old new : List LogEntry) →
+    new ≡ old ++ cond (is_this batch (accepted_batch entry)) (filter kind (cons_option (taken entry.answer) [])) [] →
+    old ≡ filter kind (log_by (past_of_batch batch history)) →
+    new ≡ filter kind (log_by (past_of_batch batch (entry ∷ history)))
+kind_logged kind batch history entry old new is before =
+    is ∙ ap (λ its. old ++ cond its (filter kind (cons_option (taken entry.answer) [])) []) (its_batch batch entry)
+    ∙ go (is_accepted_of_batch batch entry) (taken entry.answer) refl
+  where
+    go : (its : Bool) (took : Option LogEntry) → taken entry.answer ≡ took →
+        old ++ cond its (filter kind (cons_option took [])) []
+        ≡ filter kind (log_by (cond its (entry ∷ past_of_batch batch history) (past_of_batch batch history)))
+    go true (Some did) same =
+        ap (λ log. log ++ filter kind (did ∷ [])) before
+        ∙ sym (filter-append kind (log_by (past_of_batch batch history)) (did ∷ []))
+        ∙ ap (filter kind) (sym (log_grows entry (past_of_batch batch history) did same))
+    go true None same =
+        append-nil old ∙ before ∙ ap (filter kind) (sym (log_stays entry (past_of_batch batch history) same))
+    go false took same = append-nil old ∙ before
+
+-- all of it
+logged : (batch : List ℕ) (history : History) (entry : PlainEntry) (old new : List LogEntry) →
+    new ≡ old ++ cond (is_this batch (accepted_batch entry)) (cons_option (taken entry.answer) []) [] →
+    old ≡ log_by (past_of_batch batch history) → new ≡ log_by (past_of_batch batch (entry ∷ history))
+logged batch history entry old new is before =
+    is ∙ ap (λ its. old ++ cond its (cons_option (taken entry.answer) []) []) (its_batch batch entry)
+    ∙ go (is_accepted_of_batch batch entry) (taken entry.answer) refl
+  where
+    go : (its : Bool) (took : Option LogEntry) → taken entry.answer ≡ took →
+        old ++ cond its (cons_option took []) []
+        ≡ log_by (cond its (entry ∷ past_of_batch batch history) (past_of_batch batch history))
+    go true (Some did) same =
+        ap (λ log. log ++ did ∷ []) before ∙ sym (log_grows entry (past_of_batch batch history) did same)
+    go true None same = append-nil old ∙ before ∙ sym (log_stays entry (past_of_batch batch history) same)
+    go false took same = append-nil old ∙ before
+
+-- the index with one entry more is that of the history with it
+pub placed_more : (history : History) (item : Bor Entry) (old new : Places) →
+    Grows old.modules.moves.named.entries new.modules.moves.named.entries
+    (accepted_tag (plain_entry item.now)) (moves (plain_entry item.now)) item →
+    Grows old.modules.reports.named.entries new.modules.reports.named.entries
+    (accepted_tag (plain_entry item.now)) (moves_or_reports (plain_entry item.now)) item →
+    Grows old.modules.values.named.entries new.modules.values.named.entries
+    (accepted_tag (plain_entry item.now)) (moves_or_values (plain_entry item.now)) item →
+    Grows old.batches.starts.named.entries new.batches.starts.named.entries
+    (accepted_batch (plain_entry item.now)) (starts (plain_entry item.now)) item →
+    Grows old.batches.closings.named.entries new.batches.closings.named.entries
+    (accepted_batch (plain_entry item.now)) (closes (plain_entry item.now)) item →
+    Grows old.batches.freezings.named.entries new.batches.freezings.named.entries
+    (accepted_batch (plain_entry item.now)) (freezes (plain_entry item.now)) item →
+    Grows old.batches.askings.named.entries new.batches.askings.named.entries
+    (accepted_batch (plain_entry item.now)) (asks (plain_entry item.now)) item →
+    ((batch : List ℕ) → items_under new.logs.logs.named.entries batch
+    ≡ items_under old.logs.logs.named.entries batch
+    ++ cond (is_this batch (accepted_batch (plain_entry item.now))) (cons_option (taken item.now.answer) []) []) →
+    ((batch : List ℕ) → items_under new.logs.runs.named.entries batch
+    ≡ items_under old.logs.runs.named.entries batch
+    ++ cond (is_this batch (accepted_batch (plain_entry item.now)))
+    (chart_entries (cons_option (taken item.now.answer) [])) []) →
+    ((batch : List ℕ) → items_under new.logs.halts.named.entries batch
+    ≡ items_under old.logs.halts.named.entries batch
+    ++ cond (is_this batch (accepted_batch (plain_entry item.now)))
+    (filter is_halt (cons_option (taken item.now.answer) [])) []) →
+    new.known.recipes.items
+    ≡ old.known.recipes.items ++ cond (is_accepted_recipe (plain_entry item.now)) (item ∷ []) [] →
+    new.known.starts.items ≡ old.known.starts.items ++ cond (is_start (plain_entry item.now)) (item ∷ []) [] →
+    new.known.present.items ≡ present_after (plain_event item.now.event) (is_accepted item.now.answer) old.known.present.items →
+    IsPlaced old history → IsPlaced new (plain_entry item.now ∷ history)
+placed_more history item old new moving reporting valued starting closing freezing asking logs runs halts recipe started
+    tags placed = record {
+      moves = tag_grown moves history item _ _ moving placed.moves;
+      reports = tag_grown moves_or_reports history item _ _ reporting placed.reports;
+      values = tag_grown moves_or_values history item _ _ valued placed.values;
+      starts = batch_grown starts history item _ _ starting placed.starts;
+      closings = batch_grown closes history item _ _ closing placed.closings;
+      freezings = batch_grown freezes history item _ _ freezing placed.freezings;
+      askings = batch_grown asks history item _ _ asking placed.askings;
+      logs = λ batch. logged batch history (plain_entry item.now) _ _ (logs batch) (placed.logs batch);
+      runs = λ batch. kind_logged (λ entry. is_some (chart_entry entry)) batch history (plain_entry item.now) _ _
+          (runs batch) (placed.runs batch);
+      halts = λ batch. kind_logged is_halt batch history (plain_entry item.now) _ _ (halts batch) (placed.halts batch);
+      recipes = all_grown is_accepted_recipe history item _ _ recipe placed.recipes;
+      started = all_grown is_start history item _ _ started placed.started;
+      present = tags ∙ ap (present_after (plain_event item.now.event) (is_accepted item.now.answer)) placed.present;
+    }
+
+-- lists that are those of entries are those of the same entries under another name
+pub placed_now : {entries now : List Entry} (places : Places) → entries ≡ now → IsPlaced places (plain_history entries)
+    → IsPlaced places (plain_history now)
+placed_now places same placed = subst (λ entries. IsPlaced places (plain_history entries)) same placed

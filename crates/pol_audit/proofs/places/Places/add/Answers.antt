@@ -1,0 +1,18 @@
+use Rattle.pol_audit.proofs.Placing.{placed_more}
+use Rattle.pol_audit.proofs.places.Places.add.Goals as goal
+
+pub returns : goal.returns
+returns c = λ history placed.
+    placed_more history c.args.entry c.args.self.now
+    (record {
+      modules = c.add_module.new.self;
+      batches = c.add_batch.new.self;
+      logs = c.add_log.new.self;
+      known = c.add_known.new.self;
+    })
+    c.in_ok-add_module.ensures.moves c.in_ok-add_module.ensures.reports c.in_ok-add_module.ensures.values
+    c.in_ok-add_batch.ensures.starts c.in_ok-add_batch.ensures.closings c.in_ok-add_batch.ensures.freezings
+    c.in_ok-add_batch.ensures.askings c.in_ok-add_log.ensures.logs c.in_ok-add_log.ensures.runs
+    c.in_ok-add_log.ensures.halts
+    c.in_ok-add_known.ensures.recipes c.in_ok-add_known.ensures.starts c.in_ok-add_known.ensures.present
+    placed

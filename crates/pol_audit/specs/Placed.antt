@@ -1,0 +1,74 @@
+-- An index of a history: each of its lists has just the entries that its name says, in their order.
+use Rattle.std.specs.Prelude.{◌≡◌, ◌||◌, ℕ, Bool, true, false, List, filter, is_some}
+use Rattle.pol_events.specs.Events.{PlainEntry, PlainEvent, report, variable}
+use Rattle.pol_history.specs.Looking.{History, past, past_of_batch, recipes}
+use Rattle.pol_history.specs.Modules.{is_moving, present_tags}
+use Rattle.pol_history.specs.Batches.{closing, freezing, held_step, is_freeze, is_start, log_by, starting}
+use Rattle.chart_cursor.specs.Logs.{chart_entries}
+use Rattle.pol_audit.specs.Halts.{is_halt}
+use Rattle.pol_audit.specs.Listed.{items_under, listed}
+use Rattle.pol_audit.specs.declared.places.Places.{Places}
+
+-- the event reports a service
+abbrev pub is_report : PlainEvent → Bool
+is_report (report at tag service control) = true
+is_report _ = false
+
+-- the event reports a variable
+abbrev pub is_variable : PlainEvent → Bool
+is_variable (variable at tag name value) = true
+is_variable _ = false
+
+-- the entry moves its module
+abbrev pub moves : PlainEntry → Bool
+moves entry = is_moving entry.event
+
+-- the entry moves its module or reports a service of it
+abbrev pub moves_or_reports : PlainEntry → Bool
+moves_or_reports entry = is_moving entry.event || is_report entry.event
+
+-- the entry moves its module or reports a variable of it
+abbrev pub moves_or_values : PlainEntry → Bool
+moves_or_values entry = is_moving entry.event || is_variable entry.event
+
+-- the entry starts its batch
+abbrev pub starts : PlainEntry → Bool
+starts entry = is_some (starting entry.event)
+
+-- the entry closes its batch
+abbrev pub closes : PlainEntry → Bool
+closes entry = is_some (closing entry.answer)
+
+-- the entry freezes its batch or ends its freeze
+abbrev pub freezes : PlainEntry → Bool
+freezes entry = is_some (freezing entry.event)
+
+-- the entry freezes its batch or asks a step to hold
+abbrev pub asks : PlainEntry → Bool
+asks entry = is_freeze entry.event || is_some (held_step entry.answer)
+
+-- the lists are those of the history
+pub record IsPlaced (places : Places) (history : History) : Type 0 where
+  pub moves : (tag : List ℕ) → listed (items_under places.modules.moves.named.entries tag)
+      ≡ filter moves (past tag history)
+  pub reports : (tag : List ℕ) → listed (items_under places.modules.reports.named.entries tag)
+      ≡ filter moves_or_reports (past tag history)
+  pub values : (tag : List ℕ) → listed (items_under places.modules.values.named.entries tag)
+      ≡ filter moves_or_values (past tag history)
+  pub starts : (batch : List ℕ) → listed (items_under places.batches.starts.named.entries batch)
+      ≡ filter starts (past_of_batch batch history)
+  pub closings : (batch : List ℕ) → listed (items_under places.batches.closings.named.entries batch)
+      ≡ filter closes (past_of_batch batch history)
+  pub freezings : (batch : List ℕ) → listed (items_under places.batches.freezings.named.entries batch)
+      ≡ filter freezes (past_of_batch batch history)
+  pub askings : (batch : List ℕ) → listed (items_under places.batches.askings.named.entries batch)
+      ≡ filter asks (past_of_batch batch history)
+  pub logs : (batch : List ℕ) → items_under places.logs.logs.named.entries batch
+      ≡ log_by (past_of_batch batch history)
+  pub runs : (batch : List ℕ) → items_under places.logs.runs.named.entries batch
+      ≡ chart_entries (log_by (past_of_batch batch history))
+  pub halts : (batch : List ℕ) → items_under places.logs.halts.named.entries batch
+      ≡ filter is_halt (log_by (past_of_batch batch history))
+  pub recipes : listed places.known.recipes.items ≡ recipes history
+  pub started : listed places.known.starts.items ≡ filter is_start history
+  pub present : places.known.present.items ≡ present_tags history

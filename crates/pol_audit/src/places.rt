@@ -1,0 +1,310 @@
+//! The entries of a history by what they concern: an index in which looking back is short.
+ghost use Rattle.std.specs.Prelude.{◌≡◌, ◌∷◌, ◌++◌, ◌||◌, [], IfOk, OnOk, filter, is_some, true, if◌then◌else◌};
+ghost use Rattle.std.specs.List.{cons_option};
+ghost use Rattle.pol_events.specs.Events.{plain_entry, plain_event, plain_history};
+ghost use Rattle.pol_history.specs.Looking.{History, is_accepted, is_accepted_recipe};
+ghost use Rattle.pol_history.specs.Modules.{is_moving, present_after};
+ghost use Rattle.pol_history.specs.Batches.{closing, freezing, held_step, is_freeze, is_start, starting, taken};
+ghost use Rattle.chart_core.specs.Entries.{chart_entry};
+ghost use Rattle.chart_cursor.specs.Logs.{chart_entries};
+ghost use Rattle.pol_audit.specs.Halts.{is_halt};
+ghost use Rattle.pol_audit.specs.Listed.{Grows, accepted_batch, accepted_tag};
+ghost use Rattle.pol_audit.specs.Placed.{IsPlaced, is_report, is_variable};
+
+use crate::batches::taken;
+use crate::entries::is_of_recipe;
+use crate::lists::Lists;
+use crate::modules::{is_moving, tags_after};
+use chart_core::LogEntry;
+use mtp_codes::Name;
+use pol_events::{Answer, Entry, Event, Subject};
+use std::alloc::{AllocError, Global};
+
+// ---- what an entry is
+
+fn accepted_tag(entry: &Entry) -> Option<Name>
+    ensures { result ≡ accepted_tag (plain_entry entry.now) }
+{
+    match entry.event.subject() {
+        Subject::Module(tag) if entry.answer.is_accepted() => Some(tag),
+        _ => None,
+    }
+}
+
+fn accepted_batch(entry: &Entry) -> Option<Name>
+    ensures { result ≡ accepted_batch (plain_entry entry.now) }
+{
+    match entry.event.subject() {
+        Subject::Batch(batch) if entry.answer.is_accepted() => Some(batch),
+        _ => None,
+    }
+}
+
+fn is_report(event: &Event) -> bool
+    ensures { result ≡ is_report (plain_event event.now) }
+{
+    matches!(event, Event::Report { .. })
+}
+
+fn is_variable(event: &Event) -> bool
+    ensures { result ≡ is_variable (plain_event event.now) }
+{
+    matches!(event, Event::Variable { .. })
+}
+
+fn is_starting(event: &Event) -> bool
+    ensures { result ≡ is_some (starting (plain_event event.now)) }
+{
+    matches!(event, Event::Start { .. })
+}
+
+fn is_closing(answer: &Answer) -> bool
+    ensures { result ≡ is_some (closing answer.now) }
+{
+    matches!(answer, Answer::Closed(_))
+}
+
+fn is_freezing(event: &Event) -> bool
+    ensures { result ≡ is_some (freezing (plain_event event.now)) }
+{
+    matches!(
+        event,
+        Event::Freeze { .. } | Event::Thaw { .. } | Event::StopBatch { .. }
+    )
+}
+
+fn is_asking(entry: &Entry) -> bool
+    ensures { result ≡ (is_freeze (plain_event entry.now.event) || is_some (held_step entry.now.answer)) }
+{
+    matches!(entry.event, Event::Freeze { .. })
+        || matches!(entry.answer, Answer::Did(LogEntry::Hold { .. }))
+}
+
+fn is_start(entry: &Entry) -> bool
+    ensures { result ≡ is_start (plain_entry entry.now) }
+{
+    is_starting(&entry.event) && entry.answer.is_accepted()
+}
+
+fn push_if<'a>(entries: &mut Vec<&'a Entry>, kept: bool, entry: &'a Entry) -> Result<(), AllocError>
+    ensures { OnOk result (entries.new.items ≡ entries.old.items ++ (if kept then entry.entry ∷ [] else [])) }
+{
+    if kept {
+        entries.push(entry)?;
+    }
+    Ok(())
+}
+
+fn is_halt(entry: &LogEntry) -> bool
+    ensures { result ≡ is_halt entry.now }
+{
+    matches!(entry, LogEntry::Broke { .. } | LogEntry::StopAsked)
+}
+
+// ---- modules
+
+/// The accepted entries of each module: those that move it, these and its reports, these and its values.
+#[derive(Drop)]
+pub struct ModulePlaces<'a> {
+    pub moves: Lists<&'a Entry>,
+    pub reports: Lists<&'a Entry>,
+    pub values: Lists<&'a Entry>,
+}
+
+impl<'a> ModulePlaces<'a> {
+    fn add_module(&mut self, alloc: Global, entry: &'a Entry) -> Result<(), AllocError>
+        ensures moves { OnOk result (Grows self.old.moves.named.entries self.new.moves.named.entries
+            (accepted_tag (plain_entry entry.now)) (is_moving (plain_event entry.now.event)) entry.entry) }
+        ensures reports { OnOk result (Grows self.old.reports.named.entries self.new.reports.named.entries
+            (accepted_tag (plain_entry entry.now))
+            (is_moving (plain_event entry.now.event) || is_report (plain_event entry.now.event)) entry.entry) }
+        ensures values { OnOk result (Grows self.old.values.named.entries self.new.values.named.entries
+            (accepted_tag (plain_entry entry.now))
+            (is_moving (plain_event entry.now.event) || is_variable (plain_event entry.now.event)) entry.entry) }
+    {
+        let tag = accepted_tag(entry);
+        let moves = is_moving(&entry.event);
+        let reports = moves || is_report(&entry.event);
+        let values = moves || is_variable(&entry.event);
+        self.moves.add_if(alloc, &tag, moves, entry)?;
+        self.reports.add_if(alloc, &tag, reports, entry)?;
+        self.values.add_if(alloc, &tag, values, entry)
+    }
+}
+
+// ---- batches
+
+/// The accepted entries of each batch: its starts, those that close it, its freezes, thaws and stops, and those that
+/// freeze it or ask a step to hold; and its log.
+#[derive(Drop)]
+pub struct BatchPlaces<'a> {
+    pub starts: Lists<&'a Entry>,
+    pub closings: Lists<&'a Entry>,
+    pub freezings: Lists<&'a Entry>,
+    pub askings: Lists<&'a Entry>,
+}
+
+impl<'a> BatchPlaces<'a> {
+    fn add_batch(&mut self, alloc: Global, entry: &'a Entry) -> Result<(), AllocError>
+        ensures starts { OnOk result (Grows self.old.starts.named.entries self.new.starts.named.entries
+            (accepted_batch (plain_entry entry.now)) (is_some (starting (plain_event entry.now.event))) entry.entry) }
+        ensures closings { OnOk result (Grows self.old.closings.named.entries self.new.closings.named.entries
+            (accepted_batch (plain_entry entry.now)) (is_some (closing entry.now.answer)) entry.entry) }
+        ensures freezings { OnOk result (Grows self.old.freezings.named.entries self.new.freezings.named.entries
+            (accepted_batch (plain_entry entry.now)) (is_some (freezing (plain_event entry.now.event))) entry.entry) }
+        ensures askings { OnOk result (Grows self.old.askings.named.entries self.new.askings.named.entries
+            (accepted_batch (plain_entry entry.now))
+            (is_freeze (plain_event entry.now.event) || is_some (held_step entry.now.answer)) entry.entry) }
+    {
+        let batch = accepted_batch(entry);
+        let starts = is_starting(&entry.event);
+        let closes = is_closing(&entry.answer);
+        let freezes = is_freezing(&entry.event);
+        let asks = is_asking(entry);
+        self.starts.add_if(alloc, &batch, starts, entry)?;
+        self.closings.add_if(alloc, &batch, closes, entry)?;
+        self.freezings.add_if(alloc, &batch, freezes, entry)?;
+        self.askings.add_if(alloc, &batch, asks, entry)
+    }
+}
+
+/// The log of each batch, those of its entries that are of the run of its chart, and those that have it stopped.
+#[derive(Drop)]
+pub struct Logs {
+    pub logs: Lists<LogEntry>,
+    pub runs: Lists<LogEntry>,
+    pub halts: Lists<LogEntry>,
+}
+
+impl Logs {
+    ghost use Rattle.std.specs.Prelude.{ℕ, List};
+    ghost use Rattle.pol_audit.specs.Listed.{is_this, items_under};
+
+    fn add_log(&mut self, alloc: Global, entry: &Entry) -> Result<(), AllocError>
+        ensures logs { OnOk result ((batch : List ℕ) → items_under self.new.logs.named.entries batch
+            ≡ items_under self.old.logs.named.entries batch
+            ++ (if is_this batch (accepted_batch (plain_entry entry.now))
+            then cons_option (taken entry.now.answer) [] else [])) }
+        ensures runs { OnOk result ((batch : List ℕ) → items_under self.new.runs.named.entries batch
+            ≡ items_under self.old.runs.named.entries batch
+            ++ (if is_this batch (accepted_batch (plain_entry entry.now))
+            then chart_entries (cons_option (taken entry.now.answer) []) else [])) }
+        ensures halts { OnOk result ((batch : List ℕ) → items_under self.new.halts.named.entries batch
+            ≡ items_under self.old.halts.named.entries batch
+            ++ (if is_this batch (accepted_batch (plain_entry entry.now))
+            then filter is_halt (cons_option (taken entry.now.answer) []) else [])) }
+    {
+        match taken(&entry.answer) {
+            Some(did) => self.add_did(alloc, &accepted_batch(entry), &did),
+            None => Ok(()),
+        }
+    }
+
+    fn add_did(
+        &mut self,
+        alloc: Global,
+        batch: &Option<Name>,
+        did: &LogEntry,
+    ) -> Result<(), AllocError>
+        ensures logs { OnOk result (Grows self.old.logs.named.entries self.new.logs.named.entries batch.now true did.now) }
+        ensures runs { OnOk result (Grows self.old.runs.named.entries self.new.runs.named.entries batch.now
+            (is_some (chart_entry did.now)) did.now) }
+        ensures halts { OnOk result (Grows self.old.halts.named.entries self.new.halts.named.entries batch.now
+            (is_halt did.now) did.now) }
+    {
+        let runs = did.is_of_chart();
+        let halts = is_halt(did);
+        self.logs.add_if(alloc, batch, true, *did)?;
+        self.runs.add_if(alloc, batch, runs, *did)?;
+        self.halts.add_if(alloc, batch, halts, *did)
+    }
+}
+
+// ---- all
+
+/// The accepted recipes, the accepted starts, and the tags that are docked or away, each once.
+#[derive(Drop)]
+pub struct KnownPlaces<'a> {
+    pub recipes: Vec<&'a Entry>,
+    pub starts: Vec<&'a Entry>,
+    pub present: Vec<Name>,
+}
+
+impl<'a> KnownPlaces<'a> {
+    fn add_known(&mut self, alloc: Global, entry: &'a Entry) -> Result<(), AllocError>
+        ensures recipes { OnOk result (self.new.recipes.items ≡ self.old.recipes.items
+            ++ (if is_accepted_recipe (plain_entry entry.now) then entry.entry ∷ [] else [])) }
+        ensures starts { OnOk result (self.new.starts.items ≡ self.old.starts.items
+            ++ (if is_start (plain_entry entry.now) then entry.entry ∷ [] else [])) }
+        ensures present { OnOk result (self.new.present.items
+            ≡ present_after (plain_event entry.now.event) (is_accepted entry.now.answer) self.old.present.items) }
+    {
+        push_if(&mut self.recipes, is_of_recipe(entry), entry)?;
+        push_if(&mut self.starts, is_start(entry), entry)?;
+        tags_after(alloc, &mut self.present, entry)
+    }
+}
+
+/// An index of the entries of a history.
+#[derive(Drop)]
+pub struct Places<'a> {
+    pub modules: ModulePlaces<'a>,
+    pub batches: BatchPlaces<'a>,
+    pub logs: Logs,
+    pub known: KnownPlaces<'a>,
+}
+
+impl<'a> Places<'a> {
+    /// The index of no entry.
+    #[tactic(auto, using(crate::proofs::Placing::nothing_placed))]
+    pub fn new(alloc: Global) -> Places<'a>
+        ensures { IsPlaced result [] }
+    {
+        Places {
+            modules: ModulePlaces {
+                moves: Lists::new(alloc),
+                reports: Lists::new(alloc),
+                values: Lists::new(alloc),
+            },
+            batches: BatchPlaces {
+                starts: Lists::new(alloc),
+                closings: Lists::new(alloc),
+                freezings: Lists::new(alloc),
+                askings: Lists::new(alloc),
+            },
+            logs: Logs {
+                logs: Lists::new(alloc),
+                runs: Lists::new(alloc),
+                halts: Lists::new(alloc),
+            },
+            known: KnownPlaces {
+                recipes: Vec::new(alloc),
+                starts: Vec::new(alloc),
+                present: Vec::new(alloc),
+            },
+        }
+    }
+
+    /// Adds one more entry of the history.
+    pub fn add(&mut self, alloc: Global, entry: &'a Entry) -> Result<(), AllocError>
+        ensures { OnOk result ((history : History) → IsPlaced self.old history
+            → IsPlaced self.new (plain_entry entry.now ∷ history)) }
+    {
+        self.modules.add_module(alloc, entry)?;
+        self.batches.add_batch(alloc, entry)?;
+        self.logs.add_log(alloc, entry)?;
+        self.known.add_known(alloc, entry)?;
+        Ok(())
+    }
+}
+
+/// The index of a history.
+pub fn placed(alloc: Global, history: &[Entry]) -> Result<Places<'_>, AllocError>
+    ensures { IfOk result (λ places. IsPlaced places (plain_history history.now)) }
+{
+    let mut places = Places::new(alloc);
+    for entry in history {
+        places.add(alloc, entry)?;
+    }
+    Ok(places)
+}
