@@ -2,9 +2,15 @@
 #![tactic(auto)]
 
 #[cfg(test)]
+mod chart_logs;
+#[cfg(test)]
 mod chart_texts;
 #[cfg(test)]
 mod charts;
+#[cfg(test)]
+mod cursors;
+#[cfg(test)]
+mod demands;
 #[cfg(test)]
 mod descriptions;
 #[cfg(test)]

@@ -8,15 +8,9 @@ mod batch_runs;
 #[cfg(test)]
 mod boards;
 #[cfg(test)]
-mod chart_logs;
-#[cfg(test)]
 mod commands;
 #[cfg(test)]
 mod covering;
-#[cfg(test)]
-mod cursors;
-#[cfg(test)]
-mod demands;
 #[cfg(test)]
 mod docked;
 #[cfg(test)]
@@ -26,19 +20,11 @@ mod finder;
 #[cfg(test)]
 mod given;
 #[cfg(test)]
-mod held_orders;
-#[cfg(test)]
-mod looking_back;
-#[cfg(test)]
 mod output_lines;
-#[cfg(test)]
-mod plant;
 #[cfg(test)]
 mod policies;
 #[cfg(test)]
 mod quick_lines;
-#[cfg(test)]
-mod refused_threads;
 #[cfg(test)]
 mod site_texts;
 #[cfg(test)]
@@ -46,8 +32,4 @@ mod slots;
 #[cfg(test)]
 mod streams;
 #[cfg(test)]
-mod summaries;
-#[cfg(test)]
 mod tables;
-#[cfg(test)]
-mod threads;

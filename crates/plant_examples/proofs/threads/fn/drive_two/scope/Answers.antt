@@ -11,10 +11,10 @@ use Rattle.pol_io.specs.declared.clock.Clock as clocks
 use Rattle.pol_site.specs.Actors.{actors}
 use Rattle.pol_live.specs.declared.job.Job as jobs
 use Rattle.pol_live.specs.contracts.live.LivePlant as live
-use Rattle.part_examples.specs.contracts.threads.Watched as watched
+use Rattle.plant_examples.specs.contracts.threads.Watched as watched
 use Rattle.pol_live.proofs.Joined.{all_home, joined}
 use Rattle.pol_live.proofs.Shared.{captured_send, live_sync, seat_send}
-use Rattle.part_examples.proofs.threads.fn.drive_two.scope.Goals as goal
+use Rattle.plant_examples.proofs.threads.fn.drive_two.scope.Goals as goal
 
 -- what the threads share may be shared
 watched_sync : (life : NamedLft) (J C : RattleType) (job : jobs.Ghosts J.Denot) (ledger : ledgers.Ghosts J.Denot)

@@ -5,7 +5,7 @@ use Rattle.std.specs.Vec.Iter.{into_iter_items}
 use Rattle.pol_site.specs.Actors.{actors}
 use Rattle.pol_live.specs.Seats.{actors_of}
 use Rattle.pol_live.specs.Promises.{promised}
-use Rattle.part_examples.proofs.threads.fn.drive_two.scope.Given as goal
+use Rattle.plant_examples.proofs.threads.fn.drive_two.scope.Given as goal
 
 abbrev pub invariant-loop-seat : goal.invariant-loop-seat
 invariant-loop-seat g l =
