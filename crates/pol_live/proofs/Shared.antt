@@ -49,17 +49,15 @@ stage_send = search (sendable, heap.crosses) depth 20
 orders_send : IsSend orders.the_row
 orders_send = search (sendable, heap.crosses) depth 20
 
+-- which actors rest may go to another thread
+notes_send : IsSend notes.the_row
+notes_send = declared_send notes.the_type (search (sendable, heap.crosses) depth 20, tt)
+
 -- ---- a plant and its seats
 
 module _ (J C : RattleType) (job : jobs.Ghosts J.Denot) (ledger : ledgers.Ghosts J.Denot)
     (clock : clocks.Ghosts C.Denot) where
-  -- when its actors rested may go to another thread
-  notes_send : IsSend (notes.the_row J job ledger)
-  notes_send =
-      declared_send (notes.the_type J job ledger)
-      (search (sendable, heap.crosses) depth 20, (search (sendable, heap.crosses) depth 20, tt))
-
-  -- so may the plant with its actors
+  -- the plant with its actors may go to another thread
   cast_send : IsSend J → IsSend C → IsSend (cast.the_row J C job ledger clock)
   cast_send j c =
       view_send _ _ _ _ _
@@ -81,7 +79,7 @@ module _ (J C : RattleType) (job : jobs.Ghosts J.Denot) (ledger : ledgers.Ghosts
                       orders_send,
                       (
                         search (sendable, heap.crosses) depth 20,
-                        (as_row_send (row_field _) notes_send, tt),
+                        (search (sendable, heap.crosses) depth 20, tt),
                       ),
                     ),
                   ),
@@ -106,7 +104,7 @@ module _ (J C : RattleType) (job : jobs.Ghosts J.Denot) (ledger : ledgers.Ghosts
           search (sendable, heap.crosses, books.the_send) depth 20,
           (
             search (sendable, heap.crosses, shares.the_send) depth 20,
-            (as_row_send bool-field (plain_send _ _ _ _ _), tt),
+            (notes_send, (as_row_send bool-field (plain_send _ _ _ _ _), tt)),
           ),
         ),
       )
@@ -114,8 +112,10 @@ module _ (J C : RattleType) (job : jobs.Ghosts J.Denot) (ledger : ledgers.Ghosts
   pub live_sync : IsSend J → IsSend C → IsSync (live.the_row J C job clock ledger)
   live_sync j c =
       let inner : IsSend (under.the_row J C job clock ledger) = under_send j c in
-      declared_sync (live.the_type J C job clock ledger)
-      (search (sendable, heap.crosses, inner) depth 20, (search (sendable, heap.crosses) depth 20, tt))
+      declared_sync (live.the_type J C job clock ledger) (
+        search (sendable, heap.crosses, inner) depth 20,
+        (search (sendable, heap.crosses) depth 20, (search (sendable, heap.crosses) depth 20, tt)),
+      )
 
   pub crew_sync : (life : NamedLft) (G : RattleType) → IsSend J → IsSend C → IsSync G →
       IsSync (crew.the_row life J C G job clock ledger)

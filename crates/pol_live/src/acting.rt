@@ -93,8 +93,8 @@ pub(crate) fn act<J: Job, R: Wait, C: Clock + Send, G: Gate>(
     seat
 }
 
-// One turn of each actor that has no thread. True where the run is over. Where each rested, the history may have grown
-// since the first one did; so it is the first for which this thread rests.
+// One turn of each actor that has no thread: those from the first one on. True where the run is over. Where each rested,
+// this thread rests for all of them.
 fn pass<J: Job, R: Wait, C: Clock + Send, G: Gate>(
     rt: &R,
     crew: &Crew<'_, J, C, G>,
@@ -120,7 +120,7 @@ fn pass<J: Job, R: Wait, C: Clock + Send, G: Gate>(
             },
         }
     }
-    rested && crew.live.rest(rt, first)
+    rested && crew.live.rest_from(rt, first)
 }
 
 /// The turns of the actors that have no thread, in rotation, until the run is over.

@@ -12,7 +12,6 @@ ghost use Rattle.pol_live.specs.Turns.{IsAsBefore, Turns, history_of};
 
 use crate::actor_kind::{ActorKind, actor_kind, actors_of};
 use crate::job::Job;
-use crate::notes::Notes;
 use crate::turned::Turned;
 use mtp_codes::LONGEST_HISTORY;
 use pol_actors::{Desk, Exchanger, Stage, Unit};
@@ -21,7 +20,7 @@ use pol_events::Entry;
 use pol_io::Clock;
 use pol_site::Site;
 use std::alloc::{AllocError, Global};
-use std::marker::Model;
+use std::marker::{Model, PhantomData};
 use std::sync::Arc;
 
 /// A plant with its site and its clock, and where each actor of the site stands.
@@ -36,7 +35,7 @@ pub(crate) struct Cast<J: Job, C: Clock> {
     pub(crate) stages: Vec<Stage>,
     pub(crate) desk: Desk,
     pub(crate) by: Vec<u32>,
-    pub(crate) notes: Notes<J>,
+    pub(crate) of: PhantomData<J>,
 }
 
 impl<J: Job, C: Clock> Model for Cast<J, C> {
@@ -103,7 +102,6 @@ impl<J: Job, C: Clock> Cast<J, C> {
     {
         let units = first_units(alloc, site.modules.len())?;
         let stages = first_stages(alloc, site.batches.len())?;
-        let notes = Notes::blank(alloc, actors_of(&site))?;
         Ok(Cast {
             alloc,
             site,
@@ -114,7 +112,7 @@ impl<J: Job, C: Clock> Cast<J, C> {
             stages,
             desk: Desk { ordered: 0 },
             by: Vec::new(alloc),
-            notes,
+            of: PhantomData,
         })
     }
 
@@ -146,33 +144,11 @@ impl<J: Job, C: Clock> Cast<J, C> {
         actors_of(&self.site)
     }
 
-    /// Whether the actor rested at the history's length.
-    pub(crate) fn rests(&self, actor: u32) -> bool
-        requires actor { actor < length (actors J.site) }
-    {
-        self.notes.rested(actor, self.plant.history().len())
-    }
-
-    /// Whether no actor has a turn to make, as far as the notes tell.
-    pub(crate) fn is_over(&self) -> bool {
-        let length = self.plant.history().len();
-        length >= LONGEST_HISTORY || self.notes.all_rested(length)
-    }
-
-    // Whether the history is full.
-    fn is_full(&self) -> bool
+    /// Whether the history is full.
+    pub(crate) fn is_full(&self) -> bool
         ensures { result ≡ is_full (history_of self.now) }
     {
         self.plant.history().len() >= LONGEST_HISTORY
-    }
-
-    // Notes that the actor rested at the history's length.
-    fn note(&mut self, actor: u32)
-        requires actor { actor < length (actors J.site) }
-        ensures { self.new ≡ self.old }
-    {
-        let length = self.plant.history().len();
-        self.notes.note(actor, length);
     }
 
     // One turn of an actor, where the history has room.
@@ -203,11 +179,7 @@ impl<J: Job, C: Clock> Cast<J, C> {
         if self.is_full() {
             return Ok(Turned::Full);
         }
-        let turned = self.act(actor)?;
-        if matches!(turned, Turned::Rested) {
-            self.note(actor);
-        }
-        Ok(turned)
+        self.act(actor)
     }
 
     /// The history and who made each entry, once the plant is done with: the history is legal, follows the site, and

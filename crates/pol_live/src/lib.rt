@@ -10,6 +10,7 @@ mod acting;
 mod actor_kind;
 mod cast;
 mod closing;
+mod concerns;
 mod entering;
 mod gate;
 mod job;

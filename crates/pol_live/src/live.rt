@@ -1,5 +1,5 @@
 //! A plant that threads share.
-ghost use Rattle.std.specs.Prelude.{◌≡◌, ◌<◌, length, IfErr, IfOk, OnErr};
+ghost use Rattle.std.specs.Prelude.{◌≡◌, length, IfErr, IfOk, OnErr};
 ghost use Rattle.pol_site.specs.Actors.{actors};
 ghost use Rattle.pol_site.specs.PlainSite.{plain_site};
 ghost use Rattle.pol_live.specs.Parts.{AreOwnParts, IsRun, IsStray, made_in_all};
@@ -9,6 +9,7 @@ ghost use Rattle.pol_live.specs.Turns.{TookTurn};
 use crate::closing::{Strayed, compare_all, gather, leave};
 use crate::job::Job;
 use crate::locked::LockedPlant;
+use crate::notes::Notes;
 use crate::run::Ran;
 use crate::seat::ActorSeat;
 use crate::turned::Turned;
@@ -19,13 +20,14 @@ use std::alloc::{AllocError, Global};
 use std::sync::ledger::{Blank, Book, Share};
 use std::sync::{Arc, Condvar, Mutex, Wait};
 
-// What lies under the lock: the plant, the book of what the seats made, what the seats left of the ledger, and whether
-// the run was ended.
+// What lies under the lock: the plant, the book of what the seats made, what the seats left of the ledger, who rests,
+// and whether the run was ended.
 #[derive(Drop)]
 struct Under<J: Job, C: Clock> {
     plant: LockedPlant<J, C>,
     book: Book<J>,
     rest: Share<J>,
+    notes: Notes,
     ended: bool,
     ghost counted: { book.total ≡ length plant.entries },
     ghost spent: { (rest.parts ≡ 0) × (rest.amount ≡ 0) },
@@ -39,7 +41,13 @@ impl<J: Job, C: Clock> Under<J, C> {
         ensures err { OnErr result (seat.new.list ≡ seat.old.list) }
         ensures actor { seat.new.actor ≡ seat.old.actor }
     {
-        let Under { plant, book, .. } = self;
+        let Under {
+            plant,
+            book,
+            notes,
+            ..
+        } = self;
+        notes.wake(seat.actor());
         plant.is_of_a_run();
         let turned = seat.turn(plant, book);
         plant.is_of_a_run();
@@ -53,7 +61,19 @@ impl<J: Job, C: Clock> Under<J, C> {
 
     // Whether no actor has a turn to make, as far as the notes tell.
     fn is_over(&self) -> bool {
-        self.ended || self.plant.is_over()
+        self.ended || self.plant.is_full() || self.notes.all_rest_at(self.plant.length())
+    }
+
+    // Notes that the actor rests. True where all rest: if the run isn't over by that, each is to look once more.
+    fn all_rest_with(&mut self, actor: u32) -> bool {
+        self.notes.rest(actor, self.plant.length());
+        if !self.notes.all_rest_from(0) {
+            return false;
+        }
+        if !self.is_over() {
+            self.notes.wake_all();
+        }
+        true
     }
 }
 
@@ -62,6 +82,7 @@ fn put_under<J: Job, C: Clock>(
     plant: LockedPlant<J, C>,
     book: Book<J>,
     rest: Share<J>,
+    notes: Notes,
 ) -> Under<J, C>
     requires counted { book.total ≡ length plant.entries }
     requires spent { (rest.parts ≡ 0) × (rest.amount ≡ 0) }
@@ -70,15 +91,28 @@ fn put_under<J: Job, C: Clock>(
         plant,
         book,
         rest,
+        notes,
         ended: false,
     }
+}
+
+// A bell for each of so many actors.
+fn hang(alloc: Global, count: u32) -> Result<Vec<Condvar>, AllocError> {
+    let mut bells = Vec::new(alloc);
+    for _ in 0..count {
+        bells.push(Condvar::new())?;
+    }
+    Ok(bells)
 }
 
 /// A locked plant behind one lock, which threads share. Turns at it are taken with the seats of its actors.
 #[derive(Drop)]
 pub struct LivePlant<J: Job, C: Clock + Send> {
     under: Mutex<Under<J, C>>,
-    grown: Condvar,
+    // At each waits the thread of its actor alone, while that rests.
+    bells: Vec<Condvar>,
+    // Here waits the thread that takes the turns of several actors. It hears each ring.
+    shared: Condvar,
 }
 
 impl<J: Job, C: Clock + Send> LivePlant<J, C> {
@@ -101,6 +135,8 @@ impl<J: Job, C: Clock + Send> LivePlant<J, C> {
     {
         let plant = LockedPlant::<J, C>::new(alloc, site, clock)?;
         let actors = plant.actors();
+        let notes = Notes::blank(alloc, actors)?;
+        let bells = hang(alloc, actors)?;
         let (book, mut rest) = blank.open::<J>();
         let mut seats = Vec::new(alloc);
         for actor in 0..actors {
@@ -108,8 +144,9 @@ impl<J: Job, C: Clock + Send> LivePlant<J, C> {
             seats.push(ActorSeat::new(alloc, actor, share))?;
         }
         let live = LivePlant {
-            under: Mutex::new(put_under(plant, book, rest)),
-            grown: Condvar::new(),
+            under: Mutex::new(put_under(plant, book, rest, notes)),
+            bells,
+            shared: Condvar::new(),
         };
         Ok((live, seats))
     }
@@ -125,11 +162,44 @@ impl<J: Job, C: Clock + Send> LivePlant<J, C> {
         ensures err { OnErr result (seat.new.list ≡ seat.old.list) }
         ensures actor { seat.new.actor ≡ seat.old.actor }
     {
-        let turned = self.under.lock(rt).turn(seat);
-        if matches!(turned, Ok(Turned::Made(_))) {
-            self.grown.notify_all();
+        let mut under = self.under.lock(rt);
+        let turned = under.turn(seat);
+        match turned {
+            Ok(Turned::Made(_)) => self.call_concerned(&mut under),
+            Ok(Turned::Rested) => {
+                if under.all_rest_with(seat.actor()) {
+                    self.ring_all();
+                }
+            },
+            Ok(Turned::Looked | Turned::Full) | Err(_) => {},
         }
         turned
+    }
+
+    // Calls all that rest and have something to do by the newest entry.
+    fn call_concerned(&self, under: &mut Under<J, C>) {
+        let Under { plant, notes, .. } = under;
+        let concern = plant.concern();
+        for actor in 0..plant.actors() {
+            if notes.rests(actor) && plant.goes_on(actor, &concern) {
+                notes.wake(actor);
+                self.bell(actor).notify_one();
+                self.shared.notify_one();
+            }
+        }
+    }
+
+    // The bell of an actor.
+    fn bell(&self, actor: u32) -> &Condvar {
+        self.bells.get(actor as usize).unwrap_or(&self.shared)
+    }
+
+    // Rings all bells.
+    fn ring_all(&self) {
+        for bell in &self.bells {
+            bell.notify_one();
+        }
+        self.shared.notify_one();
     }
 
     /// `count` watchers of the plant's board.
@@ -151,18 +221,22 @@ impl<J: Job, C: Clock + Send> LivePlant<J, C> {
         Ok(watchers)
     }
 
-    /// Waits until the history grows after the actor rested, or the run is over. True where it is over.
-    pub(crate) fn rest<R: Wait>(&self, rt: &R, actor: u32) -> bool
-        requires actor { actor < length (actors J.site) }
-    {
+    /// Waits until the actor is called after it came to rest, or the run is over. True where it is over.
+    pub(crate) fn rest<R: Wait>(&self, rt: &R, actor: u32) -> bool {
         let under = self.under.lock(rt);
-        if under.is_over() {
-            self.grown.notify_all();
-            return true;
-        }
         let under = self
-            .grown
-            .wait_while(rt, under, |u| { u.plant.rests(actor) && !u.is_over() });
+            .bell(actor)
+            .wait_while(rt, under, |u| { u.notes.rests(actor) && !u.is_over() });
+        under.is_over()
+    }
+
+    /// Waits until an actor whose number is at least this one is called after all of them came to rest, or the run is
+    /// over. True where it is over. At most one thread calls it.
+    pub(crate) fn rest_from<R: Wait>(&self, rt: &R, actor: u32) -> bool {
+        let under = self.under.lock(rt);
+        let under = self.shared.wait_while(rt, under, |u| {
+            u.notes.all_rest_from(actor) && !u.is_over()
+        });
         under.is_over()
     }
 
@@ -170,7 +244,7 @@ impl<J: Job, C: Clock + Send> LivePlant<J, C> {
     pub(crate) fn end<R: Wait>(&self, rt: &R) {
         let mut under = self.under.lock(rt);
         under.ended = true;
-        self.grown.notify_all();
+        self.ring_all();
     }
 
     /// The plant, out of its lock.

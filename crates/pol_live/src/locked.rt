@@ -13,6 +13,7 @@ ghost use Rattle.pol_live.specs.Parts.{IsRun};
 ghost use Rattle.pol_live.specs.Turns.{IsAsBefore, Tells, Turns, history_of};
 
 use crate::cast::Cast;
+use crate::concerns::Concern;
 use crate::job::Job;
 use crate::turned::Turned;
 use pol_events::Entry;
@@ -81,16 +82,26 @@ impl<J: Job, C: Clock> LockedPlant<J, C> {
         self.cast.actors()
     }
 
-    /// Whether the actor rested at the history's length.
-    pub(crate) fn rests(&self, actor: u32) -> bool
-        requires actor { actor < length (actors J.site) }
-    {
-        self.cast.rests(actor)
+    /// How many entries the history has.
+    pub(crate) fn length(&self) -> usize {
+        self.cast.history().len()
     }
 
-    /// Whether no actor has a turn to make, as far as the notes tell.
-    pub(crate) fn is_over(&self) -> bool {
-        self.cast.is_over()
+    /// Whether the history is full.
+    pub(crate) fn is_full(&self) -> bool {
+        self.cast.is_full()
+    }
+
+    /// Whom the newest entry concerns.
+    pub(crate) fn concern(&self) -> Concern {
+        self.cast.concern()
+    }
+
+    /// Whether an actor that rests has something to do, where the newest entry is of this concern.
+    pub(crate) fn goes_on(&self, actor: u32, concern: &Concern) -> bool
+        requires actor { actor < length (actors J.site) }
+    {
+        self.cast.goes_on(actor, concern)
     }
 
     /// Whatever turns were taken, the history is legal and orderly, follows the site, has a command for each change,

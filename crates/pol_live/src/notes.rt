@@ -1,46 +1,54 @@
-//! Which actors rested, and when.
-ghost use Rattle.std.specs.Prelude.{◌≡◌, ◌<◌, length};
-ghost use Rattle.pol_site.specs.Actors.{actors};
-
-use crate::job::Job;
+//! Which actors rest.
 use std::alloc::{AllocError, Global};
-use std::marker::PhantomData;
 
-/// For each actor of the site how many entries the history had when it rested last.
+/// For each actor that rests how many entries the history had when it came to rest.
 #[derive(Drop)]
-pub(crate) struct Notes<J: Job> {
+pub(crate) struct Notes {
     counts: Vec<Option<usize>>,
-    of: PhantomData<J>,
-    ghost each: { length counts.items ≡ length (actors J.site) },
 }
 
-impl<J: Job> Notes<J> {
-    /// No actor rested yet. AllocError for want of memory.
-    pub(crate) fn blank(alloc: Global, count: u32) -> Result<Notes<J>, AllocError>
-        requires { count ≡ length (actors J.site) }
-    {
+impl Notes {
+    /// None of so many actors rests. AllocError for want of memory.
+    pub(crate) fn blank(alloc: Global, count: u32) -> Result<Notes, AllocError> {
         Ok(Notes {
             counts: vec![in alloc; None; count as usize]?,
-            of: PhantomData,
         })
     }
 
-    /// Whether the actor rested when the history had so many entries.
-    pub(crate) fn rested(&self, actor: u32, entries: usize) -> bool
-        requires { actor < length (actors J.site) }
-    {
-        self.counts[actor as usize] == Some(entries)
+    /// Whether the actor rests.
+    pub(crate) fn rests(&self, actor: u32) -> bool {
+        matches!(self.counts.get(actor as usize), Some(Some(_)))
     }
 
-    /// Whether each actor did.
-    pub(crate) fn all_rested(&self, entries: usize) -> bool {
+    /// Whether all actors rest whose number is at least this one.
+    pub(crate) fn all_rest_from(&self, actor: u32) -> bool {
+        self.counts.iter().skip(actor as usize).all(Option::is_some)
+    }
+
+    /// Whether all rest since the history had so many entries.
+    pub(crate) fn all_rest_at(&self, entries: usize) -> bool {
         self.counts.iter().all(|count| *count == Some(entries))
     }
 
-    /// Notes that the actor rested when the history had so many entries.
-    pub(crate) fn note(&mut self, actor: u32, entries: usize)
-        requires { actor < length (actors J.site) }
-    {
-        self.counts[actor as usize] = Some(entries);
+    // Notes this of an actor.
+    fn set(&mut self, actor: u32, count: Option<usize>) {
+        if let Some(kept) = self.counts.get_mut(actor as usize) {
+            *kept = count;
+        }
+    }
+
+    /// Notes that the actor rests since the history had so many entries.
+    pub(crate) fn rest(&mut self, actor: u32, entries: usize) {
+        self.set(actor, Some(entries));
+    }
+
+    /// Notes that the actor doesn't rest.
+    pub(crate) fn wake(&mut self, actor: u32) {
+        self.set(actor, None);
+    }
+
+    /// Notes that no actor rests.
+    pub(crate) fn wake_all(&mut self) {
+        self.counts.fill(None);
     }
 }
