@@ -1,6 +1,6 @@
 -- What a batch's log says: the entries of its run, the active steps, whether it broke, whether it was to be stopped,
 -- and which steps were held.
-use Rattle.std.specs.Prelude.{ℕ, Bool, true, false, List, map, filter, Option, Some, None, is_some, unwrap_or}
+use Rattle.std.specs.Prelude.{ℕ, Bool, true, false, List, map, filter, Option, None, is_some, unwrap_or}
 use Rattle.std.specs.List.{list_any}
 use Rattle.mtp_codes.specs.Faults.{when}
 use Rattle.mtp_codes.specs.Names.{same_name}
