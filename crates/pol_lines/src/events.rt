@@ -122,6 +122,7 @@ fn read_of_tag(members: &[Member]) -> Option<(u64, Name)>
     ensures { IfSome result (λ read. (event : ℕ → List ℕ → PlainEvent) → tag_in event (flat_data members.now)
         ≡ Ok (event read.0 read.1)) }
 {
+    // Each such event has the keys of an unplug.
     if !only(EventKind::Unplug, members) {
         return None;
     }
@@ -136,6 +137,7 @@ fn read_of_batch(members: &[Member]) -> Option<(u64, Name)>
     ensures { IfSome result (λ read. (event : ℕ → List ℕ → PlainEvent) → batch_in event (flat_data members.now)
         ≡ Ok (event read.0 read.1)) }
 {
+    // Each such event has the keys of an advance.
     if !only(EventKind::Advance, members) {
         return None;
     }
