@@ -82,7 +82,7 @@ impl Cursor {
     }
 
     /// Takes the entry, which goes on a word that the cursor stands for: afterwards the cursor stands for each such
-    /// word with the entry at its end. Walks the chart's nodes up to the one that it changes, and takes no memory.
+    /// word with the entry at its end. Walks the chart's nodes once, and takes no memory.
     pub fn take(&mut self, entry: LogEntry)
         requires { (word : List LogEntry) × StandsFor (plain_chart self.old.chart) self.old.marks word
             × IsPartial (plain_chart self.old.chart) (word ++ (entry ∷ [])) }
