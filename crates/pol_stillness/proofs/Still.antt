@@ -152,7 +152,7 @@ sent_still site older entry sent legal orderly follows commanded sends =
       still =
           still was.view.self_completes was.view.control.state sent.command plain_command
           (view_plain older sent.tag sent.service was.view plain was.seen) was.permitted.leads was.permitted.completes;
-      true_from_ne_false =
+      answered =
           true_from_ne_false (is_answered sent.tag (story sent.tag older) sent.service)
           (λ un. event_answered site older entry.event entry.answer sent accepted follows.0 follows.1 legal.2 orderly.1
           plain given
