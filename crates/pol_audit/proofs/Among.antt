@@ -1,13 +1,10 @@
 -- Looking back over the entries of one kind alone, where the others say nothing.
-use Rattle.std.proofs.Common.{◌≡◌, ◌≤◌, ◌+◌, ℕ, suc, Bool, true, false, cond, List, [], ◌∷◌, length, map, not, Option, Some, None, refl, ap, sym, ◌∙◌, arith}
+use Rattle.std.proofs.Common.{◌≡◌, ◌≤◌, ℕ, Bool, true, false, cond, List, [], ◌∷◌, length, map, Option, Some, None, refl, ap, sym, ◌∙◌, arith}
 use Rattle.std.specs.Prelude.{◌&&◌, ◌||◌, filter, is_some}
 use Rattle.std.specs.List.{filter_map}
-use Rattle.std.specs.Option.{option_map, option_or}
+use Rattle.std.specs.Option.{option_or}
 use Rattle.std.proofs.Math.Bool.{and-true}
 use Rattle.std.proofs.lemmas.List.{length-map, length-reverse}
-use Rattle.mtp_codes.specs.Faults.{when}
-use Rattle.mtp_codes.specs.declared.value.Value.{Value}
-use Rattle.mtp_desc.specs.Plain.{PlainDescription}
 use Rattle.pol_events.specs.Events.{PlainEntry, PlainEvent, plug, unplug, report, variable, start, freeze, exchange_begin, exchange_end, exchange_cancel, plain_entry, plain_history}
 use Rattle.pol_events.specs.declared.answer.Answer.{Answer}
 use Rattle.pol_events.specs.declared.event.Entry.{Entry}

@@ -1,9 +1,8 @@
 -- Steps that are to be unheld, one after another.
-use Rattle.std.proofs.Common.{◌≡◌, ◌&&◌, ◌+◌, ◌<◌, ◌∷◌, ℕ, suc, List, Bool, true, false, cond, Option, Some, None, length, drop, get_or, refl, arith}
+use Rattle.std.proofs.Common.{◌≡◌, ◌&&◌, ◌+◌, ◌<◌, ◌∷◌, ℕ, suc, List, Bool, true, false, cond, length, drop, get_or, refl, arith}
 use Rattle.std.proofs.Math.Seq.{drop-cons}
 use Rattle.std.specs.Borrow.{Bor}
-use Rattle.std.specs.Prelude.{filter, unwrap_or}
-use Rattle.chart_core.specs.Active.{or_earlier}
+use Rattle.std.specs.Prelude.{filter}
 use Rattle.chart_core.specs.Order.{plans_seen}
 use Rattle.chart_core.specs.Trees.{PlainStep, plain_step}
 use Rattle.chart_core.specs.declared.entry.LogEntry.{LogEntry}
@@ -17,12 +16,6 @@ use Rattle.chart_cursor.specs.declared.next.CursorNext.{CursorNext}
 use Rattle.chart_cursor.specs.declared.next.CursorNext.TheVariants.{Entry, Wait, Whole}
 use Rattle.pol_audit.specs.HeldSteps.{owed_next}
 use Rattle.pol_audit.specs.Starts.{is_active_step}
-
--- what the later entries say; else what this one says; else what was so before
-pub said_later : {A : Type 0} (later here : Option A) (before : A)
-    → unwrap_or (or_earlier later here) before ≡ unwrap_or later (unwrap_or here before)
-said_later None here before = refl
-said_later (Some said) here before = refl
 
 -- nothing comes behind the last step
 pub none_behind : (next : CursorNext) → first_next next Whole ≡ next

@@ -4,6 +4,7 @@ pub mod LookingBack
 pub mod Docked
 pub mod Logged
 pub mod Halting
+pub mod Standing
 pub mod Placing
 pub mod AskedSince
 pub mod HeldSteps

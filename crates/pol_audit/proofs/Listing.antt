@@ -1,6 +1,7 @@
 -- Items under names, where one more is added.
-use Rattle.std.proofs.Common.{◌≡◌, ℕ, Bool, true, false, cond, List, [], ◌∷◌, ◌++◌, append-nil, length, map, reverse, Option, Some, None, refl, ap, sym, ◌∙◌}
+use Rattle.std.proofs.Common.{◌≡◌, ℕ, Bool, true, false, cond, List, [], ◌∷◌, ◌++◌, append-nil, length, map, Option, Some, None, refl, ap, sym, ◌∙◌}
 use Rattle.std.specs.Prelude.{◌&&◌, filter}
+use Rattle.std.proofs.Math.Bool.{and-false, and-true}
 use Rattle.std.specs.Borrow.{Bor}
 use Rattle.std.specs.List.{cons_option}
 use Rattle.std.specs.Map.{lookup, set_value}
@@ -8,10 +9,12 @@ use Rattle.std.specs.Option.{option_map_or}
 use Rattle.std.specs.Str.{bytes_eq}
 use Rattle.std.specs.declared.vec.Vec.{Vec}
 use Rattle.std.proofs.lemmas.List.{length-map, length-reverse}
-use Rattle.pol_events.specs.Events.{plain_entry}
+use Rattle.pol_events.specs.Events.{PlainEntry, plain_entry}
+use Rattle.pol_events.specs.Subjects.{Subject, of_module, of_batch, of_recipe, subject}
+use Rattle.pol_history.specs.Looking.{is_accepted, is_accepted_of, is_accepted_of_batch, is_batch, is_module}
 use Rattle.pol_events.specs.declared.event.Entry.{Entry}
 use Rattle.pol_history.proofs.Names.{same_true, written}
-use Rattle.pol_audit.specs.Listed.{is_this, items_under, listed}
+use Rattle.pol_audit.specs.Listed.{accepted_batch, accepted_tag, batch_in, is_this, items_under, listed, tag_in}
 
 -- an item that is kept stands at the end of its name's list
 pub added : {T : Type 0} (name other : List ℕ) (old : List T) (item : T) →
@@ -98,3 +101,28 @@ kept_nothing kind name whom told old is = rw is (go (is_this name whom))
     go : (its : Bool) → old ≡ old ++ cond its [] []
     go true = sym (append-nil old)
     go false = sym (append-nil old)
+
+-- an entry is of a module where it is the accepted one's
+pub its_tag : (tag : List ℕ) (entry : PlainEntry) → is_this tag (accepted_tag entry) ≡ is_accepted_of tag entry
+its_tag tag entry = go (subject entry.event) (is_accepted entry.answer)
+  where
+    go : (of' : Subject) (kept : Bool) → is_this tag (cond kept (tag_in of') None) ≡ (is_module tag of' && kept)
+    go (of_module other) true = sym (and-true (bytes_eq other tag))
+    go (of_module other) false = sym (and-false (bytes_eq other tag))
+    go (of_batch batch) true = refl
+    go (of_batch batch) false = refl
+    go (of_recipe name) true = refl
+    go (of_recipe name) false = refl
+
+-- and of a batch likewise
+pub its_batch : (batch : List ℕ) (entry : PlainEntry)
+    → is_this batch (accepted_batch entry) ≡ is_accepted_of_batch batch entry
+its_batch batch entry = go (subject entry.event) (is_accepted entry.answer)
+  where
+    go : (of' : Subject) (kept : Bool) → is_this batch (cond kept (batch_in of') None) ≡ (is_batch batch of' && kept)
+    go (of_module tag) true = refl
+    go (of_module tag) false = refl
+    go (of_batch other) true = sym (and-true (bytes_eq other batch))
+    go (of_batch other) false = sym (and-false (bytes_eq other batch))
+    go (of_recipe name) true = refl
+    go (of_recipe name) false = refl

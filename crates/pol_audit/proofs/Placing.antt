@@ -2,25 +2,26 @@
 use Rattle.std.proofs.Common.{◌≡◌, ℕ, Bool, true, false, cond, List, [], ◌∷◌, ◌++◌, append-nil, map, reverse, Option, Some, None, refl, ap, sym, subst, ◌∙◌}
 use Rattle.std.specs.Prelude.{◌&&◌, filter, is_some}
 use Rattle.std.proofs.lemmas.List.Elements.{filter-append}
+use Rattle.mtp_codes.specs.Names.{is_among}
 use Rattle.chart_core.specs.Entries.{chart_entry}
 use Rattle.chart_cursor.specs.Logs.{chart_entries}
 use Rattle.pol_audit.specs.Halts.{is_halt}
 use Rattle.std.specs.Borrow.{Bor}
 use Rattle.std.specs.List.{cons_option}
-use Rattle.std.specs.Str.{bytes_eq}
 use Rattle.std.specs.declared.vec.Vec.{Vec}
-use Rattle.std.proofs.Math.Bool.{and-false, and-true}
 use Rattle.std.proofs.lemmas.List.{map-append, reverse-append}
 use Rattle.chart_core.specs.declared.entry.LogEntry.{LogEntry}
 use Rattle.pol_events.specs.Events.{PlainEntry, plain_entry, plain_event, plain_history}
-use Rattle.pol_events.specs.Subjects.{Subject, of_module, of_batch, of_recipe, subject}
 use Rattle.pol_events.specs.declared.event.Entry.{Entry}
-use Rattle.pol_history.specs.Looking.{History, is_accepted, is_accepted_of, is_accepted_of_batch, is_accepted_recipe, is_batch, is_module, past, past_of_batch, recipes}
+use Rattle.pol_history.specs.Looking.{History, is_accepted, is_accepted_of, is_accepted_of_batch, is_accepted_recipe, past, past_of_batch, recipes}
 use Rattle.pol_history.specs.Batches.{is_start, log_by, taken}
 use Rattle.pol_history.specs.Modules.{present_after}
-use Rattle.pol_audit.specs.Listed.{Grows, accepted_batch, accepted_tag, batch_in, is_this, items_under, listed, tag_in}
+use Rattle.pol_audit.specs.Listed.{Grows, accepted_batch, accepted_tag, is_this, items_under, listed}
+use Rattle.pol_audit.specs.Standing.{after_entry, held_more, running_more}
 use Rattle.pol_audit.specs.Placed.{IsPlaced, asks, closes, freezes, moves, moves_or_reports, moves_or_values, starts}
 use Rattle.pol_audit.specs.declared.places.Places.{Places}
+use Rattle.pol_audit.proofs.Listing.{its_batch, its_tag}
+use Rattle.pol_audit.proofs.Standing.{held_follows, running_follows}
 use Rattle.pol_audit.proofs.Logged.{log_grows, log_stays}
 
 -- lists without items are those of an empty history
@@ -35,23 +36,28 @@ pub nothing_placed : (places : Places) →
     ((batch : List ℕ) → items_under places.logs.logs.named.entries batch ≡ []) →
     ((batch : List ℕ) → items_under places.logs.runs.named.entries batch ≡ []) →
     ((batch : List ℕ) → items_under places.logs.halts.named.entries batch ≡ []) →
+    ((batch : List ℕ) → items_under places.standings.running.named.entries batch ≡ []) →
+    ((batch : List ℕ) → items_under places.standings.held.named.entries batch ≡ []) →
     places.known.recipes.items ≡ [] → places.known.starts.items ≡ [] → places.known.present.items ≡ [] →
     IsPlaced places []
-nothing_placed places moving reporting valued starting closing freezing asking logs runs halts recipes started present = record {
-  moves = λ tag. ap listed (moving tag);
-  reports = λ tag. ap listed (reporting tag);
-  values = λ tag. ap listed (valued tag);
-  starts = λ batch. ap listed (starting batch);
-  closings = λ batch. ap listed (closing batch);
-  freezings = λ batch. ap listed (freezing batch);
-  askings = λ batch. ap listed (asking batch);
-  logs = logs;
-  runs = runs;
-  halts = halts;
-  recipes = ap listed recipes;
-  started = ap listed started;
-  present = present;
-}
+nothing_placed places moving reporting valued starting closing freezing asking logs runs halts running held recipes started
+    present = record {
+      moves = λ tag. ap listed (moving tag);
+      reports = λ tag. ap listed (reporting tag);
+      values = λ tag. ap listed (valued tag);
+      starts = λ batch. ap listed (starting batch);
+      closings = λ batch. ap listed (closing batch);
+      freezings = λ batch. ap listed (freezing batch);
+      askings = λ batch. ap listed (asking batch);
+      logs = logs;
+      runs = runs;
+      halts = halts;
+      running = λ batch name. ap (λ names. is_among names name) (running batch);
+      held = λ batch name. ap (λ names. is_among names name) (held batch);
+      recipes = ap listed recipes;
+      started = ap listed started;
+      present = present;
+    }
 
 -- one more listed entry is the newest
 listed_more : (old : List (Bor Entry)) (item : Bor Entry)
@@ -86,31 +92,6 @@ all_grown kind history item old new is before = ap listed is ∙ go (kind (plain
         ≡ cond kept (plain_entry item.now ∷ filter kind history) (filter kind history)
     go true = listed_more old item ∙ ap (λ found. plain_entry item.now ∷ found) before
     go false = ap listed (append-nil old) ∙ before
-
--- an entry is of a module where it is the accepted one's
-its_tag : (tag : List ℕ) (entry : PlainEntry) → is_this tag (accepted_tag entry) ≡ is_accepted_of tag entry
-its_tag tag entry = go (subject entry.event) (is_accepted entry.answer)
-  where
-    go : (of' : Subject) (kept : Bool) → is_this tag (cond kept (tag_in of') None) ≡ (is_module tag of' && kept)
-    go (of_module other) true = sym (and-true (bytes_eq other tag))
-    go (of_module other) false = sym (and-false (bytes_eq other tag))
-    go (of_batch batch) true = refl
-    go (of_batch batch) false = refl
-    go (of_recipe name) true = refl
-    go (of_recipe name) false = refl
-
--- and of a batch likewise
-its_batch : (batch : List ℕ) (entry : PlainEntry)
-    → is_this batch (accepted_batch entry) ≡ is_accepted_of_batch batch entry
-its_batch batch entry = go (subject entry.event) (is_accepted entry.answer)
-  where
-    go : (of' : Subject) (kept : Bool) → is_this batch (cond kept (batch_in of') None) ≡ (is_batch batch of' && kept)
-    go (of_module tag) true = refl
-    go (of_module tag) false = refl
-    go (of_batch other) true = sym (and-true (bytes_eq other batch))
-    go (of_batch other) false = sym (and-false (bytes_eq other batch))
-    go (of_recipe name) true = refl
-    go (of_recipe name) false = refl
 
 -- of each module
 tag_grown : {Z : Type 0} (kind : PlainEntry → Bool) (history : History) (item : Bor Entry)
@@ -201,13 +182,19 @@ pub placed_more : (history : History) (item : Bor Entry) (old new : Places) →
     ≡ items_under old.logs.halts.named.entries batch
     ++ cond (is_this batch (accepted_batch (plain_entry item.now)))
     (filter is_halt (cons_option (taken item.now.answer) [])) []) →
+    ((batch : List ℕ) → items_under new.standings.running.named.entries batch
+    ≡ after_entry running_more (cond (is_this batch (accepted_batch (plain_entry item.now))) (taken item.now.answer) None)
+    (items_under old.standings.running.named.entries batch)) →
+    ((batch : List ℕ) → items_under new.standings.held.named.entries batch
+    ≡ after_entry held_more (cond (is_this batch (accepted_batch (plain_entry item.now))) (taken item.now.answer) None)
+    (items_under old.standings.held.named.entries batch)) →
     new.known.recipes.items
     ≡ old.known.recipes.items ++ cond (is_accepted_recipe (plain_entry item.now)) (item ∷ []) [] →
     new.known.starts.items ≡ old.known.starts.items ++ cond (is_start (plain_entry item.now)) (item ∷ []) [] →
     new.known.present.items ≡ present_after (plain_event item.now.event) (is_accepted item.now.answer) old.known.present.items →
     IsPlaced old history → IsPlaced new (plain_entry item.now ∷ history)
-placed_more history item old new moving reporting valued starting closing freezing asking logs runs halts recipe started
-    tags placed = record {
+placed_more history item old new moving reporting valued starting closing freezing asking logs runs halts running held
+    recipe started tags placed = record {
       moves = tag_grown moves history item _ _ moving placed.moves;
       reports = tag_grown moves_or_reports history item _ _ reporting placed.reports;
       values = tag_grown moves_or_values history item _ _ valued placed.values;
@@ -219,6 +206,9 @@ placed_more history item old new moving reporting valued starting closing freezi
       runs = λ batch. kind_logged (λ entry. is_some (chart_entry entry)) batch history (plain_entry item.now) _ _
           (runs batch) (placed.runs batch);
       halts = λ batch. kind_logged is_halt batch history (plain_entry item.now) _ _ (halts batch) (placed.halts batch);
+      running = λ batch. running_follows batch history (plain_entry item.now) _ _ (running batch)
+          (placed.running batch);
+      held = λ batch. held_follows batch history (plain_entry item.now) _ _ (held batch) (placed.held batch);
       recipes = all_grown is_accepted_recipe history item _ _ recipe placed.recipes;
       started = all_grown is_start history item _ _ started placed.started;
       present = tags ∙ ap (present_after (plain_event item.now.event) (is_accepted item.now.answer)) placed.present;

@@ -1,4 +1,5 @@
 pub mod Listed
+pub mod Standing
 pub mod Halts
 pub mod Placed
 pub mod Dockings

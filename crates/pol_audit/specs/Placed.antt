@@ -4,7 +4,9 @@ use Rattle.pol_events.specs.Events.{PlainEntry, PlainEvent, report, variable}
 use Rattle.pol_history.specs.Looking.{History, past, past_of_batch, recipes}
 use Rattle.pol_history.specs.Modules.{is_moving, present_tags}
 use Rattle.pol_history.specs.Batches.{closing, freezing, held_step, is_freeze, is_start, log_by, starting}
-use Rattle.chart_cursor.specs.Logs.{chart_entries}
+use Rattle.mtp_codes.specs.Names.{is_among}
+use Rattle.chart_core.specs.Active.{is_running, phase_after}
+use Rattle.chart_cursor.specs.Logs.{chart_entries, was_held}
 use Rattle.pol_audit.specs.Halts.{is_halt}
 use Rattle.pol_audit.specs.Listed.{items_under, listed}
 use Rattle.pol_audit.specs.declared.places.Places.{Places}
@@ -69,6 +71,10 @@ pub record IsPlaced (places : Places) (history : History) : Type 0 where
       ≡ chart_entries (log_by (past_of_batch batch history))
   pub halts : (batch : List ℕ) → items_under places.logs.halts.named.entries batch
       ≡ filter is_halt (log_by (past_of_batch batch history))
+  pub running : (batch name : List ℕ) → is_among (items_under places.standings.running.named.entries batch) name
+      ≡ is_running (phase_after (log_by (past_of_batch batch history)) name)
+  pub held : (batch name : List ℕ) → is_among (items_under places.standings.held.named.entries batch) name
+      ≡ was_held (log_by (past_of_batch batch history)) name
   pub recipes : listed places.known.recipes.items ≡ recipes history
   pub started : listed places.known.starts.items ≡ filter is_start history
   pub present : places.known.present.items ≡ present_tags history

@@ -334,8 +334,8 @@ pub fn answered(alloc: Global, history: &Past<'_, '_>, event: &Event) -> Result<
 ///
 /// # Errors
 ///
-/// AllocError where memory is wanting: for the tags that are there, for the log of a batch, for the steps or the marks
-/// of its chart, or for the roles of a start.
+/// AllocError where memory is wanting: for the index of the history, for the steps or the marks of a batch's chart, or
+/// for the roles of a start.
 pub fn says(alloc: Global, history: &[Entry], event: &Event) -> Result<Answer, AllocError>
     requires { IsOrderly (plain_history history.now) }
     ensures { IfOk result (λ answer. answer ≡ answer_of (plain_history history.now) (plain_event event.now)) }

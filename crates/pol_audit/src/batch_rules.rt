@@ -17,8 +17,9 @@ use crate::batches::{
 };
 use crate::following::{chart_steps, is_active_step};
 use crate::freezes::{is_frozen, is_holding};
+use crate::log::Log;
 use crate::past::Past;
-use chart_core::{LogEntry, Step};
+use chart_core::Step;
 use mtp_codes::{MOST_BATCHES, MOST_RECIPES, Name};
 use mtp_desc::Description;
 use pol_bind::held_back_by;
@@ -119,9 +120,9 @@ fn is_on(binds: Allocation<'_>, role: Name, tag: Name) -> bool
 }
 
 // The name of the first active step whose role has the tag.
-fn step_on(binds: Allocation<'_>, tag: Name, steps: &[&Step], log: &[LogEntry]) -> Option<Name>
+fn step_on(binds: Allocation<'_>, tag: Name, steps: &[&Step], log: Log<'_>) -> Option<Name>
     ensures { result ≡ option_map (λ step. step.name)
-        (step_on (given (plain_allocation binds.entry)) tag (filter (is_active_step log.now) (plans_seen steps.now))) }
+        (step_on (given (plain_allocation binds.entry)) tag (filter (is_active_step log.entry.whole.now) (plans_seen steps.now))) }
 {
     for step in steps {
         if !is_active_step(step, log) {
@@ -150,7 +151,7 @@ fn active_step_of(
     let Some(chart) = chart_named(history, start.recipe) else {
         return Ok(None);
     };
-    let log = history.log(batch).whole;
+    let log = history.log(batch);
     let steps = chart_steps(alloc, chart)?;
     match step_on(start.binds, tag, &steps, log) {
         Some(step) => Ok(Some(Rule::ActiveStep { batch, step })),

@@ -50,6 +50,7 @@ pub fn recipe_count(history: &Past<'_, '_>) -> usize
     history.recipes().len()
 }
 
+/// What the event starts a batch with, if it is a start.
 pub fn starting(event: &Event) -> Option<Start<'_>>
     ensures { option_map started result ≡ starting (plain_event event.now) }
 {
@@ -81,6 +82,7 @@ pub fn start_of<'a>(history: &'a Past<'_, '_>, batch: Name) -> Option<Start<'a>>
         .find_map(|entry| starting(&entry.event))
 }
 
+/// The outcome with which the answer closes a batch.
 pub fn closing(answer: &Answer) -> Option<Outcome>
     ensures { result ≡ closing answer.now }
 {
@@ -101,6 +103,7 @@ pub fn outcome_of(history: &Past<'_, '_>, batch: Name) -> Option<Outcome>
         .find_map(|entry| closing(&entry.answer))
 }
 
+/// The entry that the answer says was taken into the log.
 pub fn taken(answer: &Answer) -> Option<LogEntry>
     ensures { result ≡ taken answer.now }
 {

@@ -24,7 +24,7 @@ use crate::held_steps::{first_hold, first_unhold};
 use crate::log::Log;
 use crate::past::Past;
 use crate::sights::Sights;
-use chart_core::{Chart, LogEntry, Step, Why, is_active, steps_in_order};
+use chart_core::{Chart, LogEntry, Step, Why, steps_in_order};
 use chart_cursor::{CursorNext, Seen, Sight, next_of_log};
 use mtp_codes::{Command, Name, Speaker, State};
 use mtp_modes::permitted;
@@ -48,10 +48,10 @@ pub fn was_stopped(log: &[LogEntry]) -> bool
 
 /// Whether the step is active after the log.
 #[tactic(auto, unfolding(crate::specs::Starts::is_active_step))]
-pub fn is_active_step(step: &Step, log: &[LogEntry]) -> bool
-    ensures { result ≡ is_active_step log.now (plain_step step.now) }
+pub fn is_active_step(step: &Step, log: Log<'_>) -> bool
+    ensures { result ≡ is_active_step log.entry.whole.now (plain_step step.now) }
 {
-    is_active(log, step.name)
+    log.is_active(step.name)
 }
 
 /// The steps of the chart in chart order.
@@ -97,10 +97,10 @@ fn stop_seen(seen: &Sights, step: &Step) -> Next
 }
 
 // A batch that is stopped: its first active step, and when there is none it is closed.
-fn stop_next(seen: &Sights, broken: bool, steps: &[&Step], log: &[LogEntry]) -> Next
+fn stop_next(seen: &Sights, broken: bool, steps: &[&Step], log: Log<'_>) -> Next
     ensures { result ≡ stop_next
         (plain_sights seen.now)
-        broken (filter (is_active_step log.now) (plans_seen steps.now)) }
+        broken (filter (is_active_step log.entry.whole.now) (plans_seen steps.now)) }
 {
     for step in steps {
         if is_active_step(step, log) {
@@ -133,10 +133,10 @@ fn broken_step(step: &Step, sight: Sight) -> Option<LogEntry>
 }
 
 // The entry Broke of the first active step whose service is stopped or aborted.
-fn first_broken(seen: &Sights, steps: &[&Step], log: &[LogEntry]) -> Option<LogEntry>
+fn first_broken(seen: &Sights, steps: &[&Step], log: Log<'_>) -> Option<LogEntry>
     ensures { result ≡ first_broken
         (plain_sights seen.now)
-        (filter (is_active_step log.now) (plans_seen steps.now)) }
+        (filter (is_active_step log.entry.whole.now) (plans_seen steps.now)) }
 {
     for step in steps {
         if !is_active_step(step, log) {
@@ -174,7 +174,7 @@ fn unhold_or_run(
         (filter (is_active_step log.entry.whole.now) (plans_seen steps.now))))
         (next_after (plain_chart chart.now) (chart_entries log.entry.whole.now) (plain_sights seen.now))) }
 {
-    match first_unhold(seen, steps, log.whole) {
+    match first_unhold(seen, steps, log) {
         CursorNext::Whole => next_of_log(alloc, chart, log.run(), seen),
         next => Ok(next),
     }
@@ -194,9 +194,9 @@ fn unfrozen_next(
     let steps = chart_steps(alloc, chart)?;
     let broken = log.has_broken();
     if broken || log.was_stopped() {
-        return Ok(stop_next(seen, broken, &steps, log.whole));
+        return Ok(stop_next(seen, broken, &steps, log));
     }
-    if let Some(entry) = first_broken(seen, &steps, log.whole) {
+    if let Some(entry) = first_broken(seen, &steps, log) {
         return Ok(Next::Did(entry));
     }
     Ok(run_next(unhold_or_run(alloc, chart, &steps, log, seen)?))
@@ -207,12 +207,12 @@ fn hold_next(
     alloc: Global,
     chart: &Chart,
     batch: Name,
-    log: &[LogEntry],
+    log: Log<'_>,
     seen: &Sights,
 ) -> Result<Next, AllocError>
     ensures { IfOk result (λ next. next ≡ next_by (plain_chart chart.now)
         (holding (asked_by (past_of_batch batch (plain_history seen.now.history.now))))
-        log.now (plain_sights seen.now)) }
+        log.entry.whole.now (plain_sights seen.now)) }
 {
     let steps = chart_steps(alloc, chart)?;
     match first_hold(seen, batch, &steps, log) {
@@ -238,7 +238,7 @@ fn next_by(
         return unfrozen_next(alloc, chart, log, seen);
     }
     if is_holding(seen.history, batch) {
-        return hold_next(alloc, chart, batch, log.whole, seen);
+        return hold_next(alloc, chart, batch, log, seen);
     }
     Ok(Next::Waiting(Why::Frozen))
 }

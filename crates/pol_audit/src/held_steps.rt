@@ -2,7 +2,6 @@
 ghost use Rattle.std.specs.Prelude.{◌≡◌, filter};
 ghost use Rattle.chart_core.specs.Trees.{plain_step};
 ghost use Rattle.chart_core.specs.Order.{plans_seen};
-ghost use Rattle.chart_cursor.specs.Logs.{holding_by, was_held};
 ghost use Rattle.chart_cursor.specs.NextEntry.{first_hold, first_unhold, owed, unasked};
 ghost use Rattle.pol_events.specs.Events.{plain_history};
 ghost use Rattle.pol_history.specs.Batches.{asked_by};
@@ -12,6 +11,7 @@ ghost use Rattle.pol_audit.specs.Starts.{is_active_step};
 
 use crate::following::is_active_step;
 use crate::freezes::was_asked;
+use crate::log::Log;
 use crate::sights::Sights;
 use chart_core::{LogEntry, Step};
 use chart_cursor::{CursorNext, Seen, earlier, hold_step, unhold_step};
@@ -30,10 +30,10 @@ fn hold_seen(seen: &Sights, step: &Step) -> Option<LogEntry>
 
 /// The entry Hold of the first active step that the batch hasn't asked to hold since its last freeze and that a recipe
 /// may send Hold.
-pub fn first_hold(seen: &Sights, batch: Name, steps: &[&Step], log: &[LogEntry]) -> Option<LogEntry>
+pub fn first_hold(seen: &Sights, batch: Name, steps: &[&Step], log: Log<'_>) -> Option<LogEntry>
     ensures { result ≡ first_hold (plain_sights seen.now)
         (unasked (asked_by (past_of_batch batch (plain_history seen.now.history.now)))
-        (filter (is_active_step log.now) (plans_seen steps.now))) }
+        (filter (is_active_step log.entry.whole.now) (plans_seen steps.now))) }
 {
     for step in steps {
         if !is_active_step(step, log) || was_asked(seen.history, batch, step.name) {
@@ -48,29 +48,6 @@ pub fn first_hold(seen: &Sights, batch: Name, steps: &[&Step], log: &[LogEntry])
 
 // ---- unheld
 
-fn holding_by(name: Name, entry: &LogEntry) -> Option<bool>
-    ensures { result ≡ holding_by name entry.now }
-{
-    match entry {
-        LogEntry::Hold { step, .. } if *step == name => Some(true),
-        LogEntry::Start { step, .. } if *step == name => Some(false),
-        LogEntry::Unhold { step, .. } if *step == name => Some(false),
-        _ => None,
-    }
-}
-
-// Whether the step of this name was held since it last started, and not unheld after.
-#[tactic(auto, using(crate::proofs::HeldSteps::said_later))]
-fn was_held(log: &[LogEntry], name: Name) -> bool
-    ensures { result ≡ was_held log.now name }
-{
-    let mut held = false;
-    for entry in log {
-        held = holding_by(name, entry).unwrap_or(held);
-    }
-    held
-}
-
 // What a step comes to that was held, by what is seen of its service: nothing where that is over.
 #[tactic(auto, using(crate::proofs::Steps::role_or_itself))]
 fn unhold_seen(seen: &Sights, step: &Step) -> CursorNext
@@ -81,10 +58,10 @@ fn unhold_seen(seen: &Sights, step: &Step) -> CursorNext
 }
 
 // What a step comes to after the log: nothing unless it is active and was held.
-fn owed_next(seen: &Sights, step: &Step, log: &[LogEntry]) -> CursorNext
-    ensures { result ≡ owed_next (plain_sights seen.now) log.now (plain_step step.now) }
+fn owed_next(seen: &Sights, step: &Step, log: Log<'_>) -> CursorNext
+    ensures { result ≡ owed_next (plain_sights seen.now) log.entry.whole.now (plain_step step.now) }
 {
-    if is_active_step(step, log) && was_held(log, step.name) {
+    if is_active_step(step, log) && log.was_held(step.name) {
         unhold_seen(seen, step)
     } else {
         CursorNext::Whole
@@ -94,9 +71,9 @@ fn owed_next(seen: &Sights, step: &Step, log: &[LogEntry]) -> CursorNext
 /// The entry Unhold of the first active step that is owed one and may be sent Unhold; else the obstacle of the first
 /// that is owed one; Whole where none is.
 #[tactic(auto, using(crate::proofs::HeldSteps::none_behind))]
-pub fn first_unhold(seen: &Sights, steps: &[&Step], log: &[LogEntry]) -> CursorNext
+pub fn first_unhold(seen: &Sights, steps: &[&Step], log: Log<'_>) -> CursorNext
     ensures { result ≡ first_unhold (plain_sights seen.now)
-        (owed (plain_sights seen.now) log.now (filter (is_active_step log.now) (plans_seen steps.now))) }
+        (owed (plain_sights seen.now) log.entry.whole.now (filter (is_active_step log.entry.whole.now) (plans_seen steps.now))) }
 {
     let mut next = CursorNext::Whole;
     for step in steps {

@@ -1,13 +1,14 @@
-//! The answer to an event, worked out by looking back in a history, and the verdict over the lines of one: plain and
-//! slow, and a second way beside the plant's.
+//! The answer to an event, worked out by looking back in a history, and the verdict over the lines of one: plain,
+//! and a second way beside the plant's.
 //!
 //! The job audit stands on it, and the worked journals are answered by it a second time, beside the program
 //! (`pol_examples`).
 //!
 //! Its main contracts are those of `says`, which answers as `pol_history` defines; of `judge`, which tells the first
 //! answer of a history that is another one; and of `Audit`, which is fed the lines of a history and gives the verdict
-//! that `specs/Verdict.antt` defines. Each value is searched in the history that it is lent; it knows nothing of plants
-//! and their tables, of sources and sinks, threads or clocks.
+//! that `specs/Verdict.antt` defines. Each value is searched among the entries of the history that concern it, which an
+//! index lists (`specs/Placed.antt`); it knows nothing of plants and their tables, of sources and sinks, threads or
+//! clocks.
 //!
 //! Each rule that can refuse an event is the function of its name: in `module_rules` where a module's past decides it,
 //! in `batch_rules` where recipes, batches or holders do, in `start_rules` where it asks about the binds of a start.
@@ -33,6 +34,7 @@ mod modules;
 mod past;
 mod places;
 mod sights;
+mod standings;
 mod start_rules;
 mod tails;
 mod whole;

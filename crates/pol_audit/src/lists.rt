@@ -33,6 +33,15 @@ impl<T: Drop> Lists<T> {
         }
     }
 
+    /// Has these items stand under the name.
+    pub fn put(&mut self, name: Name, items: Vec<T>) -> Result<(), AllocError>
+        ensures { OnOk result ((other : List ℕ) → items_under self.new.named.entries other
+            ≡ (if bytes_eq name other then items.items else items_under self.old.named.entries other)) }
+    {
+        self.named.insert(name, items)?;
+        Ok(())
+    }
+
     fn add(&mut self, alloc: Global, name: Name, item: T) -> Result<(), AllocError>
         ensures { OnOk result ((other : List ℕ) → items_under self.new.named.entries other
             ≡ (if bytes_eq name other then items_under self.old.named.entries other ++ item ∷ []

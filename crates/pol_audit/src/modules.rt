@@ -204,7 +204,8 @@ pub fn next_ticket(history: &Past<'_, '_>, tag: Name) -> u32
     1 + begin_count(history, tag) as u32
 }
 
-fn tags_without(alloc: Global, tag: Name, tags: &[Name]) -> Result<Vec<Name>, AllocError>
+/// The tags without this one.
+pub fn tags_without(alloc: Global, tag: Name, tags: &[Name]) -> Result<Vec<Name>, AllocError>
     ensures { IfOk result (λ others. others.items ≡ tags_without tag tags.now) }
 {
     let mut others = Vec::new(alloc);

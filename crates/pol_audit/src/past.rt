@@ -101,10 +101,13 @@ impl<'a> Past<'a, '_> {
         ensures { result.whole.now ≡ log_by (past_of_batch batch (plain_history self.now)) }
     {
         let logs = &self.places.logs;
+        let standings = &self.places.standings;
         Log {
             whole: logs.logs.of(batch),
             run: logs.runs.of(batch),
             halts: logs.halts.of(batch),
+            running: standings.running.of(batch),
+            held: standings.held.of(batch),
         }
     }
 

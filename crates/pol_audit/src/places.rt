@@ -12,33 +12,16 @@ ghost use Rattle.pol_audit.specs.Listed.{Grows, accepted_batch, accepted_tag};
 ghost use Rattle.pol_audit.specs.Placed.{IsPlaced, is_report, is_variable};
 
 use crate::batches::taken;
-use crate::entries::is_of_recipe;
+use crate::entries::{accepted_batch, accepted_tag, is_of_recipe};
 use crate::lists::Lists;
 use crate::modules::{is_moving, tags_after};
+use crate::standings::Standings;
 use chart_core::LogEntry;
 use mtp_codes::Name;
-use pol_events::{Answer, Entry, Event, Subject};
+use pol_events::{Answer, Entry, Event};
 use std::alloc::{AllocError, Global};
 
 // ---- what an entry is
-
-fn accepted_tag(entry: &Entry) -> Option<Name>
-    ensures { result ≡ accepted_tag (plain_entry entry.now) }
-{
-    match entry.event.subject() {
-        Subject::Module(tag) if entry.answer.is_accepted() => Some(tag),
-        _ => None,
-    }
-}
-
-fn accepted_batch(entry: &Entry) -> Option<Name>
-    ensures { result ≡ accepted_batch (plain_entry entry.now) }
-{
-    match entry.event.subject() {
-        Subject::Batch(batch) if entry.answer.is_accepted() => Some(batch),
-        _ => None,
-    }
-}
 
 fn is_report(event: &Event) -> bool
     ensures { result ≡ is_report (plain_event event.now) }
@@ -251,6 +234,7 @@ pub struct Places<'a> {
     pub modules: ModulePlaces<'a>,
     pub batches: BatchPlaces<'a>,
     pub logs: Logs,
+    pub standings: Standings,
     pub known: KnownPlaces<'a>,
 }
 
@@ -277,6 +261,10 @@ impl<'a> Places<'a> {
                 runs: Lists::new(alloc),
                 halts: Lists::new(alloc),
             },
+            standings: Standings {
+                running: Lists::new(alloc),
+                held: Lists::new(alloc),
+            },
             known: KnownPlaces {
                 recipes: Vec::new(alloc),
                 starts: Vec::new(alloc),
@@ -293,6 +281,7 @@ impl<'a> Places<'a> {
         self.modules.add_module(alloc, entry)?;
         self.batches.add_batch(alloc, entry)?;
         self.logs.add_log(alloc, entry)?;
+        self.standings.add_standing(alloc, entry)?;
         self.known.add_known(alloc, entry)?;
         Ok(())
     }

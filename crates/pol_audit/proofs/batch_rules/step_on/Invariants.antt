@@ -10,6 +10,6 @@ abbrev pub invariant-loop-step : goal.invariant-loop-step
 invariant-loop-step l =
     option_map (λ step. step.name)
     (step_on (given (plain_allocation l.binds)) l.tag
-    (filter (is_active_step l.log) (plans_seen (drop l.step-index l.steps))))
+    (filter (is_active_step l.log.whole.now) (plans_seen (drop l.step-index l.steps))))
     ≡ option_map (λ step. step.name)
-    (step_on (given (plain_allocation l.binds)) l.tag (filter (is_active_step l.log) (plans_seen l.steps)))
+    (step_on (given (plain_allocation l.binds)) l.tag (filter (is_active_step l.log.whole.now) (plans_seen l.steps)))

@@ -13,6 +13,6 @@ abbrev pub invariant-loop-step : goal.invariant-loop-step
 invariant-loop-step l =
     stop_next (sights_by (given (plain_allocation l.seen.binds))
     (λ tag. past tag (plain_history l.seen.history.now))) l.broken
-    (filter (is_active_step l.log) (plans_seen (drop l.step-index l.steps)))
+    (filter (is_active_step l.log.whole.now) (plans_seen (drop l.step-index l.steps)))
     ≡ stop_next (sights_by (given (plain_allocation l.seen.binds))
-    (λ tag. past tag (plain_history l.seen.history.now))) l.broken (filter (is_active_step l.log) (plans_seen l.steps))
+    (λ tag. past tag (plain_history l.seen.history.now))) l.broken (filter (is_active_step l.log.whole.now) (plans_seen l.steps))

@@ -13,5 +13,5 @@ abbrev pub invariant-loop-step : goal.invariant-loop-step
 invariant-loop-step l =
     let asked = asked_by (past_of_batch l.batch (plain_history l.seen.history.now)) in
     first_hold (plain_sights l.seen)
-    (unasked asked (filter (is_active_step l.log) (plans_seen (drop l.step-index l.steps))))
-    ≡ first_hold (plain_sights l.seen) (unasked asked (filter (is_active_step l.log) (plans_seen l.steps)))
+    (unasked asked (filter (is_active_step l.log.whole.now) (plans_seen (drop l.step-index l.steps))))
+    ≡ first_hold (plain_sights l.seen) (unasked asked (filter (is_active_step l.log.whole.now) (plans_seen l.steps)))

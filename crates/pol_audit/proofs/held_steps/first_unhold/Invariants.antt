@@ -7,5 +7,5 @@ use Rattle.pol_audit.proofs.held_steps.first_unhold.Given as goal
 
 abbrev pub invariant-loop-step : goal.invariant-loop-step
 invariant-loop-step l =
-    first_next l.next (first_owed (plain_sights l.seen) l.log (plans_seen (drop l.step-index l.steps)))
-    ≡ first_owed (plain_sights l.seen) l.log (plans_seen l.steps)
+    first_next l.next (first_owed (plain_sights l.seen) l.log.whole.now (plans_seen (drop l.step-index l.steps)))
+    ≡ first_owed (plain_sights l.seen) l.log.whole.now (plans_seen l.steps)

@@ -3,7 +3,7 @@ use Rattle.std.proofs.lemmas.Iterator.Consumers.{YieldsList-at, YieldsList-from_
 use Rattle.std.proofs.lemmas.Iterator.Search.{YieldsList-from_take_while}
 use Rattle.pol_events.specs.Events.{plain_history}
 use Rattle.pol_history.specs.Looking.{after_last, past}
-use Rattle.pol_history.specs.Modules.{begins_by, is_begin, is_plug}
+use Rattle.pol_history.specs.Modules.{is_begin, is_plug}
 use Rattle.pol_audit.specs.Listed.{listed}
 use Rattle.pol_audit.proofs.Among.{begun_among, few_begun}
 use Rattle.pol_audit.proofs.LookingBack.{counted_since, entries_before, listed_back, no_begin}

@@ -1,6 +1,5 @@
 -- The name's list is changed in its place.
 use Rattle.std.proofs.Common.{◌∙◌, ap, sym}
-use Rattle.std.proofs.lemmas.Result.{on_ok_weaker}
 use Rattle.std.specs.Option.{option_copied_mut}
 use Rattle.pol_audit.specs.Listed.{items_under}
 use Rattle.pol_audit.proofs.Listing.{items_written}

@@ -8,11 +8,12 @@ returns c = λ history placed.
       modules = c.add_module.new.self;
       batches = c.add_batch.new.self;
       logs = c.add_log.new.self;
+      standings = c.add_standing.new.self;
       known = c.add_known.new.self;
     })
     c.in_ok-add_module.ensures.moves c.in_ok-add_module.ensures.reports c.in_ok-add_module.ensures.values
     c.in_ok-add_batch.ensures.starts c.in_ok-add_batch.ensures.closings c.in_ok-add_batch.ensures.freezings
     c.in_ok-add_batch.ensures.askings c.in_ok-add_log.ensures.logs c.in_ok-add_log.ensures.runs
-    c.in_ok-add_log.ensures.halts
+    c.in_ok-add_log.ensures.halts c.in_ok-add_standing.ensures.running c.in_ok-add_standing.ensures.held
     c.in_ok-add_known.ensures.recipes c.in_ok-add_known.ensures.starts c.in_ok-add_known.ensures.present
     placed
