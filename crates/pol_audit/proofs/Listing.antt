@@ -13,7 +13,8 @@ use Rattle.pol_events.specs.Events.{PlainEntry, plain_entry}
 use Rattle.pol_events.specs.Subjects.{Subject, of_module, of_batch, of_recipe, subject}
 use Rattle.pol_history.specs.Looking.{is_accepted, is_accepted_of, is_accepted_of_batch, is_batch, is_module}
 use Rattle.pol_events.specs.declared.event.Entry.{Entry}
-use Rattle.pol_history.proofs.Names.{same_true, written}
+use Rattle.mtp_codes.proofs.Names.{same_true}
+use Rattle.pol_history.proofs.Names.{written}
 use Rattle.pol_audit.specs.Listed.{accepted_batch, accepted_tag, batch_in, is_this, items_under, listed, tag_in}
 
 -- an item that is kept stands at the end of its name's list

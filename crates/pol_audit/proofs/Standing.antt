@@ -16,7 +16,7 @@ use Rattle.pol_events.specs.Events.{PlainEntry}
 use Rattle.pol_history.specs.Looking.{History, is_accepted_of_batch, past_of_batch}
 use Rattle.pol_history.specs.Batches.{log_by, taken}
 use Rattle.pol_history.specs.Modules.{tags_without}
-use Rattle.pol_history.proofs.Names.{same_true}
+use Rattle.mtp_codes.proofs.Names.{same_true}
 use Rattle.pol_audit.specs.Listed.{accepted_batch, is_this, items_under}
 use Rattle.pol_audit.specs.Standing.{after_entry, held_more, running_more}
 use Rattle.pol_audit.proofs.Listing.{its_batch}
