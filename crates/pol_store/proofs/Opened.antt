@@ -1,11 +1,10 @@
 -- A disk is opened.
-use Rattle.std.proofs.Common.{◌≡◌, inl, inr, ℕ, ◌<◌, ◌≤◌, List, [], length, Option, Some, refl, subst, arith}
+use Rattle.std.proofs.Common.{◌≡◌, inl, inr, ℕ, ◌<◌, ◌≤◌, List, [], length, Option, Some, None, refl, subst, arith}
 use Rattle.std.specs.Prelude.{IfSome}
 use Rattle.pol_disk.specs.Disks.{LeavesOnly}
 use Rattle.pol_disk.proofs.Moments.{then, wider}
 use Rattle.pol_texts.specs.Settled.{IsSynced, IsSettled}
 use Rattle.pol_texts.specs.Stands.{Stands}
-use Rattle.pol_texts.proofs.Reading.{both}
 use Rattle.pol_events.specs.Events.{PlainEvent}
 use Rattle.pol_store.specs.Stands.{StandsFor, BreaksAt}
 use Rattle.pol_store.specs.Opens.{Breaks, IsOpened, IsReplayed, IsNoStore, Tells}
@@ -58,6 +57,12 @@ number_told seen all number told is = subst (λ (o : Option (List ℕ)). IfSome 
 pub bytes_told : (seen : Option (List ℕ)) (all items : List ℕ) → seen ≡ Some all → IfSome seen (λ l. items ≡ l) →
     items ≡ all
 bytes_told seen all items told is = subst (λ (o : Option (List ℕ)). IfSome o (λ l. items ≡ l)) told is
+
+-- what follows from two facts of bytes that may be told
+both : (o : Option (List ℕ)) (A B C : List ℕ → Type 0) → ((l : List ℕ) → A l → B l → C l) → IfSome o A → IfSome o B →
+    IfSome o C
+both None A B C f a b = tt
+both (Some l) A B C f a b = f l a b
 
 -- what a fault of the replay says of the disk
 pub replay_tells : (fault : OpenFault) (items : List ℕ) (number : ℕ) (seen seen' : Option (List ℕ))
