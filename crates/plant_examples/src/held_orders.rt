@@ -23,132 +23,132 @@ const OPENING: [&str; 9] = [
     r#"{"ev":"advance","at":9,"batch":"b"}"#,
 ];
 
-// In an order F is a freeze, H one that holds, T a thaw, S a stop, and B that the service of the first step is aborted.
+// A row for each order, with its answers. In an order F is a freeze, H one that holds, T a thaw, S a stop, and B that the service of the first step is aborted.
 // Behind it the answers: `.` done, `?` stop_asked, `r` refused; then each advance: h hold, u unhold, s stop, l left,
 // k broke, i waits for another state, each with the step; f frozen; B closed as Broken, S as Stopped; n refused, since
 // it is closed.
-const ORDERS: [(&str, &str); 120] = [
-    ("FHTSB", ".ff .h1h2 .u1u2 ?s1s2 s3S nnnnnn"),
-    ("FHTBS", ".ff .h1h2 .u1u2 k1l1 .s2s3 Bnnnnn"),
-    ("FHSTB", ".ff .h1h2 ?s1s2 rs3S nn nnnnnn"),
-    ("FHSBT", ".ff .h1h2 ?s1s2 s3S nnn nnnnnn"),
-    ("FHBTS", ".ff .h1h2 h3f .k1l1 .s2s3 Bnnnnn"),
-    ("FHBST", ".ff .h1h2 h3f ?l1s2 rs3S nnnnnn"),
-    ("FTHSB", ".ff .i1i1 .h1h2 ?s1s2 s3S nnnnnn"),
-    ("FTHBS", ".ff .i1i1 .h1h2 h3f ?l1s2 s3Snnnn"),
-    ("FTSHB", ".ff .i1i1 ?s1s2 .h3f ff ffffff"),
-    ("FTSBH", ".ff .i1i1 ?s1s2 s3S nnn nnnnnn"),
-    ("FTBHS", ".ff .i1i1 k1l1 .h2h3 .s2s3 Bnnnnn"),
-    ("FTBSH", ".ff .i1i1 k1l1 .s2s3 .ff ffffff"),
-    ("FSHTB", ".ff ?s1s2 .h3f .s3S nn nnnnnn"),
-    ("FSHBT", ".ff ?s1s2 .h3f ff .s3S nnnnnn"),
-    ("FSTHB", ".ff ?s1s2 rs3S nnn nn nnnnnn"),
-    ("FSTBH", ".ff ?s1s2 rs3S nn nnn nnnnnn"),
-    ("FSBHT", ".ff ?s1s2 s3S nnn nnn nnnnnn"),
-    ("FSBTH", ".ff ?s1s2 s3S nnn nnn nnnnnn"),
-    ("FBHTS", ".ff ff .h2h3 .k1l1 .s2s3 Bnnnnn"),
-    ("FBHST", ".ff ff .h2h3 ?l1s2 rs3S nnnnnn"),
-    ("FBTHS", ".ff ff .k1l1 .h2h3 .s2s3 Bnnnnn"),
-    ("FBTSH", ".ff ff .k1l1 .s2s3 .ff ffffff"),
-    ("FBSHT", ".ff ff ?l1s2 .h3f .s3S nnnnnn"),
-    ("FBSTH", ".ff ff ?l1s2 rs3S nnn nnnnnn"),
-    ("HFTSB", ".h1h2 rh3f .u1u2 ?s1s2 s3S nnnnnn"),
-    ("HFTBS", ".h1h2 rh3f .u1u2 k1l1 .s2s3 Bnnnnn"),
-    ("HFSTB", ".h1h2 rh3f ?s1s2 rs3S nn nnnnnn"),
-    ("HFSBT", ".h1h2 rh3f ?s1s2 s3S nnn nnnnnn"),
-    ("HFBTS", ".h1h2 rh3f ff .k1l1 .s2s3 Bnnnnn"),
-    ("HFBST", ".h1h2 rh3f ff ?l1s2 rs3S nnnnnn"),
-    ("HTFSB", ".h1h2 .u1u2 .ff ?s1s2 s3S nnnnnn"),
-    ("HTFBS", ".h1h2 .u1u2 .ff ff ?l1s2 s3Snnnn"),
-    ("HTSFB", ".h1h2 .u1u2 ?s1s2 .ff ff ffffff"),
-    ("HTSBF", ".h1h2 .u1u2 ?s1s2 s3S nnn nnnnnn"),
-    ("HTBFS", ".h1h2 .u1u2 k1l1 .ff .s2s3 Bnnnnn"),
-    ("HTBSF", ".h1h2 .u1u2 k1l1 .s2s3 .ff ffffff"),
-    ("HSFTB", ".h1h2 ?s1s2 .ff .s3S nn nnnnnn"),
-    ("HSFBT", ".h1h2 ?s1s2 .ff ff .s3S nnnnnn"),
-    ("HSTFB", ".h1h2 ?s1s2 rs3S nnn nn nnnnnn"),
-    ("HSTBF", ".h1h2 ?s1s2 rs3S nn nnn nnnnnn"),
-    ("HSBFT", ".h1h2 ?s1s2 s3S nnn nnn nnnnnn"),
-    ("HSBTF", ".h1h2 ?s1s2 s3S nnn nnn nnnnnn"),
-    ("HBFTS", ".h1h2 h3f rff .k1l1 .s2s3 Bnnnnn"),
-    ("HBFST", ".h1h2 h3f rff ?l1s2 rs3S nnnnnn"),
-    ("HBTFS", ".h1h2 h3f .k1l1 .ff .s2s3 Bnnnnn"),
-    ("HBTSF", ".h1h2 h3f .k1l1 .s2s3 .ff ffffff"),
-    ("HBSFT", ".h1h2 h3f ?l1s2 .ff .s3S nnnnnn"),
-    ("HBSTF", ".h1h2 h3f ?l1s2 rs3S nnn nnnnnn"),
-    ("TFHSB", "ri1i1 .ff .h1h2 ?s1s2 s3S nnnnnn"),
-    ("TFHBS", "ri1i1 .ff .h1h2 h3f ?l1s2 s3Snnnn"),
-    ("TFSHB", "ri1i1 .ff ?s1s2 .h3f ff ffffff"),
-    ("TFSBH", "ri1i1 .ff ?s1s2 s3S nnn nnnnnn"),
-    ("TFBHS", "ri1i1 .ff ff .h2h3 ?l1s2 s3Snnnn"),
-    ("TFBSH", "ri1i1 .ff ff ?l1s2 .h3f ffffff"),
-    ("THFSB", "ri1i1 .h1h2 rh3f ?s1s2 s3S nnnnnn"),
-    ("THFBS", "ri1i1 .h1h2 rh3f ff ?l1s2 s3Snnnn"),
-    ("THSFB", "ri1i1 .h1h2 ?s1s2 .ff ff ffffff"),
-    ("THSBF", "ri1i1 .h1h2 ?s1s2 s3S nnn nnnnnn"),
-    ("THBFS", "ri1i1 .h1h2 h3f rff ?l1s2 s3Snnnn"),
-    ("THBSF", "ri1i1 .h1h2 h3f ?l1s2 .ff ffffff"),
-    ("TSFHB", "ri1i1 ?s1s2 .ff .h3f ff ffffff"),
-    ("TSFBH", "ri1i1 ?s1s2 .ff ff .h3f ffffff"),
-    ("TSHFB", "ri1i1 ?s1s2 .h3f rff ff ffffff"),
-    ("TSHBF", "ri1i1 ?s1s2 .h3f ff rff ffffff"),
-    ("TSBFH", "ri1i1 ?s1s2 s3S nnn nnn nnnnnn"),
-    ("TSBHF", "ri1i1 ?s1s2 s3S nnn nnn nnnnnn"),
-    ("TBFHS", "ri1i1 k1l1 .ff .h2h3 .s2s3 Bnnnnn"),
-    ("TBFSH", "ri1i1 k1l1 .ff .s2s3 .ff ffffff"),
-    ("TBHFS", "ri1i1 k1l1 .h2h3 rff .s2s3 Bnnnnn"),
-    ("TBHSF", "ri1i1 k1l1 .h2h3 .s2s3 .ff ffffff"),
-    ("TBSFH", "ri1i1 k1l1 .s2s3 .ff .ff ffffff"),
-    ("TBSHF", "ri1i1 k1l1 .s2s3 .ff rff ffffff"),
-    ("SFHTB", "?s1s2 .ff .h3f .s3S nn nnnnnn"),
-    ("SFHBT", "?s1s2 .ff .h3f ff .s3S nnnnnn"),
-    ("SFTHB", "?s1s2 .ff .s3S nnn nn nnnnnn"),
-    ("SFTBH", "?s1s2 .ff .s3S nn nnn nnnnnn"),
-    ("SFBHT", "?s1s2 .ff ff .h3f .s3S nnnnnn"),
-    ("SFBTH", "?s1s2 .ff ff .s3S nnn nnnnnn"),
-    ("SHFTB", "?s1s2 .h3f rff .s3S nn nnnnnn"),
-    ("SHFBT", "?s1s2 .h3f rff ff .s3S nnnnnn"),
-    ("SHTFB", "?s1s2 .h3f .s3S nnn nn nnnnnn"),
-    ("SHTBF", "?s1s2 .h3f .s3S nn nnn nnnnnn"),
-    ("SHBFT", "?s1s2 .h3f ff rff .s3S nnnnnn"),
-    ("SHBTF", "?s1s2 .h3f ff .s3S nnn nnnnnn"),
-    ("STFHB", "?s1s2 rs3S nnn nnn nn nnnnnn"),
-    ("STFBH", "?s1s2 rs3S nnn nn nnn nnnnnn"),
-    ("STHFB", "?s1s2 rs3S nnn nnn nn nnnnnn"),
-    ("STHBF", "?s1s2 rs3S nnn nn nnn nnnnnn"),
-    ("STBFH", "?s1s2 rs3S nn nnn nnn nnnnnn"),
-    ("STBHF", "?s1s2 rs3S nn nnn nnn nnnnnn"),
-    ("SBFHT", "?s1s2 s3S nnn nnn nnn nnnnnn"),
-    ("SBFTH", "?s1s2 s3S nnn nnn nnn nnnnnn"),
-    ("SBHFT", "?s1s2 s3S nnn nnn nnn nnnnnn"),
-    ("SBHTF", "?s1s2 s3S nnn nnn nnn nnnnnn"),
-    ("SBTFH", "?s1s2 s3S nnn nnn nnn nnnnnn"),
-    ("SBTHF", "?s1s2 s3S nnn nnn nnn nnnnnn"),
-    ("BFHTS", "k1l1 .ff .h2h3 .s2s3 .Bn nnnnnn"),
-    ("BFHST", "k1l1 .ff .h2h3 .s2s3 rBn nnnnnn"),
-    ("BFTHS", "k1l1 .ff .s2s3 .ff .Bn nnnnnn"),
-    ("BFTSH", "k1l1 .ff .s2s3 .Bn nnn nnnnnn"),
-    ("BFSHT", "k1l1 .ff .s2s3 .ff .Bn nnnnnn"),
-    ("BFSTH", "k1l1 .ff .s2s3 rBn nnn nnnnnn"),
-    ("BHFTS", "k1l1 .h2h3 rff .s2s3 .Bn nnnnnn"),
-    ("BHFST", "k1l1 .h2h3 rff .s2s3 rBn nnnnnn"),
-    ("BHTFS", "k1l1 .h2h3 .s2s3 .ff .Bn nnnnnn"),
-    ("BHTSF", "k1l1 .h2h3 .s2s3 .Bn nnn nnnnnn"),
-    ("BHSFT", "k1l1 .h2h3 .s2s3 .ff .Bn nnnnnn"),
-    ("BHSTF", "k1l1 .h2h3 .s2s3 rBn nnn nnnnnn"),
-    ("BTFHS", "k1l1 rs2s3 .ff .ff .Bn nnnnnn"),
-    ("BTFSH", "k1l1 rs2s3 .ff .Bn nnn nnnnnn"),
-    ("BTHFS", "k1l1 rs2s3 .ff rff .Bn nnnnnn"),
-    ("BTHSF", "k1l1 rs2s3 .ff .Bn nnn nnnnnn"),
-    ("BTSFH", "k1l1 rs2s3 .Bn nnn nnn nnnnnn"),
-    ("BTSHF", "k1l1 rs2s3 .Bn nnn nnn nnnnnn"),
-    ("BSFHT", "k1l1 .s2s3 .ff .ff .Bn nnnnnn"),
-    ("BSFTH", "k1l1 .s2s3 .ff .Bn nnn nnnnnn"),
-    ("BSHFT", "k1l1 .s2s3 .ff rff .Bn nnnnnn"),
-    ("BSHTF", "k1l1 .s2s3 .ff .Bn nnn nnnnnn"),
-    ("BSTFH", "k1l1 .s2s3 rBn nnn nnn nnnnnn"),
-    ("BSTHF", "k1l1 .s2s3 rBn nnn nnn nnnnnn"),
-];
+const ORDERS: &str = "
+FHTSB .ff .h1h2 .u1u2 ?s1s2 s3S nnnnnn
+FHTBS .ff .h1h2 .u1u2 k1l1 .s2s3 Bnnnnn
+FHSTB .ff .h1h2 ?s1s2 rs3S nn nnnnnn
+FHSBT .ff .h1h2 ?s1s2 s3S nnn nnnnnn
+FHBTS .ff .h1h2 h3f .k1l1 .s2s3 Bnnnnn
+FHBST .ff .h1h2 h3f ?l1s2 rs3S nnnnnn
+FTHSB .ff .i1i1 .h1h2 ?s1s2 s3S nnnnnn
+FTHBS .ff .i1i1 .h1h2 h3f ?l1s2 s3Snnnn
+FTSHB .ff .i1i1 ?s1s2 .h3f ff ffffff
+FTSBH .ff .i1i1 ?s1s2 s3S nnn nnnnnn
+FTBHS .ff .i1i1 k1l1 .h2h3 .s2s3 Bnnnnn
+FTBSH .ff .i1i1 k1l1 .s2s3 .ff ffffff
+FSHTB .ff ?s1s2 .h3f .s3S nn nnnnnn
+FSHBT .ff ?s1s2 .h3f ff .s3S nnnnnn
+FSTHB .ff ?s1s2 rs3S nnn nn nnnnnn
+FSTBH .ff ?s1s2 rs3S nn nnn nnnnnn
+FSBHT .ff ?s1s2 s3S nnn nnn nnnnnn
+FSBTH .ff ?s1s2 s3S nnn nnn nnnnnn
+FBHTS .ff ff .h2h3 .k1l1 .s2s3 Bnnnnn
+FBHST .ff ff .h2h3 ?l1s2 rs3S nnnnnn
+FBTHS .ff ff .k1l1 .h2h3 .s2s3 Bnnnnn
+FBTSH .ff ff .k1l1 .s2s3 .ff ffffff
+FBSHT .ff ff ?l1s2 .h3f .s3S nnnnnn
+FBSTH .ff ff ?l1s2 rs3S nnn nnnnnn
+HFTSB .h1h2 rh3f .u1u2 ?s1s2 s3S nnnnnn
+HFTBS .h1h2 rh3f .u1u2 k1l1 .s2s3 Bnnnnn
+HFSTB .h1h2 rh3f ?s1s2 rs3S nn nnnnnn
+HFSBT .h1h2 rh3f ?s1s2 s3S nnn nnnnnn
+HFBTS .h1h2 rh3f ff .k1l1 .s2s3 Bnnnnn
+HFBST .h1h2 rh3f ff ?l1s2 rs3S nnnnnn
+HTFSB .h1h2 .u1u2 .ff ?s1s2 s3S nnnnnn
+HTFBS .h1h2 .u1u2 .ff ff ?l1s2 s3Snnnn
+HTSFB .h1h2 .u1u2 ?s1s2 .ff ff ffffff
+HTSBF .h1h2 .u1u2 ?s1s2 s3S nnn nnnnnn
+HTBFS .h1h2 .u1u2 k1l1 .ff .s2s3 Bnnnnn
+HTBSF .h1h2 .u1u2 k1l1 .s2s3 .ff ffffff
+HSFTB .h1h2 ?s1s2 .ff .s3S nn nnnnnn
+HSFBT .h1h2 ?s1s2 .ff ff .s3S nnnnnn
+HSTFB .h1h2 ?s1s2 rs3S nnn nn nnnnnn
+HSTBF .h1h2 ?s1s2 rs3S nn nnn nnnnnn
+HSBFT .h1h2 ?s1s2 s3S nnn nnn nnnnnn
+HSBTF .h1h2 ?s1s2 s3S nnn nnn nnnnnn
+HBFTS .h1h2 h3f rff .k1l1 .s2s3 Bnnnnn
+HBFST .h1h2 h3f rff ?l1s2 rs3S nnnnnn
+HBTFS .h1h2 h3f .k1l1 .ff .s2s3 Bnnnnn
+HBTSF .h1h2 h3f .k1l1 .s2s3 .ff ffffff
+HBSFT .h1h2 h3f ?l1s2 .ff .s3S nnnnnn
+HBSTF .h1h2 h3f ?l1s2 rs3S nnn nnnnnn
+TFHSB ri1i1 .ff .h1h2 ?s1s2 s3S nnnnnn
+TFHBS ri1i1 .ff .h1h2 h3f ?l1s2 s3Snnnn
+TFSHB ri1i1 .ff ?s1s2 .h3f ff ffffff
+TFSBH ri1i1 .ff ?s1s2 s3S nnn nnnnnn
+TFBHS ri1i1 .ff ff .h2h3 ?l1s2 s3Snnnn
+TFBSH ri1i1 .ff ff ?l1s2 .h3f ffffff
+THFSB ri1i1 .h1h2 rh3f ?s1s2 s3S nnnnnn
+THFBS ri1i1 .h1h2 rh3f ff ?l1s2 s3Snnnn
+THSFB ri1i1 .h1h2 ?s1s2 .ff ff ffffff
+THSBF ri1i1 .h1h2 ?s1s2 s3S nnn nnnnnn
+THBFS ri1i1 .h1h2 h3f rff ?l1s2 s3Snnnn
+THBSF ri1i1 .h1h2 h3f ?l1s2 .ff ffffff
+TSFHB ri1i1 ?s1s2 .ff .h3f ff ffffff
+TSFBH ri1i1 ?s1s2 .ff ff .h3f ffffff
+TSHFB ri1i1 ?s1s2 .h3f rff ff ffffff
+TSHBF ri1i1 ?s1s2 .h3f ff rff ffffff
+TSBFH ri1i1 ?s1s2 s3S nnn nnn nnnnnn
+TSBHF ri1i1 ?s1s2 s3S nnn nnn nnnnnn
+TBFHS ri1i1 k1l1 .ff .h2h3 .s2s3 Bnnnnn
+TBFSH ri1i1 k1l1 .ff .s2s3 .ff ffffff
+TBHFS ri1i1 k1l1 .h2h3 rff .s2s3 Bnnnnn
+TBHSF ri1i1 k1l1 .h2h3 .s2s3 .ff ffffff
+TBSFH ri1i1 k1l1 .s2s3 .ff .ff ffffff
+TBSHF ri1i1 k1l1 .s2s3 .ff rff ffffff
+SFHTB ?s1s2 .ff .h3f .s3S nn nnnnnn
+SFHBT ?s1s2 .ff .h3f ff .s3S nnnnnn
+SFTHB ?s1s2 .ff .s3S nnn nn nnnnnn
+SFTBH ?s1s2 .ff .s3S nn nnn nnnnnn
+SFBHT ?s1s2 .ff ff .h3f .s3S nnnnnn
+SFBTH ?s1s2 .ff ff .s3S nnn nnnnnn
+SHFTB ?s1s2 .h3f rff .s3S nn nnnnnn
+SHFBT ?s1s2 .h3f rff ff .s3S nnnnnn
+SHTFB ?s1s2 .h3f .s3S nnn nn nnnnnn
+SHTBF ?s1s2 .h3f .s3S nn nnn nnnnnn
+SHBFT ?s1s2 .h3f ff rff .s3S nnnnnn
+SHBTF ?s1s2 .h3f ff .s3S nnn nnnnnn
+STFHB ?s1s2 rs3S nnn nnn nn nnnnnn
+STFBH ?s1s2 rs3S nnn nn nnn nnnnnn
+STHFB ?s1s2 rs3S nnn nnn nn nnnnnn
+STHBF ?s1s2 rs3S nnn nn nnn nnnnnn
+STBFH ?s1s2 rs3S nn nnn nnn nnnnnn
+STBHF ?s1s2 rs3S nn nnn nnn nnnnnn
+SBFHT ?s1s2 s3S nnn nnn nnn nnnnnn
+SBFTH ?s1s2 s3S nnn nnn nnn nnnnnn
+SBHFT ?s1s2 s3S nnn nnn nnn nnnnnn
+SBHTF ?s1s2 s3S nnn nnn nnn nnnnnn
+SBTFH ?s1s2 s3S nnn nnn nnn nnnnnn
+SBTHF ?s1s2 s3S nnn nnn nnn nnnnnn
+BFHTS k1l1 .ff .h2h3 .s2s3 .Bn nnnnnn
+BFHST k1l1 .ff .h2h3 .s2s3 rBn nnnnnn
+BFTHS k1l1 .ff .s2s3 .ff .Bn nnnnnn
+BFTSH k1l1 .ff .s2s3 .Bn nnn nnnnnn
+BFSHT k1l1 .ff .s2s3 .ff .Bn nnnnnn
+BFSTH k1l1 .ff .s2s3 rBn nnn nnnnnn
+BHFTS k1l1 .h2h3 rff .s2s3 .Bn nnnnnn
+BHFST k1l1 .h2h3 rff .s2s3 rBn nnnnnn
+BHTFS k1l1 .h2h3 .s2s3 .ff .Bn nnnnnn
+BHTSF k1l1 .h2h3 .s2s3 .Bn nnn nnnnnn
+BHSFT k1l1 .h2h3 .s2s3 .ff .Bn nnnnnn
+BHSTF k1l1 .h2h3 .s2s3 rBn nnn nnnnnn
+BTFHS k1l1 rs2s3 .ff .ff .Bn nnnnnn
+BTFSH k1l1 rs2s3 .ff .Bn nnn nnnnnn
+BTHFS k1l1 rs2s3 .ff rff .Bn nnnnnn
+BTHSF k1l1 rs2s3 .ff .Bn nnn nnnnnn
+BTSFH k1l1 rs2s3 .Bn nnn nnn nnnnnn
+BTSHF k1l1 rs2s3 .Bn nnn nnn nnnnnn
+BSFHT k1l1 .s2s3 .ff .ff .Bn nnnnnn
+BSFTH k1l1 .s2s3 .ff .Bn nnn nnnnnn
+BSHFT k1l1 .s2s3 .ff rff .Bn nnnnnn
+BSHTF k1l1 .s2s3 .ff .Bn nnn nnnnnn
+BSTFH k1l1 .s2s3 rBn nnn nnn nnnnnn
+BSTHF k1l1 .s2s3 rBn nnn nnn nnnnnn
+";
 
 // A service reports that it is in a state and enables these commands.
 fn report(plant: &mut Plant, service: Name, state: State, mask: u32) -> Result<(), Fail> {
@@ -171,16 +171,15 @@ fn report(plant: &mut Plant, service: Name, state: State, mask: u32) -> Result<(
 }
 
 // The three steps of the batch are started, and their services execute.
-fn opened(rt: &HostRuntime) -> Result<Plant, Fail> {
-    let mut plant = Plant::new(rt.alloc());
+fn open(rt: &HostRuntime, plant: &mut Plant) -> Result<(), Fail> {
     for line in OPENING {
-        answered(rt, &mut plant, line)?;
+        answered(rt, plant, line)?;
     }
     for service in ["1", "2", "3"] {
-        report(&mut plant, named(service)?, State::Starting, 8)?;
-        report(&mut plant, named(service)?, State::Execute, 24)?;
+        report(plant, named(service)?, State::Starting, 8)?;
+        report(plant, named(service)?, State::Execute, 24)?;
     }
-    Ok(plant)
+    Ok(())
 }
 
 // The letter of an answer, and the step that it names.
@@ -270,22 +269,29 @@ fn happen(plant: &mut Plant, letter: u8, word: &mut Vec<u8>) -> Result<(), Fail>
     Ok(())
 }
 
-// What is answered in an order.
-fn answers_in(rt: &HostRuntime, order: &str) -> Result<Vec<u8>, Fail> {
-    let mut plant = opened(rt)?;
-    let mut word = Vec::new(rt.alloc());
+// Each letter of an order happens, and after each the batch is advanced.
+fn play(plant: &mut Plant, order: &str, word: &mut Vec<u8>) -> Result<(), Fail> {
     for letter in order.bytes() {
-        happen(&mut plant, letter, &mut word)?;
-        advance(&mut plant, 2, &mut word)?;
+        happen(plant, letter, word)?;
+        advance(plant, 2, word)?;
         word.push(b' ')?;
     }
-    advance(&mut plant, 6, &mut word)?;
+    advance(plant, 6, word)
+}
+
+// What is answered in an order.
+fn answers_in(rt: &HostRuntime, order: &str) -> Result<Vec<u8>, Fail> {
+    let mut plant = Plant::new(rt.alloc());
+    let mut word = Vec::new(rt.alloc());
+    open(rt, &mut plant)?;
+    play(&mut plant, order, &mut word)?;
     Ok(word)
 }
 
 #[test]
 fn freezes_holds_thaws_stops_and_breaks_come_in_any_order(rt: HostRuntime) -> Result<(), Fail> {
-    for (order, answers) in ORDERS {
+    for row in ORDERS.trim().lines() {
+        let (order, answers) = row.split_once(" ").ok_or("no order")?;
         assert!(rt;
             answers_in(&rt, order)?.as_slice() == answers.as_bytes(),
             "{order}"
