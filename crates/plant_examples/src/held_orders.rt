@@ -23,10 +23,10 @@ const OPENING: [&str; 9] = [
     r#"{"ev":"advance","at":9,"batch":"b"}"#,
 ];
 
-// A row for each order, with its answers. In an order F is a freeze, H one that holds, T a thaw, S a stop, and B that the service of the first step is aborted.
-// Behind it the answers: `.` done, `?` stop_asked, `r` refused; then each advance: h hold, u unhold, s stop, l left,
-// k broke, i waits for another state, each with the step; f frozen; B closed as Broken, S as Stopped; n refused, since
-// it is closed.
+// A row for each order, with its answers. In an order F is a freeze, H one that holds, T a thaw, S a stop, and B that the
+// service of the first step is aborted. Of the answers: `.` done, `?` stop_asked, `r` refused; then each advance: h hold,
+// u unhold, s stop, l left, k broke, i waits for another state, each with the step; f frozen; B closed as Broken, S as
+// Stopped; n refused, since it is closed.
 const ORDERS: &str = "
 FHTSB .ff .h1h2 .u1u2 ?s1s2 s3S nnnnnn
 FHTBS .ff .h1h2 .u1u2 k1l1 .s2s3 Bnnnnn
