@@ -1,12 +1,11 @@
 //! A batch of three parallel steps is frozen, held, thawed, stopped and broken in every order of these, and advanced
 //! twice after each. Its module obeys each command at once.
 use crate::given::named;
-use crate::plant::answered;
 use chart_core::{LogEntry, Why};
 use mtp_assembly::ServiceControl;
 use mtp_codes::{Mode, Name, Origin, State};
 use pol_core::Plant;
-use pol_events::{Answer, Event, Outcome, Rule};
+use pol_events::{Answer, Event, Outcome, Rule, read_event};
 use std::alloc::AllocError;
 use std::test::*;
 
@@ -170,10 +169,19 @@ fn report(plant: &mut Plant, service: Name, state: State, mask: u32) -> Result<(
     Ok(())
 }
 
+// What a line says happens.
+fn enter(rt: &HostRuntime, plant: &mut Plant, line: &str) -> Result<(), Fail> {
+    let event = read_event(rt.alloc(), line.as_bytes())
+        .ok()
+        .ok_or("no event")?;
+    plant.apply(event).ok().ok_or("no memory")?;
+    Ok(())
+}
+
 // The three steps of the batch are started, and their services execute.
 fn open(rt: &HostRuntime, plant: &mut Plant) -> Result<(), Fail> {
     for line in OPENING {
-        answered(rt, plant, line)?;
+        enter(rt, plant, line)?;
     }
     for service in ["1", "2", "3"] {
         report(plant, named(service)?, State::Starting, 8)?;

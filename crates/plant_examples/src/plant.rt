@@ -33,8 +33,8 @@ const START_C: &str = r#"{"at":9,"ev":"start","batch":"c","recipe":"one","bind":
 const END_M: &str =
     r#"{"at":10,"ev":"exchange_end","tag":"M","ticket":1,"desc":{"type":"Doser","version":"1.1.0","services":[{"name":"dose","procedures":[{"number":1,"default":true,"self_completing":true}]}]}}"#;
 
-/// What the plant answers to a line.
-pub fn answered(rt: &HostRuntime, plant: &mut Plant, line: &str) -> Result<Answer, Fail> {
+// What the plant answers to a line.
+fn answered(rt: &HostRuntime, plant: &mut Plant, line: &str) -> Result<Answer, Fail> {
     let event = read_event(rt.alloc(), line.as_bytes())
         .ok()
         .ok_or("no event")?;
