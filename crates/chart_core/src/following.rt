@@ -240,8 +240,8 @@ fn follow_step(step: &Step, number: u32, progress: Progress, entry: &LogEntry) -
     }
 }
 
-/// What is found of this tree, whose first node has this number; `marks` has how far each node has come. Walks each of
-/// the tree's nodes at most once, and none behind the one that the entry changes.
+/// What is found of this tree, whose first node has this number; `marks` has how far each node has come. Walks the
+/// tree's nodes up to the one that the entry changes, of a sequence up to the first that isn't done.
 #[cycle(follow)]
 pub fn follow(node: &Node, number: u32, marks: &[Progress], entry: &LogEntry) -> Followed
     requires fits { number + size (plain_node node.now) ≤ length marks.now }

@@ -58,7 +58,7 @@ pub fn untouched(alloc: Global, chart: &Chart) -> Result<Vec<Progress>, AllocErr
 /// Takes the entry, where it may come next in a run of the valid chart: for each log that the marks stand for, they
 /// stand for it with the entry at its end afterwards. False where it may not come next; the marks are then unchanged.
 /// Whatever log they stand for, if any, the marks move as the definition `change_by` says.
-/// Walks the chart's nodes once, and takes no memory.
+/// Walks the chart's nodes up to the one that it changes, and takes no memory.
 pub fn take_entry(chart: &Chart, marks: &mut [Progress], entry: &LogEntry) -> bool
     requires valid { IsValid (plain_chart chart.now) }
     requires room { length marks.old ≡ size (plain_node chart.now.root) }

@@ -5,7 +5,7 @@ ghost use Rattle.chart_core.specs.Charts.{plain_chart};
 ghost use Rattle.chart_core.specs.Valid.{IsValid};
 ghost use Rattle.chart_core.specs.Runs.{IsPartial, IsComplete};
 ghost use Rattle.chart_core.specs.Progress.{marks_of};
-ghost use Rattle.chart_core.specs.Standing.{StandsFor};
+ghost use Rattle.chart_core.specs.Standing.{StandsFor, AreAfter};
 ghost use Rattle.chart_core.specs.declared.entry.LogEntry.{LogEntry};
 ghost use Rattle.chart_cursor.specs.declared.next.CursorNext.TheVariants.{Whole};
 ghost use Rattle.chart_core.specs.Trees.{plain_node};
@@ -55,15 +55,17 @@ impl Model for Cursor {
 }
 
 impl Cursor {
-    /// A cursor at the start of the valid chart: it stands for the empty word.
+    /// A cursor at the start of the valid chart: it stands for the empty word, and is after the empty log.
     ///
     /// # Errors
     ///
     /// AllocError where memory is wanting for one mark and one number for each node.
+    #[tactic(auto, using(crate::proofs::Passing::after_none))]
     pub fn new(alloc: Global, chart: Arc<Chart>) -> Result<Cursor, AllocError>
         requires { IsValid (plain_chart chart.value) }
         ensures chart { IfOk result (λ cursor. cursor.chart ≡ chart.value) }
         ensures empty { IfOk result (λ cursor. StandsFor (plain_chart cursor.chart) cursor.marks []) }
+        ensures fresh { IfOk result (λ cursor. AreAfter (plain_chart cursor.chart) cursor.marks []) }
     {
         let marks = untouched(alloc, &chart)?;
         let sizes = node_sizes(alloc, &chart)?;
@@ -82,7 +84,7 @@ impl Cursor {
     }
 
     /// Takes the entry, which goes on a word that the cursor stands for: afterwards the cursor stands for each such
-    /// word with the entry at its end. Walks the chart's nodes once, and takes no memory.
+    /// word with the entry at its end. Walks the chart's nodes up to the one that it changes, and takes no memory.
     pub fn take(&mut self, entry: LogEntry)
         requires { (word : List LogEntry) × StandsFor (plain_chart self.old.chart) self.old.marks word
             × IsPartial (plain_chart self.old.chart) (word ++ (entry ∷ [])) }
@@ -91,6 +93,26 @@ impl Cursor {
             → StandsFor (plain_chart self.new.chart) self.new.marks (word ++ (entry ∷ [])) }
     {
         let _ = take_entry(&self.chart, &mut self.marks, &entry);
+    }
+
+    /// Goes along a log, which needn't be a run of the chart: takes the entry where it may come next, and passes over it
+    /// where it may not. Walks the chart's nodes up to the one that it changes, and takes no memory.
+    #[tactic(auto, using(crate::proofs::Passing::after_one))]
+    pub fn go_along(&mut self, entry: &LogEntry)
+        ensures chart { self.new.chart ≡ self.old.chart }
+        ensures log { (log : List LogEntry) → AreAfter (plain_chart self.old.chart) self.old.marks log
+            → AreAfter (plain_chart self.new.chart) self.new.marks (log ++ (entry.now ∷ [])) }
+    {
+        let _ = take_entry(&self.chart, &mut self.marks, entry);
+    }
+
+    /// What comes next after any log that the cursor went along, by what is seen of the modules; for a partial run it is
+    /// what `first_ready` says. Walks the chart's nodes once, and takes no memory.
+    pub fn next_of_log<S: Seen>(&self, seen: &S) -> CursorNext
+        ensures { (log : List LogEntry) → AreAfter (plain_chart self.now.chart) self.now.marks log
+            → result ≡ next_after (plain_chart self.now.chart) log (S.sights seen.now) }
+    {
+        scan(&self.chart.root, 0, &self.marks, &self.sizes, seen)
     }
 
     /// What comes next, by what is seen of the modules: the entry of the first awaited node in chart order that is

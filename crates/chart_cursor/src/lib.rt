@@ -3,10 +3,10 @@
 //!
 //! It knows nothing of plants or histories and keeps no log: what is seen of modules comes through the trait `Seen`. A
 //! cursor stands for words by a relation; where a clause speaks of the word, it holds of every word that the cursor
-//! stands for. What comes next is worked out by `next_after` (`specs/Next.antt`); the laws in `laws` say that it is the
-//! defined next entry, that it keeps a run a run, and that it commands only what a recipe may give. One walk over the
-//! open nodes serves all that is looked for among them (`Visitor`): what comes next, which step runs, and which one
-//! broke.
+//! stands for. It may go along any other log too, and passes over what may not come in it. What comes next is worked
+//! out by `next_after` (`specs/Next.antt`); the laws in `laws` say that it is the defined next entry, that it keeps a
+//! run a run, and that it commands only what a recipe may give. One walk over the open nodes serves all that is looked
+//! for among them (`Visitor`): what comes next, which step runs, and which one broke.
 //!
 //! What an open batch does next is defined here too (`next_by` in `specs/NextEntry.antt`), since it is said of a
 //! chart, a log and what is seen alone: the crates that look back and those that keep runs cite one text.
@@ -15,7 +15,6 @@
 mod both;
 mod breaking;
 mod cursor;
-mod following;
 mod going;
 mod holding;
 mod laws;
@@ -28,7 +27,6 @@ mod visitor;
 mod walking;
 
 pub use cursor::Cursor;
-pub use following::next_of_log;
 pub use holding::{hold_step, unhold_step};
 pub use laws::{
     next_commands_are_permitted, next_follows_the_chart, next_keeps_the_run, steps_are_of_the_chart,

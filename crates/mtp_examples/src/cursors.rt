@@ -6,7 +6,7 @@ ghost use Rattle.chart_cursor.specs.declared.sight.ReadingSight.TheVariants as r
 
 use crate::given::named;
 use chart_core::{Chart, LogEntry, Readings, Why};
-use chart_cursor::{Cursor, CursorNext, ReadingSight, Seen, Sight, next_of_log};
+use chart_cursor::{Cursor, CursorNext, ReadingSight, Seen, Sight};
 use chart_json::read_chart;
 use mtp_assembly::ServiceControl;
 use mtp_codes::{Command, Forbid, Mode, Name, Origin, Reading, State};
@@ -113,7 +113,7 @@ fn a_run_begins_where_its_module_can_start(rt: HostRuntime) -> Result<(), Fail> 
     for (state, mode, next) in rows {
         let module = module(state, mode, 7)?;
         assert_eq!(rt; cursor.first_ready(&module), next);
-        assert_eq!(rt; next_of_log(alloc, &chart, &[], &module)?, next);
+        assert_eq!(rt; cursor.next_of_log(&module), next);
     }
     assert_eq!(rt; cursor.next_active(0), None);
     Ok(())
@@ -124,6 +124,7 @@ fn a_loop_is_left_where_its_condition_holds(rt: HostRuntime) -> Result<(), Fail>
     let alloc = rt.alloc();
     let chart = dosing(alloc)?;
     chart.valid().ok().ok_or("not valid")?;
+    let chart = Arc::new(alloc, chart)?;
     let step = named("s1")?;
     let log = [start()?, reset()?, LogEntry::End { step }];
     let state = State::Idle;
@@ -143,7 +144,13 @@ fn a_loop_is_left_where_its_condition_holds(rt: HostRuntime) -> Result<(), Fail>
     ];
     for (log, level, next) in rows {
         let module = module(State::Idle, Mode::Automatic, level)?;
-        assert_eq!(rt; next_of_log(alloc, &chart, log, &module)?, next);
+        let mut cursor = Cursor::new(alloc, chart.clone()?)?;
+        // An entry that may not come is passed over.
+        cursor.go_along(&LogEntry::End { step });
+        for entry in log {
+            cursor.go_along(entry);
+        }
+        assert_eq!(rt; cursor.next_of_log(&module), next);
     }
     Ok(())
 }

@@ -94,7 +94,7 @@ exchanger_rests site older count exchanger legal follows counted stands is =
         settled all closed (begins (slice_get site.exchanges (begun_in older))
         (ap (λ n. begin_errand older count (slice_get site.exchanges n)) (sym stands.begun_is) ∙ e))
     by_standing all (standing.Begun tag ticket) begun e = cc
-    by_standing all (standing.Held tag ticket) held e = cc
+    by_standing all (standing.SentBack tag ticket) held e = cc
 
     by : (left : Bool) → nat_lt exchanger.opened (length site.recipes + length site.modules) ≡ left →
         (if left then Some (task.Open exchanger.opened)
@@ -208,7 +208,7 @@ exchanger_acts site older count exchanger errand sound legal follows counted sta
     by_standing (standing.Begun tag ticket) begun e =
         is_open tag ticket
         (ap (open_ticket tag) (sym stands.standing_is ∙ ap exchanging_in begun) ∙ own_ticket tag ticket)
-    by_standing (standing.Held tag ticket) held e =
+    by_standing (standing.SentBack tag ticket) held e =
         is_open tag ticket
         (ap (open_ticket tag) (sym stands.standing_is ∙ ap exchanging_in held) ∙ own_ticket tag ticket)
 

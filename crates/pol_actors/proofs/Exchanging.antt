@@ -574,7 +574,7 @@ module _ (site : PlainSite) (older : History) (exchanger : Exchanger) (sound : I
           }
 
   -- the cancelling
-  cancel_errand : (tag : List ℕ) (ticket : ℕ) → exchanger.standing ≡ standing.Held tag ticket →
+  cancel_errand : (tag : List ℕ) (ticket : ℕ) → exchanger.standing ≡ standing.SentBack tag ticket →
       IsErrand site older exchanger (task.Cancel tag ticket)
   cancel_errand tag ticket held =
       record {
@@ -689,7 +689,7 @@ errand_next site older count exchanger errand sound most legal follows room coun
     by_standing all (standing.Begun tag ticket) begun e =
         subst (IsErrand site older exchanger) (same_Some (task.End tag ticket (pred exchanger.begun)) errand e)
         (end_errand site older exchanger sound legal follows room all stands tag ticket begun)
-    by_standing all (standing.Held tag ticket) held e =
+    by_standing all (standing.SentBack tag ticket) held e =
         subst (IsErrand site older exchanger) (same_Some (task.Cancel tag ticket) errand e)
         (cancel_errand site older exchanger sound legal follows room all stands tag ticket held)
 

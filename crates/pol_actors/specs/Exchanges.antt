@@ -40,7 +40,7 @@ begin_errand history count (Some exchange) =
 abbrev pub exchange_errand : PlainSite → History → ℕ → ℕ → Standing → Option Errand
 exchange_errand site history count begun standing.Closed = begin_errand history count (slice_get site.exchanges begun)
 exchange_errand site history count begun (standing.Begun tag ticket) = Some (errand.End tag ticket (pred begun))
-exchange_errand site history count begun (standing.Held tag ticket) = Some (errand.Cancel tag ticket)
+exchange_errand site history count begun (standing.SentBack tag ticket) = Some (errand.Cancel tag ticket)
 
 -- the recipes and modules first, and then the exchanges
 abbrev pub errand_of : PlainSite → History → ℕ → Exchanger → Option Errand
@@ -76,7 +76,7 @@ event_of site (errand.Cancel tag ticket) = Some (exchange_cancel 0 tag ticket)
 abbrev pub exchanging_in : Standing → Exchanging
 exchanging_in standing.Closed = none_open
 exchanging_in (standing.Begun tag ticket) = was_begun tag ticket
-exchanging_in (standing.Held tag ticket) = was_held tag ticket
+exchanging_in (standing.SentBack tag ticket) = was_held tag ticket
 
 -- after a begin that was answered so
 abbrev pub begun_standing : List ℕ → Answer → Standing
@@ -85,7 +85,7 @@ begun_standing tag _ = standing.Closed
 
 -- after an end that was answered so
 abbrev pub ended_standing : List ℕ → ℕ → Answer → Standing
-ended_standing tag ticket (Refused (HeldBack batch missing)) = standing.Held tag ticket
+ended_standing tag ticket (Refused (HeldBack batch missing)) = standing.SentBack tag ticket
 ended_standing tag ticket _ = standing.Closed
 
 -- the exchanger after the event of an errand was answered so

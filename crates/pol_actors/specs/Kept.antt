@@ -32,7 +32,7 @@ use Rattle.pol_actors.specs.Turning.{Origin, origin_of}
 abbrev pub is_begun : Standing → Bool
 is_begun standing.Closed = false
 is_begun (standing.Begun tag ticket) = true
-is_begun (standing.Held tag ticket) = false
+is_begun (standing.SentBack tag ticket) = false
 
 -- it stands where the history says; no exchange began before all recipes and modules had their events; the exchange
 -- that was begun is one of the site's; the modules that had their events are there, and no others are

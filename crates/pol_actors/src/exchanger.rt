@@ -26,7 +26,7 @@ pub enum Standing {
     /// One was begun.
     Begun { tag: Name, ticket: u32 },
     /// The end of one was held back: it is to be cancelled.
-    Held { tag: Name, ticket: u32 },
+    SentBack { tag: Name, ticket: u32 },
 }
 
 /// Where the exchanger stands.
@@ -124,7 +124,7 @@ impl Exchanger {
                 ticket,
                 place: self.begun.saturating_sub(1),
             }),
-            Standing::Held { tag, ticket } => Some(Errand::Cancel { tag, ticket }),
+            Standing::SentBack { tag, ticket } => Some(Errand::Cancel { tag, ticket }),
         }
     }
 
@@ -173,7 +173,7 @@ fn ended_standing(tag: Name, ticket: u32, answer: &Answer) -> Standing
     ensures { result ≡ ended_standing tag ticket answer.now }
 {
     match answer {
-        Answer::Refused(Rule::HeldBack { .. }) => Standing::Held { tag, ticket },
+        Answer::Refused(Rule::HeldBack { .. }) => Standing::SentBack { tag, ticket },
         _ => Standing::Closed,
     }
 }

@@ -4,6 +4,7 @@ use Rattle.std.specs.Prelude.{◌&&◌, ◌||◌, filter, is_some}
 use Rattle.std.specs.List.{filter_map}
 use Rattle.std.specs.Option.{option_or}
 use Rattle.std.proofs.Math.Bool.{and-true}
+use Rattle.std.proofs.lemmas.Bool.{or_left}
 use Rattle.std.proofs.lemmas.List.{length-map, length-reverse}
 use Rattle.pol_events.specs.Events.{PlainEntry, PlainEvent, plug, unplug, report, variable, start, freeze, exchange_begin, exchange_end, exchange_cancel, plain_entry, plain_history}
 use Rattle.pol_events.specs.declared.answer.Answer.{Answer}
@@ -102,16 +103,12 @@ no_value : (name : List ℕ) (event : PlainEvent) → (is_moving event || is_var
 no_value name (variable at tag other value) is = absurd cc
 no_value name _ is = refl
 
--- what moves a module is kept beside its reports
-or_true : (one other : Bool) → one ≡ true → (one || other) ≡ true
-or_true true other is = refl
-or_true false other is = absurd cc
-
--- a plug and the begin of an exchange move the module
+-- a plug moves the module
 plug_moves : (event : PlainEvent) → is_plug event ≡ true → is_moving event ≡ true
 plug_moves (plug at tag description) is = refl
 plug_moves _ is = absurd cc
 
+-- and so does the begin of an exchange
 begin_moves : (event : PlainEvent) → is_begin event ≡ true → is_moving event ≡ true
 begin_moves (exchange_begin at tag) is = refl
 begin_moves _ is = absurd cc
@@ -135,7 +132,7 @@ pub control_among : (service : List ℕ) (past : History) →
 control_among service past =
     ap (last_of (λ entry. reported service entry.event))
     (cut_kept (λ entry. is_moving entry.event) moves_or_reports
-    (λ entry is. or_true (is_moving entry.event) (is_report entry.event) is) past)
+    (λ entry is. or_left (is_moving entry.event) (is_report entry.event) is) past)
     ∙ last_among moves_or_reports (λ entry. reported service entry.event)
     (λ entry is. no_control service entry.event is) (after_last (λ entry. is_moving entry.event) past)
 
@@ -147,7 +144,7 @@ pub value_among : (name : List ℕ) (past : History) →
 value_among name past =
     ap (last_of (λ entry. reported_value name entry.event))
     (cut_kept (λ entry. is_moving entry.event) moves_or_values
-    (λ entry is. or_true (is_moving entry.event) (is_variable entry.event) is) past)
+    (λ entry is. or_left (is_moving entry.event) (is_variable entry.event) is) past)
     ∙ last_among moves_or_values (λ entry. reported_value name entry.event)
     (λ entry is. no_value name entry.event is) (after_last (λ entry. is_moving entry.event) past)
 
@@ -210,15 +207,17 @@ asking_among name past =
 
 -- ---- starts
 
--- what is no start takes and watches no module
+-- what is no start takes no module
 no_taking : (tag : List ℕ) (event : PlainEvent) → is_some (starting event) ≡ false → taking tag event ≡ None
 no_taking tag (start at batch name binds) is = absurd cc
 no_taking tag _ is = refl
 
+-- nor does it watch one
 no_watching : (tag : List ℕ) (event : PlainEvent) → is_some (starting event) ≡ false → watching tag event ≡ None
 no_watching tag (start at batch name binds) is = absurd cc
 no_watching tag _ is = refl
 
+-- so what a start says is nothing where the entry is no accepted start
 by_accepted : {A : Type 0} (begins accepted : Bool) (said : Option A) → (begins ≡ false → said ≡ None) →
     (begins && accepted) ≡ false → cond accepted said None ≡ None
 by_accepted begins true said none is = none (sym (and-true begins) ∙ is)

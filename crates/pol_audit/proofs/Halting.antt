@@ -2,6 +2,7 @@
 use Rattle.std.proofs.Common.{◌≡◌, Bool, true, false, cond, List, [], ◌∷◌, refl, ap}
 use Rattle.std.specs.Prelude.{◌||◌, filter}
 use Rattle.std.specs.List.{list_any}
+use Rattle.std.proofs.lemmas.Bool.{or_left, or_right}
 use Rattle.chart_core.specs.declared.entry.LogEntry.{LogEntry}
 use Rattle.chart_cursor.specs.Logs.{has_broken, is_broke, is_stop_asked, was_stopped}
 use Rattle.pol_audit.specs.Halts.{is_halt}
@@ -18,14 +19,6 @@ any_among keeps says all (x ∷ xs) = go (keeps x) (says x) refl (all x) (any_am
     go true said is keep rest = rw is (ap (λ found. said || found) rest)
     go false true is keep rest = let clash : false ≡ true = keep refl in cc
     go false false is keep rest = rest
-
-or_left : (one other : Bool) → one ≡ true → (one || other) ≡ true
-or_left true other is = refl
-or_left false other is = absurd cc
-
-or_right : (one other : Bool) → other ≡ true → (one || other) ≡ true
-or_right true other is = refl
-or_right false other is = is
 
 -- whether it broke
 pub broken_among : (log : List LogEntry) → has_broken (filter is_halt log) ≡ has_broken log

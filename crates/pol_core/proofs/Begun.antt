@@ -33,7 +33,7 @@ use Rattle.pol_history.proofs.Accepted.{paired}
 use Rattle.pol_history.proofs.Binds.{IsFitting, fitting, binds_known, given_known, tags_by_role, unknown_parts}
 use Rattle.pol_history.proofs.Holders.{started}
 use Rattle.pol_slots.specs.declared.slot.Slot.{Slot}
-use Rattle.pol_table.specs.Answers.{missing_at, busy_at, holding}
+use Rattle.pol_table.specs.Answers.{missing_at, busy_at, hold_answer}
 use Rattle.pol_table.specs.Rows as tables
 use Rattle.pol_table.specs.Rows.{Row, Rows, look, part_of, held_by}
 use Rattle.pol_table.specs.declared.faults.HoldFault.{HoldFault}
@@ -198,7 +198,7 @@ bind_there rows chart binds bind orderly none inside gone =
 -- all modules that are to be held are there and free
 pub tags_free : (rows : Rows Slot) (chart : PlainChart) (binds : PlainAllocation) → is_allocation binds ≡ true →
     bind_rule rows chart binds ≡ None →
-    holding (tags_of binds.held) rows ≡ Ok tt
+    hold_answer (tags_of binds.held) rows ≡ Ok tt
 tags_free rows chart binds orderly none =
     let says = judged rows chart binds none in
     let missing : first_of (map (missing_at rows) (tags_of binds.held)) ≡ None

@@ -17,7 +17,7 @@ use Rattle.pol_history.specs.Looking.{History, past, past_of_batch, recipes}
 use Rattle.pol_history.proofs.Holders.{started}
 use Rattle.pol_history.proofs.Pasts.{module_past_same}
 use Rattle.pol_slots.specs.declared.slot.Slot.{Slot}
-use Rattle.pol_table.specs.Answers.{missing_at, busy_at, hold_fault, holding}
+use Rattle.pol_table.specs.Answers.{missing_at, busy_at, hold_fault, hold_answer}
 use Rattle.pol_table.specs.Reasons.{missing_reason, busy_reason}
 use Rattle.pol_table.specs.Rows as tables
 use Rattle.pol_table.specs.Rows.{Row, Rows, look, held_by, watched_among}
@@ -71,7 +71,7 @@ all_there (first ∷ tags) rows tag none among =
     ]
 
 -- a tag that was held with others is there
-pub held_there : (tags : List (List ℕ)) (rows : Rows Slot) (tag : List ℕ) → holding tags rows ≡ Ok tt →
+pub held_there : (tags : List (List ℕ)) (rows : Rows Slot) (tag : List ℕ) → hold_answer tags rows ≡ Ok tt →
     is_among tags tag ≡ true →
     is_some (look tag rows) ≡ true
 held_there tags rows tag ok among =
@@ -162,7 +162,7 @@ runs_started history at batch name chart binds old new runs after fresh charted 
 
 -- what the table answered tells that the tags are held
 pub holds_now : (tags : List (List ℕ)) (batch : List ℕ) (old new : Rows Slot) (result : Result ⊤ HoldFault) →
-    is_ok result ≡ true → result ≡ holding tags old →
+    is_ok result ≡ true → result ≡ hold_answer tags old →
     OnOk result ((tag : List ℕ) →
     look tag new ≡ option_map (λ row. cond (is_among tags tag) (held_by batch row) row) (look tag old)) →
     Holds tags batch old new
@@ -216,7 +216,7 @@ watches_now tags batch old new distinct watched tag =
 
 -- that some of them are watched doesn't change what can be held
 pub holding_watched : (tags : List (List ℕ)) (batch : List ℕ) (old new : Rows Slot) → Watches tags batch old new →
-    (held : List (List ℕ)) → holding held new ≡ holding held old
+    (held : List (List ℕ)) → hold_answer held new ≡ hold_answer held old
 holding_watched tags batch old new watches held =
     ap (λ fault. done_unless (option_or fault (first_of (map (busy_at new) held))))
     (first_same (missing_at new) (missing_at old) (λ tag. ap (missing_reason tag) (there tag)) held)
@@ -249,6 +249,6 @@ holding_watched tags batch old new watches held =
 -- so it is whether they could be watched or not
 pub watching_holds : {X E : Type 0} (result : Result X E) (tags : List (List ℕ)) (batch : List ℕ)
     (old new : Rows Slot) → OnOk result (Watches tags batch old new) → OnErr result (new ≡ old) →
-    (held : List (List ℕ)) → holding held new ≡ holding held old
+    (held : List (List ℕ)) → hold_answer held new ≡ hold_answer held old
 watching_holds (Ok done) tags batch old new watches same held = holding_watched tags batch old new watches held
-watching_holds (Err error) tags batch old new watches same held = ap (holding held) same
+watching_holds (Err error) tags batch old new watches same held = ap (hold_answer held) same

@@ -9,7 +9,7 @@ use Rattle.chart_core.specs.Roles.{PlainChart}
 use Rattle.pol_events.specs.Bound.{PlainAllocation, given, tags_of}
 use Rattle.pol_events.specs.declared.event.Bind.{Bind}
 use Rattle.pol_slots.specs.declared.slot.Slot.{Slot}
-use Rattle.pol_table.specs.Answers.{holding}
+use Rattle.pol_table.specs.Answers.{hold_answer}
 use Rattle.pol_table.specs.Rows.{Row, Rows, look, held_by}
 use Rattle.pol_runs.specs.Logs.{Asks, Follows}
 use Rattle.pol_runs.specs.declared.freeze.Freeze.TheVariants.{Thawed}
@@ -27,7 +27,7 @@ pub record IsNew (batch : List ℕ) (chart : PlainChart) (binds : List Bind) (ru
 
 -- the batch holds all of these tags
 pub record Holds (tags : List (List ℕ)) (batch : List ℕ) (old new : Rows Slot) : Type 0 where
-  pub free : holding tags old ≡ Ok tt
+  pub free : hold_answer tags old ≡ Ok tt
   pub held : (tag : List ℕ) →
       look tag new ≡ option_map (λ row. if is_among tags tag then held_by batch row else row) (look tag old)
 

@@ -13,7 +13,7 @@ ghost use Rattle.pol_events.specs.Orderly.{is_allocation};
 ghost use Rattle.pol_history.specs.Answers.{is_full, rules};
 ghost use Rattle.pol_history.specs.Looking.{History};
 ghost use Rattle.indexmap.specs.IndexMap.{spare};
-ghost use Rattle.pol_table.specs.Answers.{holding};
+ghost use Rattle.pol_table.specs.Answers.{hold_answer};
 ghost use Rattle.pol_table.specs.Rows.{look};
 ghost use Rattle.pol_core.specs.Judging.{chart_rule};
 ghost use Rattle.pol_core.specs.Mirrors.{Mirrors, Answers};
@@ -100,14 +100,14 @@ fn watch(modules: &mut Table<Slot>, tags: &[Name], batch: Name) -> Result<(), Al
     ensures watches { OnOk result (Watches tags.now batch modules.old modules.new) }
     ensures count { length modules.new ≡ length modules.old }
     ensures unchanged { OnErr result (modules.new ≡ modules.old) }
-    ensures holding { (held : List (List ℕ)) → holding held modules.new ≡ holding held modules.old }
+    ensures holding { (held : List (List ℕ)) → hold_answer held modules.new ≡ hold_answer held modules.old }
 {
     modules.watch_all(tags, batch)
 }
 
 // Lets the batch hold all of these tags, which are there and free.
 fn hold(modules: &mut Table<Slot>, tags: &[Name], batch: Name)
-    requires { holding tags.now modules.old ≡ Ok tt }
+    requires { hold_answer tags.now modules.old ≡ Ok tt }
     ensures holds { Holds tags.now batch modules.old modules.new }
     ensures count { length modules.new ≡ length modules.old }
 {
@@ -130,7 +130,7 @@ fn begin(
     requires paired { ArePaired (given (plain_allocation binds)) }
     requires there { (tag : List ℕ) → is_among (tags_of binds.watched.now) tag ≡ true → IsSome (look tag modules.old) }
     requires distinct { IsDistinct bytes_eq (tags_of binds.watched.now) }
-    requires free { holding (tags_of binds.held.now) modules.old ≡ Ok tt }
+    requires free { hold_answer (tags_of binds.held.now) modules.old ≡ Ok tt }
     requires new { lookup (bytes_eq batch) runs.old.entries ≡ None }
     ensures begun { OnOk result (Begins batch (plain_chart chart.now.value) (plain_allocation binds.entry)
         modules.old modules.new runs.old.entries runs.new.entries) }

@@ -14,7 +14,7 @@ use Rattle.pol_table.specs.HeldRows as held
 use Rattle.pol_table.specs.HeldRows.{HeldRow, HeldRows}
 use Rattle.pol_table.specs.HeldAnswers as held_answers
 use Rattle.pol_table.specs.Rows.{Row, look, part_of, holder_of, watchers_of, with_part, held_by, watched_among, freed_from, batches_without}
-use Rattle.pol_table.specs.Answers.{dock_fault, leaving, parting_from, parting_unless, missing_at, busy_at, holding}
+use Rattle.pol_table.specs.Answers.{dock_fault, leaving, parting_from, parting_unless, missing_at, busy_at, hold_answer}
 use Rattle.pol_table.specs.declared.faults.LeaveFault.TheVariants.{Held, Watched}
 use Rattle.pol_table.specs.Reasons.{dock_reason, missing_reason, busy_reason}
 use Rattle.pol_table.specs.Watches.{watchers_in, watches_of, seen_row, seen_rows, AreThere}
@@ -103,7 +103,7 @@ module _ {T : Type 0} where
 
     -- what may be held is the same
     pub holding_seen : (rows : HeldRows T) (tags : List (List ℕ))
-        → holding tags (seen_rows watches rows) ≡ held_answers.holding tags rows
+        → hold_answer tags (seen_rows watches rows) ≡ held_answers.hold_answer tags rows
     holding_seen rows tags = rw (
       first_alike (missing_at (seen_rows watches rows)) (held_answers.missing_at rows)
           (λ tag. ap (missing_reason tag) (there_seen rows tag)) tags,

@@ -43,5 +43,5 @@ module _ {T : Type 0} where
   hold_fault tags rows = option_or (first_of (map (missing_at rows) tags)) (first_of (map (busy_at rows) tags))
 
   -- these tags are held, or the reason why they may not be
-  abbrev pub holding : List (List ℕ) → Rows T → Result (Unit {0}) HoldFault
-  holding tags rows = done_unless (hold_fault tags rows)
+  abbrev pub hold_answer : List (List ℕ) → Rows T → Result (Unit {0}) HoldFault
+  hold_answer tags rows = done_unless (hold_fault tags rows)

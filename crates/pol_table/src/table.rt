@@ -6,7 +6,7 @@ ghost use Rattle.std.specs.Option.{option_copied_mut, option_map};
 ghost use Rattle.std.specs.Str.{bytes_eq};
 ghost use Rattle.mtp_codes.specs.Names.{is_among};
 ghost use Rattle.pol_table.specs.Rows.{look, part_of, holder_of, watchers_of, with_part, held_by, watched_among, freed_from};
-ghost use Rattle.pol_table.specs.Answers.{dock_fault, leaving, holding};
+ghost use Rattle.pol_table.specs.Answers.{dock_fault, leaving, hold_answer};
 ghost use Rattle.pol_table.specs.ByteOrder.{in_byte_order};
 ghost use Rattle.pol_table.specs.Watches.{watchers_in};
 
@@ -146,7 +146,7 @@ impl<T: Drop> Table<T> {
     /// `NoModule` names the first tag that is not docked. Where all are docked, `Busy` names the first that is held
     /// already, with its holder.
     pub fn hold_all(&mut self, tags: &[Name], batch: Name) -> Result<(), HoldFault>
-        ensures answer { result ≡ holding tags.now self.old }
+        ensures answer { result ≡ hold_answer tags.now self.old }
         ensures held { OnOk result ((tag : List ℕ) → look tag self.new
             ≡ option_map (λ row. if is_among tags.now tag then held_by batch row else row) (look tag self.old)) }
         ensures count { length self.new ≡ length self.old }

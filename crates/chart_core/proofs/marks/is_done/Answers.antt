@@ -15,5 +15,5 @@ returns-clause-done c =
 pub returns-clause-complete : goal.returns-clause-complete
 returns-clause-complete c =
     λ log stands complete.
-    c.is_done.ensures ∙ c.follow.ensures.done ∙ complete_is_done (plain_chart c.args.chart.now) c.args.marks.now log c.requires.valid
-    stands complete
+    c.is_done.ensures ∙ c.follow.ensures.done
+    ∙ complete_is_done (plain_chart c.args.chart.now) c.args.marks.now log c.requires.valid stands complete

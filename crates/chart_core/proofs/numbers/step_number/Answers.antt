@@ -8,4 +8,5 @@ pub number_in-requires : goal.number_in-requires
 number_in-requires c = let small = few_nodes c.args.chart.now c.requires in omega arith
 
 pub returns : goal.returns
-returns c = c.ok.ensures.value ∙ c.number_in.ensures.found ∙ numbers_are c.args.name (plain_node c.args.chart.now.root) 0
+returns c = c.ok.ensures.value ∙ c.number_in.ensures.found
+    ∙ numbers_are c.args.name (plain_node c.args.chart.now.root) 0

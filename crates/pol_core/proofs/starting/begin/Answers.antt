@@ -5,7 +5,7 @@ use Rattle.std.specs.List.{IsDistinct}
 use Rattle.std.specs.Map.{lookup}
 use Rattle.std.specs.Str.{bytes_eq}
 use Rattle.mtp_codes.specs.Names.{is_among}
-use Rattle.pol_table.specs.Answers.{holding}
+use Rattle.pol_table.specs.Answers.{hold_answer}
 use Rattle.pol_table.specs.Rows.{look}
 use Rattle.pol_runs.specs.Runs.{PlainRun}
 use Rattle.pol_core.specs.Starting.{Holds, Watches}
@@ -22,7 +22,7 @@ watch-requires-clause-distinct c =
 
 pub hold-requires : goal.hold-requires
 hold-requires c =
-    ap (λ tags. holding tags c.watch.new.modules) (c.deref-2.ensures.value ∙ c.in_ok-held.ensures)
+    ap (λ tags. hold_answer tags c.watch.new.modules) (c.deref-2.ensures.value ∙ c.in_ok-held.ensures)
     ∙ c.watch.ensures.holding _ ∙ c.requires.free
 
 pub returns-clause-begun : goal.returns-clause-begun
