@@ -95,7 +95,7 @@ impl Run {
     ///
     /// # Errors
     ///
-    /// AllocError where memory is wanting for one mark and two flags for each node.
+    /// AllocError where memory is wanting for one mark, one size and two flags for each node.
     pub fn new(
         alloc: Global,
         batch: Name,
@@ -125,7 +125,7 @@ impl Run {
         })
     }
 
-    /// What the batch does next, while it is open. Walks the chart's nodes at most three times, and takes no memory.
+    /// What the batch does next, while it is open. Walks the chart's nodes at most twice, and takes no memory.
     pub fn would<S: Seen>(&self, seen: &S) -> Next
         ensures { (log : List LogEntry) (asked : List (List ℕ)) → Follows self.now log → Asks self.now asked
             → result
