@@ -7,8 +7,8 @@ ghost use Rattle.pol_disk.specs.Disks.{BothTell, Elapses, Follows, Holds, IsImag
 
 use pol_io::Failed;
 
-/// A disk: bytes that are read and written at any place, and that outlive a crash once they are synced. A call fails only
-/// where the count of faults rose in it.
+/// A disk: bytes that are read and written at any place, and that outlive a crash once they are synced. A call fails
+/// only where the count of faults rose in it.
 pub trait Disk {
     /// The bytes that reads give, where the disk tells them.
     ghost bytes: { Self → Option (List ℕ) };
@@ -72,7 +72,8 @@ pub trait Disk {
         ensures cause { HasCause (faults self.old) (faults self.new) result };
 
     /// This moment is one of those since an earlier one.
-    ghost counts_now: { (disk : Self) (t : ℕ) (image : List ℕ) → t ≤ moment disk → images disk image → left_since disk t image };
+    ghost counts_now: { (disk : Self) (t : ℕ) (image : List ℕ) → t ≤ moment disk → images disk image
+        → left_since disk t image };
 
     /// Since this moment there is no other.
     ghost only_now: { (disk : Self) (image : List ℕ) → left_since disk (moment disk) image → images disk image };

@@ -35,8 +35,8 @@ pub enum Line<'a> {
     End,
 }
 
-/// Cuts what comes from a source into lines, in one buffer. `feed` is the place of the first line feed that waits, where
-/// it was looked for already.
+/// Cuts what comes from a source into lines, in one buffer. `feed` is the place of the first line feed that waits,
+/// where it was looked for already.
 #[derive(Drop)]
 pub struct Lines {
     window: Window,

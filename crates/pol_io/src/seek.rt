@@ -23,8 +23,8 @@ pub fn find_feed(bytes: &[u8]) -> Option<usize>
     memchr(b'\n', bytes)
 }
 
-/// Takes bytes until a line feed waits, too many bytes wait, or the input is at its end. The place of the first line feed
-/// may be known.
+/// Takes bytes until a line feed waits, too many bytes wait, or the input is at its end. The place of the first line
+/// feed may be known.
 pub fn seek<S: Source>(
     window: &mut Window,
     known: Option<usize>,

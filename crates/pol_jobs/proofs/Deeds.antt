@@ -84,8 +84,8 @@ module _ {State Reason : Type 0} (work : LineWork State Reason) (first : Moment 
       record {
         served = reached;
         lines_are = lines_next lines one so_far.served.done cut.piece line so_far.lines_are one_is cut.line_is
-            ∙ ap (map line_met) (sym (pieces_next now.lines.ended next.lines.ended bytes so_far.served.done text line rest
-            so_far.served.so_far cut))
+            ∙ ap (map line_met) (sym (pieces_next now.lines.ended next.lines.ended bytes so_far.served.done text line
+            rest so_far.served.so_far cut))
             ∙ ap (λ done. map line_met (pieces done)) (sym done_is);
       }
 
@@ -226,7 +226,8 @@ module _ {State Reason : Type 0} (work : LineWork State Reason) (first : Moment 
       known_bytes (Some bytes) (Some text) (Some rest) (Ok done) so_far replied ok =
           let served = so_far.served in
           let cut = replied.1 in
-          let are = pieces_next now.lines.ended next.lines.ended bytes served.done text replied.0 rest served.so_far cut in
+          let are = pieces_next now.lines.ended next.lines.ended bytes served.done text replied.0 rest
+          served.so_far cut in
           record {
             first = pieces (served.done ++ cut.piece);
             others = pieces rest;

@@ -295,7 +295,8 @@ module _ {State Reason : Type 0} (work : LineWork State Reason) (start : State) 
 module _ {State Reason : Type 0} (work : LineWork State Reason) (Did : List Line → Bool → Type 0) (first : Moment State)
   where
     -- the next line was replied to
-    unfoldable pub served_next : (now next : Moment State) (held between held' : Option (List ℕ)) (bytes text rest line : List ℕ) →
+    unfoldable pub served_next : (now next : Moment State) (held between held' : Option (List ℕ))
+        (bytes text rest line : List ℕ) →
         Served work first now held between bytes text → IsFirstLine next.lines.ended line text rest →
         Appends between held' (work.reply now.state (met line)) → next.state ≡ work.after now.state (met line) →
         Accepts work now.state (met line) → Served work first next held held' bytes rest
@@ -410,7 +411,8 @@ module _ {State Reason : Type 0} (work : LineWork State Reason) (Did : List Line
       where
         known_bytes : (ended : Bool) (begin text : Option (List ℕ)) (waiting : List ℕ) (left : Option (List ℕ)) →
             Between (Served work first now held between) begin text →
-            Between (Replies work now.state next.state ended (Some made) out is_next.next) text (joined ended waiting left) →
+            Between (Replies work now.state next.state ended (Some made) out is_next.next) text
+            (joined ended waiting left) →
             Between (Counts first.lines.taken next.lines.taken) begin left → (IsTrue ended → waiting ≡ []) →
             (IsTrue ended → Between IsRead begin left) →
             Between (LeavesPart (output_by work first.state) held held') begin left

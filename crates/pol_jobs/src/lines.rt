@@ -123,8 +123,8 @@ fn reply_and_close<S: Source, K: Sink, J: LineJob>(
 
 /// Does the job: replies to each line of the source, and then closes the output. How it ends is one row for each
 /// result; and where nothing fails, an input that fits is done or refused as it should be, unless there was no memory.
-/// What else the job did, it did with all lines of the input, or with the first ones, of which it may have stopped at the
-/// last.
+/// What else the job did, it did with all lines of the input, or with the first ones, of which it may have stopped at
+/// the last.
 #[tactic(auto, using(crate::proofs::Ending::work_ends))]
 pub fn work<S: Source, K: Sink, J: LineJob>(
     alloc: Global,

@@ -75,8 +75,8 @@ pub events_recorded : (history new : History) (event : PlainEvent) → new ≡ r
 events_recorded history new event is told =
     ap events_of (is ∙ recorded_is history event told) ∙ events-cons (entry_of history event) history
 
-module _ {D : Type 0} (bytes : D → Option (List ℕ)) (images : D → List ℕ → Type 0) (moment : D → ℕ) (left_since : D → ℕ →
-    List ℕ → Type 0)
+module _ {D : Type 0} (bytes : D → Option (List ℕ)) (images : D → List ℕ → Type 0) (moment : D → ℕ)
+    (left_since : D → ℕ → List ℕ → Type 0)
     (only_now : (disk : D) (image : List ℕ) → left_since disk (moment disk) image →
     images disk image) (s : StoreState D) (end : ℕ) (event : PlainEvent) where
   -- the events of the store

@@ -79,8 +79,8 @@ replay_tells (NotAStore place) items number seen seen' faults faults' breaks sam
       (subst (λ (i : List ℕ). BreaksAt place i) is breaks)) counted read,
 )
 
-module _ {D : Type 0} (bytes : D → Option (List ℕ)) (images : D → List ℕ → Type 0) (moment : D → ℕ) (left_since : D → ℕ →
-    List ℕ → Type 0) (old mid : D) (events : List PlainEvent)
+module _ {D : Type 0} (bytes : D → Option (List ℕ)) (images : D → List ℕ → Type 0) (moment : D → ℕ)
+    (left_since : D → ℕ → List ℕ → Type 0) (old mid : D) (events : List PlainEvent)
     (stand : (image : List ℕ) → images old image →
     StandsFor events image) (first : LeavesOnly moment left_since old mid (images old)) where
   -- the first sync leaves what was there

@@ -6,8 +6,8 @@ use Rattle.pol_store.specs.declared.store.StoreRefusal.{StoreRefusal}
 use Rattle.pol_store.specs.declared.store.StoreRefusal.TheVariants.{Memory, Disk, Closed}
 use Rattle.pol_store.specs.Keeping.{StoreState}
 
--- Memory changes nothing; Disk comes where the disk failed in this call, and closes the store; Closed comes exactly of a
--- closed store
+-- Memory changes nothing; Disk comes where the disk failed in this call, and closes the store; Closed comes exactly of
+-- a closed store
 abbrev pub Refuses : {D : Type 0} → (D → ℕ) → StoreState D → StoreState D → Event → StoreRefusal → Type 0
 Refuses faults old new event (Memory back) =
     (back ≡ event) × (old.closed ≡ false) × (new.closed ≡ false) × (new.plant.entries ≡ old.plant.entries)

@@ -25,7 +25,8 @@ module _ {X : Type 0} where
       go : (same : Bool) → bytes_eq tag first ≡ same → bytes_eq tag first ≡ false
       go false is = is
       go true is =
-          clash (lookup (bytes_eq tag) entries) value (rw (same_true tag first is) (not_later first entries apart)) found
+          clash (lookup (bytes_eq tag) entries) value (rw (same_true tag first is) (not_later first entries apart))
+          found
           (bytes_eq tag first ≡ false)
 
   -- what holds wherever a tag is found holds of each entry, where the tags are distinct

@@ -5,8 +5,8 @@ use Rattle.pol_disk.specs.Disks.{Elapses, Keeps, LeavesOnly, Only, IsImage}
 use Rattle.pol_disk.proofs.Moments.{started, goes_on}
 use Rattle.pol_texts.specs.Settled.{IsSynced}
 
-module _ {D : Type 0} (bytes : D → Option (List ℕ)) (images : D → List ℕ → Type 0) (moment : D → ℕ) (left_since : D → ℕ →
-    List ℕ → Type 0)
+module _ {D : Type 0} (bytes : D → Option (List ℕ)) (images : D → List ℕ → Type 0) (moment : D → ℕ)
+    (left_since : D → ℕ → List ℕ → Type 0)
     (only_now : (disk : D) (image : List ℕ) → left_since disk (moment disk) image → images disk image) where
   -- a call that leaves no more than there was
   pub quiet : (old new : D) → Keeps (images old) (images new) →

@@ -12,8 +12,8 @@ pub both : (o : Option (List ℕ)) (A B C : List ℕ → Type 0) → ((all : Lis
 both None A B C f a b = tt
 both (Some all) A B C f a b = f all a b
 
-module _ {D : Type 0} (bytes : D → Option (List ℕ)) (images : D → List ℕ → Type 0) (moment : D → ℕ) (left_since : D → ℕ →
-    List ℕ → Type 0) (faults : D → ℕ) where
+module _ {D : Type 0} (bytes : D → Option (List ℕ)) (images : D → List ℕ → Type 0) (moment : D → ℕ)
+    (left_since : D → ℕ → List ℕ → Type 0) (faults : D → ℕ) where
   -- one read more
   pub loads_more : (old mid new : D) (filled size count : ℕ) (slice slice' : List ℕ) →
       Loads bytes images moment left_since faults old mid filled size slice

@@ -9,8 +9,8 @@ use Rattle.pol_texts.specs.Settled.{AreAlike, IsSynced, IsSettled, behind_gate}
 use Rattle.pol_texts.proofs.Crash.{tail_of, torn_behind, written_behind, torn_gate, written_gate, opened, length-opened}
 
 -- one put on a settled disk
-module _ {D : Type 0} (bytes : D → Option (List ℕ)) (images : D → List ℕ → Type 0) (moment : D → ℕ) (left_since : D → ℕ →
-    List ℕ → Type 0)
+module _ {D : Type 0} (bytes : D → Option (List ℕ)) (images : D → List ℕ → Type 0) (moment : D → ℕ)
+    (left_since : D → ℕ → List ℕ → Type 0)
     (only_now : (disk : D) (image : List ℕ) → left_since disk (moment disk) image → images disk image) where
   -- what a crash at any moment of a run leaves
   abbrev LeavesOnly' : D → D → (List ℕ → Type 0) → Type 0
@@ -113,8 +113,8 @@ near_one_more at None near = tt
 near_one_more at (Some all) near = omega (arith, near)
 
 -- a text is added to a settled disk
-module _ {D : Type 0} (bytes : D → Option (List ℕ)) (images : D → List ℕ → Type 0) (moment : D → ℕ) (left_since : D → ℕ →
-    List ℕ → Type 0)
+module _ {D : Type 0} (bytes : D → Option (List ℕ)) (images : D → List ℕ → Type 0) (moment : D → ℕ)
+    (left_since : D → ℕ → List ℕ → Type 0)
     (texts : List (List ℕ)) (text behind : List ℕ) (is : behind ≡ behind_gate text) (counted : length text < 2 ^ 64)
     (end : ℕ) where
   -- what a crash may leave: the texts with the new one or without it
@@ -127,8 +127,8 @@ module _ {D : Type 0} (bytes : D → Option (List ℕ)) (images : D → List ℕ
       LeavesOnly moment left_since old mid P
   behind_left old mid s leaves = wider moment left_since old mid (Torn (end + 1) (length behind) s.bytes) P leaves
       (λ image torn. inl
-      (inr (torn_behind s.begins.records s.begins.behind texts s.begins.are end s.ends text counted (length behind) image
-      (subst (λ (l : List ℕ). Torn (end + 1) (length behind) l image) s.begins.is torn))))
+      (inr (torn_behind s.begins.records s.begins.behind texts s.begins.are end s.ends text counted (length behind)
+      image (subst (λ (l : List ℕ). Torn (end + 1) (length behind) l image) s.begins.is torn))))
 
   -- the bytes after that write
   pub staged_is : (old : D) (s : IsSettled (bytes old) (images old) end texts) →

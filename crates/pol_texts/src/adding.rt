@@ -17,8 +17,8 @@ pub fn add<D: Disk>(disk: &mut D, end: u64, behind: &[u8]) -> Result<(), Failed>
     ensures moments { (texts : List (List ℕ)) (text : List ℕ) → behind.now ≡ behind_gate text → length text < 2 ^ 64
         → IsSettled (D.bytes disk.old) (D.images disk.old) end texts
         → LeavesOnly D.moment D.left_since disk.old disk.new (StandsWithOrWithout texts text) }
-    ensures kept { OnOk result ((texts : List (List ℕ)) (text : List ℕ) → behind.now ≡ behind_gate text → length text < 2 ^ 64
-        → IsSettled (D.bytes disk.old) (D.images disk.old) end texts
+    ensures kept { OnOk result ((texts : List (List ℕ)) (text : List ℕ) → behind.now ≡ behind_gate text
+        → length text < 2 ^ 64 → IsSettled (D.bytes disk.old) (D.images disk.old) end texts
         → IsSettled (D.bytes disk.new) (D.images disk.new) (end + length behind.now) (texts ++ text ∷ [])) }
     ensures told { OnOk result (AreAlike (D.bytes disk.old) (D.bytes disk.new)) }
     ensures cause { HasCause (D.faults disk.old) (D.faults disk.new) result }

@@ -29,8 +29,11 @@ returns-clause-settled c =
     }
 
 pub settle-requires : goal.settle-requires
-settle-requires c =
-    (c.requires.next.0, c.requires.next.1 c.in-Some.run'.now (sym c.get_mut.ensures.value ∙ ap option_copied_mut c.in-Some.is))
+settle-requires c = (
+  c.requires.next.0,
+  c.requires.next.1 c.in-Some.run'.now
+      (sym c.get_mut.ensures.value ∙ ap option_copied_mut c.in-Some.is),
+)
 
 pub unreachable-requires : goal.unreachable-requires
 unreachable-requires c =
