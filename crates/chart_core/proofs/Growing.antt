@@ -12,6 +12,7 @@ one_grows : (is_there : Bool) (read : Read) (reads : List Read)
 one_grows true read reads = omega arith
 one_grows false read reads = omega (arith, length-append reads (read ∷ []))
 
+-- The variables that a condition reads, or some conditions, are only added to those found.
 mutual
   pub grows : (each : Formula) (reads : List Read) → length reads ≤ length (with_reads each reads)
   grows (constant value) reads = omega arith

@@ -18,3 +18,4 @@ pub mod Sized
 pub mod Lawful
 pub mod Ordered
 pub mod StepNumbers
+pub mod Passing

@@ -11,6 +11,7 @@ use Rattle.chart_core.specs.Order.{step_plans, all_step_plans, arm_step_plans, o
 abbrev step_in : Placed → PlainStep
 step_in placed = placed.step
 
+-- The numbered steps of a tree, of some trees and of some arms are its steps in chart order, with their numbers.
 mutual
   pub plans_are : (each : Tree) (number : ℕ) → map step_in (steps each number) ≡ step_plans each
   plans_are (leaf step) number = refl

@@ -8,6 +8,7 @@ use Rattle.chart_core.specs.Sizes.{sizes_of, sizes_in, all_sizes_in, arm_sizes_i
 
 -- ---- as many sizes as nodes
 
+-- A tree, some trees and some arms have as many sizes as nodes.
 mutual
   pub count_sizes : (each : Tree) → length (sizes_in each) ≡ size each
   count_sizes (leaf step) = refl
@@ -73,6 +74,8 @@ first_of each front back rest within =
     subst (λ list. HasSizes each (length front) (sizes_of (front ++ list)))
     (sym (append_assoc (sizes_in each) back rest)) (own_size each front (back ++ rest), within)
 
+-- In a list that has the sizes of a tree, of some trees or of some arms between others, each of their nodes has its own
+-- at its number.
 mutual
   nodes_within : (each : Tree) (front back : List ℕ)
       → SizesWithin each (length front) (sizes_of (front ++ (sizes_in each ++ back)))

@@ -121,6 +121,7 @@ mutual
   on_steps chart Fact says (loop body until) number depth earlier clear =
       on_steps chart Fact says body (number + 1) (depth + 1) earlier clear.1
 
+  -- so of some trees
   on_all_steps :
       (chart : PlainChart) (Fact : Placed → Type 0)
       → ((step : PlainStep) (number depth earlier : ℕ) → StepClear chart step number depth earlier
@@ -136,6 +137,7 @@ mutual
       (each_back (IsClear chart) (visits node number depth earlier)
       (all_visits nodes (number + size node) depth (earlier + step_count node)) clear))
 
+  -- and of some arms
   on_arm_steps :
       (chart : PlainChart) (Fact : Placed → Type 0)
       → ((step : PlainStep) (number depth earlier : ℕ) → StepClear chart step number depth earlier
@@ -181,6 +183,7 @@ front_found : (one other : ℕ → List ℕ → Bool) (number size_before : ℕ)
 front_found one other number size_before placed finds count name inside same =
     or_left (one count name) (other (count - size_before) name) (finds count name inside same)
 
+-- Each step of a tree, of some trees and of some arms is found by its name from its number on.
 mutual
   found : (node : Tree) (number : ℕ) → Each (IsFound (has_name node) number) (steps node number)
   found (leaf step) number = (
@@ -243,6 +246,7 @@ rise_append low middle high [] back below above from behind =
 rise_append low middle high (first ∷ front) back below above (from, under, others) behind =
     (from, omega arith, rise_append (first.number + 1) middle high front back (omega arith) above others behind)
 
+-- The numbers of the steps of a tree, of some trees and of some arms rise, all among the numbers of their nodes.
 mutual
   pub steps_rise : (node : Tree) (number : ℕ) → Rise number (number + size node) (steps node number)
   steps_rise (leaf step) number = (omega arith, omega arith, tt)
@@ -287,6 +291,7 @@ mutual
 abbrev pub name_of : Placed → List ℕ
 name_of placed = placed.step.name
 
+-- The names of a tree, of some trees and of some arms are those of their numbered steps.
 mutual
   pub names_are : (node : Tree) (number : ℕ) → names node ≡ map name_of (steps node number)
   names_are (leaf step) number = refl
@@ -382,6 +387,7 @@ node_bound : (number nodes earlier count : ℕ) → Bound (number + 1) nodes ear
 node_bound number nodes earlier count bound =
     record { near = omega (arith, bound.near); few = bound.few }
 
+-- A tree, some trees and some arms without a fault have at most sixteen nodes for each step.
 mutual
   bounded : (chart : PlainChart) (node : Tree) (number depth earlier : ℕ)
       → Each (IsClear chart) (visits node number depth earlier)

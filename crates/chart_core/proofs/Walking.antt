@@ -92,6 +92,7 @@ none_behind here =
     ap (λ each. record { number = each; steps = here.steps }) at_number
     ∙ ap (λ each. record { number = here.number + 0; steps = each }) at_step
 
+-- A walk through a tree, some trees or some arms stops at their first fault, or comes behind them.
 mutual
   pub walk_ends :
       (chart : PlainChart) (each : Tree) (depth : ℕ) (here : Reached)

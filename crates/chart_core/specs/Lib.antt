@@ -22,4 +22,5 @@ pub mod Deciding
 pub mod Active
 pub mod Laws
 pub mod Order
+pub mod Finding
 pub mod Numbers

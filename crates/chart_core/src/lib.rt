@@ -11,6 +11,7 @@ mod chart;
 mod condition;
 mod entry;
 mod fault;
+mod finding;
 mod following;
 mod laws;
 mod limits;
@@ -33,6 +34,7 @@ pub use chart::Chart;
 pub use condition::{Condition, Op};
 pub use entry::LogEntry;
 pub use fault::ChartFault;
+pub use finding::{StepTest, find_step, has_passing};
 pub use laws::{names_are_distinct, nothing_is_partial, steps_have_roles};
 pub use limits::{
     DEEPEST_CONDITION, DEEPEST_NODE, LONGEST_WANTED, MOST_ARMS, MOST_JOINED, MOST_NODES,

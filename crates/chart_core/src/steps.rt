@@ -2,10 +2,12 @@
 //!
 //! Nodes are counted down from a number that is asked for, so that a chart of any size can be asked.
 ghost use Rattle.std.specs.Prelude.{◌≡◌, ◌+◌, ◌-◌, ◌<◌, ◌^◌};
+ghost use Rattle.chart_core.specs.Finding.{is_of_service};
 ghost use Rattle.chart_core.specs.Trees.{plain_node, trees, arms, size, sizes, arm_sizes};
-ghost use Rattle.chart_core.specs.Valid.{has_name, some_has_name, arm_has_name, uses, some_uses, arm_uses, clashes, clashes_in_turn, clashes_at_once, clashes_in_arms};
+ghost use Rattle.chart_core.specs.Valid.{has_name, some_has_name, arm_has_name, uses, clashes, clashes_in_turn, clashes_at_once, clashes_in_arms};
 
-use super::node::{Arm, Node};
+use super::finding::{StepTest, has_passing};
+use super::node::{Arm, Node, Step};
 use mtp_codes::Name;
 
 // How many of `count` nodes are left behind this tree: none where the tree has more.
@@ -91,42 +93,28 @@ fn is_arm_named(each: &[Arm], count: u32, name: Name) -> bool
     false
 }
 
+// The steps of a service of a role.
+#[derive(Clone, Copy)]
+struct OfService {
+    role: Name,
+    service: Name,
+}
+
+impl StepTest for OfService {
+    ghost test = { λ wanted step. is_of_service wanted.role wanted.service step };
+
+    fn passes(&self, step: &Step) -> bool {
+        step.role == self.role && step.service == self.service
+    }
+}
+
 // Whether some step of the tree has this role and this service.
-#[cycle(used)]
+#[tactic(auto, using(crate::proofs::Passing::uses_is))]
 fn is_used(node: &Node, role: Name, service: Name) -> bool
     ensures { result ≡ uses (plain_node node.now) role service }
 {
-    match node {
-        Node::Step(step) => step.role == role && step.service == service,
-        Node::Seq(kids) => is_some_used(kids, role, service),
-        Node::Par(kids) => is_some_used(kids, role, service),
-        Node::Sel(each) => is_arm_used(each, role, service),
-        Node::Loop(body, _) => is_used(body, role, service),
-    }
-}
-
-#[cycle(used)]
-fn is_some_used(kids: &[Node], role: Name, service: Name) -> bool
-    ensures { result ≡ some_uses (trees kids.now) role service }
-{
-    for kid in kids {
-        if is_used(kid, role, service) {
-            return true;
-        }
-    }
-    false
-}
-
-#[cycle(used)]
-fn is_arm_used(each: &[Arm], role: Name, service: Name) -> bool
-    ensures { result ≡ arm_uses (arms each.now) role service }
-{
-    for arm in each {
-        if is_used(&arm.body, role, service) {
-            return true;
-        }
-    }
-    false
+    let wanted = OfService { role, service };
+    has_passing(node, &wanted)
 }
 
 /// Of the step at this place of the tree: whether a branch before its own, in a parallel above it, has a step of this
