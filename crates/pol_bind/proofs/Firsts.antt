@@ -1,5 +1,5 @@
 -- The first of a list with a property, found piece by piece.
-use Rattle.std.specs.Prelude.{ℕ, ◌≡◌, ◌+◌, List, [], ◌∷◌, ◌++◌, Bool, true, false, ◌&&◌, ◌||◌, Option, Some, None, is_some, cond, find, option_map}
+use Rattle.std.specs.Prelude.{ℕ, ◌≡◌, List, [], ◌∷◌, ◌++◌, Bool, true, false, ◌&&◌, ◌||◌, Option, Some, None, is_some, cond, find, option_map}
 use Rattle.std.specs.List.{list_any}
 use Rattle.std.specs.Option.{option_or}
 use Rattle.std.proofs.Common.{refl, ap, sym, ◌∙◌}
@@ -7,68 +7,18 @@ use Rattle.std.proofs.lemmas.Bool.{and_right}
 use Rattle.mtp_codes.specs.Names.{same_name}
 use Rattle.mtp_desc.specs.Plain.{PlainDescription}
 use Rattle.chart_core.specs.Formulas.{Formula, Formulas, constant, all_of, any_of, not_of, test, no_formulas, more_formulas}
-use Rattle.chart_core.specs.Trees.{arm_conditions, PlainStep, Placed, Tree, Trees, Arms, leaf, seq, par, choice, loop, no_trees, more_trees, no_arms, more_arms, size, steps, all_steps, arm_steps}
+use Rattle.chart_core.specs.Trees.{arm_conditions, Tree, Trees, Arms, leaf, seq, par, choice, loop, no_trees, more_trees, no_arms, more_arms}
 use Rattle.mtp_procs.specs.Tests.{PlainTest, tests_of, tests_of_all, finish_tests, tests_in, tests_in_all, tests_in_arms}
-use Rattle.mtp_procs.specs.Covers.{name_of_first, variable_of_first, is_test_misfit, is_test_misfit_of, is_test_refused}
+use Rattle.mtp_procs.specs.Covers.{variable_of_first, is_test_misfit, is_test_misfit_of, is_test_refused}
 use Rattle.pol_events.proofs.Lists.{found_append}
 use Rattle.pol_bind.specs.TestMisfits.{is_test_misfit_for}
-use Rattle.pol_bind.specs.Walks.{variable_in, variable_among, variable_in_finish, variable_under, variable_under_all, variable_under_arms, first_name, first_name_among, first_name_in_arms}
+use Rattle.pol_bind.specs.Walks.{variable_in, variable_among, variable_in_finish, variable_under, variable_under_all, variable_under_arms}
 
 -- the first variable of a list and then of another
 variable_append :
     (property : PlainTest → Bool) (xs ys : List PlainTest)
     → variable_of_first property (xs ++ ys) ≡ option_or (variable_of_first property xs) (variable_of_first property ys)
 variable_append property xs ys = found_append (λ test. test.variable) property xs ys
-
--- the first step's name of a list and then of another
-name_append :
-    (property : PlainStep → Bool) (xs ys : List Placed)
-    → name_of_first property (xs ++ ys) ≡ option_or (name_of_first property xs) (name_of_first property ys)
-name_append property xs ys = found_append (λ each. each.step.name) (λ each. property each.step) xs ys
-
--- the name of one step, by its number or without
-one_name : (property : PlainStep → Bool) (step : PlainStep) (n : ℕ) (b : Bool)
-    → cond b (Some step.name) None ≡ option_map (λ (each : Placed). each.step.name)
-    (cond b (Some (record { number = n; step = step })) None)
-one_name property step n true = refl
-one_name property step n false = refl
-
--- the walk finds the first step in chart order, whatever the number of the tree's first node
-mutual
-  -- the first name in a node is that of the first among its steps
-  pub first_is : (property : PlainStep → Bool) (each : Tree) (n : ℕ)
-      → first_name property each ≡ name_of_first property (steps each n)
-  first_is property (leaf step) n = one_name property step n (property step)
-  first_is property (seq each) n = first_among_is property each (n + 1)
-  first_is property (par each) n = first_among_is property each (n + 1)
-  first_is property (choice each) n = first_in_arms_is property each (n + 1)
-  first_is property (loop body until) n = first_is property body (n + 1)
-
-  -- so in some nodes
-  pub first_among_is : (property : PlainStep → Bool) (each : Trees) (n : ℕ)
-      → first_name_among property each ≡ name_of_first property (all_steps each n)
-  first_among_is property no_trees n = refl
-  first_among_is property (more_trees each others) n =
-      rw (
-        name_append property (steps each n)
-            (all_steps others (n + size each)),
-        ← first_is property each n,
-        ← first_among_is property others
-            (n + size each),
-      ) refl
-
-  -- and in some arms
-  pub first_in_arms_is : (property : PlainStep → Bool) (each : Arms) (n : ℕ)
-      → first_name_in_arms property each ≡ name_of_first property (arm_steps each n)
-  first_in_arms_is property no_arms n = refl
-  first_in_arms_is property (more_arms when each others) n =
-      rw (
-        name_append property (steps each n)
-            (arm_steps others (n + size each)),
-        ← first_is property each n,
-        ← first_in_arms_is property others
-            (n + size each),
-      ) refl
 
 -- the variable of one test
 one_variable : (each : PlainTest) (b : Bool) → cond b (Some each.variable) None
@@ -154,19 +104,26 @@ mutual
             test_under_arms_is property others,
       ) refl
 
--- one is found where one passes
-found_is_any : {X Y : Type 0} (part : X → Y) (property : X → Bool) (x : X) (b : Bool) (rest : Option X) (others : Bool)
-    → is_some (option_map part rest) ≡ others → is_some (option_map part (cond b (Some x) rest)) ≡ (b || others)
-found_is_any part property x true rest others same = refl
-found_is_any part property x false rest others same = same
+-- one is found exactly where some item passes
+pub some_found : {X : Type 0} (passes : X → Bool) (xs : List X) → is_some (find passes xs) ≡ list_any passes xs
+some_found passes [] = refl
+some_found {X} passes (x ∷ xs) = go (passes x) (some_found passes xs)
+  where
+    go : (here : Bool) → is_some (find passes xs) ≡ list_any passes xs →
+        is_some (cond here (Some x) (find passes xs)) ≡ (here || list_any passes xs)
+    go true later = refl
+    go false later = later
+
+-- what is found has a variable
+has_variable : (found : Option PlainTest) →
+    is_some (option_map (λ (each : PlainTest). each.variable) found) ≡ is_some found
+has_variable None = refl
+has_variable (Some each) = refl
 
 -- one is found exactly where some test has the property
 pub found_where_any : (property : PlainTest → Bool) (xs : List PlainTest)
     → is_some (variable_of_first property xs) ≡ list_any property xs
-found_where_any property [] = refl
-found_where_any property (x ∷ xs) =
-    found_is_any (λ test. test.variable) property x (property x) (find property xs) (list_any property xs)
-    (found_where_any property xs)
+found_where_any property xs = has_variable (find property xs) ∙ some_found property xs
 
 -- where none of the rest misfits the sum is that of the others
 none_more : (ours theirs same misfits rest : Bool) → (ours && misfits || rest) ≡ false

@@ -1,28 +1,9 @@
--- The first step and the first test with a property, by a walk through the tree that doesn't count nodes.
+-- The first test with a property, by a walk through the tree that doesn't count nodes.
 use Rattle.std.specs.Prelude.{ℕ, List, Bool, Option, Some, None, if◌then◌else◌}
 use Rattle.std.specs.Option.{option_or}
 use Rattle.chart_core.specs.Formulas.{Formula, Formulas, constant, all_of, any_of, not_of, test, no_formulas, more_formulas}
-use Rattle.chart_core.specs.Trees.{PlainStep, Tree, Trees, Arms, leaf, seq, par, choice, loop, no_trees, more_trees, no_arms, more_arms, arm_conditions}
+use Rattle.chart_core.specs.Trees.{Tree, Trees, Arms, leaf, seq, par, choice, loop, no_trees, more_trees, no_arms, more_arms, arm_conditions}
 use Rattle.mtp_procs.specs.Tests.{PlainTest}
-
--- the name of the first step of the tree with this property
-abbrev mutual
-  pub first_name : (PlainStep → Bool) → Tree → Option (List ℕ)
-  first_name property (leaf step) = if property step then Some step.name else None
-  first_name property (seq each) = first_name_among property each
-  first_name property (par each) = first_name_among property each
-  first_name property (choice each) = first_name_in_arms property each
-  first_name property (loop body until) = first_name property body
-
-  pub first_name_among : (PlainStep → Bool) → Trees → Option (List ℕ)
-  first_name_among property no_trees = None
-  first_name_among property (more_trees each others) = option_or (first_name property each)
-      (first_name_among property others)
-
-  pub first_name_in_arms : (PlainStep → Bool) → Arms → Option (List ℕ)
-  first_name_in_arms property no_arms = None
-  first_name_in_arms property (more_arms when each others) =
-      option_or (first_name property each) (first_name_in_arms property others)
 
 -- the variable of the first test of the condition with this property
 abbrev mutual

@@ -7,7 +7,6 @@
 //! once what the role needs, by the tests that `tests_in_order` lists; `Needs::are_met` is then `covers` in short.
 #![tactic(auto)]
 
-mod choices;
 mod cover;
 mod gathered;
 mod needs;

@@ -7,8 +7,7 @@ ghost use Rattle.mtp_procs.specs.Covers.{is_refused, is_refused_step, name_of_fi
 ghost use Rattle.pol_bind.specs.Roles.{is_of_role};
 ghost use Rattle.pol_events.specs.BindRules.{has_step};
 
-use crate::choices::{Chooses, first_step};
-use chart_core::{Node, Step};
+use chart_core::{Node, Step, StepTest, find_step, has_passing};
 use mtp_codes::Name;
 use mtp_desc::Description;
 use mtp_procs::{StepDemand, check_step};
@@ -35,10 +34,10 @@ struct OfRole {
     role: Name,
 }
 
-impl Chooses for OfRole {
-    ghost property = { λ wanted step. is_of_role wanted.role step };
+impl StepTest for OfRole {
+    ghost test = { λ wanted step. is_of_role wanted.role step };
 
-    fn chooses(&self, step: &Step) -> bool {
+    fn passes(&self, step: &Step) -> bool {
         step.role == self.role
     }
 }
@@ -50,27 +49,30 @@ struct Refused<'a> {
     description: &'a Description,
 }
 
-impl<'a> Chooses for Refused<'a> {
-    ghost property = { λ wanted step. is_refused_step wanted.role (plain_description wanted.description.now) step };
+impl<'a> StepTest for Refused<'a> {
+    ghost test = { λ wanted step. is_refused_step wanted.role (plain_description wanted.description.now) step };
 
-    fn chooses(&self, step: &Step) -> bool {
+    fn passes(&self, step: &Step) -> bool {
         step.role == self.role && is_refused(step, self.description)
     }
 }
 
 /// Whether a step of the chart is of the role. Walks the chart until it finds one.
+#[tactic(auto, using(crate::proofs::Stepped::found_is))]
 pub fn has_step(root: &Node, role: Name) -> bool
     ensures { result ≡ has_step (map (λ placed. placed.step) (steps (plain_node root.now) 0)) role }
 {
     let wanted = OfRole { role };
-    first_step(root, &wanted).is_some()
+    has_passing(root, &wanted)
 }
 
 /// The name of the first step of the role in chart order that the module can't do. Walks the chart once.
+#[tactic(auto, using(crate::proofs::Stepped::first_named))]
 pub fn refused_step(root: &Node, role: Name, description: &Description) -> Option<Name>
     ensures { result ≡ name_of_first (is_refused_step role (plain_description description.now))
         (steps (plain_node root.now) 0) }
 {
     let wanted = Refused { role, description };
-    first_step(root, &wanted)
+    let step = find_step(root, &wanted)?;
+    Some(step.name)
 }

@@ -12,7 +12,6 @@ pub mod Plugging
 pub mod Together
 pub mod Starts
 pub mod Abandons
-pub mod Walked
 pub mod Unfit
 pub mod Found
 pub mod Learned

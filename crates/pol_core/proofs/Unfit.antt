@@ -1,13 +1,14 @@
 -- What the tables say against a start is what looking back says.
 use Rattle.std.proofs.Common.{◌≡◌, ℕ, Bool, true, false, cond, List, [], ◌∷◌, map, Option, Some, None, refl, ap, sym, ◌∙◌}
-use Rattle.std.specs.Prelude.{filter, unwrap_or, option_map, option_and_then}
+use Rattle.std.specs.Prelude.{filter, find, is_some, unwrap_or, option_map, option_and_then}
 use Rattle.std.specs.Option.{option_or}
 use Rattle.mtp_codes.specs.Faults.{first_of}
 use Rattle.mtp_codes.specs.Names.{same_name}
 use Rattle.mtp_modes.specs.declared.view.ServiceView.{ServiceView}
 use Rattle.mtp_procs.specs.Covers.{cover_fault}
 use Rattle.chart_core.specs.Roles.{PlainChart, role_names}
-use Rattle.chart_core.specs.Trees.{PlainStep, Placed, steps}
+use Rattle.chart_core.specs.Trees.{PlainStep}
+use Rattle.chart_core.proofs.Passing.{passing_is}
 use Rattle.pol_events.specs.Bound.{PlainAllocation, given, bound_tag}
 use Rattle.pol_events.specs.Refusals.{in_exchange, cover_rule}
 use Rattle.pol_events.specs.declared.answer.Rule.{Rule}
@@ -23,12 +24,10 @@ use Rattle.pol_slots.specs.Slots.{slot_ticket, slot_description}
 use Rattle.pol_slots.specs.declared.slot.Slot.{Slot}
 use Rattle.pol_table.specs.Rows as tables
 use Rattle.pol_table.specs.Rows.{Row, Rows, look}
-use Rattle.pol_core.specs.Judging.{sight_unready, step_unready, slot_rule, part_rule, role_rule, table_unfit, tag_busy, table_busy, bind_rule}
+use Rattle.pol_core.specs.Judging.{sight_unready, step_unready, first_unready, slot_rule, part_rule, role_rule, table_unfit, tag_busy, table_busy, bind_rule}
 use Rattle.pol_core.specs.Seats.{Users, users_of, SlotKeeps, IsSeated, SeatsMirror}
-use Rattle.pol_core.specs.Walks.{first_said}
 use Rattle.pol_core.proofs.Judging.{there_is}
 use Rattle.pol_core.proofs.Sights.{slot_sight_is}
-use Rattle.pol_core.proofs.Walked.{said, said_is}
 
 -- ---- the services of a role
 
@@ -53,25 +52,38 @@ service_same tag service slot past keeps docked' =
 -- so are the services of a role
 services_same : (tag role : List ℕ) (slot : Slot) (past : History) →
     ((service : List ℕ) → sight_unready tag service (slot_sight slot service) ≡ unready tag past service) →
-    (placed : List Placed) → said (step_unready slot tag role) placed
-    ≡ not_ready tag past (map (λ step. step.service) (filter (λ step. same_name step.role role)
-    (map (λ placed. placed.step) placed)))
+    (each : List PlainStep) → first_of (map (step_unready slot tag role) each)
+    ≡ not_ready tag past (map (λ step. step.service) (filter (λ step. same_name step.role role) each))
 services_same tag role slot past same [] = refl
-services_same tag role slot past same (each ∷ placed) =
-    go (same_name each.step.role role) (services_same tag role slot past same placed)
+services_same tag role slot past same (step ∷ others) =
+    go (same_name step.role role) (services_same tag role slot past same others)
   where
-    rest : List PlainStep
-    rest = filter (λ step. same_name step.role role) (map (λ placed. placed.step) placed)
+    said : Option Rule
+    said = first_of (map (step_unready slot tag role) others)
 
-    go : (own : Bool) → said (step_unready slot tag role) placed
-        ≡ not_ready tag past (map (λ step. step.service) rest) →
-        option_or (cond own (sight_unready tag each.step.service (slot_sight slot each.step.service)) None)
-        (said (step_unready slot tag role) placed)
-        ≡ not_ready tag past (map (λ step. step.service) (cond own (each.step ∷ rest) rest))
+    rest : List PlainStep
+    rest = filter (λ step. same_name step.role role) others
+
+    go : (own : Bool) → said ≡ not_ready tag past (map (λ step. step.service) rest) →
+        option_or (cond own (sight_unready tag step.service (slot_sight slot step.service)) None) said
+        ≡ not_ready tag past (map (λ step. step.service) (cond own (step ∷ rest) rest))
     go true later =
-        ap (λ found. option_or found (said (step_unready slot tag role) placed)) (same each.step.service)
-        ∙ ap (option_or (unready tag past each.step.service)) later
+        ap (λ found. option_or found said) (same step.service)
+        ∙ ap (option_or (unready tag past step.service)) later
     go false later = later
+
+-- what is said of the first of which something is said is said first
+told_first : {X A : Type 0} (says : X → Option A) (xs : List X) →
+    option_and_then says (find (λ x. is_some (says x)) xs) ≡ first_of (map says xs)
+told_first says [] = refl
+told_first {X} {A} says (x ∷ xs) = go (says x) refl (told_first says xs)
+  where
+    go : (said : Option A) → says x ≡ said →
+        option_and_then says (find (λ x. is_some (says x)) xs) ≡ first_of (map says xs) →
+        option_and_then says (cond (is_some said) (Some x) (find (λ x. is_some (says x)) xs))
+        ≡ option_or said (first_of (map says xs))
+    go None is later = later
+    go (Some one) is later = is
 
 -- ---- the rules of a module
 
@@ -92,7 +104,7 @@ slot_rule_same chart role tag slot past keeps = go (slot_ticket slot) refl
 
     mine : Option Rule
     mine = option_or (option_map (cover_rule role) (cover_fault chart role (slot_description slot)))
-        (first_said (step_unready slot tag role) chart.root)
+        (first_unready slot tag role chart.root)
 
     go : (ticket : Option ℕ) → slot_ticket slot ≡ ticket → slot_rule chart role tag slot
         ≡ first_of (module_rules chart role tag past)
@@ -102,8 +114,10 @@ slot_rule_same chart role tag slot past keeps = go (slot_ticket slot) refl
     go None is =
         ap (λ ticket. option_or (in_exchange tag ticket) mine) is
         ∙ ap (option_or (option_map (cover_rule role) (cover_fault chart role (slot_description slot))))
-        (said_is (step_unready slot tag role) chart.root 0
-        ∙ services_same tag role slot past (λ service. service_same tag service slot past keeps is) (steps chart.root 0)
+        (ap (option_and_then (step_unready slot tag role))
+        (passing_is (λ step. is_some (step_unready slot tag role step)) chart.root 0)
+        ∙ told_first (step_unready slot tag role) (steps_in chart)
+        ∙ services_same tag role slot past (λ service. service_same tag service slot past keeps is) (steps_in chart)
         ∙ sym (or_nothing (not_ready tag past (services_of chart role))))
         ∙ ap (λ description. option_or (not_covered chart role description)
         (option_or (not_ready tag past (services_of chart role)) None)) (sym keeps.description)

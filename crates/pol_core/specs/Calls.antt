@@ -1,12 +1,13 @@
 -- What the plant's calls answer that only look: each is found by looking back over the history.
-use Rattle.std.specs.Prelude.{ℕ, ⊤, List, Option, None, Result, Ok, Err, is_none, nat_le, find, option_and_then, option_map, if◌then◌else◌}
+use Rattle.std.specs.Prelude.{ℕ, ⊤, Bool, List, Option, None, Result, Ok, Err, is_none, nat_le, find, option_and_then, option_map, if◌then◌else◌}
 use Rattle.std.specs.Option.{option_or}
 use Rattle.std.specs.Str.{bytes_eq}
 use Rattle.mtp_codes.specs.Faults.{when, done_unless}
+use Rattle.mtp_codes.specs.Names.{same_name}
 use Rattle.mtp_codes.specs.declared.value.Setting.{Setting}
 use Rattle.mtp_codes.specs.declared.limits.TheConstants.{LONGEST_HISTORY}
 use Rattle.chart_core.specs.Roles.{PlainChart}
-use Rattle.chart_core.specs.Trees.{steps}
+use Rattle.chart_core.specs.Trees.{PlainStep, steps}
 use Rattle.chart_core.specs.declared.next.Next.{Next}
 use Rattle.chart_cursor.specs.declared.sight.Sight.{Sight}
 use Rattle.chart_cursor.specs.declared.sight.Sight.TheVariants.{Away}
@@ -34,6 +35,10 @@ refusal _ = Ok tt
 -- a full history refuses, or else the rule, if there is one
 abbrev pub refused_first : ℕ → Option Rule → Result ⊤ Rule
 refused_first count rule = done_unless (option_or (when (nat_le LONGEST_HISTORY count) HistoryFull) rule)
+
+-- the step has this name
+abbrev pub is_named : List ℕ → PlainStep → Bool
+is_named name step = same_name step.name name
 
 -- the settings of the chart's step of this name
 abbrev pub settings_named : List ℕ → PlainChart → Option (List Setting)

@@ -8,8 +8,9 @@ use Rattle.mtp_codes.specs.Names.{same_name}
 use Rattle.mtp_codes.specs.declared.limits.TheConstants.{MOST_BATCHES}
 use Rattle.mtp_machine.specs.States.{is_idle}
 use Rattle.mtp_procs.specs.Covers.{cover_fault}
+use Rattle.chart_core.specs.Finding.{first_passing}
 use Rattle.chart_core.specs.Roles.{PlainChart, role_names}
-use Rattle.chart_core.specs.Trees.{PlainStep}
+use Rattle.chart_core.specs.Trees.{PlainStep, Tree}
 use Rattle.chart_cursor.specs.declared.sight.Sight.{Sight}
 use Rattle.chart_cursor.specs.declared.sight.Sight.TheVariants as sight
 use Rattle.pol_events.specs.Bound.{PlainAllocation, bound_tag, given}
@@ -23,7 +24,6 @@ use Rattle.pol_slots.specs.Slots.{slot_ticket, slot_description}
 use Rattle.pol_slots.specs.declared.slot.Slot.{Slot}
 use Rattle.pol_table.specs.Rows.{Rows, part_of, holder_of}
 use Rattle.pol_runs.specs.Runs.{PlainRun}
-use Rattle.pol_core.specs.Walks.{first_said}
 
 -- what is seen of a service of a docked module: it wasn't reported, or isn't idle
 abbrev pub sight_unready : List ℕ → List ℕ → Sight → Option Rule
@@ -37,12 +37,18 @@ abbrev pub step_unready : Slot → List ℕ → List ℕ → PlainStep → Optio
 step_unready slot tag role step =
     if same_name step.role role then sight_unready tag step.service (slot_sight slot step.service) else None
 
+-- what is so of the first step of the role of whose service something is
+abbrev pub first_unready : Slot → List ℕ → List ℕ → Tree → Option Rule
+first_unready slot tag role root =
+    option_and_then (step_unready slot tag role)
+    (first_passing (λ step. is_some (step_unready slot tag role step)) root)
+
 -- what is wrong with a slot for a role
 abbrev pub slot_rule : PlainChart → List ℕ → List ℕ → Slot → Option Rule
 slot_rule chart role tag slot =
     option_or (in_exchange tag (slot_ticket slot))
     (option_or (option_map (cover_rule role) (cover_fault chart role (slot_description slot)))
-    (first_said (step_unready slot tag role) chart.root))
+    (first_unready slot tag role chart.root))
 
 -- or there is no module
 abbrev pub part_rule : PlainChart → List ℕ → List ℕ → Option Slot → Option Rule

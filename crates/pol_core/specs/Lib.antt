@@ -7,7 +7,6 @@ pub mod Starting
 pub mod Judging
 pub mod Recipes
 pub mod Exchanges
-pub mod Walks
 pub mod Calls
 pub mod Commands
 pub mod Plants

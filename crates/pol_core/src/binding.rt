@@ -1,17 +1,16 @@
 //! What the tables say against a start: its binds against the roles of the recipe, then its modules one after another.
-ghost use Rattle.std.specs.Prelude.{◌≡◌, [], option_map};
+ghost use Rattle.std.specs.Prelude.{◌≡◌, [], is_some, option_map};
 ghost use Rattle.mtp_procs.specs.Covers.{cover_fault};
 ghost use Rattle.chart_core.specs.Charts.{plain_chart};
 ghost use Rattle.chart_core.specs.Roles.{role_names};
-ghost use Rattle.chart_core.specs.Trees.{arms, plain_node, trees, plain_step};
+ghost use Rattle.chart_core.specs.Trees.{plain_node, plain_step};
 ghost use Rattle.pol_bind.specs.Roles.{names_in};
 ghost use Rattle.pol_events.specs.Bound.{bound_tag, given, plain_allocation};
 ghost use Rattle.pol_events.specs.Refusals.{cover_rule};
 ghost use Rattle.pol_slots.specs.Slots.{slot_description};
-ghost use Rattle.pol_core.specs.Judging.{sight_unready, step_unready, slot_rule, role_rule, table_unfit, tag_busy, table_busy, bind_rule};
-ghost use Rattle.pol_core.specs.Walks.{first_said, first_said_among, first_said_in_arms};
+ghost use Rattle.pol_core.specs.Judging.{sight_unready, step_unready, first_unready, slot_rule, role_rule, table_unfit, tag_busy, table_busy, bind_rule};
 
-use chart_core::{Arm, Chart, Node, Role};
+use chart_core::{Chart, Node, Role, Step, StepTest, find_step};
 use chart_cursor::Sight;
 use mtp_codes::{Name, State};
 use pol_bind::{covers, one_module_twice, role_unbound, role_unknown, watched_step};
@@ -40,47 +39,42 @@ fn service_unready(tag: Name, service: Name, sight: &Sight) -> Option<Rule>
     }
 }
 
-#[cycle(walk)]
-fn walk(node: &Node, slot: &Slot, tag: Name, role: Name) -> Option<Rule>
-    ensures { result ≡ first_said (step_unready slot.now tag role) (plain_node node.now) }
-{
-    match node {
-        Node::Step(step) => {
-            if step.role == role {
-                service_unready(tag, step.service, &slot.view(step.service))
-            } else {
-                None
-            }
+// The steps of a role whose service is so.
+#[derive(Clone, Copy)]
+struct Unready<'a> {
+    slot: &'a Slot,
+    tag: Name,
+    role: Name,
+}
+
+impl<'a> Unready<'a> {
+    // What is so of the service of a step.
+    fn found_of(&self, step: &Step) -> Option<Rule>
+        ensures { result ≡ step_unready self.now.slot.now self.now.tag self.now.role (plain_step step.now) }
+    {
+        if step.role == self.role {
+            service_unready(self.tag, step.service, &self.slot.view(step.service))
+        } else {
+            None
         }
-        Node::Seq(kids) => walk_among(kids, slot, tag, role),
-        Node::Par(kids) => walk_among(kids, slot, tag, role),
-        Node::Sel(each) => walk_arms(each, slot, tag, role),
-        Node::Loop(body, _) => walk(body, slot, tag, role),
     }
 }
 
-#[cycle(walk)]
-fn walk_among(kids: &[Node], slot: &Slot, tag: Name, role: Name) -> Option<Rule>
-    ensures { result ≡ first_said_among (step_unready slot.now tag role) (trees kids.now) }
-{
-    for kid in kids {
-        if let Some(rule) = walk(kid, slot, tag, role) {
-            return Some(rule);
-        }
+impl<'a> StepTest for Unready<'a> {
+    ghost test = { λ wanted step. is_some (step_unready wanted.slot.now wanted.tag wanted.role step) };
+
+    fn passes(&self, step: &Step) -> bool {
+        self.found_of(step).is_some()
     }
-    None
 }
 
-#[cycle(walk)]
-fn walk_arms(each: &[Arm], slot: &Slot, tag: Name, role: Name) -> Option<Rule>
-    ensures { result ≡ first_said_in_arms (step_unready slot.now tag role) (arms each.now) }
+// What is so of the service of the first step of the role of whose service something is.
+fn first_unready(root: &Node, slot: &Slot, tag: Name, role: Name) -> Option<Rule>
+    ensures { result ≡ first_unready slot.now tag role (plain_node root.now) }
 {
-    for arm in each {
-        if let Some(rule) = walk(&arm.body, slot, tag, role) {
-            return Some(rule);
-        }
-    }
-    None
+    let wanted = Unready { slot, tag, role };
+    let step = find_step(root, &wanted)?;
+    wanted.found_of(step)
 }
 
 // The module can't play the role.
@@ -104,7 +98,7 @@ fn slot_rule(chart: &Chart, slot: &Slot, role: Name, tag: Name) -> Option<Rule>
     if let Some(rule) = not_covered(chart, role, slot) {
         return Some(rule);
     }
-    walk(&chart.root, slot, tag, role)
+    first_unready(&chart.root, slot, tag, role)
 }
 
 // What is wrong with the module of a role, if it has one.
