@@ -44,7 +44,7 @@ use Rattle.pol_stillness.proofs.Exchanges.{open_away}
 use Rattle.pol_simulated.proofs.Places.{lt_fails}
 use Rattle.pol_simulated.proofs.Values.{place_within}
 use Rattle.pol_actors.specs.Exchanges.{begin_errand, begun_standing, ended_standing, end_event, errand_of, event_of, exchange_errand, exchanger_after, exchanging_in, is_refusal_busy, know_event, plug_event}
-use Rattle.pol_actors.specs.Kept.{IsExchanger, is_begun}
+use Rattle.pol_actors.specs.Kept.{IsExchanger, StandsAt, is_begun, progress_of, progress_with}
 use Rattle.pol_actors.specs.Stamps.{stamped}
 use Rattle.pol_actors.specs.declared.exchanger.Errand.{Errand}
 use Rattle.pol_actors.specs.declared.exchanger.Errand.TheVariants as task
@@ -63,91 +63,53 @@ there_after : (entry : PlainEntry) (older : History) (own : Bool) →
 there_after entry older true moved before = moved
 there_after entry older false moved before = before
 
--- an entry of a module, a batch or the desk leaves where the exchanger stands
+-- whether or not an entry that leaves the docking stands in a module's past, the module is there as before
+docking_left : (entry : PlainEntry) (older : History) (own : Bool) → docking_by (entry ∷ older) ≡ docking_by older →
+    is_there (docking_by (cond own (entry ∷ older) older)) ≡ is_there (docking_by older)
+docking_left entry older true same = ap is_there same
+docking_left entry older false same = refl
+
+-- such an entry leaves every tag there that was
+dockings_left : (entry : PlainEntry) (older : History) (own : List ℕ → Bool) →
+    ((past : History) → docking_by (entry ∷ past) ≡ docking_by past) →
+    progress_with older (λ tag. is_there (docking_by (cond (own tag) (entry ∷ past tag older) (past tag older))))
+    ≡ progress_of older
+dockings_left entry older own same =
+    ap (progress_with older) (λ i tag. docking_left entry (past tag older) (own tag) (same (past tag older)) i)
+
+-- an entry of a module, a batch or the desk leaves what the history says to the exchanger
+others_leave : (site : PlainSite) (older : History) (event : PlainEvent) (answer : Answer) →
+    (owner_of site event ≡ Some 0 → ⊥) → IsAllowed site older event answer →
+    progress_of (paired event answer ∷ older) ≡ progress_of older
+others_leave site older (plug at tag description) answer other allowed = absurd (other (owner_exchanger site))
+others_leave site older (unplug at tag) answer other allowed = absurd allowed
+others_leave site older (recipe at name chart) answer other allowed = absurd (other (owner_exchanger site))
+others_leave site older (exchange_begin at tag) answer other allowed = absurd (other (owner_exchanger site))
+others_leave site older (exchange_end at tag ticket description) answer other allowed =
+    absurd (other (owner_exchanger site))
+others_leave site older (exchange_cancel at tag ticket) answer other allowed = absurd (other (owner_exchanger site))
+others_leave site older (freeze at batch hold) answer other allowed = absurd allowed
+others_leave site older (thaw at batch) answer other allowed = absurd allowed
+others_leave site older (stop_batch at batch) answer other allowed = absurd allowed
+others_leave site older (abandon at batch) answer other allowed = absurd allowed
+others_leave site older (report at tag service control) answer other allowed =
+    dockings_left (paired (report at tag service control) answer) older
+    (λ each. bytes_eq tag each && is_accepted answer) (λ past. refl)
+others_leave site older (variable at tag name value) answer other allowed =
+    dockings_left (paired (variable at tag name value) answer) older
+    (λ each. bytes_eq tag each && is_accepted answer) (λ past. refl)
+others_leave site older (desk at tag service command) answer other allowed =
+    dockings_left (paired (desk at tag service command) answer) older
+    (λ each. bytes_eq tag each && is_accepted answer) (λ past. refl)
+others_leave site older (start at batch name binds) answer other allowed = refl
+others_leave site older (advance at batch) answer other allowed = refl
+
+-- so it leaves where the exchanger stands
 pub exchanger_other : (site : PlainSite) (older : History) (event : PlainEvent) (answer : Answer)
     (exchanger : Exchanger) → (owner_of site event ≡ Some 0 → ⊥) → IsAllowed site older event answer →
     IsExchanger site older exchanger → IsExchanger site (paired event answer ∷ older) exchanger
-exchanger_other site older (plug at tag description) answer exchanger other allowed stands =
-    absurd (other (owner_exchanger site))
-exchanger_other site older (unplug at tag) answer exchanger other allowed stands = absurd allowed
-exchanger_other site older (recipe at name chart) answer exchanger other allowed stands =
-    absurd (other (owner_exchanger site))
-exchanger_other site older (exchange_begin at tag) answer exchanger other allowed stands =
-    absurd (other (owner_exchanger site))
-exchanger_other site older (exchange_end at tag ticket description) answer exchanger other allowed stands =
-    absurd (other (owner_exchanger site))
-exchanger_other site older (exchange_cancel at tag ticket) answer exchanger other allowed stands =
-    absurd (other (owner_exchanger site))
-exchanger_other site older (freeze at batch hold) answer exchanger other allowed stands = absurd allowed
-exchanger_other site older (thaw at batch) answer exchanger other allowed stands = absurd allowed
-exchanger_other site older (stop_batch at batch) answer exchanger other allowed stands = absurd allowed
-exchanger_other site older (abandon at batch) answer exchanger other allowed stands = absurd allowed
-exchanger_other site older (report at tag service control) answer exchanger other allowed stands =
-    record {
-      opened_is = stands.opened_is;
-      begun_is = stands.begun_is;
-      standing_is = stands.standing_is;
-      unexchanged = stands.unexchanged;
-      within = stands.within;
-      begun_within = stands.begun_within;
-      listed = stands.listed;
-      there = λ place unit at' less. there_after (paired (report at tag service control) answer)
-          (past unit.tag older) (bytes_eq tag unit.tag && is_accepted answer) (stands.there place unit at' less)
-          (stands.there place unit at' less);
-      few = stands.few;
-    }
-exchanger_other site older (variable at tag name value) answer exchanger other allowed stands =
-    record {
-      opened_is = stands.opened_is;
-      begun_is = stands.begun_is;
-      standing_is = stands.standing_is;
-      unexchanged = stands.unexchanged;
-      within = stands.within;
-      begun_within = stands.begun_within;
-      listed = stands.listed;
-      there = λ place unit at' less. there_after (paired (variable at tag name value) answer)
-          (past unit.tag older) (bytes_eq tag unit.tag && is_accepted answer) (stands.there place unit at' less)
-          (stands.there place unit at' less);
-      few = stands.few;
-    }
-exchanger_other site older (desk at tag service command) answer exchanger other allowed stands =
-    record {
-      opened_is = stands.opened_is;
-      begun_is = stands.begun_is;
-      standing_is = stands.standing_is;
-      unexchanged = stands.unexchanged;
-      within = stands.within;
-      begun_within = stands.begun_within;
-      listed = stands.listed;
-      there = λ place unit at' less. there_after (paired (desk at tag service command) answer)
-          (past unit.tag older) (bytes_eq tag unit.tag && is_accepted answer) (stands.there place unit at' less)
-          (stands.there place unit at' less);
-      few = stands.few;
-    }
-exchanger_other site older (start at batch name binds) answer exchanger other allowed stands =
-    record {
-      opened_is = stands.opened_is;
-      begun_is = stands.begun_is;
-      standing_is = stands.standing_is;
-      unexchanged = stands.unexchanged;
-      within = stands.within;
-      begun_within = stands.begun_within;
-      listed = stands.listed;
-      there = stands.there;
-      few = stands.few;
-    }
-exchanger_other site older (advance at batch) answer exchanger other allowed stands =
-    record {
-      opened_is = stands.opened_is;
-      begun_is = stands.begun_is;
-      standing_is = stands.standing_is;
-      unexchanged = stands.unexchanged;
-      within = stands.within;
-      begun_within = stands.begun_within;
-      listed = stands.listed;
-      there = stands.there;
-      few = stands.few;
-    }
+exchanger_other site older event answer exchanger other allowed =
+    subst (λ now. StandsAt site now exchanger) (sym (others_leave site older event answer other allowed))
 
 -- ---- what it does next
 

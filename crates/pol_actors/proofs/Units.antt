@@ -127,11 +127,10 @@ pub unit_begun : (site : PlainSite) (older : History) (at : ℕ) (tag : List ℕ
 unit_begun site older at tag answer unit own accepted named there is =
     let entry : PlainEntry = paired (exchange_begin at tag) answer in
     let same = own_past older entry unit.tag (mine_by tag unit.tag named) accepted in
-    let before = is.brought there in
     record {
       unbrought = λ gone. let clash : true ≡ false = ap (λ p. is_there (docking_by p)) (sym same) ∙ gone in cc;
       brought = λ now. subst (λ p. IsBrought site unit.tag p (origin_of site unit own.brought)) (sym same)
-          (record { described = before.described; planned = before.planned });
+          (is.brought there);
       made = moved_fresh older entry unit.tag (mine_by tag unit.tag named) accepted refl;
     }
 
@@ -144,11 +143,10 @@ pub unit_cancelled : (site : PlainSite) (older : History) (at : ℕ) (tag : List
 unit_cancelled site older at tag ticket answer unit own accepted named there is =
     let entry : PlainEntry = paired (exchange_cancel at tag ticket) answer in
     let same = own_past older entry unit.tag (mine_by tag unit.tag named) accepted in
-    let before = is.brought there in
     record {
       unbrought = λ gone. let clash : true ≡ false = ap (λ p. is_there (docking_by p)) (sym same) ∙ gone in cc;
       brought = λ now. subst (λ p. IsBrought site unit.tag p (origin_of site unit own.brought)) (sym same)
-          (record { described = before.described; planned = before.planned });
+          (is.brought there);
       made = moved_fresh older entry unit.tag (mine_by tag unit.tag named) accepted refl;
     }
 
@@ -208,23 +206,21 @@ pub unit_reported : (site : PlainSite) (older : History) (at : ℕ) (told : SimR
 unit_reported site older at (Service name control) unit own made there is up =
     let entry : PlainEntry = paired (report at unit.tag name control) Done in
     let same = own_past older entry unit.tag (same_refl unit.tag) refl in
-    let before = is.brought there in
     record {
       unbrought =
           λ gone. let clash : true ≡ false = sym there ∙ ap (λ p. is_there (docking_by p)) (sym same) ∙ gone in cc;
       brought = λ now. subst (λ p. IsBrought site unit.tag p (origin_of site unit own.brought)) (sym same)
-          (record { described = before.described; planned = before.planned });
+          (is.brought there);
       made = up;
     }
 unit_reported site older at (Variable name value) unit own made there is up =
     let entry : PlainEntry = paired (variable at unit.tag name value) Done in
     let same = own_past older entry unit.tag (same_refl unit.tag) refl in
-    let before = is.brought there in
     record {
       unbrought =
           λ gone. let clash : true ≡ false = sym there ∙ ap (λ p. is_there (docking_by p)) (sym same) ∙ gone in cc;
       brought = λ now. subst (λ p. IsBrought site unit.tag p (origin_of site unit own.brought)) (sym same)
-          (record { described = before.described; planned = before.planned });
+          (is.brought there);
       made = up;
     }
 

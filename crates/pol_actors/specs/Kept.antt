@@ -1,6 +1,8 @@
 -- What the actors of a running plant keep of its history.
 use Rattle.std.specs.Prelude.{ℕ, pred, ◌+◌, ◌≡◌, ◌<◌, ◌≤◌, Bool, true, false, List, [], length, map, reverse, Option, Some, None, is_some, slice_get}
 use Rattle.std.specs.List.{AllByRecursion}
+use Rattle.mtp_desc.specs.Plain.{PlainDescription}
+use Rattle.mtp_sim.specs.Sims.{PlainPlan}
 use Rattle.pol_events.specs.Events.{PlainEntry}
 use Rattle.pol_history.specs.Batches.{Started, start_of}
 use Rattle.pol_history.specs.Looking.{History, past, is_accepted}
@@ -9,7 +11,7 @@ use Rattle.pol_history.specs.Modules.{docking_of, description_by, present_tags, 
 use Rattle.pol_history.specs.Runs.{IsLegal, IsOrderly}
 use Rattle.pol_site.specs.Actors.{owner_of}
 use Rattle.pol_site.specs.Commanded.{IsCommanded}
-use Rattle.pol_site.specs.Following.{FollowsSite, exchanging, last_entry_of, last_exchanging, opened, ordered}
+use Rattle.pol_site.specs.Following.{Exchanging, FollowsSite, exchanging, last_entry_of, last_exchanging, opened, ordered}
 use Rattle.pol_site.specs.Plans.{begun_in, plan_by}
 use Rattle.pol_site.specs.Sites.{PlainSite, PlainSiteModule, PlainSiteBatch}
 use Rattle.pol_site.specs.Sound.{IsSite}
@@ -34,21 +36,50 @@ is_begun standing.Closed = false
 is_begun (standing.Begun tag ticket) = true
 is_begun (standing.SentBack tag ticket) = false
 
+-- what a history says to the exchanger: how many recipes and modules had their events, how many exchanges were begun and
+-- where they stand, which tags are there and how many
+pub record Progress : Type 0 where
+  pub opened : ℕ
+  pub begun : ℕ
+  pub exchanging : Exchanging
+  pub last_exchanging : Option Exchanging
+  pub there : List ℕ → Bool
+  pub present : ℕ
+
+-- so it says, where these tags are there
+abbrev pub progress_with : History → (List ℕ → Bool) → Progress
+progress_with history there =
+    record {
+      opened = opened history;
+      begun = begun_in history;
+      exchanging = exchanging history;
+      last_exchanging = last_exchanging history;
+      there = there;
+      present = length (present_tags history);
+    }
+
+-- a tag is there that is docked or away
+abbrev pub progress_of : History → Progress
+progress_of history = progress_with history (λ tag. is_there (docking_of history tag))
+
 -- it stands where the history says; no exchange began before all recipes and modules had their events; the exchange
 -- that was begun is one of the site's; the modules that had their events are there, and no others are
-pub record IsExchanger (site : PlainSite) (history : History) (exchanger : Exchanger) : Type 0 where
-  pub opened_is : exchanger.opened ≡ opened history
-  pub begun_is : exchanger.begun ≡ begun_in history
-  pub standing_is : exchanging_in exchanger.standing ≡ exchanging history
-  pub unexchanged : opened history < length site.recipes + length site.modules → last_exchanging history ≡ None
-  pub within : opened history ≤ length site.recipes + length site.modules
-  pub begun_within : begun_in history ≤ length site.exchanges
-  pub listed : is_begun exchanger.standing ≡ true → is_some (slice_get site.exchanges (pred (begun_in history))) ≡ true
+pub record StandsAt (site : PlainSite) (now : Progress) (exchanger : Exchanger) : Type 0 where
+  pub opened_is : exchanger.opened ≡ now.opened
+  pub begun_is : exchanger.begun ≡ now.begun
+  pub standing_is : exchanging_in exchanger.standing ≡ now.exchanging
+  pub unexchanged : now.opened < length site.recipes + length site.modules → now.last_exchanging ≡ None
+  pub within : now.opened ≤ length site.recipes + length site.modules
+  pub begun_within : now.begun ≤ length site.exchanges
+  pub listed : is_begun exchanger.standing ≡ true → is_some (slice_get site.exchanges (pred now.begun)) ≡ true
   pub there :
       (place : ℕ) (unit : PlainSiteModule) → slice_get site.modules place ≡ Some unit →
-      length site.recipes + place < opened history → is_there (docking_of history unit.tag) ≡ true
-  pub few :
-      0 < length (present_tags history) → length (present_tags history) + length site.recipes ≤ opened history
+      length site.recipes + place < now.opened → now.there unit.tag ≡ true
+  pub few : 0 < now.present → now.present + length site.recipes ≤ now.opened
+
+-- by its history
+abbrev pub IsExchanger : PlainSite → History → Exchanger → Type 0
+IsExchanger site history exchanger = StandsAt site (progress_of history) exchanger
 
 -- ---- a batch
 
@@ -67,10 +98,14 @@ IsStage history batch stage = IsStageBy (last_entry_of batch history) (start_of 
 
 -- ---- a module
 
--- what is docked, or away, is of this origin
-pub record IsBrought (site : PlainSite) (tag : List ℕ) (past : History) (origin : Origin) : Type 0 where
-  pub described : description_by past ≡ Some origin.description
-  pub planned : plan_by site tag past ≡ Some origin.plan
+-- a module that is described and planned so is of this origin
+pub record IsOrigin (description : Option PlainDescription) (plan : Option PlainPlan) (origin : Origin) : Type 0 where
+  pub described : description ≡ Some origin.description
+  pub planned : plan ≡ Some origin.plan
+
+-- what is docked, or away, is
+abbrev pub IsBrought : PlainSite → List ℕ → History → Origin → Type 0
+IsBrought site tag past origin = IsOrigin (description_by past) (plan_by site tag past) origin
 
 -- its simulation keeps up with the history; before there is one nothing happened to the module since it was docked
 abbrev pub IsMadeUp : PlainSite → List ℕ → History → Option Simulation → Type 0

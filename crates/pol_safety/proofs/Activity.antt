@@ -25,7 +25,8 @@ use Rattle.pol_history.specs.Looking.{History, past}
 use Rattle.pol_history.specs.Following.{sights_by}
 use Rattle.pol_events.proofs.Lists.{among_member}
 use Rattle.pol_history.proofs.Binds.{IsFitting}
-use Rattle.pol_safety.proofs.Seen.{IsLive, IsSeen, seen_of, tag_of_bound}
+use Rattle.pol_safety.specs.Kept.{IsLive, IsSeen}
+use Rattle.pol_safety.proofs.Seen.{seen_of, tag_of_bound}
 use Rattle.pol_safety.proofs.Nexts.{ComesFrom, stops, leaves, breaks, holds, unholds, runs}
 
 -- ---- the phase after one more entry

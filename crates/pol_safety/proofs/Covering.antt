@@ -19,6 +19,7 @@ use Rattle.pol_history.specs.Rules.{tag_taken, no_module, not_covered, module_ru
 use Rattle.pol_history.specs.Runs.{IsLegal, IsOrderly}
 use Rattle.pol_events.proofs.Options.{some_same, neither, no_image}
 use Rattle.pol_events.proofs.Lists.{none_first}
+use Rattle.pol_safety.specs.Kept.{IsCovered}
 use Rattle.pol_safety.proofs.Sides.{Sides, sides, accepted, Comes, IsKeptBy, always, at_own}
 use Rattle.pol_history.proofs.Binds.{IsFitting}
 use Rattle.pol_safety.proofs.Starts.{MayStart, may_start, start_fits, StartCase, its_own, earlier, start_case, IsRunning, was_running, running_fits}
@@ -97,25 +98,18 @@ described = always Described (λ tag there. absurd (there refl)) described_more
 
 -- ---- a module that an open batch binds covers its role
 
--- the module with this past is there, and its description covers the role of the chart
-pub record Covers (chart : PlainChart) (role : List ℕ) (past : History) : Type 0 where
-  pub is_there : docking_by past ≡ absent → ⊥
-  pub description : PlainDescription
-  pub described : description_by past ≡ Some description
-  pub covered : cover_fault chart role description ≡ None
-
 -- each module that an open batch binds does
 abbrev pub AllCover : Sides → Type 0
 AllCover side =
     (batch : List ℕ) (started : Started) (chart : PlainChart) → start_by (side.batches batch) ≡ Some started →
     chart_named started.recipe side.recipes ≡ Some chart → outcome_by (side.batches batch) ≡ None →
-    (bind : Bind) → Contains (given started.binds) bind → Covers chart bind.role (side.modules bind.tag)
+    (bind : Bind) → Contains (given started.binds) bind → IsCovered chart bind.role (side.modules bind.tag)
 
 -- a module that no rule of a start is against covers its role
 start_covers : (history : History) (batch : List ℕ) (binds : PlainAllocation) (chart : PlainChart) (bind : Bind)
     → Described (sides history) →
     MayStart history batch binds chart → IsFitting chart (given binds) → Contains (given binds) bind
-    → Covers chart bind.role (past bind.tag history)
+    → IsCovered chart bind.role (past bind.tag history)
 start_covers history batch binds chart bind described may fits inside =
     let fit : module_rule history chart bind.role (Some bind.tag) ≡ None
     = ap (module_rule history chart bind.role) (sym (fits.paired.by_role bind inside))
@@ -175,14 +169,14 @@ stays_plugged history tag batch (inr watches) unheld unwatched =
 -- a module with the same description that is still there
 still_covers : (chart : PlainChart) (role : List ℕ) (past more : History) → description_by more ≡ description_by past
     → (docking_by more ≡ absent → ⊥) →
-    Covers chart role past → Covers chart role more
+    IsCovered chart role past → IsCovered chart role more
 still_covers chart role past more same there was =
     record { is_there = there; description = was.description; described = same ∙ was.described; covered = was.covered }
 
 -- what is known of a module of an open batch before an event that is no start
 record Before (history : History) (batch : List ℕ) (started : Started) (chart : PlainChart) (bind : Bind) : Type 0 where
   running : IsRunning history batch started chart
-  covers : Covers chart bind.role (past bind.tag history)
+  covers : IsCovered chart bind.role (past bind.tag history)
   used : IsUsed history bind.tag batch
   fits : IsFitting chart (given started.binds)
 
@@ -206,36 +200,36 @@ before history event batch started chart bind comes cover is now inside =
 module_covers : (history : History) (event : PlainEvent) (batch : List ℕ) (started : Started) (chart : PlainChart)
     (bind : Bind) → Comes history event →
     Contains (given started.binds) bind → Before history batch started chart bind
-    → Covers chart bind.role (past bind.tag (accepted history event ∷ history))
+    → IsCovered chart bind.role (past bind.tag (accepted history event ∷ history))
 module_covers history (plug at other description) batch started chart bind comes inside was =
-    at_own (Covers chart bind.role) (past bind.tag history) (accepted history (plug at other description)) true other
+    at_own (IsCovered chart bind.role) (past bind.tag history) (accepted history (plug at other description)) true other
     bind.tag was.covers
     (λ same. absurd (was.covers.is_there (ap (docking_of history) (sym same)
     ∙ is_absent (docking_of history other) comes.free.0)))
 module_covers history (unplug at other) batch started chart bind comes inside was =
-    at_own (Covers chart bind.role) (past bind.tag history) (accepted history (unplug at other)) true other
+    at_own (IsCovered chart bind.role) (past bind.tag history) (accepted history (unplug at other)) true other
     bind.tag was.covers
     (λ same. stays_plugged history bind.tag batch was.used
     (ap (λ tag. option_and_then (λ batch. Some (Held batch)) (holder_of history tag)) (sym same) ∙ comes.free.1.1.0)
     (ap (watched history) (sym same) ∙ comes.free.1.1.1.0))
 module_covers history (report at other service control) batch started chart bind comes inside was =
-    at_own (Covers chart bind.role) (past bind.tag history) (accepted history (report at other service control)) true
+    at_own (IsCovered chart bind.role) (past bind.tag history) (accepted history (report at other service control)) true
     other bind.tag was.covers
     (λ same. still_covers chart bind.role (past bind.tag history) _ refl was.covers.is_there was.covers)
 module_covers history (variable at other name value) batch started chart bind comes inside was =
-    at_own (Covers chart bind.role) (past bind.tag history) (accepted history (variable at other name value)) true
+    at_own (IsCovered chart bind.role) (past bind.tag history) (accepted history (variable at other name value)) true
     other bind.tag was.covers
     (λ same. still_covers chart bind.role (past bind.tag history) _ refl was.covers.is_there was.covers)
 module_covers history (desk at other service command) batch started chart bind comes inside was =
-    at_own (Covers chart bind.role) (past bind.tag history) (accepted history (desk at other service command)) true
+    at_own (IsCovered chart bind.role) (past bind.tag history) (accepted history (desk at other service command)) true
     other bind.tag was.covers
     (λ same. still_covers chart bind.role (past bind.tag history) _ refl was.covers.is_there was.covers)
 module_covers history (exchange_begin at other) batch started chart bind comes inside was =
-    at_own (Covers chart bind.role) (past bind.tag history) (accepted history (exchange_begin at other)) true other
+    at_own (IsCovered chart bind.role) (past bind.tag history) (accepted history (exchange_begin at other)) true other
     bind.tag was.covers
     (λ same. still_covers chart bind.role (past bind.tag history) _ refl (λ is. cc) was.covers)
 module_covers history (exchange_end at other ticket description) batch started chart bind comes inside was =
-    at_own (Covers chart bind.role) (past bind.tag history) (accepted history
+    at_own (IsCovered chart bind.role) (past bind.tag history) (accepted history
     (exchange_end at other ticket description)) true other bind.tag was.covers
     (λ same. record {
       is_there = λ is. cc;
@@ -246,7 +240,7 @@ module_covers history (exchange_end at other ticket description) batch started c
           (ap (λ tag. held_back history tag description) (sym same) ∙ comes.free.1.1.1.0);
     })
 module_covers history (exchange_cancel at other ticket) batch started chart bind comes inside was =
-    at_own (Covers chart bind.role) (past bind.tag history) (accepted history (exchange_cancel at other ticket)) true
+    at_own (IsCovered chart bind.role) (past bind.tag history) (accepted history (exchange_cancel at other ticket)) true
     other bind.tag was.covers
     (λ same. still_covers chart bind.role (past bind.tag history) _ refl (λ is. cc) was.covers)
 module_covers history _ batch started chart bind comes inside was = was.covers
@@ -264,7 +258,7 @@ cover_more : IsKeptBy AllCover
 cover_more history (start at other name binds) comes cover batch started chart start_is chart_is unclosed bind inside =
     go (start_case history batch started at other name binds start_is)
   where
-    go : StartCase history batch started other name binds → Covers chart bind.role (past bind.tag history)
+    go : StartCase history batch started other name binds → IsCovered chart bind.role (past bind.tag history)
     go (earlier is before) =
         cover batch started chart before chart_is (open_before history
         (accepted history (start at other name binds)) batch unclosed) bind inside
@@ -273,7 +267,7 @@ cover_more history (start at other name binds) comes cover batch started chart s
         let named : chart_named name (recipes history) ≡ Some chart =
         ap (λ started. chart_named started.recipe (recipes history)) same ∙ chart_is in
         let one : may.0 ≡ chart = some_same (chart_named name (recipes history)) may.0 chart may.1 named in
-        subst (λ chart. Covers chart bind.role (past bind.tag history)) one
+        subst (λ chart. IsCovered chart bind.role (past bind.tag history)) one
         (start_covers history other binds may.0 bind (described history comes.legal comes.orderly) may.2
         (start_fits history other binds may.0 comes.is_formed may.2)
         (subst (λ started. Contains (given started.binds) bind) (sym same) inside))

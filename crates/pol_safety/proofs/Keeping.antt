@@ -13,7 +13,7 @@ use Rattle.pol_history.specs.Modules.{view_of}
 use Rattle.pol_history.specs.Batches.{chart_named, chart_by, log_of, holder_of, watchers_of}
 use Rattle.pol_history.proofs.Watchers.{open_watches}
 use Rattle.pol_events.specs.Bound.{given}
-use Rattle.pol_safety.specs.Kept.{IsReported, IsCovered, BatchesAreKept}
+use Rattle.pol_safety.specs.Kept.{IsSeen, IsCovered, BatchesAreKept}
 use Rattle.pol_safety.specs.Known.{OpenBatchesSee}
 use Rattle.pol_events.proofs.Lists.{member_kept, member_image}
 use Rattle.pol_safety.proofs.Holding.{holds}
@@ -35,34 +35,18 @@ batches_kept history batch started chart legal orderly is_open =
     watched : (bind : Bind) → Contains started.binds.watched bind → Contains (watchers_of history bind.tag) batch
     watched bind inside = open_watches history batch started bind is_open.start is_open.unclosed inside
 
-    covered : (bind : Bind) → Contains (given started.binds) bind → IsCovered history chart bind.role bind.tag
-    covered bind inside =
-        let covers = all_cover history legal orderly batch started chart is_open.start chart_is is_open.unclosed bind
-        inside in
-        record {
-          is_there = covers.is_there;
-          description = covers.description;
-          described = covers.described;
-          covered = covers.covered;
-        }
+    covered : (bind : Bind) → Contains (given started.binds) bind → IsCovered chart bind.role (past bind.tag history)
+    covered = all_cover history legal orderly batch started chart is_open.start chart_is is_open.unclosed
 
     reported : (step : PlainStep) → Contains (active chart (log_of history batch)) step
-        → IsReported history started step
+        → IsSeen (λ tag. past tag history) (given started.binds) step.role step.service
     reported step inside =
         let (placed, within, same) = member_image (λ placed. placed.step)
         (filter (is_active (log_of history batch)) (steps chart.root 0)) step inside in
         let (member, is) = member_kept (is_active (log_of history batch)) (steps chart.root 0) placed within in
-        let seen = each_is_seen history legal orderly batch started chart is_open.start chart_is is_open.unclosed placed
-        member is in
-        subst (IsReported history started) same
-        (record {
-          tag = seen.tag;
-          bound = seen.bound;
-          count = seen.live.count;
-          is_docked = seen.live.is_docked;
-          view = seen.live.view;
-          seen = seen.live.seen;
-        })
+        subst (λ (step : PlainStep). IsSeen (λ tag. past tag history) (given started.binds) step.role step.service) same
+        (each_is_seen history legal orderly batch started chart is_open.start chart_is is_open.unclosed placed member
+        is)
 
 -- an open batch sees its modules
 pub batches_see : OpenBatchesSee
@@ -75,9 +59,9 @@ batches_see history batch started chart legal orderly is_open =
       tags = fits.bound;
       views = λ step inside.
           let reported = kept.reported step inside in (
-            reported.view,
+            reported.live.view,
             ap (service_sight (λ tag. past tag history) step.service) reported.bound
-                ∙ ap (λ docking. sight_in docking (view_of history reported.tag step.service)) reported.is_docked
-                ∙ ap sight_of_view reported.seen,
+                ∙ ap (λ docking. sight_in docking (view_of history reported.tag step.service)) reported.live.is_docked
+                ∙ ap sight_of_view reported.live.seen,
           );
     }

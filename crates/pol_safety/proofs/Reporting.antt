@@ -31,7 +31,7 @@ use Rattle.pol_events.proofs.Options.{no_image}
 use Rattle.pol_events.proofs.Lists.{none_found, kept_member, image_member}
 use Rattle.pol_safety.proofs.Sides.{Sides, sides, accepted, Comes, IsKeptBy, always, at_own}
 use Rattle.pol_history.proofs.Binds.{IsFitting}
-use Rattle.pol_safety.proofs.Seen.{IsLive, IsSeen}
+use Rattle.pol_safety.specs.Kept.{IsLive, IsSeen}
 use Rattle.pol_safety.proofs.Nexts.{did_from, next_at}
 use Rattle.pol_safety.proofs.Starts.{may_start, sound, unstarted, StartCase, its_own, earlier, start_case, IsRunning, was_running, running_fits}
 use Rattle.pol_history.proofs.Pasts.{log_grows}
@@ -116,23 +116,11 @@ live_after history (report at other service control) batch started chart placed 
 live_after history (variable at other name value) batch started chart placed tag comes was =
     at_own (IsLive placed.step.service) (past tag history) (accepted history (variable at other name value)) true
     other tag was.live
-    (λ same. record {
-      count = was.live.count;
-      is_docked = was.live.is_docked;
-      view = was.live.view;
-      seen =
-          was.live.seen;
-    })
+    (λ same. was.live)
 live_after history (desk at other service command) batch started chart placed tag comes was =
     at_own (IsLive placed.step.service) (past tag history) (accepted history (desk at other service command)) true
     other tag was.live
-    (λ same. record {
-      count = was.live.count;
-      is_docked = was.live.is_docked;
-      view = was.live.view;
-      seen =
-          was.live.seen;
-    })
+    (λ same. was.live)
 live_after history (exchange_begin at other) batch started chart placed tag comes was =
     at_own (IsLive placed.step.service) (past tag history) (accepted history (exchange_begin at other)) true
     other tag was.live

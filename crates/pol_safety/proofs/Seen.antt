@@ -7,21 +7,9 @@ use Rattle.chart_cursor.specs.Sights.{sight_of_view}
 use Rattle.pol_events.specs.declared.event.Bind.{Bind}
 use Rattle.pol_events.specs.Bound.{bound_tag}
 use Rattle.pol_history.specs.Looking.{History, past}
-use Rattle.pol_history.specs.Modules.{Docking, absent, docked, away, docking_by, docking_of, view_by, view_of}
+use Rattle.pol_history.specs.Modules.{Docking, absent, docked, away, docking_of, view_of}
 use Rattle.pol_history.specs.Following.{sight_in, service_sight, sights_by}
-
--- the module with this past is docked, and the service was reported since
-pub record IsLive (service : List ℕ) (past : History) : Type 0 where
-  pub count : ℕ
-  pub is_docked : docking_by past ≡ docked count
-  pub view : ServiceView
-  pub seen : view_by service past ≡ Some view
-
--- a module plays the role, and is so
-pub record IsSeen (modules : List ℕ → History) (binds : List Bind) (role service : List ℕ) : Type 0 where
-  pub tag : List ℕ
-  pub bound : bound_tag binds role ≡ Some tag
-  pub live : IsLive service (modules tag)
+use Rattle.pol_safety.specs.Kept.{IsSeen}
 
 -- a sight of a view is of that view
 is_view : (found : Option ServiceView) (view : ServiceView) → sight_of_view found ≡ sight.Is view → found ≡ Some view

@@ -1,5 +1,5 @@
 -- What every event keeps of the batches and their modules.
-use Rattle.std.specs.Prelude.{ℕ, ◌≡◌, List, Some, None}
+use Rattle.std.specs.Prelude.{ℕ, ◌≡◌, List, Option, Some, None}
 use Rattle.std.specs.List.{Contains}
 use Rattle.mtp_desc.specs.Plain.{PlainDescription}
 use Rattle.mtp_modes.specs.declared.view.ServiceView.{ServiceView}
@@ -9,25 +9,33 @@ use Rattle.chart_core.specs.Trees.{PlainStep}
 use Rattle.chart_cursor.specs.Logs.{active}
 use Rattle.pol_events.specs.declared.event.Bind.{Bind}
 use Rattle.pol_events.specs.Bound.{bound_tag, given}
-use Rattle.pol_history.specs.Looking.{History}
-use Rattle.pol_history.specs.Modules.{absent, docked, docking_of, description_of, view_of}
+use Rattle.pol_history.specs.Looking.{History, past}
+use Rattle.pol_history.specs.Modules.{Docking, absent, docked, docking_by, description_by, view_by}
 use Rattle.pol_history.specs.Batches.{Started, start_of, chart_of, log_of, outcome_of, holder_of, watchers_of}
 use Rattle.pol_history.specs.Runs.{IsLegal, IsOrderly}
 
--- the module of the step's role is docked, and the step's service was reported since
-pub record IsReported (history : History) (started : Started) (step : PlainStep) : Type 0 where
-  pub tag : List ℕ
-  pub bound : bound_tag (given started.binds) step.role ≡ Some tag
+-- a module that is docked, of whose service this view is found
+pub record IsLiveBy (docking : Docking) (found : Option ServiceView) : Type 0 where
   pub count : ℕ
-  pub is_docked : docking_of history tag ≡ docked count
+  pub is_docked : docking ≡ docked count
   pub view : ServiceView
-  pub seen : view_of history tag step.service ≡ Some view
+  pub seen : found ≡ Some view
 
--- the module is there, and its description covers the role of the chart
-pub record IsCovered (history : History) (chart : PlainChart) (role tag : List ℕ) : Type 0 where
-  pub is_there : docking_of history tag ≡ absent → ⊥
+-- the module with this past is docked, and the service was reported since
+abbrev pub IsLive : List ℕ → History → Type 0
+IsLive service past = IsLiveBy (docking_by past) (view_by service past)
+
+-- a module plays the role, and is so
+pub record IsSeen (modules : List ℕ → History) (binds : List Bind) (role service : List ℕ) : Type 0 where
+  pub tag : List ℕ
+  pub bound : bound_tag binds role ≡ Some tag
+  pub live : IsLive service (modules tag)
+
+-- the module with this past is there, and its description covers the role of the chart
+pub record IsCovered (chart : PlainChart) (role : List ℕ) (past : History) : Type 0 where
+  pub is_there : docking_by past ≡ absent → ⊥
   pub description : PlainDescription
-  pub described : description_of history tag ≡ Some description
+  pub described : description_by past ≡ Some description
   pub covered : cover_fault chart role description ≡ None
 
 -- what holds of an open batch, by its start and the chart of its recipe: each module that it binds is held by it, each
@@ -36,9 +44,9 @@ pub record IsCovered (history : History) (chart : PlainChart) (role tag : List �
 pub record IsSteady (history : History) (batch : List ℕ) (started : Started) (chart : PlainChart) : Type 0 where
   pub held : (bind : Bind) → Contains started.binds.held bind → holder_of history bind.tag ≡ Some batch
   pub watched : (bind : Bind) → Contains started.binds.watched bind → Contains (watchers_of history bind.tag) batch
-  pub covered : (bind : Bind) → Contains (given started.binds) bind → IsCovered history chart bind.role bind.tag
+  pub covered : (bind : Bind) → Contains (given started.binds) bind → IsCovered chart bind.role (past bind.tag history)
   pub reported : (step : PlainStep) → Contains (active chart (log_of history batch)) step →
-      IsReported history started step
+      IsSeen (λ tag. past tag history) (given started.binds) step.role step.service
 
 -- a batch that was started and isn't closed
 pub record IsOpen (history : History) (batch : List ℕ) (started : Started) (chart : PlainChart) : Type 0 where

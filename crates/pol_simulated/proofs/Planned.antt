@@ -100,10 +100,10 @@ begun_listed site tag (entry ∷ older) follows = go entry.event entry.answer fo
     go event answer allowed again = begins_none (is_accepted_of tag (record { event = event; answer = answer }))
         (record { event = event; answer = answer }) (past tag older) refl ∙ again
 
--- an exchange was begun last, and is of this tag
-record IsBegunLast (site : PlainSite) (history : History) (tag : List ℕ) : Type 0 where
+-- the last of so many exchanges that were begun, which is of this tag
+record IsBegunLast (site : PlainSite) (count : ℕ) (tag : List ℕ) : Type 0 where
   place : ℕ
-  begun : begun_in history ≡ suc place
+  begun : count ≡ suc place
   exchange : PlainSiteExchange
   listed : slice_get site.exchanges place ≡ Some exchange
   tag_is : exchange.tag ≡ tag
@@ -117,15 +117,15 @@ ends_begun other given _ tag ticket is = cc
 -- an exchange that stands begun was begun last
 begun_last : (site : PlainSite) (history : History) (tag : List ℕ) (ticket : ℕ) → FollowsSite site history
     → exchanging history ≡ was_begun tag ticket →
-    IsBegunLast site history tag
+    IsBegunLast site (begun_in history) tag
 begun_last site [] tag ticket follows is = cc
 begun_last site (entry ∷ older) tag ticket follows is = go entry.event entry.answer follows.0 is
     (begun_last site older tag ticket follows.1)
   where
     go : (event : PlainEvent) (answer : Answer) → IsAllowed site older event answer →
         exchanging (record { event = event; answer = answer } ∷ older) ≡ was_begun tag ticket →
-        (exchanging older ≡ was_begun tag ticket → IsBegunLast site older tag) →
-        IsBegunLast site (record { event = event; answer = answer } ∷ older) tag
+        (exchanging older ≡ was_begun tag ticket → IsBegunLast site (begun_in older) tag) →
+        IsBegunLast site (begun_in (record { event = event; answer = answer } ∷ older)) tag
     go (exchange_begin at other) (Ticket given) allowed is again =
         let same : other ≡ tag = cc in
         record {
@@ -139,16 +139,7 @@ begun_last site (entry ∷ older) tag ticket follows is = go entry.event entry.a
     go (exchange_end at other given description) answer allowed is again =
         absurd (ends_begun other given answer tag ticket is)
     go (exchange_cancel at other given) answer allowed is again = cc
-    go event answer allowed is again =
-        let last = again is in
-        record {
-          place = last.place;
-          begun = last.begun;
-          exchange = last.exchange;
-          listed =
-              last.listed;
-          tag_is = last.tag_is;
-        }
+    go event answer allowed is again = again is
 
 -- ---- plans
 

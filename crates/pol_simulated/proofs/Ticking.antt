@@ -26,7 +26,7 @@ use Rattle.pol_history.specs.Modules.{since_docking}
 use Rattle.pol_site.specs.Sites.{PlainSite}
 use Rattle.pol_site.specs.Stories.{controls_in, times_sent}
 use Rattle.pol_site.specs.Commanded.{changes_by, is_own_change}
-use Rattle.pol_simulated.specs.Units.{told as told_of, IsInStep, IsCounted, IsServiceCounted, IsDriftTold, drift_called, newest, IsTold, IsServiceTold, changes_of, is_same_service, service_called}
+use Rattle.pol_simulated.specs.Units.{told as told_of, heard, plan_in, IsInStep, IsInStepWith, IsCounted, IsServiceCounted, IsDriftTold, drift_called, newest, IsTold, IsServiceTold, changes_of, is_same_service, service_called}
 use Rattle.mtp_sim.proofs.Edges.{name_ticked, next_ticked_at, state_refl}
 use Rattle.mtp_sim.proofs.Indexed.{named_set}
 use Rattle.pol_simulated.proofs.Called.{called_at, called_set, map_set, repeats_set, service_name}
@@ -215,38 +215,32 @@ service_kept site tag past looked sim s at step counts = go (is_reported sim.des
         (λ is. changing (subst (λ f. IsServiceTold d f (controls name)) (finds name is) (step.services name)))
         (counts name)
 
+    -- in step with what it told then
+    stands : (reports : Bool) → is_reported d (limit_of sim s) s ≡ reports →
+        IsInStepWith
+        (record (heard site tag past) {
+          controls = λ name. cond reports (cons_option (if bytes_eq after.name name then Some (control_now d after)
+              else None) (controls name)) (controls name);
+        }) d (plan_in sim) (slice_set sim.services sim.place after) sim.drifts
+    stands reports is =
+        record {
+          described = step.described;
+          planned = step.planned;
+          named = named_set sim.services sim.place s after at named ∙ step.named;
+          unlike_services = unlike;
+          unlike_drifts = step.unlike_drifts;
+          next = next_ticked_at d (limit_of sim s) sim.services sim.place s step.next at;
+          services = λ name. rw (found name) (told_after d s after name reports (service_called name sim.services)
+              (controls name) (finds name) named (steps name _ is) (step.services name));
+          drifts = step.drifts;
+        }
+
     go : (reports : Bool) → is_reported d (limit_of sim s) s ≡ reports →
         IsInStep site tag (told_of tag (cond reports (Some (report_of d after)) None) past) (ticked_at sim (Some s))
         × IsCounted tag (told_of tag (cond reports (Some (report_of d after)) None) past) looked
         (ticked_at sim (Some s))
-    go true reports = (
-      record {
-        described = step.described;
-        planned = step.planned;
-        named = named_set sim.services sim.place s after at named ∙ step.named;
-        unlike_services = unlike;
-        unlike_drifts = step.unlike_drifts;
-        next = next_ticked_at d (limit_of sim s) sim.services sim.place s step.next at;
-        services = λ name. rw (found name) (told_after d s after name true (service_called name sim.services)
-            (controls name) (finds name) named (steps name _ reports) (step.services name));
-        drifts = step.drifts;
-      },
-      λ name. rw (found name) (counted_of name true (changing name _ reports)),
-    )
-    go false reports = (
-      record {
-        described = step.described;
-        planned = step.planned;
-        named = named_set sim.services sim.place s after at named ∙ step.named;
-        unlike_services = unlike;
-        unlike_drifts = step.unlike_drifts;
-        next = next_ticked_at d (limit_of sim s) sim.services sim.place s step.next at;
-        services = λ name. rw (found name) (told_after d s after name false (service_called name sim.services)
-            (controls name) (finds name) named (steps name _ reports) (step.services name));
-        drifts = step.drifts;
-      },
-      λ name. rw (found name) (counted_of name false (changing name _ reports)),
-    )
+    go true is = (stands true is, λ name. rw (found name) (counted_of name true (changing name _ is)))
+    go false is = (stands false is, λ name. rw (found name) (counted_of name false (changing name _ is)))
 
 -- the name of a drift
 abbrev drift_name : SimDrift → List ℕ
@@ -271,19 +265,7 @@ drift_kept site tag past looked sim drift at step counts = go (value_told (is_ex
         (moved sim sim.services (drifts_after sim.drifts (sim.place - length sim.services) drift value))
         × IsCounted tag (told_of tag (option_map (variable_report drift.name) value) past) looked
         (moved sim sim.services (drifts_after sim.drifts (sim.place - length sim.services) drift value))
-    go None = (
-      record {
-        described = step.described;
-        planned = step.planned;
-        named = step.named;
-        unlike_services = step.unlike_services;
-        unlike_drifts = step.unlike_drifts;
-        next = step.next;
-        services = step.services;
-        drifts = step.drifts;
-      },
-      counts,
-    )
+    go None = (step, counts)
     go (Some value) = (
       record {
         described = step.described;
@@ -313,16 +295,4 @@ ticks_kept site tag past looked sim step counts = go (service_here sim) refl (dr
     go (Some s) at drift in_place = rw at (service_kept site tag past looked sim s at step counts)
     go None at (Some drift) in_place = rw (at, in_place)
         (drift_kept site tag past looked sim drift in_place step counts)
-    go None at None in_place = rw (at, in_place) (
-      record {
-        described = step.described;
-        planned = step.planned;
-        named = step.named;
-        unlike_services = step.unlike_services;
-        unlike_drifts = step.unlike_drifts;
-        next = step.next;
-        services = step.services;
-        drifts = step.drifts;
-      },
-      counts,
-    )
+    go None at None in_place = rw (at, in_place) (step, counts)

@@ -84,19 +84,42 @@ is_same_drift drift other = bytes_eq drift.name other.name
 abbrev pub plan_in : PlainSim → PlainPlan
 plan_in sim = record { ticks = sim.ticks; run = sim.run; drifts = map drift_in sim.drifts }
 
+-- what a past says of a module: what is docked and how it is planned, what each of its services told since, and the last
+-- value of each of its variables
+pub record Heard : Type 0 where
+  pub description : Option PlainDescription
+  pub plan : Option PlainPlan
+  pub controls : List ℕ → List ServiceControl
+  pub value : List ℕ → Option ℤ
+
+-- what it says of the module of a tag
+abbrev pub heard : PlainSite → List ℕ → History → Heard
+heard site tag past =
+    record {
+      description = description_by past;
+      plan = plan_by site tag past;
+      controls = λ name. controls_in name (since_docking past);
+      value = λ name. whole_in (value_by name past);
+    }
+
 -- the module is the one that is docked, as its site plans it; each of its services is where it may be; and what it
 -- keeps is what was told
-pub record IsInStep (site : PlainSite) (tag : List ℕ) (past : History) (sim : PlainSim) : Type 0 where
-  pub described : description_by past ≡ Some sim.description
-  pub planned : plan_by site tag past ≡ Some (plan_in sim)
-  pub named : map (λ service. service.name) sim.services ≡ map (λ service. service.name) sim.description.services
-  pub unlike_services : repeats_by is_same_service sim.services ≡ false
-  pub unlike_drifts : repeats_by is_same_drift sim.drifts ≡ false
-  pub next : AreNext sim.services
+pub record IsInStepWith (said : Heard) (description : PlainDescription) (plan : PlainPlan)
+    (simulated : List SimService) (drifting : List SimDrift) : Type 0 where
+  pub described : said.description ≡ Some description
+  pub planned : said.plan ≡ Some plan
+  pub named : map (λ service. service.name) simulated ≡ map (λ service. service.name) description.services
+  pub unlike_services : repeats_by is_same_service simulated ≡ false
+  pub unlike_drifts : repeats_by is_same_drift drifting ≡ false
+  pub next : AreNext simulated
   pub services :
-      (name : List ℕ) →
-      IsServiceTold sim.description (service_called name sim.services) (controls_in name (since_docking past))
-  pub drifts : (name : List ℕ) → IsDriftTold (drift_called name sim.drifts) (whole_in (value_by name past))
+      (name : List ℕ) → IsServiceTold description (service_called name simulated) (said.controls name)
+  pub drifts : (name : List ℕ) → IsDriftTold (drift_called name drifting) (said.value name)
+
+-- the module of the simulator is, by a past; the place that its next tick looks at is no matter
+abbrev pub IsInStep : PlainSite → List ℕ → History → PlainSim → Type 0
+IsInStep site tag past sim =
+    IsInStepWith (heard site tag past) sim.description (plan_in sim) sim.services sim.drifts
 
 -- how often the service changed by the command, by what it went through
 abbrev pub changes_of : PlainDescription → List ℕ → Command → SimService → List ServiceControl → ℕ

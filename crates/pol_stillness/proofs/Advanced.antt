@@ -52,6 +52,7 @@ use Rattle.pol_stillness.proofs.Alone.{steps_alone}
 use Rattle.pol_stillness.specs.Plain.{is_plain, IsPlain}
 use Rattle.pol_stillness.proofs.Plain.{view_plain, did_runs}
 use Rattle.pol_stillness.proofs.Ended.{end_idle}
+use Rattle.pol_stillness.proofs.Carried.{still_owed}
 use Rattle.pol_events.proofs.Options.{some_same}
 use Rattle.pol_events.proofs.Lists.{among_member, kept_member, member_kept}
 use Rattle.pol_history.proofs.Binds.{IsFitting}
@@ -417,36 +418,20 @@ pub stay_owed : (older : History) (at : ℕ) (other : List ℕ) (tag service : L
     → is_for service (if_to tag (sent_by entry)) ≡ false
     → IsOwed (paired (advance at other) (Did entry) ∷ older) tag service
 stay_owed older at other tag service owed entry same known apart =
-    record {
-      batch = owed.batch;
-      started = owed.started;
-      chart = owed.chart;
-      placed = owed.placed;
-      start_is = start_same older (paired (advance at other) (Did entry)) owed.batch refl ∙ owed.start_is;
-      chart_is = owed.chart_is;
-      unclosed = ap outcome_by (own_past older at other owed.batch entry same) ∙ owed.unclosed;
-      inside = kept_member (is_active (chart_entries (log_of now owed.batch))) (steps owed.chart.root 0) owed.placed
-          member.0 (ap is_running stands ∙ member.1);
-      bound = owed.bound;
-      service_is = owed.service_is;
-      view = owed.view;
-      seen = owed.seen;
-      waits = ap waits_in stands ∙ owed.waits;
-    }
+    still_owed older (paired (advance at other) (Did entry) ∷ older) tag service owed
+    (start_same older (paired (advance at other) (Did entry)) owed.batch refl) owed.chart_is
+    (ap outcome_by (own_past older at other owed.batch entry same)) stands refl
   where
-    now : History
-    now = paired (advance at other) (Did entry) ∷ older
+    name : List ℕ
+    name = owed.placed.step.name
 
     log : List LogEntry
     log = chart_entries (log_of older owed.batch)
 
-    member : Contains (steps owed.chart.root 0) owed.placed × (is_active log owed.placed ≡ true)
-    member = member_kept (is_active log) (steps owed.chart.root 0) owed.placed owed.inside
-
-    stands : phase_after (chart_entries (log_of now owed.batch)) owed.placed.step.name ≡ phase_after log
-        owed.placed.step.name
+    stands : phase_after (chart_entries (log_of (paired (advance at other) (Did entry) ∷ older) owed.batch)) name
+        ≡ phase_after log name
     stands =
-        ap (λ l. phase_after l owed.placed.step.name) (own_run older at other owed.batch entry same known.of_run)
-        ∙ phase_pushed log entry owed.placed.step.name
-        ∙ ap (λ said. or_idle (or_earlier said (last_said (phase_by owed.placed.step.name) log)))
+        ap (λ l. phase_after l name) (own_run older at other owed.batch entry same known.of_run)
+        ∙ phase_pushed log entry name
+        ∙ ap (λ said. or_idle (or_earlier said (last_said (phase_by name) log)))
         (silent older tag service owed entry known apart)

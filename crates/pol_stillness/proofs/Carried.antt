@@ -1,16 +1,19 @@
 -- An entry that leaves a service as it was: what was owed to it is owed still.
-use Rattle.std.proofs.Common.{◌≡◌, ℕ, Bool, true, false, cond, List, [], ◌∷◌, Option, Some, None, refl, ap, sym, ◌∙◌, subst}
+use Rattle.std.proofs.Common.{◌≡◌, ℕ, Bool, true, false, cond, List, [], ◌∷◌, Option, Some, None, refl, ap, sym, ◌∙◌}
 use Rattle.std.specs.Prelude.{◌||◌, is_some, option_map, unwrap_or, if◌then◌else◌}
 use Rattle.std.specs.List.{Contains}
 use Rattle.std.specs.Option.{option_or}
 use Rattle.mtp_assembly.specs.declared.control.ServiceControl.{ServiceControl}
 use Rattle.mtp_desc.specs.Plain.{PlainDescription}
-use Rattle.chart_core.specs.Active.{phase_after, active_steps}
+use Rattle.chart_core.specs.Active.{phase_after, is_active, is_running}
 use Rattle.chart_core.specs.Roles.{PlainChart}
+use Rattle.chart_core.specs.Trees.{steps}
+use Rattle.chart_core.specs.declared.entry.LogEntry.{LogEntry}
+use Rattle.pol_events.proofs.Lists.{kept_member, member_kept}
 use Rattle.pol_events.specs.Events.{PlainEvent, plug, exchange_end, PlainEntry}
 use Rattle.pol_history.specs.Looking.{History, past, past_of_batch, recipes, last_of, is_accepted_of}
 use Rattle.pol_history.specs.Modules.{is_moving, since_docking, reported, described, control_by, description_by, seen_with, view_by, view_of}
-use Rattle.pol_history.specs.Batches.{Started, start_by, start_of, chart_named, outcome_by, log_by}
+use Rattle.pol_history.specs.Batches.{Started, start_by, start_of, chart_named, outcome_by, outcome_of, log_by, log_of}
 use Rattle.pol_history.specs.Commands.{sent_command}
 use Rattle.pol_site.specs.Stories.{sent_to, if_to, story, is_for, answering, is_answered}
 use Rattle.pol_stillness.specs.Apart.{waits_in, IsOwed}
@@ -100,28 +103,46 @@ view_same tag service entry older leaves = go (is_accepted_of tag entry) refl
 
 -- ---- an owed report that stays owed
 
+-- where its batch was started on the same chart and isn't closed, and its step and its service stand as they did
+pub still_owed : (older now : History) (tag service : List ℕ) (owed : IsOwed older tag service)
+    → start_of now owed.batch ≡ start_of older owed.batch
+    → chart_named owed.started.recipe (recipes now) ≡ Some owed.chart
+    → outcome_of now owed.batch ≡ outcome_of older owed.batch
+    → phase_after (chart_entries (log_of now owed.batch)) owed.placed.step.name
+    ≡ phase_after (chart_entries (log_of older owed.batch)) owed.placed.step.name
+    → view_of now tag service ≡ view_of older tag service → IsOwed now tag service
+still_owed older now tag service owed starts chart_is closes stands sees =
+    record {
+      batch = owed.batch;
+      started = owed.started;
+      chart = owed.chart;
+      placed = owed.placed;
+      start_is = starts ∙ owed.start_is;
+      chart_is = chart_is;
+      unclosed = closes ∙ owed.unclosed;
+      inside = kept_member (is_active (chart_entries (log_of now owed.batch))) (steps owed.chart.root 0) owed.placed
+          member.0 (ap is_running stands ∙ member.1);
+      bound = owed.bound;
+      service_is = owed.service_is;
+      view = owed.view;
+      seen = sees ∙ owed.seen;
+      waits = ap waits_in stands ∙ owed.waits;
+    }
+  where
+    log : List LogEntry
+    log = chart_entries (log_of older owed.batch)
+
+    member : Contains (steps owed.chart.root 0) owed.placed × (is_active log owed.placed ≡ true)
+    member = member_kept (is_active log) (steps owed.chart.root 0) owed.placed owed.inside
+
 -- where the batch has the past that it had
 pub carry : (older now : History) (tag service : List ℕ) (owed : IsOwed older tag service)
     → past_of_batch owed.batch now ≡ past_of_batch owed.batch older
     → chart_named owed.started.recipe (recipes now) ≡ Some owed.chart
     → view_of now tag service ≡ view_of older tag service → IsOwed now tag service
 carry older now tag service owed same chart_is view_is =
-    record {
-      batch = owed.batch;
-      started = owed.started;
-      chart = owed.chart;
-      placed = owed.placed;
-      start_is = ap start_by same ∙ owed.start_is;
-      chart_is = chart_is;
-      unclosed = ap outcome_by same ∙ owed.unclosed;
-      inside = subst (λ p. Contains (active_steps owed.chart (chart_entries (log_by p))) owed.placed) (sym same)
-          owed.inside;
-      bound = owed.bound;
-      service_is = owed.service_is;
-      view = owed.view;
-      seen = view_is ∙ owed.seen;
-      waits = ap (λ p. waits_in (phase_after (chart_entries (log_by p)) owed.placed.step.name)) same ∙ owed.waits;
-    }
+    still_owed older now tag service owed (ap start_by same) chart_is (ap outcome_by same)
+    (ap (λ p. phase_after (chart_entries (log_by p)) owed.placed.step.name) same) view_is
 
 -- what is owed
 abbrev pub Owing : History → Type 0

@@ -37,8 +37,8 @@ use Rattle.pol_simulated.proofs.Places.{before_all, before_later, found_within, 
 use Rattle.pol_simulated.proofs.Taking.{commands_kept, more_counted}
 use Rattle.pol_simulated.proofs.Ticking.{ticks_kept}
 use Rattle.pol_simulated.proofs.Values.{drifts_commanded, drifts_ticked, first_drifts_kept, plans_kept}
-use Rattle.pol_stillness.specs.Phases.{asked_in}
-use Rattle.pol_stillness.specs.Served.{IsServed, list_of, unlooked}
+use Rattle.pol_stillness.specs.Phases.{asked_in, wanted}
+use Rattle.pol_stillness.specs.Served.{IsServed, IsServedBy}
 use Rattle.pol_stillness.specs.Together.{AreServed, after_report}
 use Rattle.pol_stillness.specs.KeepingUp.{KeepsUp, FirstsKeepUp, IdlesKeepUp, TicksKeepUp, LooksKeepUp, SendsKeepUp, OthersKeepUp, KeptUpIsCommanded}
 use Rattle.pol_stillness.proofs.Served.{firsts_served, none_ahead, others_served, sends_served, unlooked_none}
@@ -102,16 +102,7 @@ applied site tag at from history None sim step counted kept served stays within 
 applied site tag at from history (Some (Service name control)) sim step counted kept served stays within =
     let later = before_later from (paired (report at tag name control) Done) history within in
     record {
-      step = rw (same_refl tag) (record {
-        described = step.described;
-        planned = step.planned;
-        named = step.named;
-        unlike_services = step.unlike_services;
-        unlike_drifts = step.unlike_drifts;
-        next = step.next;
-        services = step.services;
-        drifts = step.drifts;
-      });
+      step = rw (same_refl tag) step;
       kept = kept;
       counted = rw (same_refl tag, later) (λ name. counted name);
       served = served;
@@ -121,16 +112,7 @@ applied site tag at from history (Some (Service name control)) sim step counted 
 applied site tag at from history (Some (Variable name value)) sim step counted kept served stays within =
     let later = before_later from (paired (variable at tag name value) Done) history within in
     record {
-      step = rw (same_refl tag) (record {
-        described = step.described;
-        planned = step.planned;
-        named = step.named;
-        unlike_services = step.unlike_services;
-        unlike_drifts = step.unlike_drifts;
-        next = step.next;
-        services = step.services;
-        drifts = step.drifts;
-      });
+      step = rw (same_refl tag) step;
       kept = kept;
       counted = rw (same_refl tag, later) (λ name. counted name);
       served = served;
@@ -236,11 +218,6 @@ looks_up site tag from history sim ahead sent calm next sends tag_is up =
 
 -- ---- no command is left
 
--- where nothing is ahead from a place on, nothing is from a later one
-nothing_ahead : (xs ys : List LogEntry) (ahead : Option LogEntry) → xs ≡ [] → ys ≡ [] → xs ≡ list_of ahead →
-    ys ≡ list_of ahead
-nothing_ahead xs ys ahead none none' is = none' ∙ sym none ∙ is
-
 -- from the end of the history on
 pub idles_up : IdlesKeepUp
 idles_up site tag from history sim none up =
@@ -253,15 +230,9 @@ idles_up site tag from history sim none up =
           (λ command. times_sent tag name command (story tag (before (length history) history)))
           (λ command. all name command) (up.counted name);
       served = λ name service called.
-          let served = up.served name service called in
-          record {
-            ahead = served.ahead;
-            is_ahead = nothing_ahead (unlooked tag service.name from history)
-                (unlooked tag service.name (length history) history) served.ahead
-                (none_ahead tag service.name from history none)
-                (unlooked_none tag service.name (length history) history same) served.is_ahead;
-            phase = served.phase;
-          };
+          subst (λ left. IsServedBy sim.description left (wanted tag service.name (story tag history)) service)
+          (none_ahead tag service.name from history none
+          ∙ sym (unlooked_none tag service.name (length history) history same)) (up.served name service called);
       stays = stays_end tag (length history) history same;
       within = same;
     }

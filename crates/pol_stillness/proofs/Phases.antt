@@ -21,17 +21,17 @@ use Rattle.chart_core.specs.Entries.{chart_entry}
 use Rattle.chart_core.specs.declared.entry.LogEntry.{LogEntry}
 use Rattle.chart_core.specs.declared.entry.LogEntry.TheVariants.{Start, Finish, Reset, Stop, Asked}
 use Rattle.chart_cursor.specs.Commands.{Sent, sent_by}
-use Rattle.pol_events.specs.Events.{advance, report}
+use Rattle.pol_events.specs.Events.{advance, report, PlainEntry}
 use Rattle.pol_events.specs.declared.answer.Answer.TheVariants.{Done, Did}
 use Rattle.pol_history.specs.Looking.{History, past, last_of}
-use Rattle.pol_history.specs.Modules.{since_docking, control_by, description_by, completes_by, seen_with}
+use Rattle.pol_history.specs.Modules.{is_moving, since_docking, control_by, description_by, completes_by, seen_with}
 use Rattle.pol_history.specs.Batches.{taken}
 use Rattle.pol_history.proofs.Accepted.{paired}
 use Rattle.pol_site.specs.Stories.{story, if_to, is_for, started_in, procedure_started, answering, is_answered, controls_in}
 use Rattle.pol_simulated.specs.Units.{newest}
 use Rattle.pol_simulated.proofs.Taking.{moved_untold, told_state}
 use Rattle.mtp_sim.proofs.Edges.{told_last, name_ticked}
-use Rattle.pol_stillness.specs.Phases.{asked_in, is_changed, IsSettled, IsGiven, IsPhase, told_after, TicksKeepPhases, TakesSettle, SendsGive, OthersKeepPhases}
+use Rattle.pol_stillness.specs.Phases.{asked_in, is_changed, wanted, IsPhase, IsPhaseOf, told_after, TicksKeepPhases, TakesSettle, SendsGive, OthersKeepPhases}
 use Rattle.pol_stillness.proofs.Desks.{view_control}
 use Rattle.pol_simulated.proofs.Reports.{last_newest}
 use Rattle.pol_stillness.proofs.Plain.{}
@@ -57,26 +57,20 @@ answers tag name control old =
 
 -- a tick keeps a service settled
 settled_ticked : (d : PlainDescription) (tag : List ℕ) (limit : ℕ) (s : SimService) (old : History)
-    → IsSettled tag old s
-    → IsSettled tag (told_after d tag limit s old) (service_ticked d limit s)
+    → IsPhase d tag old s None → IsPhase d tag (told_after d tag limit s old) (service_ticked d limit s) None
 settled_ticked d tag limit s old is = go (is_untold s) (changes d s) (nat_le limit (s.count + 1)) (own_target s.state)
     refl refl refl
   where
-    After : Bool → Bool → Bool → Option State → SimService
-    After untold changing ripe target = cond untold (told s)
+    after : Bool → Bool → Bool → Option State → SimService
+    after untold changing ripe target = cond untold (told s)
         (cond changing (cond ripe (moved_on s target) (counted s)) s)
 
     go : (untold changing ripe : Bool) (target : Option State) → is_untold s ≡ untold → changes d s ≡ changing
         → own_target s.state ≡ target →
-        IsSettled tag
+        IsPhase d tag
         (cond (untold || (changing && ripe))
-        (record {
-          event = report 0 tag s.name (control_now d
-              (cond untold (told s) (cond changing (cond ripe (moved_on s target) (counted s)) s)));
-          answer = Done;
-        }
-        ∷ old) old)
-        (cond untold (told s) (cond changing (cond ripe (moved_on s target) (counted s)) s))
+        (paired (report 0 tag s.name (control_now d (after untold changing ripe target))) Done ∷ old) old)
+        (after untold changing ripe target) None
     go true changing ripe target u e f = record
         { runs = is.runs; answered = answers tag s.name (control_now d (told s)) old ∙ ap not (sym (told_now s)) }
     go false false ripe target u e f = is
@@ -126,10 +120,10 @@ ticks_phased d tag limit s old (Some entry) is =
     let none = given_unreported d limit s is.tells is.still in
     record {
       phase =
-          subst (λ b. IsGiven d tag (if b then record
+          subst (λ b. IsPhase d tag (if b then record
           { event = report 0 tag s.name (control_now d (service_ticked d limit s)); answer = Done } ∷ old else old)
-          (service_ticked d limit s) entry) (sym none.0)
-          (subst (λ t. IsGiven d tag old t entry) (sym none.1) is);
+          (service_ticked d limit s) (Some entry)) (sym none.0)
+          (subst (λ t. IsPhase d tag old t (Some entry)) (sym none.1) is);
       due = λ reports past described. let clash : false ≡ true = sym none.0 ∙ reports in cc;
     }
 
@@ -166,42 +160,35 @@ takes_settled d tag s old entry given =
 
 -- ---- other entries
 
--- another entry
-pub others_phased : OthersKeepPhases
-others_phased d tag s old ahead entry moves silent starts is = go ahead is
+-- another entry leaves what a story wants of a service
+pub wanted_same : (tag name : List ℕ) (old : History) (entry : PlainEntry) → is_moving entry.event ≡ false
+    → answering tag name entry ≡ None
+    → ((d : Option PlainDescription) → started_in tag name d (taken entry.answer) ≡ None)
+    → wanted tag name (entry ∷ old) ≡ wanted tag name old
+wanted_same tag name old entry moves silent starts = λ i. record { procedure = runs i; answered = answered i }
   where
     description : description_by (entry ∷ old) ≡ description_by old
     description = ap (λ (f : Option PlainDescription). option_or f (description_by old)) (undescribed entry.event moves)
 
-    runs : procedure_started tag s.name (entry ∷ old) ≡ procedure_started tag s.name old
+    runs : procedure_started tag name (entry ∷ old) ≡ procedure_started tag name old
     runs =
-        ap (λ f. unwrap_or (last_of (λ each. started_in tag s.name f (taken each.answer)) (since_docking (entry ∷ old)))
+        ap (λ f. unwrap_or (last_of (λ each. started_in tag name f (taken each.answer)) (since_docking (entry ∷ old)))
         0) description
-        ∙ ap (λ b. unwrap_or (last_of (λ each. started_in tag s.name (description_by old) (taken each.answer))
+        ∙ ap (λ b. unwrap_or (last_of (λ each. started_in tag name (description_by old) (taken each.answer))
         (if b then [] else entry ∷ since_docking old)) 0) moves
         ∙ ap (λ found. unwrap_or (option_or found
-        (last_of (λ each. started_in tag s.name (description_by old) (taken each.answer)) (since_docking old))) 0)
+        (last_of (λ each. started_in tag name (description_by old) (taken each.answer)) (since_docking old))) 0)
         (starts (description_by old))
 
-    answered : is_answered tag (entry ∷ old) s.name ≡ is_answered tag old s.name
+    answered : is_answered tag (entry ∷ old) name ≡ is_answered tag old name
     answered =
-        ap (λ b. unwrap_or (last_of (answering tag s.name) (if b then [] else entry ∷ since_docking old)) true) moves
-        ∙ ap (λ found. unwrap_or (option_or found (last_of (answering tag s.name) (since_docking old))) true) silent
+        ap (λ b. unwrap_or (last_of (answering tag name) (if b then [] else entry ∷ since_docking old)) true) moves
+        ∙ ap (λ found. unwrap_or (option_or found (last_of (answering tag name) (since_docking old))) true) silent
 
-    go : (ahead : Option LogEntry) → IsPhase d tag old s ahead → IsPhase d tag (entry ∷ old) s ahead
-    go None is = record { runs = runs ∙ is.runs; answered = answered ∙ is.answered }
-    go (Some did) is =
-        record {
-          sent = is.sent;
-          sends = is.sends;
-          tells = is.tells;
-          still = is.still;
-          unanswered = answered ∙ is.unanswered;
-          target = is.target;
-          leads = is.leads;
-          waits = is.waits;
-          runs = is.runs ∙ ap Some (sym runs);
-        }
+-- so it leaves how the service stands
+pub others_phased : OthersKeepPhases
+others_phased d tag s old ahead entry moves silent starts =
+    subst (λ asks. IsPhaseOf d asks s ahead) (sym (wanted_same tag s.name old entry moves silent starts))
 
 -- ---- a command that is sent
 

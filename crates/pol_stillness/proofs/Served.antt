@@ -32,16 +32,16 @@ use Rattle.pol_safety.proofs.Starts.{is_open_batch}
 use Rattle.pol_site.specs.Stories.{sent_to, if_to, touches, story, is_for, is_answered, is_sent_answered, controls_in}
 use Rattle.mtp_sim.proofs.Edges.{name_ticked}
 use Rattle.pol_stillness.specs.Law.{IsSentStill}
-use Rattle.pol_stillness.specs.Phases.{asked_in, IsGiven, IsPhase, IsTaken}
+use Rattle.pol_stillness.specs.Phases.{asked_in, wanted, Wanted, IsGiven, IsPhase, IsTaken}
 use Rattle.pol_simulated.proofs.Places.{found_within, is_at, le_true, lt_fails, taken_sends}
 use Rattle.pol_simulated.specs.Places.{Found, found_at, next_command}
-use Rattle.pol_stillness.specs.Served.{unlooked, list_of, IsServed, FirstsAreServed, SendsServe, OthersServe, TicksServe, LooksServe, RestIsAnswered}
+use Rattle.pol_stillness.specs.Served.{unlooked, list_of, IsServed, IsServedBy, FirstsAreServed, SendsServe, OthersServe, TicksServe, LooksServe, RestIsAnswered}
 use Rattle.pol_stillness.proofs.Desks.{view_control}
 use Rattle.pol_simulated.proofs.Reports.{last_newest}
 use Rattle.pol_stillness.proofs.Plain.{plants_plain, answer_plain, did_runs}
 use Rattle.pol_stillness.proofs.Owing.{owing}
 use Rattle.pol_stillness.proofs.Still.{sent_still}
-use Rattle.pol_stillness.proofs.Phases.{ticks_phased, takes_settled, others_phased, sends_given}
+use Rattle.pol_stillness.proofs.Phases.{ticks_phased, takes_settled, wanted_same, sends_given}
 use Rattle.pol_stillness.proofs.Starting.{starts_exist}
 use Rattle.pol_events.proofs.Lists.{found_member}
 use Rattle.pol_events.proofs.Options.{neither, no_both, some_same}
@@ -86,18 +86,15 @@ firsts_served d tag name from history none short =
 
 -- another entry
 pub others_served : OthersServe
-others_served d tag service older entry from apart keeps served =
-    record {
-      ahead = served.ahead;
-      is_ahead = unlooked_same tag service.name from entry older apart ∙ served.is_ahead;
-      phase = go (touches tag entry) refl;
-    }
+others_served d tag service older entry from apart keeps =
+    subst (λ (p : List LogEntry × Wanted). IsServedBy d p.0 p.1 service)
+    (λ i. (sym (unlooked_same tag service.name from entry older apart) i, sym (asks (touches tag entry) refl) i))
   where
-    go : (own : Bool) → touches tag entry ≡ own
-        → IsPhase d tag (cond own (entry ∷ story tag older) (story tag older)) service served.ahead
-    go false is = served.phase
-    go true is = let k = keeps is in others_phased d tag service (story tag older) served.ahead entry k.0 k.1 k.2
-        served.phase
+    asks : (own : Bool) → touches tag entry ≡ own
+        → wanted tag service.name (cond own (entry ∷ story tag older) (story tag older))
+        ≡ wanted tag service.name (story tag older)
+    asks false is = refl
+    asks true is = let k = keeps is in wanted_same tag service.name (story tag older) entry k.0 k.1 k.2
 
 -- ---- a tick
 
@@ -133,29 +130,11 @@ ticks_served d tag service older at limit from served =
           is_ahead = unlooked_same tag after.name from entry older refl ∙ ap (λ n. unlooked tag n from older) named ∙
               served.is_ahead;
           phase = subst (λ b. IsPhase d tag (cond b (entry ∷ story tag older) (story tag older)) after served.ahead)
-              (sym touched) (stamped served.ahead phase);
+              (sym touched) phase;
         }
       where
         touched : touches tag entry ≡ true
         touched = ap (λ b. (b && true) || false) (same_refl tag)
-
-        stamped : (ahead : Option LogEntry) → IsPhase d tag
-            (record { event = report 0 tag service.name (control_now d after); answer = Done } ∷ story tag older) after
-            ahead
-            → IsPhase d tag (entry ∷ story tag older) after ahead
-        stamped None phase = record { runs = phase.runs; answered = phase.answered }
-        stamped (Some did) phase =
-            record {
-              sent = phase.sent;
-              sends = phase.sends;
-              tells = phase.tells;
-              still = phase.still;
-              unanswered = phase.unanswered;
-              target = phase.target;
-              leads = phase.leads;
-              waits = phase.waits;
-              runs = phase.runs;
-            }
 
 -- ---- a command that is sent
 
@@ -229,8 +208,8 @@ sends_served site d service older at batch did sent from legal orderly follows c
               (and_from (nat_le from (length older)) (is_for service.name (if_to sent.tag (sent_by did)))
               (le_true from (length older) within) for_it)
               ∙ ap (λ l. did ∷ l) is;
-          phase = subst (λ b. IsGiven d sent.tag (cond b (entry ∷ story sent.tag older) (story sent.tag older)) service
-              did) (sym touched)
+          phase = subst (λ b. IsPhase d sent.tag (cond b (entry ∷ story sent.tag older) (story sent.tag older)) service
+              (Some did)) (sym touched)
               (sends_given d service older at batch did sent run sends named law is_described step starts phase);
         }
 
@@ -332,14 +311,10 @@ looks_served d tag service history found from next served = record { other = oth
     other : is_for service.name (if_to tag (sent_by found.did)) ≡ false
         → IsServed d tag (suc found.place) history service
     other apart =
-        record {
-          ahead = served.ahead;
-          is_ahead =
-              sym (append-nil (unlooked tag service.name (suc found.place) history))
-              ∙ ap (λ b. unlooked tag service.name (suc found.place) history ++ (if b then found.did ∷ [] else []))
-              (sym apart) ∙ ends;
-          phase = served.phase;
-        }
+        subst (λ left. IsServedBy d left (wanted tag service.name (story tag history)) service)
+        (looked tag service.name from history found next
+        ∙ ap (λ b. unlooked tag service.name (suc found.place) history ++ (if b then found.did ∷ [] else [])) apart
+        ∙ append-nil (unlooked tag service.name (suc found.place) history)) served
 
     own : (sent : Sent) → sent_by found.did ≡ Some sent → is_for service.name (if_to tag (sent_by found.did)) ≡ true
         → (taken : IsTaken d tag (story tag history) service sent.command (asked_in found.did)) × IsServed d tag
@@ -348,7 +323,7 @@ looks_served d tag service history found from next served = record { other = oth
         let end = one_end (unlooked tag service.name (suc found.place) history) found.did served.ahead
         (ap (λ b. unlooked tag service.name (suc found.place) history ++ (if b then found.did ∷ [] else [])) (sym mine)
         ∙ ends) in
-        let given : IsGiven d tag (story tag history) service found.did =
+        let given : IsGiven d (wanted tag service.name (story tag history)) service found.did =
         subst (λ a. IsPhase d tag (story tag history) service a) end.1 served.phase in
         let its : given.sent ≡ sent = some_same (sent_by found.did) given.sent sent given.sends sends in
         let one : IsTaken d tag (story tag history) service sent.command (asked_in found.did)

@@ -25,7 +25,8 @@ use Rattle.pol_history.specs.Looking.{past}
 use Rattle.pol_history.specs.Modules.{description_by}
 use Rattle.pol_history.specs.Batches.{log_of}
 use Rattle.pol_history.specs.Following.{sights_by}
-use Rattle.pol_safety.proofs.Covering.{Covers, all_cover}
+use Rattle.pol_safety.specs.Kept.{IsCovered}
+use Rattle.pol_safety.proofs.Covering.{all_cover}
 use Rattle.pol_safety.proofs.Seen.{tag_of_bound}
 use Rattle.pol_safety.proofs.Starts.{IsGoodChart, sound, running_fits}
 use Rattle.pol_stillness.specs.Starting.{StartsExist}
@@ -146,7 +147,7 @@ starts_exist history batch begun chart step tag service procedure description le
     tag_is : bind.0.tag ≡ tag
     tag_is = bind.2 ∙ sym (tag_of_bound history (given begun.binds) of.0.step.role own.0 own.1) ∙ sym of.2.1
 
-    covers : Covers chart bind.0.role (past bind.0.tag history)
+    covers : IsCovered chart bind.0.role (past bind.0.tag history)
     covers = all_cover history legal orderly batch begun chart start_is chart_is unclosed bind.0 bind.1
 
     one : covers.description ≡ description

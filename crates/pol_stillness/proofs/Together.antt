@@ -14,7 +14,8 @@ use Rattle.mtp_sim.specs.Sims.{PlainSim, first_service}
 use Rattle.mtp_sim.specs.Ticks.{is_executing, is_reported, value_told, variable_report, report_of, limit_of, ticked_service, service_report, drift_report, report_by, service_here, drift_here, ticked_at, ticked_at_drift, control_now}
 use Rattle.mtp_sim.specs.Commands.{service_took, place_of, with_service, took_at, took, after_command}
 use Rattle.chart_cursor.specs.Commands.{sent_by}
-use Rattle.pol_events.specs.Events.{report, PlainEntry}
+use Rattle.mtp_codes.specs.declared.value.Value.TheVariants.{Whole}
+use Rattle.pol_events.specs.Events.{report, PlainEntry, variable}
 use Rattle.pol_events.specs.declared.answer.Answer.TheVariants.{Done}
 use Rattle.pol_history.specs.Looking.{History}
 use Rattle.pol_history.proofs.Accepted.{paired}
@@ -101,7 +102,8 @@ drift_all sim tag at from history (Some drift) all name x called = go (value_tol
     go : (value : Option _) → IsServed sim.description tag from
         (after_report at tag (option_map (variable_report drift.name) value) history) x
     go None = all name x called
-    go (Some value) = others_served sim.description tag x history _ from refl (λ touched. (refl, refl, λ f. refl))
+    go (Some value) = others_served sim.description tag x history
+        (paired (variable at tag drift.name (Whole value)) Done) from refl (λ touched. (refl, refl, λ f. refl))
         (all name x called)
 
 -- a tick of a module

@@ -32,31 +32,42 @@ asked_in _ = 0
 abbrev pub is_changed : SimService → Bool
 is_changed service = is_untold service && is_some service.last
 
+-- what a story wants of a service: the procedure that was started last, and whether its last command was answered
+pub record Wanted : Type 0 where
+  pub procedure : ℕ
+  pub answered : Bool
+
+-- what it wants of the service of a name
+abbrev pub wanted : List ℕ → List ℕ → History → Wanted
+wanted tag name told = record { procedure = procedure_started tag name told; answered = is_answered tag told name }
+
 -- It looked at every command: it runs the procedure that was started last, and a command is unanswered exactly where it
 -- took it and hasn't told.
-pub record IsSettled (tag : List ℕ) (told : History) (service : SimService) : Type 0 where
-  pub runs : procedure_started tag service.name told ≡ service.procedure
-  pub answered : is_answered tag told service.name ≡ not (is_changed service)
+pub record IsSettled (asks : Wanted) (service : SimService) : Type 0 where
+  pub runs : asks.procedure ≡ service.procedure
+  pub answered : asks.answered ≡ not (is_changed service)
 
 -- It is still, and will take the command of this entry; it then runs the procedure that was started last.
-pub record IsGiven (description : PlainDescription) (tag : List ℕ) (told : History) (service : SimService)
-    (entry : LogEntry) : Type 0 where
-  pub sent : Sent
-  pub sends : sent_by entry ≡ Some sent
-  pub tells : is_untold service ≡ false
-  pub still : changes description service ≡ false
-  pub unanswered : is_answered tag told service.name ≡ false
-  pub target : State
-  pub leads : command_target service.state sent.command ≡ Some target
-  pub waits : (same_command sent.command Complete && runs_through description service) ≡ false
-  pub runs :
-      procedure_after description service sent.command (asked_in entry)
-      ≡ Some (procedure_started tag service.name told)
+pub record IsGiven (description : PlainDescription) (asks : Wanted) (service : SimService) (entry : LogEntry) : Type 0
+  where
+    pub sent : Sent
+    pub sends : sent_by entry ≡ Some sent
+    pub tells : is_untold service ≡ false
+    pub still : changes description service ≡ false
+    pub unanswered : asks.answered ≡ false
+    pub target : State
+    pub leads : command_target service.state sent.command ≡ Some target
+    pub waits : (same_command sent.command Complete && runs_through description service) ≡ false
+    pub runs : procedure_after description service sent.command (asked_in entry) ≡ Some asks.procedure
 
 -- how it stands, by the command that it hasn't looked at, if there is one
+abbrev pub IsPhaseOf : PlainDescription → Wanted → SimService → Option LogEntry → Type 0
+IsPhaseOf description asks service None = IsSettled asks service
+IsPhaseOf description asks service (Some entry) = IsGiven description asks service entry
+
+-- likewise, by what a story wants of it
 abbrev pub IsPhase : PlainDescription → List ℕ → History → SimService → Option LogEntry → Type 0
-IsPhase description tag told service None = IsSettled tag told service
-IsPhase description tag told service (Some entry) = IsGiven description tag told service entry
+IsPhase description tag told service ahead = IsPhaseOf description (wanted tag service.name told) service ahead
 
 -- what was told after a tick that looked at the service
 abbrev pub told_after : PlainDescription → List ℕ → ℕ → SimService → History → History
@@ -92,13 +103,13 @@ pub record IsTaken (description : PlainDescription) (tag : List ℕ) (told : His
   pub after : SimService
   pub took : service_took description service given procedure ≡ Some after
   pub name_is : after.name ≡ service.name
-  pub settled : IsSettled tag told after
+  pub settled : IsSettled (wanted tag after.name told) after
 
 -- A command ahead is taken.
 abbrev pub TakesSettle : Type 0
 TakesSettle =
     (description : PlainDescription) (tag : List ℕ) (service : SimService) (told : History) (entry : LogEntry)
-    (given : IsGiven description tag told service entry) →
+    (given : IsGiven description (wanted tag service.name told) service entry) →
     IsTaken description tag told service given.sent.command (asked_in entry)
 
 -- A command that an advance sends to a service that is settled and in step is ahead of it.
@@ -111,8 +122,9 @@ SendsGive =
     IsTold description service (controls_in service.name (since_docking (past sent.tag older))) →
     ((step tag named : List ℕ) (procedure : ℕ) → did ≡ Start step tag named procedure →
     asked_procedure service.name procedure description ≡ Some procedure) →
-    IsSettled sent.tag (story sent.tag older) service →
-    IsGiven description sent.tag (record { event = advance at batch; answer = Did did } ∷ story sent.tag older)
+    IsSettled (wanted sent.tag service.name (story sent.tag older)) service →
+    IsGiven description
+    (wanted sent.tag service.name (record { event = advance at batch; answer = Did did } ∷ story sent.tag older))
     service did
 
 -- An entry that neither moves the module nor reports the service nor commands it changes nothing of how it stands.

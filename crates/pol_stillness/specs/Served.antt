@@ -19,7 +19,7 @@ use Rattle.pol_site.specs.Following.{FollowsSite}
 use Rattle.pol_site.specs.Commanded.{IsCommanded}
 use Rattle.pol_simulated.specs.Units.{IsTold, IsInStep, service_called}
 use Rattle.pol_simulated.specs.Places.{Found, next_command}
-use Rattle.pol_stillness.specs.Phases.{asked_in, IsPhase, IsTaken}
+use Rattle.pol_stillness.specs.Phases.{asked_in, wanted, Wanted, IsPhaseOf, IsTaken}
 
 -- the entries of logs from a place on that command the service, the newest first
 abbrev pub unlooked : List ℕ → List ℕ → ℕ → History → List LogEntry
@@ -34,12 +34,19 @@ abbrev pub list_of : Option LogEntry → List LogEntry
 list_of None = []
 list_of (Some did) = did ∷ []
 
--- At most one command is ahead of the service, and it stands so.
-pub record IsServed (description : PlainDescription) (tag : List ℕ) (from : ℕ) (history : History)
-    (service : SimService) : Type 0 where
+-- At most one command is ahead of the service, and it stands so, where these entries are left to look at and a story
+-- wants this of it.
+pub record IsServedBy (description : PlainDescription) (left : List LogEntry) (asks : Wanted) (service : SimService) :
+    Type 0 where
   pub ahead : Option LogEntry
-  pub is_ahead : unlooked tag service.name from history ≡ list_of ahead
-  pub phase : IsPhase description tag (story tag history) service ahead
+  pub is_ahead : left ≡ list_of ahead
+  pub phase : IsPhaseOf description asks service ahead
+
+-- likewise, in a history from a place on
+abbrev pub IsServed : PlainDescription → List ℕ → ℕ → History → SimService → Type 0
+IsServed description tag from history service =
+    IsServedBy description (unlooked tag service.name from history) (wanted tag service.name (story tag history))
+    service
 
 -- A new service is so.
 abbrev pub FirstsAreServed : Type 0
