@@ -1,7 +1,8 @@
 // Refuses the FAIL_AT-th of a program's requests of one kind, and counts in the file COUNT_TO, which it maps, how many of these
 // it makes; so the count stands however the program ends. The kind is in REFUSE: "memory" (a growth by at least LEAST bytes,
-// with ENOMEM), "input" (a read of standard input), "output" (a write to standard output), or "disk" (a read, a write, a sync
-// or another look at an open file), these with EIO.
+// with ENOMEM), "input" (a read of standard input), "output" (a write to standard output), "disk" (a read, a write, a sync
+// or another look at an open file), these with EIO; or "interrupt" (a read or write of these, and the seven behind it, with
+// EINTR).
 #define _GNU_SOURCE
 #include <dlfcn.h>
 #include <errno.h>
@@ -18,7 +19,9 @@ extern void *__libc_calloc(size_t, size_t);
 extern void *__libc_realloc(void *, size_t);
 extern void *__libc_memalign(size_t, size_t);
 
-enum kind { MEMORY, INPUT, OUTPUT, DISK };
+enum kind { MEMORY, INPUT, OUTPUT, DISK, INTERRUPT };
+
+enum { INTERRUPTIONS = 8 };
 
 static long unmapped;
 static long *asked = &unmapped;
@@ -35,8 +38,16 @@ static int refuses(enum kind which, int error) {
 
 static int refuses_memory(size_t size) { return size >= least && refuses(MEMORY, ENOMEM); }
 
+static int interrupts(void) {
+    long number = __atomic_add_fetch(asked, 1, __ATOMIC_SEQ_CST);
+    if (refused < 0 || number < refused || number >= refused + INTERRUPTIONS) return 0;
+    errno = EINTR;
+    return 1;
+}
+
 static int refuses_file(int file) {
     if (file == 2) return 0;
+    if (kind == INTERRUPT) return interrupts();
     return refuses(file == 0 ? INPUT : file == 1 ? OUTPUT : DISK, EIO);
 }
 
@@ -55,6 +66,7 @@ __attribute__((constructor)) static void begin(void) {
     if (word && !strcmp(word, "input")) kind = INPUT;
     if (word && !strcmp(word, "output")) kind = OUTPUT;
     if (word && !strcmp(word, "disk")) kind = DISK;
+    if (word && !strcmp(word, "interrupt")) kind = INTERRUPT;
     *asked = 0;
     if (number) refused = atol(number);
 }
@@ -79,7 +91,9 @@ ssize_t pread(int file, void *into, size_t size, off_t at) { return refuses_file
 ssize_t pread64(int file, void *into, size_t size, off64_t at) { return refuses_file(file) ? -1 : LIBC(pread64)(file, into, size, at); }
 ssize_t pwrite(int file, const void *from, size_t size, off_t at) { return refuses_file(file) ? -1 : LIBC(pwrite)(file, from, size, at); }
 ssize_t pwrite64(int file, const void *from, size_t size, off64_t at) { return refuses_file(file) ? -1 : LIBC(pwrite64)(file, from, size, at); }
-int fsync(int file) { return refuses_file(file) ? -1 : LIBC(fsync)(file); }
-int fdatasync(int file) { return refuses_file(file) ? -1 : LIBC(fdatasync)(file); }
-int fstat(int file, struct stat *into) { return refuses_file(file) ? -1 : LIBC(fstat)(file, into); }
-int fstat64(int file, struct stat64 *into) { return refuses_file(file) ? -1 : LIBC(fstat64)(file, into); }
+static int refuses_look(int file) { return kind != INTERRUPT && refuses_file(file); }
+
+int fsync(int file) { return refuses_look(file) ? -1 : LIBC(fsync)(file); }
+int fdatasync(int file) { return refuses_look(file) ? -1 : LIBC(fdatasync)(file); }
+int fstat(int file, struct stat *into) { return refuses_look(file) ? -1 : LIBC(fstat)(file, into); }
+int fstat64(int file, struct stat64 *into) { return refuses_look(file) ? -1 : LIBC(fstat64)(file, into); }

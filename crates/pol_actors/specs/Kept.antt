@@ -103,7 +103,7 @@ pub record IsOrigin (description : Option PlainDescription) (plan : Option Plain
   pub described : description ≡ Some origin.description
   pub planned : plan ≡ Some origin.plan
 
--- what is docked, or away, is
+-- what is docked under the tag, or away, is of this origin
 abbrev pub IsBrought : PlainSite → List ℕ → History → Origin → Type 0
 IsBrought site tag past origin = IsOrigin (description_by past) (plan_by site tag past) origin
 

@@ -37,7 +37,7 @@ abbrev pub step_unready : Slot → List ℕ → List ℕ → PlainStep → Optio
 step_unready slot tag role step =
     if same_name step.role role then sight_unready tag step.service (slot_sight slot step.service) else None
 
--- what is so of the first step of the role of whose service something is
+-- the rule that the first step of the role meets whose service wasn't reported or isn't idle
 abbrev pub first_unready : Slot → List ℕ → List ℕ → Tree → Option Rule
 first_unready slot tag role root =
     option_and_then (step_unready slot tag role)

@@ -39,7 +39,7 @@ fn service_unready(tag: Name, service: Name, sight: &Sight) -> Option<Rule>
     }
 }
 
-// The steps of a role whose service is so.
+// The steps of a role whose service wasn't reported, or isn't idle.
 #[derive(Clone, Copy)]
 struct Unready<'a> {
     slot: &'a Slot,
@@ -48,7 +48,7 @@ struct Unready<'a> {
 }
 
 impl<'a> Unready<'a> {
-    // What is so of the service of a step.
+    // The rule that a step meets, where it is one of them.
     fn found_of(&self, step: &Step) -> Option<Rule>
         ensures { result ≡ step_unready self.now.slot.now self.now.tag self.now.role (plain_step step.now) }
     {
@@ -68,7 +68,7 @@ impl<'a> StepTest for Unready<'a> {
     }
 }
 
-// What is so of the service of the first step of the role of whose service something is.
+// The rule that the first of them meets.
 fn first_unready(root: &Node, slot: &Slot, tag: Name, role: Name) -> Option<Rule>
     ensures { result ≡ first_unready slot.now tag role (plain_node root.now) }
 {
