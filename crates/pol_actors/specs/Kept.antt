@@ -36,8 +36,8 @@ is_begun standing.Closed = false
 is_begun (standing.Begun tag ticket) = true
 is_begun (standing.SentBack tag ticket) = false
 
--- what a history says to the exchanger: how many recipes and modules had their events, how many exchanges were begun and
--- where they stand, which tags are there and how many
+-- what a history says to the exchanger: how many recipes and modules had their events, how many exchanges were begun
+-- and where they stand, which tags are there and how many
 pub record Progress : Type 0 where
   pub opened : ℕ
   pub begun : ℕ

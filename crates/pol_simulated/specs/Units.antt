@@ -84,8 +84,8 @@ is_same_drift drift other = bytes_eq drift.name other.name
 abbrev pub plan_in : PlainSim → PlainPlan
 plan_in sim = record { ticks = sim.ticks; run = sim.run; drifts = map drift_in sim.drifts }
 
--- what a past says of a module: what is docked and how it is planned, what each of its services told since, and the last
--- value of each of its variables
+-- what a past says of a module: what is docked and how it is planned, what each of its services told since, and the
+-- last value of each of its variables
 pub record Heard : Type 0 where
   pub description : Option PlainDescription
   pub plan : Option PlainPlan
