@@ -11,3 +11,5 @@ pub mod Formulas
 pub mod Stepping
 pub mod Noding
 pub mod Making
+pub mod Keeping
+pub mod Judging

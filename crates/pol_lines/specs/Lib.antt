@@ -4,4 +4,6 @@ pub mod Keys
 pub mod Kinds
 pub mod Leaves
 pub mod Objects
+pub mod Parts
+pub mod Spots
 pub mod Steps

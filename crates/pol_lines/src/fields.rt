@@ -80,7 +80,7 @@ pub fn command_at(members: &[Member], key: Key) -> Option<Command>
     Command::of_code(count_at(members, key, 0, u32::MAX as u64)? as u32)
 }
 
-fn mode_of(bytes: &[u8]) -> Option<Mode>
+pub fn mode_of(bytes: &[u8]) -> Option<Mode>
     ensures { result ≡ meaning_of bytes.now mode_words }
 {
     if bytes == b"Off".as_slice() {
@@ -102,7 +102,7 @@ pub fn mode_at(members: &[Member], key: Key) -> Option<Mode>
     mode_of(text_at(members, key)?)
 }
 
-fn origin_of(bytes: &[u8]) -> Option<Origin>
+pub fn origin_of(bytes: &[u8]) -> Option<Origin>
     ensures { result ≡ meaning_of bytes.now origin_words }
 {
     if bytes == b"Internal".as_slice() {
@@ -122,9 +122,9 @@ pub fn origin_at(members: &[Member], key: Key) -> Option<Origin>
     origin_of(text_at(members, key)?)
 }
 
-/// The kind of a line that is read without a tree; None for the others.
-fn kind_of(bytes: &[u8]) -> Option<EventKind>
-    ensures { IfSome result (λ kind. meaning_of bytes.now kind_words ≡ Some kind) }
+/// The kind that a word names; the kinds of which a journal has most stand in front.
+pub fn kind_of(bytes: &[u8]) -> Option<EventKind>
+    ensures { result ≡ meaning_of bytes.now kind_words }
 {
     if bytes == b"variable".as_slice() {
         Some(EventKind::Variable)
@@ -154,12 +154,14 @@ fn kind_of(bytes: &[u8]) -> Option<EventKind>
         Some(EventKind::Plug)
     } else if bytes == b"exchange_end".as_slice() {
         Some(EventKind::ExchangeEnd)
+    } else if bytes == b"start".as_slice() {
+        Some(EventKind::Start)
     } else {
         None
     }
 }
 
-/// The kind whose word stands at a key; None for a kind whose lines are never read so.
+/// The kind whose word stands at a key.
 #[inline(always)]
 pub fn kind_at(members: &[Member], key: Key) -> Option<EventKind>
     ensures { IfSome result (λ found. field (key_text key) (word kind_words) (flat_data members.now) ≡ Ok found) }

@@ -1,6 +1,6 @@
 //! The keys of flat lines.
 ghost use Rattle.std.specs.Prelude.{◌≡◌, ◌++◌, ◌∷◌, [], IfSome};
-ghost use Rattle.pol_lines.specs.Keys.{key_piece};
+ghost use Rattle.pol_lines.specs.Keys.{key_piece, key_text};
 
 use crate::pieces::eat;
 
@@ -70,6 +70,42 @@ fn piece_of(key: Key) -> &'static [u8]
         Key::Mode => b"\"Mode\":",
         Key::ProcedureCur => b"\"ProcedureCur\":",
         Key::CommandEn => b"\"CommandEn\":",
+    }
+}
+
+/// The text of a key.
+pub fn text_of(key: Key) -> &'static [u8]
+    ensures { result.now ≡ key_text key }
+{
+    match key {
+        Key::At => b"at",
+        Key::Ev => b"ev",
+        Key::Tag => b"tag",
+        Key::TypeName => b"type",
+        Key::Test => b"test",
+        Key::Ticket => b"ticket",
+        Key::Name => b"name",
+        Key::Number => b"number",
+        Key::Value => b"value",
+        Key::Version => b"version",
+        Key::Service => b"service",
+        Key::SelfCompleting => b"self_completing",
+        Key::Step => b"step",
+        Key::Role => b"role",
+        Key::Recipe => b"recipe",
+        Key::Op => b"op",
+        Key::Procedure => b"procedure",
+        Key::Kind => b"kind",
+        Key::Min => b"min",
+        Key::Max => b"max",
+        Key::IsDefault => b"default",
+        Key::Batch => b"batch",
+        Key::StateCur => b"StateCur",
+        Key::Src => b"Src",
+        Key::CommandOp => b"CommandOp",
+        Key::Mode => b"Mode",
+        Key::ProcedureCur => b"ProcedureCur",
+        Key::CommandEn => b"CommandEn",
     }
 }
 

@@ -27,7 +27,7 @@ fn is_plain(byte: u8) -> bool
 
 /// How many bytes at the front of a text need no escape.
 #[inline(always)]
-fn plain_end(text: &[u8]) -> usize
+pub fn plain_end(text: &[u8]) -> usize
     ensures within { result ≤ length text.now }
     ensures plain { list_all is_plain (take result text.now) ≡ true }
 {

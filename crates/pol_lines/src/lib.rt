@@ -2,7 +2,7 @@
 //! of numbers, names, texts and truth values; one with a description, whose variables stand behind its services; and a
 //! recipe, whose chart stands behind its roles. In a chart the condition of a step stands in front of its other keys or
 //! behind its settings, and the condition of a loop behind its node. All other lines are read by `read_event`, which
-//! alone tells faults.
+//! tells each fault; `read_fault` tells those of most flat lines sooner.
 //!
 //! `read_line` has the contract of `read_event`. What stands below it is sound and not complete: each reader says that
 //! the text begins with what JSON writes of a value (`specs/Begins.antt`), of which the form gives what was found. An
@@ -12,6 +12,7 @@
 mod conditions;
 mod descriptions;
 mod events;
+mod faults;
 mod fields;
 mod flat;
 mod key;
@@ -22,11 +23,14 @@ mod modules;
 mod nodes;
 mod objects;
 mod params;
+mod parts;
 mod pieces;
 mod reading;
 mod recipes;
 mod roles;
 mod services;
+mod spots;
 mod steps;
 
+pub use faults::read_fault;
 pub use reading::{read_line, read_quick};

@@ -17,13 +17,13 @@ use pol_core::Plant;
 use pol_events::{Event, LineFault, LineRefusal, is_blank, read_event};
 use pol_io::Sink;
 use pol_jobs::{InputLine, LineJob, PutFault, Stop};
-use pol_lines::read_quick;
+use pol_lines::{read_fault, read_quick};
 use pol_record::{put_answer_line, put_fault_line};
 use std::alloc::{AllocError, Global};
 use std::convert::Infallible;
 
-/// Puts the line of the plant's answer to an event behind what a buffer holds. The event is recorded, unless the history
-/// is full.
+/// Puts the line of the plant's answer to an event behind what a buffer holds. The event is recorded, unless the
+/// history is full.
 pub fn answer_event(
     alloc: Global,
     plant: &mut Plant,
@@ -58,6 +58,9 @@ fn answer_slowly(
     ensures history { OnOk result (
         plant_history plant.new ≡ after_meaning (plant_history plant.old) (short_meaning text.now)) }
 {
+    if let Some(fault) = read_fault(alloc, text) {
+        return put_fault_line(alloc, out, &fault);
+    }
     match read_event(alloc, text) {
         Ok(event) => answer_event(alloc, plant, event, out),
         Err(LineRefusal::Fault(fault)) => put_fault_line(alloc, out, &fault),

@@ -1,0 +1,366 @@
+-- A flat line is at fault where what is kept of it is.
+use Rattle.std.proofs.Common.{◌≡◌, ℕ, List, [], Option, Some, None, Ok, Err, refl, ap, sym, subst, ◌∙◌, arith, codes}
+use Rattle.std.specs.Prelude.{option_map, ⊤}
+use Rattle.std.specs.Str.{IsUtf8}
+use Rattle.serde_json.specs.Data.{Data, Members, array, boolean, float, negative, null, number, object, string, unsigned}
+use Rattle.serde_json.specs.Find.{get}
+use Rattle.serde_json.specs.Read.{read}
+use Rattle.mtp_codes.specs.Codes.{command_codes, state_codes}
+use Rattle.mtp_codes.specs.Numbers.{greatest_u32, greatest_u64}
+use Rattle.mtp_json.specs.declared.fault.FaultKind.TheVariants.{WrongKind}
+use Rattle.mtp_json.specs.declared.fault.JsonFault.{JsonFault}
+use Rattle.mtp_json.specs.Form.{field, nothing_but, present, required}
+use Rattle.mtp_json.specs.Leaf.{code, count, name, scalar, word}
+use Rattle.mtp_json.specs.Parse.{json_of}
+use Rattle.mtp_json.specs.ReadResult.{Finding, ReadResult, ◌>>=◌, here, under}
+use Rattle.mtp_json.proofs.Utf8.{utf8_is}
+use Rattle.pol_events.specs.declared.fault.LineFault.TheVariants.{Json}
+use Rattle.pol_events.specs.declared.kind.EventKind.{EventKind}
+use Rattle.pol_events.specs.declared.kind.EventKind.TheVariants.{Plug, Unplug, Report, Variable, Recipe, Start, Advance, Freeze, Thaw, Stop, Abandon, Desk, ExchangeBegin, ExchangeEnd, ExchangeCancel}
+use Rattle.pol_events.specs.Events.{PlainEvent, abandon, advance, desk, exchange_begin, exchange_cancel, report, stop_batch, thaw, unplug, variable}
+use Rattle.pol_events.specs.Forms.{batch_in, control_in, desk_in, event_by, event_in, exchange_cancel_in, report_in, tag_in, variable_in}
+use Rattle.pol_events.specs.Lines.{event_of}
+use Rattle.pol_events.specs.Words.{kind_words, mode_words, origin_words}
+use Rattle.pol_lines.specs.declared.parts.Part.{Part}
+use Rattle.pol_lines.specs.Parts.{BeginsHeld, IsOfParts, parts_data, simple, simple_members}
+use Rattle.pol_lines.specs.Spots.{at_key, batch_judged, cancel_judged, desk_judged, fault_of, judged, judged_by, line_judged, report_judged, tag_judged, variable_judged}
+use Rattle.pol_lines.proofs.Keeping.{simple_get, simple_listed}
+use Rattle.pol_lines.proofs.Printed.{begins_all}
+
+-- ---- fields
+
+-- a form that finds the same in what is kept of a value
+abbrev Keeps : {A : Type 0} → (Data → Finding A) → Type 0
+Keeps form = (value : Data) → form (simple value) ≡ form value
+
+-- a name
+keeps_name : Keeps name
+keeps_name null = refl
+keeps_name (boolean bit) = refl
+keeps_name (number (unsigned n)) = refl
+keeps_name (number (negative z)) = refl
+keeps_name (number (float x)) = refl
+keeps_name (string bytes) = refl
+keeps_name (array values) = refl
+keeps_name (object found) = refl
+
+-- a count
+keeps_count : (low high : ℕ) → Keeps (count low high)
+keeps_count low high null = refl
+keeps_count low high (boolean bit) = refl
+keeps_count low high (number (unsigned n)) = refl
+keeps_count low high (number (negative z)) = refl
+keeps_count low high (number (float x)) = refl
+keeps_count low high (string bytes) = refl
+keeps_count low high (array values) = refl
+keeps_count low high (object found) = refl
+
+-- a code
+keeps_code : {A : Type 0} (table : List (A × ℕ)) → Keeps (code table)
+keeps_code table null = refl
+keeps_code table (boolean bit) = refl
+keeps_code table (number (unsigned n)) = refl
+keeps_code table (number (negative z)) = refl
+keeps_code table (number (float x)) = refl
+keeps_code table (string bytes) = refl
+keeps_code table (array values) = refl
+keeps_code table (object found) = refl
+
+-- a word
+keeps_word : {A : Type 0} (table : List (List ℕ × A)) → Keeps (word table)
+keeps_word table null = refl
+keeps_word table (boolean bit) = refl
+keeps_word table (number (unsigned n)) = refl
+keeps_word table (number (negative z)) = refl
+keeps_word table (number (float x)) = refl
+keeps_word table (string bytes) = refl
+keeps_word table (array values) = refl
+keeps_word table (object found) = refl
+
+-- a value of a variable
+keeps_scalar : Keeps scalar
+keeps_scalar null = refl
+keeps_scalar (boolean bit) = refl
+keeps_scalar (number (unsigned n)) = refl
+keeps_scalar (number (negative z)) = refl
+keeps_scalar (number (float x)) = refl
+keeps_scalar (string bytes) = refl
+keeps_scalar (array values) = refl
+keeps_scalar (object found) = refl
+
+-- what is found of a value that is there or not
+present_kept : {A : Type 0} (form : Data → Finding A) → Keeps form → (value : Option Data)
+    → present form (option_map simple value) ≡ present form value
+present_kept form keeps None = refl
+present_kept form keeps (Some value) = keeps value
+
+-- what is found at a key
+field_kept : {A : Type 0} (form : Data → Finding A) → Keeps form → (key : List ℕ) (found : Members)
+    → field key form (object (simple_members found)) ≡ field key form (object found)
+field_kept form keeps key found = ap (present form) (simple_get key found)
+    ∙ present_kept form keeps (get key (object found))
+
+-- ---- kinds of lines
+
+-- the value of a variable
+variable_kept : (found : Members) → variable_in (object (simple_members found)) ≡ variable_in (object found)
+unfolding variable_in
+variable_kept found =
+    let e1 = field_kept (count 0 greatest_u64) (keeps_count 0 greatest_u64) (codes "at") found in
+    let e2 = field_kept name keeps_name (codes "tag") found in
+    let e3 = field_kept name keeps_name (codes "name") found in
+    let e4 = field_kept scalar keeps_scalar (codes "value") found in
+    let e5 = simple_listed (codes "ev at tag name value") found in
+    rw (e1, e2, e3, e4, e5) refl
+
+-- what a service reports
+control_kept : (found : Members) → control_in (object (simple_members found)) ≡ control_in (object found)
+unfolding control_in
+control_kept found =
+    let e1 = field_kept (code state_codes) (keeps_code state_codes) (codes "StateCur") found in
+    let e2 = field_kept (count 0 greatest_u32) (keeps_count 0 greatest_u32) (codes "CommandEn") found in
+    let e3 = field_kept (word mode_words) (keeps_word mode_words) (codes "Mode") found in
+    let e4 = field_kept (word origin_words) (keeps_word origin_words) (codes "Src") found in
+    let e5 = field_kept (count 0 65535) (keeps_count 0 65535) (codes "ProcedureCur") found in
+    rw (e1, e2, e3, e4, e5) refl
+
+-- a report
+report_kept : (found : Members) → report_in (object (simple_members found)) ≡ report_in (object found)
+unfolding report_in
+report_kept found =
+    let e1 = field_kept (count 0 greatest_u64) (keeps_count 0 greatest_u64) (codes "at") found in
+    let e2 = field_kept name keeps_name (codes "tag") found in
+    let e3 = field_kept name keeps_name (codes "service") found in
+    let e4 = control_kept found in
+    let e5 = simple_listed (codes "ev at tag service StateCur CommandEn Mode Src ProcedureCur") found in
+    rw (e1, e2, e3, e4, e5) refl
+
+-- an operator's command
+desk_kept : (found : Members) → desk_in (object (simple_members found)) ≡ desk_in (object found)
+unfolding desk_in
+desk_kept found =
+    let e1 = field_kept (count 0 greatest_u64) (keeps_count 0 greatest_u64) (codes "at") found in
+    let e2 = field_kept name keeps_name (codes "tag") found in
+    let e3 = field_kept name keeps_name (codes "service") found in
+    let e4 = field_kept (code command_codes) (keeps_code command_codes) (codes "CommandOp") found in
+    let e5 = simple_listed (codes "ev at tag service CommandOp") found in
+    rw (e1, e2, e3, e4, e5) refl
+
+-- the cancelling of an exchange
+cancel_kept : (found : Members)
+    → exchange_cancel_in (object (simple_members found)) ≡ exchange_cancel_in (object found)
+unfolding exchange_cancel_in
+cancel_kept found =
+    let e1 = field_kept (count 0 greatest_u64) (keeps_count 0 greatest_u64) (codes "at") found in
+    let e2 = field_kept name keeps_name (codes "tag") found in
+    let e3 = field_kept (count 0 greatest_u32) (keeps_count 0 greatest_u32) (codes "ticket") found in
+    let e4 = simple_listed (codes "ev at tag ticket") found in
+    rw (e1, e2, e3, e4) refl
+
+-- an event that names a tag and nothing more
+tag_kept : (event : ℕ → List ℕ → PlainEvent) (found : Members)
+    → tag_in event (object (simple_members found)) ≡ tag_in event (object found)
+unfolding tag_in
+tag_kept event found =
+    let e1 = field_kept (count 0 greatest_u64) (keeps_count 0 greatest_u64) (codes "at") found in
+    let e2 = field_kept name keeps_name (codes "tag") found in
+    let e3 = simple_listed (codes "ev at tag") found in
+    rw (e1, e2, e3) refl
+
+-- an event that names a batch and nothing more
+batch_kept : (event : ℕ → List ℕ → PlainEvent) (found : Members)
+    → batch_in event (object (simple_members found)) ≡ batch_in event (object found)
+unfolding batch_in
+batch_kept event found =
+    let e1 = field_kept (count 0 greatest_u64) (keeps_count 0 greatest_u64) (codes "at") found in
+    let e2 = field_kept name keeps_name (codes "batch") found in
+    let e3 = simple_listed (codes "ev at batch") found in
+    rw (e1, e2, e3) refl
+
+-- ---- faults
+
+-- what is wrong with what was found at a key
+pub judged_found : {A : Type 0} (key : List ℕ) (found : Finding A)
+    → judged (under key (here found)) ≡ at_key key (fault_of found)
+judged_found key (Ok value) = refl
+judged_found key (Err kind) = refl
+
+-- the first fault of two fields and the keys is that of each event of these fields
+fault_of_two : (at : ReadResult ℕ) (named : ReadResult (List ℕ)) (only : ReadResult ⊤)
+    (event : ℕ → List ℕ → PlainEvent) (fault : JsonFault)
+    → (at >>= λ _. named >>= λ _. only) ≡ Err fault
+    → (at >>= λ a. named >>= λ n. only >>= λ _. Ok (event a n)) ≡ Err fault
+fault_of_two (Err first) named only event fault is = let same : first ≡ fault = cc in ap Err same
+fault_of_two (Ok a) (Err first) only event fault is = let same : first ≡ fault = cc in ap Err same
+fault_of_two (Ok a) (Ok n) (Err first) event fault is = let same : first ≡ fault = cc in ap Err same
+fault_of_two (Ok a) (Ok n) (Ok all) event fault is = absurd cc
+
+-- the same of three fields
+fault_of_three : {A : Type 0} (at : ReadResult ℕ) (named : ReadResult (List ℕ)) (third : ReadResult A)
+    (only : ReadResult ⊤) (event : ℕ → List ℕ → A → PlainEvent) (fault : JsonFault)
+    → (at >>= λ _. named >>= λ _. third >>= λ _. only) ≡ Err fault
+    → (at >>= λ a. named >>= λ n. third >>= λ t. only >>= λ _. Ok (event a n t)) ≡ Err fault
+fault_of_three (Err first) named third only event fault is = let same : first ≡ fault = cc in ap Err same
+fault_of_three (Ok a) (Err first) third only event fault is = let same : first ≡ fault = cc in ap Err same
+fault_of_three (Ok a) (Ok n) (Err first) only event fault is = let same : first ≡ fault = cc in ap Err same
+fault_of_three (Ok a) (Ok n) (Ok t) (Err first) event fault is = let same : first ≡ fault = cc in ap Err same
+fault_of_three (Ok a) (Ok n) (Ok t) (Ok all) event fault is = absurd cc
+
+-- the same of four fields
+fault_of_four : {A : Type 0} (at : ReadResult ℕ) (named second : ReadResult (List ℕ)) (last : ReadResult A)
+    (only : ReadResult ⊤) (event : ℕ → List ℕ → List ℕ → A → PlainEvent) (fault : JsonFault)
+    → (at >>= λ _. named >>= λ _. second >>= λ _. last >>= λ _. only) ≡ Err fault
+    → (at >>= λ a. named >>= λ n. second >>= λ s. last >>= λ l. only >>= λ _. Ok (event a n s l)) ≡ Err fault
+fault_of_four (Err first) named second last only event fault is = let same : first ≡ fault = cc in ap Err same
+fault_of_four (Ok a) (Err first) second last only event fault is = let same : first ≡ fault = cc in ap Err same
+fault_of_four (Ok a) (Ok n) (Err first) last only event fault is = let same : first ≡ fault = cc in ap Err same
+fault_of_four (Ok a) (Ok n) (Ok s) (Err first) only event fault is = let same : first ≡ fault = cc in ap Err same
+fault_of_four (Ok a) (Ok n) (Ok s) (Ok l) (Err first) event fault is = let same : first ≡ fault = cc in ap Err same
+fault_of_four (Ok a) (Ok n) (Ok s) (Ok l) (Ok all) event fault is = absurd cc
+
+-- the same of three fields and one of which only the fault is known
+fault_of_value : {A : Type 0} (at : ReadResult ℕ) (named second : ReadResult (List ℕ)) (last : ReadResult A)
+    (only : ReadResult ⊤) (event : ℕ → List ℕ → List ℕ → A → PlainEvent) (fault : JsonFault)
+    → (at >>= λ _. named >>= λ _. second >>= λ _. judged last >>= λ _. only) ≡ Err fault
+    → (at >>= λ a. named >>= λ n. second >>= λ s. last >>= λ l. only >>= λ _. Ok (event a n s l)) ≡ Err fault
+fault_of_value (Err first) named second last only event fault is = let same : first ≡ fault = cc in ap Err same
+fault_of_value (Ok a) (Err first) second last only event fault is = let same : first ≡ fault = cc in ap Err same
+fault_of_value (Ok a) (Ok n) (Err first) last only event fault is = let same : first ≡ fault = cc in ap Err same
+fault_of_value (Ok a) (Ok n) (Ok s) (Err first) only event fault is = let same : first ≡ fault = cc in ap Err same
+fault_of_value (Ok a) (Ok n) (Ok s) (Ok l) (Err first) event fault is = let same : first ≡ fault = cc in ap Err same
+fault_of_value (Ok a) (Ok n) (Ok s) (Ok l) (Ok all) event fault is = absurd cc
+
+-- ---- kinds at fault
+
+-- a variable's value
+variable_fault : (found : Members) (fault : JsonFault)
+    → variable_judged (object (simple_members found)) ≡ Err fault → variable_in (object found) ≡ Err fault
+unfolding variable_in
+variable_fault found fault is =
+    let value = object (simple_members found) in
+    sym (variable_kept found)
+    ∙ fault_of_value (required (codes "at") (count 0 greatest_u64) value) (required (codes "tag") name value)
+    (required (codes "name") name value) (required (codes "value") scalar value)
+    (nothing_but (codes "ev at tag name value") value) variable fault is
+
+-- a report
+report_fault : (found : Members) (fault : JsonFault)
+    → report_judged (object (simple_members found)) ≡ Err fault → report_in (object found) ≡ Err fault
+unfolding report_in
+report_fault found fault is =
+    let value = object (simple_members found) in
+    sym (report_kept found)
+    ∙ fault_of_four (required (codes "at") (count 0 greatest_u64) value) (required (codes "tag") name value)
+    (required (codes "service") name value) (control_in value)
+    (nothing_but (codes "ev at tag service StateCur CommandEn Mode Src ProcedureCur") value) report fault is
+
+-- an operator's command
+desk_fault : (found : Members) (fault : JsonFault)
+    → desk_judged (object (simple_members found)) ≡ Err fault → desk_in (object found) ≡ Err fault
+unfolding desk_in
+desk_fault found fault is =
+    let value = object (simple_members found) in
+    sym (desk_kept found)
+    ∙ fault_of_four (required (codes "at") (count 0 greatest_u64) value) (required (codes "tag") name value)
+    (required (codes "service") name value) (required (codes "CommandOp") (code command_codes) value)
+    (nothing_but (codes "ev at tag service CommandOp") value) desk fault is
+
+-- the cancelling of an exchange
+cancel_fault : (found : Members) (fault : JsonFault)
+    → cancel_judged (object (simple_members found)) ≡ Err fault → exchange_cancel_in (object found) ≡ Err fault
+unfolding exchange_cancel_in
+cancel_fault found fault is =
+    let value = object (simple_members found) in
+    sym (cancel_kept found)
+    ∙ fault_of_three (required (codes "at") (count 0 greatest_u64) value) (required (codes "tag") name value)
+    (required (codes "ticket") (count 0 greatest_u32) value) (nothing_but (codes "ev at tag ticket") value)
+    exchange_cancel fault is
+
+-- an event that names a tag
+tag_fault : (event : ℕ → List ℕ → PlainEvent) (found : Members) (fault : JsonFault)
+    → tag_judged (object (simple_members found)) ≡ Err fault → tag_in event (object found) ≡ Err fault
+unfolding tag_in
+tag_fault event found fault is =
+    let value = object (simple_members found) in
+    sym (tag_kept event found)
+    ∙ fault_of_two (required (codes "at") (count 0 greatest_u64) value) (required (codes "tag") name value)
+    (nothing_but (codes "ev at tag") value) event fault is
+
+-- an event that names a batch
+batch_fault : (event : ℕ → List ℕ → PlainEvent) (found : Members) (fault : JsonFault)
+    → batch_judged (object (simple_members found)) ≡ Err fault → batch_in event (object found) ≡ Err fault
+unfolding batch_in
+batch_fault event found fault is =
+    let value = object (simple_members found) in
+    sym (batch_kept event found)
+    ∙ fault_of_two (required (codes "at") (count 0 greatest_u64) value) (required (codes "batch") name value)
+    (nothing_but (codes "ev at batch") value) event fault is
+
+-- the fault of a line of a kind
+kind_fault : (kind : EventKind) (found : Members) (fault : JsonFault)
+    → judged_by (object (simple_members found)) kind ≡ Err fault → event_by (object found) kind ≡ Err fault
+kind_fault Plug found fault is = absurd cc
+kind_fault Unplug found fault is = tag_fault unplug found fault is
+kind_fault Report found fault is = report_fault found fault is
+kind_fault Variable found fault is = variable_fault found fault is
+kind_fault Recipe found fault is = absurd cc
+kind_fault Start found fault is = absurd cc
+kind_fault Advance found fault is = batch_fault advance found fault is
+kind_fault Freeze found fault is = absurd cc
+kind_fault Thaw found fault is = batch_fault thaw found fault is
+kind_fault Stop found fault is = batch_fault stop_batch found fault is
+kind_fault Abandon found fault is = batch_fault abandon found fault is
+kind_fault Desk found fault is = desk_fault found fault is
+kind_fault ExchangeBegin found fault is = tag_fault exchange_begin found fault is
+kind_fault ExchangeEnd found fault is = absurd cc
+kind_fault ExchangeCancel found fault is = cancel_fault found fault is
+
+-- the fault of a line by its kind, if it has one
+fault_by_kind : (kind : ReadResult EventKind) (found : Members) (fault : JsonFault)
+    → (kind >>= λ each. judged_by (object (simple_members found)) each) ≡ Err fault
+    → (kind >>= λ each. event_by (object found) each) ≡ Err fault
+fault_by_kind (Ok kind) found fault is = kind_fault kind found fault is
+fault_by_kind (Err first) found fault is = let same : first ≡ fault = cc in ap Err same
+
+-- the fault of a flat line
+object_fault : (found : Members) (fault : JsonFault) → line_judged (object (simple_members found)) ≡ Err fault
+    → event_in (object found) ≡ Err fault
+unfolding event_in
+object_fault found fault is =
+    let kind = field_kept (word kind_words) (keeps_word kind_words) (codes "ev") found in
+    fault_by_kind (required (codes "ev") (word kind_words) (object found)) found fault (rw kind at is)
+
+-- what reads as an object at fault is a line at fault
+faulty_line : (line : List ℕ) (value : Data) (fault : JsonFault) → IsUtf8 line → read line ≡ Some value
+    → event_in value ≡ Err fault → event_of line ≡ Err (Json fault)
+unfolding event_of json_of
+faulty_line line value fault utf8 is at_fault = rw (utf8_is line utf8, is, at_fault) refl
+
+-- a line of which parts are kept that are at fault
+pub line_at_fault : (line : List ℕ) (parts : List Part) (fault : JsonFault) → IsUtf8 line → IsOfParts line parts []
+    → line_judged (parts_data parts) ≡ Err fault → event_of line ≡ Err (Json fault)
+line_at_fault line parts fault utf8 of_parts is =
+    faulty_line line (object of_parts.found) fault utf8
+    (begins_all 2 line (object of_parts.found) (omega arith) of_parts.begins)
+    (object_fault of_parts.found fault
+    (subst (λ members. line_judged (object members) ≡ Err fault) (sym of_parts.keeps) is))
+
+-- a value of which nothing is kept is no object
+kept_no_object : (value : Data) → simple value ≡ null
+    → event_in value ≡ Err (record { kind = WrongKind; path = [] })
+unfolding event_in
+kept_no_object null is = refl
+kept_no_object (boolean bit) is = absurd cc
+kept_no_object (number (unsigned n)) is = absurd cc
+kept_no_object (number (negative z)) is = absurd cc
+kept_no_object (number (float x)) is = refl
+kept_no_object (string bytes) is = absurd cc
+kept_no_object (array values) is = refl
+kept_no_object (object found) is = absurd cc
+
+-- a line of such a value
+pub no_object : (line : List ℕ) → IsUtf8 line → BeginsHeld line null []
+    → event_of line ≡ Err (Json (record { kind = WrongKind; path = [] }))
+no_object line utf8 held =
+    faulty_line line held.value (record { kind = WrongKind; path = [] }) utf8
+    (begins_all 1 line held.value (omega arith) held.begins) (kept_no_object held.value held.keeps)

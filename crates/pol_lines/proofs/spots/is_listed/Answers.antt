@@ -1,0 +1,9 @@
+use Rattle.std.proofs.Common.{rules, bytes_eq, lit<}
+use Rattle.std.proofs.lemmas.Iterator.Search.{any_from_yields_List}
+use Rattle.std.proofs.lemmas.Iterator.Splits.{YieldsList-from_str_split}
+use Rattle.pol_lines.proofs.spots.is_listed.Goals as goal
+
+pub returns : goal.returns
+returns c = any_from_yields_List (λ word. bytes_eq word c.args.name.now) _ _ _ c.any.ensures.ran
+    (YieldsList-from_str_split 32 c.args.keys.now
+    (lit< tt) c.split.ensures.text c.split.ensures.has_more c.split.ensures.pattern) (λ x b q called. search rules)

@@ -1,0 +1,121 @@
+-- Where a flat line is at fault.
+use Rattle.std.specs.Prelude.{ℕ, List, [], ◌∷◌, Option, None, Some, Result, Ok, Err, codes, ⊤}
+use Rattle.serde_json.specs.Data.{Data}
+use Rattle.mtp_codes.specs.Codes.{command_codes}
+use Rattle.mtp_codes.specs.Numbers.{greatest_u32, greatest_u64}
+use Rattle.mtp_json.specs.declared.fault.FaultKind.{FaultKind}
+use Rattle.mtp_json.specs.declared.fault.JsonFault.{JsonFault}
+use Rattle.mtp_json.specs.declared.path.PathPart.{PathPart}
+use Rattle.mtp_json.specs.declared.path.PathPart.TheVariants as part
+use Rattle.mtp_json.specs.Form.{nothing_but, required}
+use Rattle.mtp_json.specs.Leaf.{code, count, name, scalar, word}
+use Rattle.mtp_json.specs.ReadResult.{Finding, ReadResult, ◌>>=◌}
+use Rattle.pol_events.specs.declared.kind.EventKind.{EventKind}
+use Rattle.pol_events.specs.declared.kind.EventKind.TheVariants.{Plug, Unplug, Report, Variable, Recipe, Start, Advance, Freeze, Thaw, Stop, Abandon, Desk, ExchangeBegin, ExchangeEnd, ExchangeCancel}
+use Rattle.pol_events.specs.Forms.{control_in}
+use Rattle.pol_events.specs.Words.{kind_words}
+use Rattle.pol_lines.specs.declared.key.Key.{Key}
+use Rattle.pol_lines.specs.declared.spots.Spot.{Spot}
+use Rattle.pol_lines.specs.Keys.{key_text}
+
+-- the path to a key, or to the whole line
+abbrev pub path_to : Option Key → List PathPart
+path_to None = []
+path_to (Some key) = part.Key (key_text key) ∷ []
+
+-- the fault at a spot
+abbrev pub fault_at : Spot → JsonFault
+fault_at spot = record { kind = spot.kind; path = path_to spot.key }
+
+-- what was read, with its fault's path
+abbrev pub told : {A : Type 0} → Result A Spot → ReadResult A
+told (Ok value) = Ok value
+told (Err spot) = Err (fault_at spot)
+
+-- what is wrong, if something is
+abbrev pub fault_of : {A : Type 0} → Finding A → Option FaultKind
+fault_of (Ok value) = None
+fault_of (Err kind) = Some kind
+
+-- what is wrong at a key, if something is
+abbrev pub at_key : List ℕ → Option FaultKind → ReadResult ⊤
+at_key key None = Ok tt
+at_key key (Some kind) = Err (record { kind = kind; path = part.Key key ∷ [] })
+
+-- whether there was a fault
+abbrev pub judged : {A : Type 0} → ReadResult A → ReadResult ⊤
+judged (Ok value) = Ok tt
+judged (Err fault) = Err fault
+
+-- the first fault of a variable's value
+abbrev pub variable_judged : Data → ReadResult ⊤
+variable_judged value =
+    required (codes "at") (count 0 greatest_u64) value >>= λ _.
+    required (codes "tag") name value >>= λ _.
+    required (codes "name") name value >>= λ _.
+    judged (required (codes "value") scalar value) >>= λ _.
+    nothing_but (codes "ev at tag name value") value
+
+-- that of a report
+abbrev pub report_judged : Data → ReadResult ⊤
+report_judged value =
+    required (codes "at") (count 0 greatest_u64) value >>= λ _.
+    required (codes "tag") name value >>= λ _.
+    required (codes "service") name value >>= λ _.
+    control_in value >>= λ _.
+    nothing_but (codes "ev at tag service StateCur CommandEn Mode Src ProcedureCur") value
+
+-- that of an operator's command
+abbrev pub desk_judged : Data → ReadResult ⊤
+desk_judged value =
+    required (codes "at") (count 0 greatest_u64) value >>= λ _.
+    required (codes "tag") name value >>= λ _.
+    required (codes "service") name value >>= λ _.
+    required (codes "CommandOp") (code command_codes) value >>= λ _.
+    nothing_but (codes "ev at tag service CommandOp") value
+
+-- that of the cancelling of an exchange
+abbrev pub cancel_judged : Data → ReadResult ⊤
+cancel_judged value =
+    required (codes "at") (count 0 greatest_u64) value >>= λ _.
+    required (codes "tag") name value >>= λ _.
+    required (codes "ticket") (count 0 greatest_u32) value >>= λ _.
+    nothing_but (codes "ev at tag ticket") value
+
+-- that of an event that names a tag and nothing more
+abbrev pub tag_judged : Data → ReadResult ⊤
+tag_judged value =
+    required (codes "at") (count 0 greatest_u64) value >>= λ _.
+    required (codes "tag") name value >>= λ _.
+    nothing_but (codes "ev at tag") value
+
+-- that of an event that names a batch and nothing more
+abbrev pub batch_judged : Data → ReadResult ⊤
+batch_judged value =
+    required (codes "at") (count 0 greatest_u64) value >>= λ _.
+    required (codes "batch") name value >>= λ _.
+    nothing_but (codes "ev at batch") value
+
+-- the first fault of a flat line of a kind; none of the others
+abbrev pub judged_by : Data → EventKind → ReadResult ⊤
+judged_by value Plug = Ok tt
+judged_by value Unplug = tag_judged value
+judged_by value Report = report_judged value
+judged_by value Variable = variable_judged value
+judged_by value Recipe = Ok tt
+judged_by value Start = Ok tt
+judged_by value Advance = batch_judged value
+judged_by value Freeze = Ok tt
+judged_by value Thaw = batch_judged value
+judged_by value Stop = batch_judged value
+judged_by value Abandon = batch_judged value
+judged_by value Desk = desk_judged value
+judged_by value ExchangeBegin = tag_judged value
+judged_by value ExchangeEnd = Ok tt
+judged_by value ExchangeCancel = cancel_judged value
+
+-- the first fault of a flat line
+abbrev pub line_judged : Data → ReadResult ⊤
+line_judged value =
+    required (codes "ev") (word kind_words) value >>= λ kind.
+    judged_by value kind

@@ -1,0 +1,89 @@
+//! The faults of flat lines.
+ghost use Rattle.std.specs.Prelude.{◌≡◌, [], Err, IfSome, IsTrue};
+ghost use Rattle.std.specs.Str.{IsUtf8};
+ghost use Rattle.pol_events.specs.Lines.{event_of};
+ghost use Rattle.pol_events.specs.declared.fault.LineFault.TheVariants.{Json};
+ghost use Rattle.pol_lines.specs.Spots.{fault_at};
+
+use crate::key::text_of;
+use crate::parts::{read_other, read_parts};
+use crate::pieces::is_text;
+use crate::spots::{Spot, judge};
+use arrayvec::ArrayVec;
+use mtp_codes::Name;
+use mtp_json::{FaultKind, JsonFault, Path, PathPart};
+use pol_events::LineFault;
+use std::alloc::Global;
+
+/// The fault at a spot; None without memory.
+fn fault_of(alloc: Global, spot: Spot) -> Option<JsonFault>
+    ensures { IfSome result (λ fault. fault ≡ fault_at spot) }
+{
+    let mut path = Path::new(alloc);
+    if let Some(key) = spot.key {
+        let Ok(()) = path.add(PathPart::Key(Name::of_bytes(text_of(key))?)) else {
+            return None;
+        };
+    }
+    Some(JsonFault {
+        kind: spot.kind,
+        path,
+    })
+}
+
+/// Whether nothing stands behind a value, and the line is text.
+fn is_whole(rest: &[u8], line: &[u8]) -> bool
+    ensures ended { IsTrue result → rest.now ≡ [] }
+    ensures text { IsTrue result → IsUtf8 line.now }
+{
+    rest.is_empty() && is_text(line)
+}
+
+/// The spot at which a line of one flat object is at fault.
+fn object_spot(line: &[u8]) -> Option<Spot>
+    ensures { IfSome result (λ spot. event_of line.now ≡ Err (Json (fault_at spot))) }
+{
+    let mut parts = ArrayVec::new();
+    let rest = read_parts(line, &mut parts)?;
+    if !is_whole(rest, line) {
+        return None;
+    }
+    match judge(parts.as_slice()) {
+        Ok(()) => None,
+        Err(spot) => Some(spot),
+    }
+}
+
+/// The spot at which a line is at fault that is no object.
+fn other_spot(line: &[u8]) -> Option<Spot>
+    ensures { IfSome result (λ spot. event_of line.now ≡ Err (Json (fault_at spot))) }
+{
+    let rest = read_other(line)?;
+    if !is_whole(rest, line) {
+        return None;
+    }
+    Some(Spot {
+        kind: FaultKind::WrongKind,
+        key: None,
+    })
+}
+
+fn line_spot(line: &[u8]) -> Option<Spot>
+    ensures { IfSome result (λ spot. event_of line.now ≡ Err (Json (fault_at spot))) }
+{
+    match line {
+        [b'{', ..] => object_spot(line),
+        _ => other_spot(line),
+    }
+}
+
+/// The fault of a compact line that says no event; None for some such lines, and for each that says one. It is read
+/// without a tree: a flat object, in which lists and null may stand too, or a list.
+#[inline(never)]
+pub fn read_fault(alloc: Global, line: &[u8]) -> Option<LineFault>
+    ensures { IfSome result (λ fault. event_of line.now ≡ Err fault) }
+{
+    let spot = line_spot(line)?;
+    let fault = fault_of(alloc, spot)?;
+    Some(LineFault::Json(fault))
+}
