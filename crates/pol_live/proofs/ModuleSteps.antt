@@ -151,6 +151,7 @@ at_turn {site} first held {entries} {same} {found} {by} {ex} {units} {stages} {o
 module _ {site : PlainSite} {held : Site} {entries same : List Entry} {by : List ℕ} {ex : Exchanger}
     {units : List Module} {stages : List Stage} {orders : Desk} {place : ℕ} {unit : SiteModule} {own : Module}
     {count : ℕ} (at : AtTurn site held entries same by ex units stages orders place unit own count) where
+  -- the simulation that its turn makes or keeps
   made : Simulation
   made = made_of (plain_site held) (plain_module unit) count own
 
@@ -159,6 +160,7 @@ module _ {site : PlainSite} {held : Site} {entries same : List Entry} {by : List
   module_known =
       subst (λ (each : PlainSite). slice_get each.modules place ≡ Some (plain_module unit)) at.held_is at.listed
 
+  -- its module is there
   module_there : is_there (docking_of (plain_history same) unit.tag) ≡ true
   module_there = there_docked (docking_of (plain_history same) unit.tag) at.is_here
 
@@ -168,6 +170,7 @@ module _ {site : PlainSite} {held : Site} {entries same : List Entry} {by : List
       let found = docked_count (docking_of (plain_history same) unit.tag) at.is_here in
       (found.0, ap (λ (es : List Entry). docking_of (plain_history es) unit.tag) (sym at.same_is) ∙ found.1)
 
+  -- its simulation keeps up with the history
   module_up : KeepsUp (plain_site held) unit.tag made.place (plain_history same) made.sim
   unfolding made
   module_up =

@@ -90,12 +90,14 @@ module _ (J C : RattleType) (job : jobs.Ghosts J.Denot) (ledger : ledgers.Ghosts
         ),
       ))
 
+  -- so may the plant that only its turns change
   locked_send : IsSend J → IsSend C → IsSend (locked.the_row J C job ledger clock)
   locked_send j c =
       view_send _ _ _ _ _
       (declared_send (locked_inside.the_type J C job ledger clock)
       (as_row_send (row_field _) (cast_send j c), (display_send, tt)))
 
+  -- so may all that lies under the lock
   under_send : IsSend J → IsSend C → IsSend (under.the_row J C job clock ledger)
   under_send j c =
       declared_send (under.the_type J C job clock ledger) (
@@ -109,6 +111,7 @@ module _ (J C : RattleType) (job : jobs.Ghosts J.Denot) (ledger : ledgers.Ghosts
         ),
       )
 
+  -- threads can share a locked plant
   pub live_sync : IsSend J → IsSend C → IsSync (live.the_row J C job clock ledger)
   live_sync j c =
       let inner : IsSend (under.the_row J C job clock ledger) = under_send j c in
@@ -117,6 +120,7 @@ module _ (J C : RattleType) (job : jobs.Ghosts J.Denot) (ledger : ledgers.Ghosts
         (search (sendable, heap.crosses) depth 20, (search (sendable, heap.crosses) depth 20, tt)),
       )
 
+  -- they can share what each of them is handed
   pub crew_sync : (life : NamedLft) (G : RattleType) → IsSend J → IsSend C → IsSync G →
       IsSync (crew.the_row life J C G job clock ledger)
   crew_sync life G j c shared =
