@@ -6,6 +6,7 @@ use Rattle.std.proofs.Math.Seq.{drop-cons, take-suc}
 use Rattle.std.specs.Prelude.{nat_le}
 use Rattle.mtp_codes.specs.declared.limits.TheConstants.{LONGEST_HISTORY}
 use Rattle.pol_events.specs.Events.{PlainEntry, plain_entry, plain_event, plain_history}
+use Rattle.pol_events.specs.Orderly.{is_orderly}
 use Rattle.pol_events.specs.declared.answer.Answer.{Answer}
 use Rattle.pol_events.specs.declared.event.Entry.{Entry}
 use Rattle.pol_history.specs.Answers.{answer_of, is_full}
@@ -163,6 +164,12 @@ one_later entries place entry inside is =
     ap plain_history (take-suc entries place entry inside ∙ ap (λ found. take place entries ++ found ∷ []) (sym is))
     ∙ ap reverse (map-append plain_entry (take place entries) (entry ∷ []))
     ∙ reverse-append (map plain_entry (take place entries)) (plain_entry entry ∷ [])
+
+-- the event at a place is as a line says it
+pub orderly_at : (entries : List Entry) (place : ℕ) (entry : Entry) → IsOrderly (plain_history entries)
+    → place < length entries → entry ≡ get_or entries place entry → is_orderly (plain_event entry.event) ≡ true
+orderly_at entries place entry orderly inside is =
+    (subst IsOrderly (one_later entries place entry inside is) (orderly_before entries (suc place) orderly)).0
 
 -- the entry's answer is right
 pub goes_on : (entries : List Entry) (place next : ℕ) (entry : Entry) → next ≡ suc place → place < length entries

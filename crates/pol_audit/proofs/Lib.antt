@@ -5,6 +5,7 @@ pub mod Docked
 pub mod Logged
 pub mod Halting
 pub mod Standing
+pub mod Followed
 pub mod Placing
 pub mod AskedSince
 pub mod HeldSteps

@@ -1,5 +1,5 @@
 -- The index of a history, with one entry more.
-use Rattle.std.proofs.Common.{◌≡◌, ℕ, Bool, true, false, cond, List, [], ◌∷◌, ◌++◌, append-nil, map, reverse, Option, Some, None, refl, ap, sym, subst, ◌∙◌}
+use Rattle.std.proofs.Common.{◌≡◌, ℕ, Bool, true, false, cond, List, [], ◌∷◌, ◌++◌, append-nil, map, reverse, Option, Some, None, refl, ap, sym, subst, ◌∙◌, if◌then◌else◌}
 use Rattle.std.specs.Prelude.{◌&&◌, filter, is_some}
 use Rattle.std.proofs.lemmas.List.Elements.{filter-append}
 use Rattle.mtp_codes.specs.Names.{is_among}
@@ -8,6 +8,8 @@ use Rattle.chart_cursor.specs.Logs.{chart_entries}
 use Rattle.pol_audit.specs.Halts.{is_halt}
 use Rattle.std.specs.Borrow.{Bor}
 use Rattle.std.specs.List.{cons_option}
+use Rattle.std.specs.Map.{lookup}
+use Rattle.std.specs.Str.{bytes_eq}
 use Rattle.std.specs.declared.vec.Vec.{Vec}
 use Rattle.std.proofs.lemmas.List.{map-append, reverse-append}
 use Rattle.chart_core.specs.declared.entry.LogEntry.{LogEntry}
@@ -16,10 +18,14 @@ use Rattle.pol_events.specs.declared.event.Entry.{Entry}
 use Rattle.pol_history.specs.Looking.{History, is_accepted, is_accepted_of, is_accepted_of_batch, is_accepted_recipe, past, past_of_batch, recipes}
 use Rattle.pol_history.specs.Batches.{is_start, log_by, taken}
 use Rattle.pol_history.specs.Modules.{present_after}
-use Rattle.pol_audit.specs.Listed.{Grows, accepted_batch, accepted_tag, is_this, items_under, listed}
+use Rattle.pol_events.specs.Orderly.{is_orderly}
+use Rattle.pol_audit.specs.Followed.{AreFollowed}
+use Rattle.pol_audit.specs.Listed.{Grows, accepted_batch, accepted_tag, all_orderly, is_this, items_under, listed}
 use Rattle.pol_audit.specs.Standing.{after_entry, held_more, running_more}
 use Rattle.pol_audit.specs.Placed.{IsPlaced, asks, closes, freezes, moves, moves_or_reports, moves_or_values, starts}
+use Rattle.pol_audit.specs.declared.cursors.Followed.{Followed}
 use Rattle.pol_audit.specs.declared.places.Places.{Places}
+use Rattle.pol_audit.proofs.Followed.{none_followed, same_runs}
 use Rattle.pol_audit.proofs.Listing.{its_batch, its_tag}
 use Rattle.pol_audit.proofs.Standing.{held_follows, running_follows}
 use Rattle.pol_audit.proofs.Logged.{log_grows, log_stays}
@@ -38,10 +44,11 @@ pub nothing_placed : (places : Places) →
     ((batch : List ℕ) → items_under places.logs.halts.named.entries batch ≡ []) →
     ((batch : List ℕ) → items_under places.standings.running.named.entries batch ≡ []) →
     ((batch : List ℕ) → items_under places.standings.held.named.entries batch ≡ []) →
-    places.known.recipes.items ≡ [] → places.known.starts.items ≡ [] → places.known.present.items ≡ [] →
+    ((batch : List ℕ) → lookup (bytes_eq batch) places.cursors.followed.entries ≡ None) →
+    places.known.recipes.entries.items ≡ [] → places.known.starts.items ≡ [] → places.known.present.items ≡ [] →
     IsPlaced places []
-nothing_placed places moving reporting valued starting closing freezing asking logs runs halts running held recipes started
-    present = record {
+nothing_placed places moving reporting valued starting closing freezing asking logs runs halts running held followed
+    recipes started present = record {
       moves = λ tag. ap listed (moving tag);
       reports = λ tag. ap listed (reporting tag);
       values = λ tag. ap listed (valued tag);
@@ -54,6 +61,7 @@ nothing_placed places moving reporting valued starting closing freezing asking l
       halts = halts;
       running = λ batch name. ap (λ names. is_among names name) (running batch);
       held = λ batch name. ap (λ names. is_among names name) (held batch);
+      cursors = none_followed places.cursors.followed.entries [] (λ batch. []) followed;
       recipes = ap listed recipes;
       started = ap listed started;
       present = present;
@@ -65,6 +73,13 @@ listed_more : (old : List (Bor Entry)) (item : Bor Entry)
 listed_more old item =
     ap reverse (map-append (λ entry. plain_entry entry.now) old (item ∷ []))
     ∙ reverse-append (map (λ entry. plain_entry entry.now) old) (plain_entry item.now ∷ [])
+
+-- entries whose events are as a line says them, and maybe one more
+pub orderly_added : (old new : List (Bor Entry)) (item : Bor Entry) (taken : Bool) →
+    new ≡ (if taken then old ++ item ∷ [] else old) → is_orderly (plain_event item.now.event) ≡ true →
+    all_orderly (listed old) ≡ true → all_orderly (listed new) ≡ true
+orderly_added old new item true is one all = rw (is, listed_more old item, one) all
+orderly_added old new item false is one all = rw is all
 
 -- a list of those that are of one name and of one kind
 grown : (its kind : PlainEntry → Bool) (history : History) (item : Bor Entry) (old new : List (Bor Entry)) →
@@ -155,6 +170,56 @@ logged batch history entry old new is before =
     go true None same = append-nil old ∙ before ∙ sym (log_stays entry (past_of_batch batch history) same)
     go false took same = append-nil old ∙ before
 
+-- the batches that are followed, as the entry comes: it may be a recipe, go on the run of its batch, close a batch and
+-- start one
+pub followed_more : (history : History) (item : Bor Entry) (old : Places)
+    (learned gone ended begun : List (List ℕ × Followed)) (kept : List (Bor Entry)) (after : List ℕ → List LogEntry) →
+    ((runs : List ℕ → List LogEntry) →
+    AreFollowed old.cursors.followed.entries (listed old.known.recipes.entries.items) runs →
+    AreFollowed learned
+    (cond (is_accepted_recipe (plain_entry item.now))
+    (plain_entry item.now ∷ listed old.known.recipes.entries.items) (listed old.known.recipes.entries.items)) runs) →
+    ((recipes : History) (before after : List ℕ → List LogEntry) → AreFollowed learned recipes before →
+    ((batch : List ℕ) → after batch ≡ before batch
+    ++ cond (is_this batch (accepted_batch (plain_entry item.now)))
+    (chart_entries (cons_option (taken item.now.answer) [])) []) →
+    AreFollowed gone recipes after) →
+    ((recipes : History) (runs : List ℕ → List LogEntry) → AreFollowed gone recipes runs →
+    AreFollowed ended recipes runs) →
+    (AreFollowed ended (listed kept) after → AreFollowed begun (listed kept) after) →
+    ((batch : List ℕ) → after batch ≡ items_under old.logs.runs.named.entries batch
+    ++ cond (is_this batch (accepted_batch (plain_entry item.now)))
+    (chart_entries (cons_option (taken item.now.answer) [])) []) →
+    kept ≡ old.known.recipes.entries.items ++ cond (is_accepted_recipe (plain_entry item.now)) (item ∷ []) [] →
+    IsPlaced old history → AreFollowed begun (recipes (plain_entry item.now ∷ history)) after
+followed_more history item old learned gone ended begun kept after learns goes ends begins runs recipe placed =
+    subst (λ recipes. AreFollowed begun recipes after) known
+    (begins (subst (λ recipes. AreFollowed ended recipes after) (sym known)
+    (ends (recipes (entry ∷ history)) after (goes (recipes (entry ∷ history)) before after first grows))))
+  where
+    entry : PlainEntry
+    entry = plain_entry item.now
+
+    before : List ℕ → List LogEntry
+    before batch = chart_entries (log_by (past_of_batch batch history))
+
+    known : listed kept ≡ recipes (entry ∷ history)
+    known = all_grown is_accepted_recipe history item old.known.recipes.entries.items kept recipe placed.recipes
+
+    first : AreFollowed learned (recipes (entry ∷ history)) before
+    first =
+        subst (λ recipes. AreFollowed learned (cond (is_accepted_recipe entry) (entry ∷ recipes) recipes) before)
+        placed.recipes
+        (learns before (subst (λ recipes. AreFollowed old.cursors.followed.entries recipes before)
+        (sym placed.recipes) placed.cursors))
+
+    grows : (batch : List ℕ) → after batch ≡ before batch
+        ++ cond (is_this batch (accepted_batch entry)) (chart_entries (cons_option (taken item.now.answer) [])) []
+    grows batch =
+        runs batch
+        ∙ ap (λ run. run ++ cond (is_this batch (accepted_batch entry))
+        (chart_entries (cons_option (taken item.now.answer) [])) []) (placed.runs batch)
+
 -- the index with one entry more is that of the history with it
 pub placed_more : (history : History) (item : Bor Entry) (old new : Places) →
     Grows old.modules.moves.named.entries new.modules.moves.named.entries
@@ -183,18 +248,22 @@ pub placed_more : (history : History) (item : Bor Entry) (old new : Places) →
     ++ cond (is_this batch (accepted_batch (plain_entry item.now)))
     (filter is_halt (cons_option (taken item.now.answer) [])) []) →
     ((batch : List ℕ) → items_under new.standings.running.named.entries batch
-    ≡ after_entry running_more (cond (is_this batch (accepted_batch (plain_entry item.now))) (taken item.now.answer) None)
+    ≡ after_entry running_more
+    (cond (is_this batch (accepted_batch (plain_entry item.now))) (taken item.now.answer) None)
     (items_under old.standings.running.named.entries batch)) →
     ((batch : List ℕ) → items_under new.standings.held.named.entries batch
     ≡ after_entry held_more (cond (is_this batch (accepted_batch (plain_entry item.now))) (taken item.now.answer) None)
     (items_under old.standings.held.named.entries batch)) →
-    new.known.recipes.items
-    ≡ old.known.recipes.items ++ cond (is_accepted_recipe (plain_entry item.now)) (item ∷ []) [] →
+    AreFollowed new.cursors.followed.entries (recipes (plain_entry item.now ∷ history))
+    (items_under new.logs.runs.named.entries) →
+    new.known.recipes.entries.items
+    ≡ old.known.recipes.entries.items ++ cond (is_accepted_recipe (plain_entry item.now)) (item ∷ []) [] →
     new.known.starts.items ≡ old.known.starts.items ++ cond (is_start (plain_entry item.now)) (item ∷ []) [] →
-    new.known.present.items ≡ present_after (plain_event item.now.event) (is_accepted item.now.answer) old.known.present.items →
+    new.known.present.items
+    ≡ present_after (plain_event item.now.event) (is_accepted item.now.answer) old.known.present.items →
     IsPlaced old history → IsPlaced new (plain_entry item.now ∷ history)
 placed_more history item old new moving reporting valued starting closing freezing asking logs runs halts running held
-    recipe started tags placed = record {
+    followed recipe started tags placed = record {
       moves = tag_grown moves history item _ _ moving placed.moves;
       reports = tag_grown moves_or_reports history item _ _ reporting placed.reports;
       values = tag_grown moves_or_values history item _ _ valued placed.values;
@@ -209,6 +278,11 @@ placed_more history item old new moving reporting valued starting closing freezi
       running = λ batch. running_follows batch history (plain_entry item.now) _ _ (running batch)
           (placed.running batch);
       held = λ batch. held_follows batch history (plain_entry item.now) _ _ (held batch) (placed.held batch);
+      cursors = same_runs new.cursors.followed.entries (recipes (plain_entry item.now ∷ history))
+          (items_under new.logs.runs.named.entries)
+          (λ batch. chart_entries (log_by (past_of_batch batch (plain_entry item.now ∷ history))))
+          (λ batch. sym (kind_logged (λ entry. is_some (chart_entry entry)) batch history (plain_entry item.now) _ _
+          (runs batch) (placed.runs batch))) followed;
       recipes = all_grown is_accepted_recipe history item _ _ recipe placed.recipes;
       started = all_grown is_start history item _ _ started placed.started;
       present = tags ∙ ap (present_after (plain_event item.now.event) (is_accepted item.now.answer)) placed.present;

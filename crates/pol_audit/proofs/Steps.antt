@@ -1,11 +1,11 @@
 -- Active steps of a chart, and that the charts of an orderly history are valid.
-use Rattle.std.proofs.Common.{◌≡◌, ◌<◌, ℕ, suc, length, drop, get_or, Bool, true, false, cond, List, [], ◌∷◌, Option, Some, None, refl, ap, ◌∙◌, subst}
+use Rattle.std.proofs.Common.{◌≡◌, ◌<◌, ℕ, suc, length, drop, get_or, Bool, true, false, cond, List, [], ◌∷◌, Option, Some, None, refl, ap, sym, ◌∙◌, subst}
 use Rattle.std.proofs.lemmas.Bool.{and_parts}
 use Rattle.std.specs.Str.{bytes_eq}
 use Rattle.std.specs.Borrow.{Bor}
 use Rattle.std.proofs.Math.Seq.{drop-cons}
 use Rattle.std.specs.Prelude.{filter, map, unwrap_or, is_none}
-use Rattle.std.specs.Option.{option_or}
+use Rattle.std.specs.Option.{IfSome, option_map, option_or}
 use Rattle.chart_core.specs.Active.{is_active, phase_after, is_running}
 use Rattle.chart_core.specs.Roles.{PlainChart, is_chart_form}
 use Rattle.chart_core.specs.Trees.{PlainStep, Placed, steps, plain_step}
@@ -17,12 +17,14 @@ use Rattle.chart_core.specs.declared.fault.ChartFault.{ChartFault}
 use Rattle.chart_cursor.specs.Sights.{Sights, or_role}
 use Rattle.chart_cursor.specs.Logs.{active, chart_entries, has_broken, was_stopped}
 use Rattle.chart_cursor.specs.Next.{next_after}
-use Rattle.chart_cursor.specs.NextEntry.{first_broken, first_unhold, owed, run_next, unless_whole, unfrozen_next}
+use Rattle.chart_cursor.specs.NextEntry.{first_broken, first_unhold, next_by, owed, run_next, unless_whole, unfrozen_next}
+use Rattle.pol_events.specs.Bound.{given}
 use Rattle.pol_events.specs.Events.{PlainEvent, recipe}
 use Rattle.pol_events.specs.Orderly.{is_orderly, is_valid}
-use Rattle.pol_history.specs.Looking.{History, recipes, is_accepted_recipe}
-use Rattle.pol_history.specs.Batches.{charted, chart_named}
-use Rattle.pol_history.specs.Runs.{IsOrderly}
+use Rattle.pol_history.specs.Looking.{History}
+use Rattle.pol_history.specs.Batches.{Started, charted, chart_named, freezing_by, log_by}
+use Rattle.pol_history.specs.Following.{next_of_started, sights_by}
+use Rattle.pol_audit.specs.Listed.{all_orderly}
 use Rattle.pol_audit.specs.Starts.{is_active_step}
 
 -- the active ones of some steps are the steps of the active ones with their places
@@ -72,23 +74,28 @@ charted_valid name (recipe at other own) chart orderly is = go (bytes_eq other n
     go false is = cc
 charted_valid name _ chart orderly is = cc
 
--- the chart of a recipe in an orderly history is valid
-pub recipe_valid : (name : List ℕ) (history : History) (chart : PlainChart) → IsOrderly history
-    → chart_named name (recipes history) ≡ Some chart → IsValid chart
-recipe_valid name [] chart orderly is = cc
-recipe_valid name (entry ∷ history) chart orderly is =
-    go (is_accepted_recipe entry) is (recipe_valid name history chart orderly.1)
+-- the chart of a recipe among events that are as a line says them is valid
+chart_valid : (name : List ℕ) (recipes : History) (chart : PlainChart) → all_orderly recipes ≡ true
+    → chart_named name recipes ≡ Some chart → IsValid chart
+chart_valid name [] chart orderly is = cc
+chart_valid name (entry ∷ recipes) chart orderly is =
+    here (charted name entry.event) refl is (chart_valid name recipes chart both.1)
   where
-    here : (said : Option PlainChart) → charted name entry.event ≡ said
-        → option_or said (chart_named name (recipes history)) ≡ Some chart →
-        (chart_named name (recipes history) ≡ Some chart → IsValid chart) → IsValid chart
-    here None says is rest = rest is
-    here (Some own) says is rest = charted_valid name entry.event chart orderly.0 (says ∙ is)
+    both : (is_orderly entry.event ≡ true) × (all_orderly recipes ≡ true)
+    both = and_parts (is_orderly entry.event) (all_orderly recipes) orderly
 
-    go : (kept : Bool) → chart_named name (cond kept (entry ∷ recipes history) (recipes history)) ≡ Some chart →
-        (chart_named name (recipes history) ≡ Some chart → IsValid chart) → IsValid chart
-    go true is rest = here (charted name entry.event) refl is rest
-    go false is rest = rest is
+    here : (said : Option PlainChart) → charted name entry.event ≡ said
+        → option_or said (chart_named name recipes) ≡ Some chart →
+        (chart_named name recipes ≡ Some chart → IsValid chart) → IsValid chart
+    here None says is rest = rest is
+    here (Some own) says is rest = charted_valid name entry.event chart both.0 (says ∙ is)
+
+-- and so is a chart that is found
+pub found_valid : {Found : Type 0} (plain : Found → PlainChart) (found : Option Found) (name : List ℕ)
+    (recipes : History) → all_orderly recipes ≡ true → option_map plain found ≡ chart_named name recipes →
+    IfSome found (λ chart. IsValid (plain chart))
+found_valid plain None name recipes orderly is = tt
+found_valid plain (Some chart) name recipes orderly is = chart_valid name recipes (plain chart) orderly (sym is)
 
 -- the first of the steps from a place on is kept where it passes the test
 pub kept_first : (test : PlainStep → Bool) (steps : List (Bor Step)) (i : ℕ) (step : Bor Step) → i < length steps
@@ -102,3 +109,11 @@ pub goes_on : (chart : PlainChart) (log : List LogEntry) (seen : Sights) (runnin
     run_next (unless_whole (first_unhold seen (owed seen log running)) (next_after chart (chart_entries log) seen))
     ≡ unfrozen_next chart log seen
 goes_on chart log seen running same broken stopped none = rw (broken, stopped, ← same, none) refl
+
+-- what a batch does next whose recipe has this chart
+pub next_charted : (recipes past : History) (pasts : List ℕ → History) (start : Started) (chart : PlainChart)
+    → chart_named start.recipe recipes ≡ Some chart →
+    next_of_started recipes past pasts start
+    ≡ Some (next_by chart (freezing_by past) (log_by past) (sights_by (given start.binds) pasts))
+next_charted recipes past pasts start chart is =
+    ap (option_map (λ chart. next_by chart (freezing_by past) (log_by past) (sights_by (given start.binds) pasts))) is

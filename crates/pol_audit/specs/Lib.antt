@@ -1,6 +1,7 @@
 pub mod Listed
 pub mod Standing
 pub mod Halts
+pub mod Followed
 pub mod Placed
 pub mod Dockings
 pub mod Starts

@@ -1,11 +1,13 @@
 -- Lists of those entries of a history that concern a name.
 use Rattle.std.specs.Prelude.{◌≡◌, ◌∷◌, ◌++◌, ◌&&◌, ℕ, Bool, false, List, [], map, reverse, Option, Some, None, if◌then◌else◌}
 use Rattle.std.specs.Borrow.{Bor}
+use Rattle.std.specs.List.{list_all}
 use Rattle.std.specs.Map.{lookup}
 use Rattle.std.specs.Option.{option_map_or}
 use Rattle.std.specs.Str.{bytes_eq}
 use Rattle.std.specs.declared.vec.Vec.{Vec}
 use Rattle.pol_events.specs.Events.{PlainEntry, plain_entry}
+use Rattle.pol_events.specs.Orderly.{is_orderly}
 use Rattle.pol_events.specs.Subjects.{Subject, of_module, of_batch, of_recipe, subject}
 use Rattle.pol_events.specs.declared.event.Entry.{Entry}
 use Rattle.pol_history.specs.Looking.{History, is_accepted}
@@ -22,6 +24,10 @@ is_this name (Some other) = bytes_eq other name
 -- listed entries as a history
 abbrev pub listed : List (Bor Entry) → History
 listed entries = reverse (map (λ entry. plain_entry entry.now) entries)
+
+-- the events are as a line says them
+abbrev pub all_orderly : History → Bool
+all_orderly entries = list_all (λ entry. is_orderly entry.event) entries
 
 -- an item stands at the end of the list of the name, if there is one and the item is kept; the other lists stay
 abbrev pub Grows : {T Z : Type 0} → List (List ℕ × Vec T Z) → List (List ℕ × Vec T Z) → Option (List ℕ) → Bool → T →

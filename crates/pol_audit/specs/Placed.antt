@@ -7,6 +7,7 @@ use Rattle.pol_history.specs.Batches.{closing, freezing, held_step, is_freeze, i
 use Rattle.mtp_codes.specs.Names.{is_among}
 use Rattle.chart_core.specs.Active.{is_running, phase_after}
 use Rattle.chart_cursor.specs.Logs.{chart_entries, was_held}
+use Rattle.pol_audit.specs.Followed.{AreFollowed}
 use Rattle.pol_audit.specs.Halts.{is_halt}
 use Rattle.pol_audit.specs.Listed.{items_under, listed}
 use Rattle.pol_audit.specs.declared.places.Places.{Places}
@@ -49,7 +50,7 @@ freezes entry = is_some (freezing entry.event)
 abbrev pub asks : PlainEntry → Bool
 asks entry = is_freeze entry.event || is_some (held_step entry.answer)
 
--- the lists are those of the history
+-- the lists are those of the history, and the cursors went along its batches
 pub record IsPlaced (places : Places) (history : History) : Type 0 where
   pub moves : (tag : List ℕ) → listed (items_under places.modules.moves.named.entries tag)
       ≡ filter moves (past tag history)
@@ -75,6 +76,8 @@ pub record IsPlaced (places : Places) (history : History) : Type 0 where
       ≡ is_running (phase_after (log_by (past_of_batch batch history)) name)
   pub held : (batch name : List ℕ) → is_among (items_under places.standings.held.named.entries batch) name
       ≡ was_held (log_by (past_of_batch batch history)) name
-  pub recipes : listed places.known.recipes.items ≡ recipes history
+  pub cursors : AreFollowed places.cursors.followed.entries (recipes history)
+      (λ batch. chart_entries (log_by (past_of_batch batch history)))
+  pub recipes : listed places.known.recipes.entries.items ≡ recipes history
   pub started : listed places.known.starts.items ≡ filter is_start history
   pub present : places.known.present.items ≡ present_tags history

@@ -287,8 +287,7 @@ fn stopped(history: &Past<'_, '_>, batch: Name) -> Answer
 
 // The answer to an event that no rule refuses.
 fn otherwise(alloc: Global, history: &Past<'_, '_>, event: &Event) -> Result<Answer, AllocError>
-    requires orderly { IsOrderly (plain_history history.now) }
-    requires few { length history.now ≤ LONGEST_HISTORY }
+    requires { length history.now ≤ LONGEST_HISTORY }
     ensures { IfOk result (λ answer. answer ≡ otherwise (plain_history history.now) (plain_event event.now)) }
 {
     match event {
@@ -312,7 +311,6 @@ fn otherwise(alloc: Global, history: &Past<'_, '_>, event: &Event) -> Result<Ans
 
 /// The answer to an event after the entries of an indexed history.
 pub fn answered(alloc: Global, history: &Past<'_, '_>, event: &Event) -> Result<Answer, AllocError>
-    requires { IsOrderly (plain_history history.now) }
     ensures { IfOk result (λ answer. answer
         ≡ answer_of (plain_history history.now) (plain_event event.now)) }
 {

@@ -21,25 +21,15 @@ pub struct Start<'a> {
     pub binds: Allocation<'a>,
 }
 
-fn charted(event: &Event, name: Name) -> Option<&Chart>
-    ensures { option_map (λ chart. plain_chart chart.now) result ≡ charted name (plain_event event.now) }
-{
-    match event {
-        Event::Recipe { recipe, chart, .. } if *recipe == name => Some(chart),
-        _ => None,
-    }
-}
-
 /// The chart of the recipe of this name.
 pub fn chart_named<'a>(history: &'a Past<'_, '_>, name: Name) -> Option<&'a Chart>
     ensures { option_map (λ chart. plain_chart chart.now) result
         ≡ chart_named name (recipes (plain_history history.now)) }
 {
-    history
-        .recipes()
-        .iter()
-        .rev()
-        .find_map(|entry| charted(&entry.event, name))
+    match history.recipes().chart(name) {
+        Some(chart) => Some(chart),
+        None => None,
+    }
 }
 
 /// How many recipes are known.

@@ -4,31 +4,31 @@ ghost use Rattle.chart_core.specs.Charts.{plain_chart};
 ghost use Rattle.chart_core.specs.Trees.{PlainStep, plain_step};
 ghost use Rattle.chart_core.specs.Order.{plans_seen};
 ghost use Rattle.chart_core.specs.declared.entry.LogEntry.{LogEntry};
-ghost use Rattle.chart_core.specs.Valid.{IsValid};
+ghost use Rattle.chart_core.specs.Standing.{AreAfter};
 ghost use Rattle.chart_cursor.specs.Freezing.{holding};
 ghost use Rattle.chart_cursor.specs.Logs.{has_broken, was_stopped, chart_entries, active};
 ghost use Rattle.chart_cursor.specs.NextEntry.{is_broken_state, broken_step, first_broken, stop_next, stop_step, first_unhold, owed, run_next, unless_whole, unfrozen_next, next_by};
 ghost use Rattle.chart_cursor.specs.Next.{next_after};
 ghost use Rattle.pol_events.specs.Bound.{given, plain_allocation};
 ghost use Rattle.pol_events.specs.Events.{plain_history};
-ghost use Rattle.pol_history.specs.Looking.{past, past_of_batch};
+ghost use Rattle.pol_history.specs.Looking.{past, past_of_batch, recipes};
 ghost use Rattle.pol_history.specs.Batches.{asked_by, freezing_by, log_by};
-ghost use Rattle.pol_history.specs.Following.{sights_by, next_of};
-ghost use Rattle.pol_history.specs.Runs.{IsOrderly};
+ghost use Rattle.pol_history.specs.Following.{sights_by, next_of, next_of_started};
 ghost use Rattle.pol_audit.specs.HeldSteps.{plain_sights};
-ghost use Rattle.pol_audit.specs.Starts.{is_active_step};
+ghost use Rattle.pol_audit.specs.Starts.{is_active_step, started};
 
-use crate::batches::{Start, chart_named, start_of};
+use crate::batches::{Start, start_of};
+use crate::cursors::cursor_along;
 use crate::freezes::{is_frozen, is_holding};
 use crate::held_steps::{first_hold, first_unhold};
 use crate::log::Log;
 use crate::past::Past;
 use crate::sights::Sights;
 use chart_core::{Chart, LogEntry, Step, Why, steps_in_order};
-use chart_cursor::{CursorNext, Seen, Sight, next_of_log};
+use chart_cursor::{Cursor, CursorNext, Seen, Sight};
 use mtp_codes::{Command, Name, Speaker, State};
 use mtp_modes::permitted;
-use pol_events::{Next, Outcome};
+use pol_events::{Allocation, Next, Outcome};
 use std::alloc::{AllocError, Global};
 
 /// Whether the batch broke.
@@ -159,39 +159,41 @@ fn run_next(next: CursorNext) -> Next
     }
 }
 
+// The steps of the cursor's chart in chart order.
+fn cursor_steps(alloc: Global, cursor: &Cursor) -> Result<Vec<&Step>, AllocError>
+    ensures { IfOk result (λ steps. (log : List LogEntry)
+        → filter (is_active_step log) (plans_seen steps.items) ≡ active (plain_chart cursor.now.chart) log) }
+{
+    chart_steps(alloc, cursor.chart())
+}
+
 // What comes next of the steps that are owed an Unhold; where none is, in the run of the chart.
-fn unhold_or_run(
-    alloc: Global,
-    chart: &Chart,
-    steps: &[&Step],
-    log: Log<'_>,
-    seen: &Sights,
-) -> Result<CursorNext, AllocError>
-    requires { IsValid (plain_chart chart.now) }
-    ensures { IfOk result (λ next. next ≡ unless_whole
+fn unhold_or_run(cursor: &Cursor, steps: &[&Step], log: Log<'_>, seen: &Sights) -> CursorNext
+    requires { AreAfter (plain_chart cursor.now.chart) cursor.now.marks (chart_entries log.whole.now) }
+    ensures { result ≡ unless_whole
         (first_unhold (plain_sights seen.now)
         (owed (plain_sights seen.now) log.entry.whole.now
         (filter (is_active_step log.entry.whole.now) (plans_seen steps.now))))
-        (next_after (plain_chart chart.now) (chart_entries log.entry.whole.now) (plain_sights seen.now))) }
+        (next_after (plain_chart cursor.now.chart) (chart_entries log.entry.whole.now) (plain_sights seen.now)) }
 {
     match first_unhold(seen, steps, log) {
-        CursorNext::Whole => next_of_log(alloc, chart, log.run(), seen),
-        next => Ok(next),
+        CursorNext::Whole => cursor.next_of_log(seen),
+        next => next,
     }
 }
 
 // What a batch does next that isn't frozen.
 fn unfrozen_next(
     alloc: Global,
-    chart: &Chart,
+    cursor: &Cursor,
     log: Log<'_>,
     seen: &Sights,
 ) -> Result<Next, AllocError>
-    requires { IsValid (plain_chart chart.now) }
+    requires { AreAfter (plain_chart cursor.now.chart) cursor.now.marks (chart_entries log.whole.now) }
     ensures { IfOk result (λ next. next
-        ≡ unfrozen_next (plain_chart chart.now) log.entry.whole.now (plain_sights seen.now)) }
+        ≡ unfrozen_next (plain_chart cursor.now.chart) log.entry.whole.now (plain_sights seen.now)) }
 {
-    let steps = chart_steps(alloc, chart)?;
+    let steps = cursor_steps(alloc, cursor)?;
     let broken = log.has_broken();
     if broken || log.was_stopped() {
         return Ok(stop_next(seen, broken, &steps, log));
@@ -199,71 +201,103 @@ fn unfrozen_next(
     if let Some(entry) = first_broken(seen, &steps, log) {
         return Ok(Next::Did(entry));
     }
-    Ok(run_next(unhold_or_run(alloc, chart, &steps, log, seen)?))
+    Ok(run_next(unhold_or_run(cursor, &steps, log, seen)))
 }
 
 // What a frozen batch does next whose services are held.
 fn hold_next(
     alloc: Global,
-    chart: &Chart,
+    cursor: &Cursor,
     batch: Name,
     log: Log<'_>,
     seen: &Sights,
 ) -> Result<Next, AllocError>
-    ensures { IfOk result (λ next. next ≡ next_by (plain_chart chart.now)
+    ensures { IfOk result (λ next. next ≡ next_by (plain_chart cursor.now.chart)
         (holding (asked_by (past_of_batch batch (plain_history seen.now.history.now))))
         log.entry.whole.now (plain_sights seen.now)) }
 {
-    let steps = chart_steps(alloc, chart)?;
+    let steps = cursor_steps(alloc, cursor)?;
     match first_hold(seen, batch, &steps, log) {
         Some(entry) => Ok(Next::Did(entry)),
         None => Ok(Next::Waiting(Why::Frozen)),
     }
 }
 
-// What a batch with this log does next.
+// What a batch with this log does next, along whose run the cursor went.
 fn next_by(
     alloc: Global,
-    chart: &Chart,
+    cursor: &Cursor,
     batch: Name,
     log: Log<'_>,
     seen: &Sights,
 ) -> Result<Next, AllocError>
-    requires { IsValid (plain_chart chart.now) }
-    ensures { IfOk result (λ next. next ≡ next_by (plain_chart chart.now)
+    requires { AreAfter (plain_chart cursor.now.chart) cursor.now.marks (chart_entries log.whole.now) }
+    ensures { IfOk result (λ next. next ≡ next_by (plain_chart cursor.now.chart)
         (freezing_by (past_of_batch batch (plain_history seen.now.history.now)))
         log.entry.whole.now (plain_sights seen.now)) }
 {
     if !is_frozen(seen.history, batch) {
-        return unfrozen_next(alloc, chart, log, seen);
+        return unfrozen_next(alloc, cursor, log, seen);
     }
     if is_holding(seen.history, batch) {
-        return hold_next(alloc, chart, batch, log, seen);
+        return hold_next(alloc, cursor, batch, log, seen);
     }
     Ok(Next::Waiting(Why::Frozen))
 }
 
-// The next entry of a batch with this start and this chart.
+// The next entry of a batch with these binds, along whose run the cursor went.
+fn next_along(
+    alloc: Global,
+    history: &Past<'_, '_>,
+    batch: Name,
+    binds: Allocation<'_>,
+    cursor: &Cursor,
+) -> Result<Next, AllocError>
+    requires { AreAfter (plain_chart cursor.now.chart) cursor.now.marks
+        (chart_entries (log_by (past_of_batch batch (plain_history history.now)))) }
+    ensures { IfOk result (λ next. next ≡ next_by (plain_chart cursor.now.chart)
+        (freezing_by (past_of_batch batch (plain_history history.now)))
+        (log_by (past_of_batch batch (plain_history history.now)))
+        (sights_by (given (plain_allocation binds.entry)) (λ tag. past tag (plain_history history.now)))) }
+{
+    let seen = Sights { history, binds };
+    let log = history.log(batch);
+    next_by(alloc, cursor, batch, log, &seen)
+}
+
+// The next entry of a batch with this start, where no cursor of its recipe's chart is kept: one is made.
+fn next_anew(
+    alloc: Global,
+    history: &Past<'_, '_>,
+    batch: Name,
+    start: &Start<'_>,
+) -> Result<Option<Next>, AllocError>
+    ensures { IfOk result (λ next. next ≡ next_of_started (recipes (plain_history history.now))
+        (past_of_batch batch (plain_history history.now)) (λ tag. past tag (plain_history history.now))
+        (started start.now)) }
+{
+    let Some(chart) = history.recipes().chart(start.recipe) else {
+        return Ok(None);
+    };
+    let cursor = cursor_along(alloc, chart, history.log(batch).run())?;
+    Ok(Some(next_along(alloc, history, batch, start.binds, &cursor)?))
+}
+
+// The next entry of a batch with this start.
 fn next_of_start(
     alloc: Global,
     history: &Past<'_, '_>,
     batch: Name,
-    start: Start,
-    chart: &Chart,
-) -> Result<Next, AllocError>
-    requires { IsValid (plain_chart chart.now) }
-    ensures { IfOk result (λ next. next ≡ next_by (plain_chart chart.now)
-        (freezing_by (past_of_batch batch (plain_history history.now)))
-        (log_by (past_of_batch batch (plain_history history.now)))
-        (sights_by (given (plain_allocation start.entry.binds))
-        (λ tag. past tag (plain_history history.now)))) }
+    start: &Start<'_>,
+) -> Result<Option<Next>, AllocError>
+    ensures { IfOk result (λ next. next ≡ next_of_started (recipes (plain_history history.now))
+        (past_of_batch batch (plain_history history.now)) (λ tag. past tag (plain_history history.now))
+        (started start.now)) }
 {
-    let seen = Sights {
-        history,
-        binds: start.binds,
+    let Some(cursor) = history.cursor(batch, start.recipe) else {
+        return next_anew(alloc, history, batch, start);
     };
-    let log = history.log(batch);
-    next_by(alloc, chart, batch, log, &seen)
+    Ok(Some(next_along(alloc, history, batch, start.binds, cursor)?))
 }
 
 /// The next entry of the batch; None where it wasn't started.
@@ -272,14 +306,10 @@ pub fn next_of(
     history: &Past<'_, '_>,
     batch: Name,
 ) -> Result<Option<Next>, AllocError>
-    requires { IsOrderly (plain_history history.now) }
     ensures { IfOk result (λ next. next ≡ next_of (plain_history history.now) batch) }
 {
-    let Some(start) = start_of(history, batch) else {
-        return Ok(None);
-    };
-    let Some(chart) = chart_named(history, start.recipe) else {
-        return Ok(None);
-    };
-    Ok(Some(next_of_start(alloc, history, batch, start, chart)?))
+    match start_of(history, batch) {
+        Some(start) => next_of_start(alloc, history, batch, &start),
+        None => Ok(None),
+    }
 }

@@ -32,7 +32,6 @@ fn wrong_answer(
     history: &Past<'_, '_>,
     entry: &Entry,
 ) -> Result<Option<Answer>, AllocError>
-    requires { IsOrderly (plain_history history.now) }
     ensures { IfOk result (λ wrong. wrong
         ≡ (if same_answer entry.now.answer
         (answer_of (plain_history history.now) (plain_event entry.now.event)) then None
@@ -46,7 +45,6 @@ fn wrong_answer(
     }
 }
 
-#[tactic(auto, using(crate::proofs::Found::orderly_before))]
 fn first_wrong(alloc: Global, history: &[Entry]) -> Result<Judged, AllocError>
     requires few { length history.now ≤ MOST_JUDGED }
     requires orderly { IsOrderly (plain_history history.now) }

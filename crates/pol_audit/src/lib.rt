@@ -7,8 +7,8 @@
 //! Its main contracts are those of `says`, which answers as `pol_history` defines; of `judge`, which tells the first
 //! answer of a history that is another one; and of `Audit`, which is fed the lines of a history and gives the verdict
 //! that `specs/Verdict.antt` defines. Each value is searched among the entries of the history that concern it, which an
-//! index lists (`specs/Placed.antt`); it knows nothing of plants and their tables, of sources and sinks, threads or
-//! clocks.
+//! index lists (`specs/Placed.antt`), and a cursor goes along the run of each open batch (`specs/Followed.antt`); it
+//! knows nothing of plants and their tables, of sources and sinks, threads or clocks.
 //!
 //! Each rule that can refuse an event is the function of its name: in `module_rules` where a module's past decides it,
 //! in `batch_rules` where recipes, batches or holders do, in `start_rules` where it asks about the binds of a start.
@@ -22,6 +22,7 @@ mod audit;
 mod batch_rules;
 mod batches;
 mod closing;
+mod cursors;
 mod entries;
 mod following;
 mod freezes;
@@ -33,6 +34,7 @@ mod module_rules;
 mod modules;
 mod past;
 mod places;
+mod recipes;
 mod sights;
 mod standings;
 mod start_rules;

@@ -4,6 +4,8 @@ ghost use Rattle.pol_events.specs.Events.{plain_history};
 
 use crate::log::Log;
 use crate::places::Places;
+use crate::recipes::Recipes;
+use chart_cursor::Cursor;
 use mtp_codes::Name;
 use pol_events::Entry;
 use std::marker::Model;
@@ -33,10 +35,12 @@ impl<'a, 'b> Model for Past<'a, 'b> {
 }
 
 impl<'a> Past<'a, '_> {
-    ghost use Rattle.std.specs.Prelude.{filter};
+    ghost use Rattle.std.specs.Prelude.{IfSome, filter};
+    ghost use Rattle.chart_cursor.specs.Logs.{chart_entries};
     ghost use Rattle.pol_history.specs.Looking.{past, past_of_batch, recipes};
     ghost use Rattle.pol_history.specs.Batches.{is_start, log_by};
     ghost use Rattle.pol_history.specs.Modules.{present_tags};
+    ghost use Rattle.pol_audit.specs.Followed.{GoesAlong};
     ghost use Rattle.pol_audit.specs.Listed.{listed};
     ghost use Rattle.pol_audit.specs.Placed.{asks, closes, freezes, moves, moves_or_reports, moves_or_values, starts};
 
@@ -112,10 +116,18 @@ impl<'a> Past<'a, '_> {
     }
 
     /// The accepted recipes.
-    pub fn recipes(&self) -> &[&'a Entry]
-        ensures { listed result.now ≡ recipes (plain_history self.now) }
+    pub fn recipes(&self) -> &Recipes<'a>
+        ensures { listed result.now.entries.items ≡ recipes (plain_history self.now) }
     {
         &self.places.known.recipes
+    }
+
+    /// The cursor that went along the batch's run, where one of this recipe's chart is kept.
+    pub fn cursor(&self, batch: Name, recipe: Name) -> Option<&Cursor>
+        ensures { IfSome result (λ cursor. GoesAlong (recipes (plain_history self.now)) recipe
+            (chart_entries (log_by (past_of_batch batch (plain_history self.now)))) cursor.now) }
+    {
+        self.places.cursors.of(batch, recipe)
     }
 
     /// The accepted starts of all batches.

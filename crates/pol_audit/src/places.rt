@@ -2,9 +2,11 @@
 ghost use Rattle.std.specs.Prelude.{◌≡◌, ◌∷◌, ◌++◌, ◌||◌, [], IfOk, OnOk, filter, is_some, true, if◌then◌else◌};
 ghost use Rattle.std.specs.List.{cons_option};
 ghost use Rattle.pol_events.specs.Events.{plain_entry, plain_event, plain_history};
+ghost use Rattle.pol_events.specs.Orderly.{is_orderly};
 ghost use Rattle.pol_history.specs.Looking.{History, is_accepted, is_accepted_recipe};
 ghost use Rattle.pol_history.specs.Modules.{is_moving, present_after};
 ghost use Rattle.pol_history.specs.Batches.{closing, freezing, held_step, is_freeze, is_start, starting, taken};
+ghost use Rattle.pol_history.specs.Runs.{IsOrderly};
 ghost use Rattle.chart_core.specs.Entries.{chart_entry};
 ghost use Rattle.chart_cursor.specs.Logs.{chart_entries};
 ghost use Rattle.pol_audit.specs.Halts.{is_halt};
@@ -12,9 +14,11 @@ ghost use Rattle.pol_audit.specs.Listed.{Grows, accepted_batch, accepted_tag};
 ghost use Rattle.pol_audit.specs.Placed.{IsPlaced, is_report, is_variable};
 
 use crate::batches::taken;
-use crate::entries::{accepted_batch, accepted_tag, is_of_recipe};
+use crate::cursors::Cursors;
+use crate::entries::{accepted_batch, accepted_tag};
 use crate::lists::Lists;
 use crate::modules::{is_moving, tags_after};
+use crate::recipes::Recipes;
 use crate::standings::Standings;
 use chart_core::LogEntry;
 use mtp_codes::Name;
@@ -208,33 +212,35 @@ impl Logs {
 /// The accepted recipes, the accepted starts, and the tags that are docked or away, each once.
 #[derive(Drop)]
 pub struct KnownPlaces<'a> {
-    pub recipes: Vec<&'a Entry>,
+    pub recipes: Recipes<'a>,
     pub starts: Vec<&'a Entry>,
     pub present: Vec<Name>,
 }
 
 impl<'a> KnownPlaces<'a> {
     fn add_known(&mut self, alloc: Global, entry: &'a Entry) -> Result<(), AllocError>
-        ensures recipes { OnOk result (self.new.recipes.items ≡ self.old.recipes.items
+        requires { is_orderly (plain_event entry.now.event) ≡ true }
+        ensures recipes { OnOk result (self.new.recipes.entries.items ≡ self.old.recipes.entries.items
             ++ (if is_accepted_recipe (plain_entry entry.now) then entry.entry ∷ [] else [])) }
         ensures starts { OnOk result (self.new.starts.items ≡ self.old.starts.items
             ++ (if is_start (plain_entry entry.now) then entry.entry ∷ [] else [])) }
         ensures present { OnOk result (self.new.present.items
             ≡ present_after (plain_event entry.now.event) (is_accepted entry.now.answer) self.old.present.items) }
     {
-        push_if(&mut self.recipes, is_of_recipe(entry), entry)?;
+        self.recipes.add(entry)?;
         push_if(&mut self.starts, is_start(entry), entry)?;
         tags_after(alloc, &mut self.present, entry)
     }
 }
 
-/// An index of the entries of a history.
+/// An index of the entries of a history, and a cursor for each open batch.
 #[derive(Drop)]
 pub struct Places<'a> {
     pub modules: ModulePlaces<'a>,
     pub batches: BatchPlaces<'a>,
     pub logs: Logs,
     pub standings: Standings,
+    pub cursors: Cursors,
     pub known: KnownPlaces<'a>,
 }
 
@@ -265,8 +271,9 @@ impl<'a> Places<'a> {
                 running: Lists::new(alloc),
                 held: Lists::new(alloc),
             },
+            cursors: Cursors::new(alloc),
             known: KnownPlaces {
-                recipes: Vec::new(alloc),
+                recipes: Recipes::new(alloc),
                 starts: Vec::new(alloc),
                 present: Vec::new(alloc),
             },
@@ -275,6 +282,7 @@ impl<'a> Places<'a> {
 
     /// Adds one more entry of the history.
     pub fn add(&mut self, alloc: Global, entry: &'a Entry) -> Result<(), AllocError>
+        requires { is_orderly (plain_event entry.now.event) ≡ true }
         ensures { OnOk result ((history : History) → IsPlaced self.old history
             → IsPlaced self.new (plain_entry entry.now ∷ history)) }
     {
@@ -282,13 +290,19 @@ impl<'a> Places<'a> {
         self.batches.add_batch(alloc, entry)?;
         self.logs.add_log(alloc, entry)?;
         self.standings.add_standing(alloc, entry)?;
+        self.cursors.learn(entry, &self.known.recipes);
         self.known.add_known(alloc, entry)?;
+        self.cursors.go_on(entry);
+        self.cursors.end(entry);
+        self.cursors
+            .begin(alloc, entry, &self.logs.runs, &self.known.recipes)?;
         Ok(())
     }
 }
 
 /// The index of a history.
 pub fn placed(alloc: Global, history: &[Entry]) -> Result<Places<'_>, AllocError>
+    requires { IsOrderly (plain_history history.now) }
     ensures { IfOk result (λ places. IsPlaced places (plain_history history.now)) }
 {
     let mut places = Places::new(alloc);

@@ -1,21 +1,26 @@
-use Rattle.std.proofs.Common.{◌∙◌, ap}
-use Rattle.std.proofs.lemmas.Result.{IfOk-weaker}
+use Rattle.std.proofs.Common.{◌∙◌, Some, ap, subst, sym}
+use Rattle.std.specs.Option.{IfSome}
 use Rattle.chart_core.specs.Charts.{plain_chart}
-use Rattle.chart_cursor.specs.NextEntry.{next_by}
-use Rattle.pol_events.specs.Bound.{given, plain_allocation}
+use Rattle.chart_cursor.specs.Logs.{chart_entries}
 use Rattle.pol_events.specs.Events.{plain_history}
-use Rattle.pol_history.specs.Looking.{past, past_of_batch}
-use Rattle.pol_history.specs.Batches.{freezing_by}
-use Rattle.pol_history.specs.Following.{sights_by}
+use Rattle.pol_history.specs.Batches.{log_by}
+use Rattle.pol_history.specs.Looking.{past, past_of_batch, recipes}
+use Rattle.pol_audit.specs.Followed.{GoesAlong}
+use Rattle.pol_audit.specs.Starts.{started}
+use Rattle.pol_audit.proofs.Steps.{next_charted}
 use Rattle.pol_audit.proofs.following.next_of_start.Goals as goal
+
+pub next_along-requires : goal.next_along-requires
+next_along-requires c =
+    let history = plain_history c.args.history.now in
+    (subst (λ found. IfSome found (λ cursor. GoesAlong (recipes history) c.args.start.now.recipe
+    (chart_entries (log_by (past_of_batch c.args.batch history))) cursor.now)) c.in-Some.is c.cursor.ensures).1
 
 pub returns : goal.returns
 returns c =
-    let seen = sights_by (given (plain_allocation c.args.start.binds))
-    (λ tag. past tag (plain_history c.args.history.now)) in
-    IfOk-weaker c.next_by.result _ _
-    (λ next is.
-    is
-    ∙ ap (λ log. next_by (plain_chart c.args.chart.now)
-    (freezing_by (past_of_batch c.args.batch (plain_history c.args.history.now))) log seen) c.log-log.ensures)
-    c.next_by.ensures
+    let history = plain_history c.args.history.now in
+    let along = subst (λ found. IfSome found (λ cursor. GoesAlong (recipes history) c.args.start.now.recipe
+    (chart_entries (log_by (past_of_batch c.args.batch history))) cursor.now)) c.in-Some.is c.cursor.ensures in
+    ap Some c.in_ok-next_along.ensures
+    ∙ sym (next_charted (recipes history) (past_of_batch c.args.batch history) (λ tag. past tag history)
+    (started c.args.start.now) (plain_chart c.in-Some.cursor.now.chart) along.0)

@@ -14,10 +14,10 @@ pub returns : goal.returns
 returns c =
     let seen = plain_sights c.args.seen.now in
     let log = c.args.log.whole.now in
-    let chart = plain_chart c.args.chart.now in
+    let chart = plain_chart c.args.cursor.now.chart in
     let running = filter (is_active_step log) (plans_seen c.in_ok-steps.steps.items) in
     c.run_next.ensures
-    ∙ ap run_next (c.in_ok-unhold_or_run.ensures
+    ∙ ap run_next (c.unhold_or_run.ensures
     ∙ ap (λ steps. unless_whole (first_unhold seen (owed seen log (filter (is_active_step log) (plans_seen steps))))
     (next_after chart (chart_entries log) seen)) c.deref-3.ensures.value)
     ∙ goes_on chart log seen running (c.in_ok-steps.ensures log)

@@ -2,8 +2,13 @@ use Rattle.std.proofs.Common.{◌∙◌, ◌+◌, arith, subst, sym, take}
 use Rattle.pol_events.specs.Events.{plain_history}
 use Rattle.pol_record.proofs.Known.{one_more}
 use Rattle.pol_audit.specs.Placed.{IsPlaced}
-use Rattle.pol_audit.proofs.Found.{goes_on, stops_here}
+use Rattle.pol_audit.proofs.Found.{goes_on, orderly_at, stops_here}
 use Rattle.pol_audit.proofs.judging.first_wrong.Goals as goal
+
+pub add-requires : goal.add-requires
+add-requires c =
+    orderly_at c.args.history.now c.loop-place.place c.index-history-place.result c.requires.orderly
+    c.loop-place-test.true c.index-history-place.is
 
 pub returns-in-Some : goal.returns-in-Some
 returns-in-Some c =

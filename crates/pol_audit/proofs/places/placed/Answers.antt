@@ -2,7 +2,13 @@ use Rattle.std.proofs.Common.{sym, subst, take, take_all}
 use Rattle.pol_events.specs.Events.{plain_history}
 use Rattle.pol_record.proofs.Known.{one_more}
 use Rattle.pol_audit.specs.Placed.{IsPlaced}
+use Rattle.pol_audit.proofs.Found.{orderly_at}
 use Rattle.pol_audit.proofs.places.placed.Goals as goal
+
+pub add-requires : goal.add-requires
+add-requires c =
+    orderly_at c.args.history.now c.loop-entry.entry-index c.entry-item.result c.requires c.loop-entry-test.true
+    c.entry-item.is
 
 pub loop-entry-preserved : goal.loop-entry-preserved
 loop-entry-preserved c =

@@ -1,7 +1,5 @@
-use Rattle.std.proofs.Common.{◌∙◌, ap}
-use Rattle.pol_audit.specs.Listed.{listed}
 use Rattle.pol_audit.proofs.Placing.{placed_now}
 use Rattle.pol_audit.proofs.past.Past.recipes.Goals as goal
 
 pub returns : goal.returns
-returns c = ap listed c.deref.ensures.value ∙ (placed_now _ c.self.view_is c.self.invariant).recipes
+returns c = (placed_now _ c.self.view_is c.self.invariant).recipes
