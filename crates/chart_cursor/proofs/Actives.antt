@@ -155,6 +155,7 @@ if_runs : (done : Bool) (here there : List OpenNode) (all : List Placed) → (do
 if_runs true here there all first second = first refl
 if_runs false here there all first second = second refl
 
+-- the open steps that run are the active steps of the entries that the marks stand for
 mutual
   pub running_are_active : (node : Tree) (number : ℕ) (marks : Marks) (entries : List WordEntry) → Distinct (names node)
       → Stands (course node number) marks entries

@@ -51,6 +51,7 @@ left_loop : (number : ℕ) (node : Tree) (done : Bool) (body : List OpenNode) (p
 left_loop number node done body Left left = refl
 left_loop number node done body progress left = absurd cc
 
+-- what is done has no open node
 mutual
   pub done_closed : (each : Tree) (number : ℕ) (marks : Marks) → is_done (course each number) marks ≡ true
       → open_nodes each number marks ≡ []

@@ -95,8 +95,8 @@ impl Cursor {
         let _ = take_entry(&self.chart, &mut self.marks, &entry);
     }
 
-    /// Goes along a log, which needn't be a run of the chart: takes the entry where it may come next, and passes over it
-    /// where it may not. Walks the chart's nodes up to the one that it changes, and takes no memory.
+    /// Goes along a log, which needn't be a run of the chart: takes the entry where it may come next, and passes over
+    /// it where it may not. Walks the chart's nodes up to the one that it changes, and takes no memory.
     #[tactic(auto, using(crate::proofs::Passing::after_one))]
     pub fn go_along(&mut self, entry: &LogEntry)
         ensures chart { self.new.chart ≡ self.old.chart }
@@ -106,8 +106,8 @@ impl Cursor {
         let _ = take_entry(&self.chart, &mut self.marks, entry);
     }
 
-    /// What comes next after any log that the cursor went along, by what is seen of the modules; for a partial run it is
-    /// what `first_ready` says. Walks the chart's nodes once, and takes no memory.
+    /// What comes next after any log that the cursor went along, by what is seen of the modules; for a partial run it
+    /// is what `first_ready` says. Walks the chart's nodes once, and takes no memory.
     pub fn next_of_log<S: Seen>(&self, seen: &S) -> CursorNext
         ensures { (log : List LogEntry) → AreAfter (plain_chart self.now.chart) self.now.marks log
             → result ≡ next_after (plain_chart self.now.chart) log (S.sights seen.now) }

@@ -31,7 +31,7 @@ use Rattle.pol_site.specs.Stories.{story, if_to, is_for, started_in, procedure_s
 use Rattle.pol_simulated.specs.Units.{newest}
 use Rattle.pol_simulated.proofs.Taking.{moved_untold, told_state}
 use Rattle.mtp_sim.proofs.Edges.{told_last, name_ticked}
-use Rattle.pol_stillness.specs.Phases.{asked_in, is_changed, wanted, IsPhase, IsPhaseOf, told_after, TicksKeepPhases, TakesSettle, SendsGive, OthersKeepPhases}
+use Rattle.pol_stillness.specs.Phases.{asked_in, is_changed, wanted, IsPhase, told_after, TicksKeepPhases, TakesSettle, SendsGive}
 use Rattle.pol_stillness.proofs.Desks.{view_control}
 use Rattle.pol_simulated.proofs.Reports.{last_newest}
 use Rattle.pol_stillness.proofs.Plain.{}
@@ -184,11 +184,6 @@ wanted_same tag name old entry moves silent starts = λ i. record { procedure = 
     answered =
         ap (λ b. unwrap_or (last_of (answering tag name) (if b then [] else entry ∷ since_docking old)) true) moves
         ∙ ap (λ found. unwrap_or (option_or found (last_of (answering tag name) (since_docking old))) true) silent
-
--- so it leaves how the service stands
-pub others_phased : OthersKeepPhases
-others_phased d tag s old ahead entry moves silent starts =
-    subst (λ asks. IsPhaseOf d asks s ahead) (sym (wanted_same tag s.name old entry moves silent starts))
 
 -- ---- a command that is sent
 

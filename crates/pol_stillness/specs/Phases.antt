@@ -13,12 +13,11 @@ use Rattle.chart_core.specs.declared.entry.LogEntry.{LogEntry}
 use Rattle.chart_core.specs.declared.entry.LogEntry.TheVariants.{Start}
 use Rattle.chart_cursor.specs.Commands.{Sent, sent_by}
 use Rattle.chart_core.specs.Entries.{chart_entry}
-use Rattle.pol_events.specs.Events.{report, advance, PlainEntry}
+use Rattle.pol_events.specs.Events.{report, advance}
 use Rattle.pol_events.specs.declared.answer.Answer.TheVariants.{Done, Did}
 use Rattle.pol_history.specs.Looking.{History, past}
-use Rattle.pol_history.specs.Modules.{is_moving, since_docking, description_by}
-use Rattle.pol_history.specs.Batches.{taken}
-use Rattle.pol_site.specs.Stories.{story, started_in, procedure_started, answering, is_answered, controls_in}
+use Rattle.pol_history.specs.Modules.{since_docking, description_by}
+use Rattle.pol_site.specs.Stories.{story, procedure_started, is_answered, controls_in}
 use Rattle.pol_site.specs.Following.{control_due}
 use Rattle.pol_simulated.specs.Units.{IsTold}
 use Rattle.pol_stillness.specs.Law.{IsSentStill}
@@ -126,12 +125,3 @@ SendsGive =
     IsGiven description
     (wanted sent.tag service.name (record { event = advance at batch; answer = Did did } ∷ story sent.tag older))
     service did
-
--- An entry that neither moves the module nor reports the service nor commands it changes nothing of how it stands.
-abbrev pub OthersKeepPhases : Type 0
-OthersKeepPhases =
-    (description : PlainDescription) (tag : List ℕ) (service : SimService) (told : History) (ahead : Option LogEntry)
-    (entry : PlainEntry) →
-    is_moving entry.event ≡ false → answering tag service.name entry ≡ None →
-    ((d : Option PlainDescription) → started_in tag service.name d (taken entry.answer) ≡ None) →
-    IsPhase description tag told service ahead → IsPhase description tag (entry ∷ told) service ahead

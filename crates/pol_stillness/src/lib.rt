@@ -12,7 +12,7 @@ ghost use Rattle.pol_stillness.specs.Apart.{CompleteRunsAreStill, NextStepsAreAl
 ghost use Rattle.pol_stillness.specs.Exchanges.{OpenIsAway};
 ghost use Rattle.pol_stillness.specs.KeepingUp.{FirstsKeepUp, IdlesKeepUp, KeptUpIsCommanded, LooksKeepUp, OthersKeepUp, SendsKeepUp, TicksKeepUp};
 ghost use Rattle.pol_stillness.specs.Law.{CommandsFindServicesStill, UnansweredAreOwed};
-ghost use Rattle.pol_stillness.specs.Phases.{OthersKeepPhases, SendsGive, TakesSettle, TicksKeepPhases};
+ghost use Rattle.pol_stillness.specs.Phases.{SendsGive, TakesSettle, TicksKeepPhases};
 ghost use Rattle.pol_stillness.specs.Plain.{PlantsArePlain};
 ghost use Rattle.pol_stillness.specs.Desks.{DesksAreRefused};
 ghost use Rattle.pol_stillness.specs.Planned.{DockedArePlanned};
@@ -85,11 +85,6 @@ pub fn takes_settle()
 /// A command that is sent to a service is ahead of it.
 pub fn sends_give()
     ensures { SendsGive }
-{}
-
-/// Other entries change nothing of how it stands.
-pub fn others_keep_phases()
-    ensures { OthersKeepPhases }
 {}
 
 /// The procedure that a step starts is there.

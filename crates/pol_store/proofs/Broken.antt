@@ -9,8 +9,8 @@ use Rattle.pol_store.specs.Stands.{AreTextsOf, IsBroken, BreaksAt, StandsFor, St
 -- records, and then neither a gate nor a record, are no records with a closed gate behind them
 no_stand : (count : ℕ) (xs ys : List PlainEvent) (texts texts' : List (List ℕ))
     (records records' behind behind' : List ℕ) → AreTextsOf xs texts → AreTextsOf ys texts' → AreRecords records texts
-    → AreRecords records' texts' → IsBroken (count + length xs) behind → count + length ys ≤ LONGEST_HISTORY → records ++ behind ≡ records'
-    ++ 0 ∷ behind' → ⊥
+    → AreRecords records' texts' → IsBroken (count + length xs) behind → count + length ys ≤ LONGEST_HISTORY
+    → records ++ behind ≡ records' ++ 0 ∷ behind' → ⊥
 no_stand count [] ys (t ∷ ts) texts' records records' behind behind' are are' recs recs' broken few same = absurd are
 no_stand count (x ∷ xs) ys [] texts' records records' behind behind' are are' recs recs' broken few same = absurd are
 no_stand count xs [] texts (t ∷ ts) records records' behind behind' are are' recs recs' broken few same = absurd are'
