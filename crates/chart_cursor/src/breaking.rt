@@ -16,7 +16,8 @@ fn is_broken_state(state: State) -> bool
     matches!(state, State::Stopped | State::Aborted)
 }
 
-fn broken_step(step: &Step, sight: Sight) -> Option<LogEntry>
+/// The entry Broke of a step, by what is seen of its service: where that is stopped or aborted.
+pub fn broken_step(step: &Step, sight: Sight) -> Option<LogEntry>
     ensures { result ≡ broken_step (plain_step step.now) sight }
 {
     match sight {

@@ -23,15 +23,18 @@ mod ready;
 mod running;
 mod scanning;
 mod sight;
+mod stopping;
 mod visitor;
 mod walking;
 
+pub use breaking::broken_step;
 pub use cursor::Cursor;
 pub use holding::{hold_step, unhold_step};
 pub use laws::{
     next_commands_are_permitted, next_follows_the_chart, next_keeps_the_run, steps_are_of_the_chart,
 };
-pub use next::CursorNext;
+pub use next::{CursorNext, run_next};
 pub use running::RunningStep;
 pub use scanning::earlier;
 pub use sight::{ReadingSight, Seen, Sight};
+pub use stopping::stop_step;

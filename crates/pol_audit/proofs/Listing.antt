@@ -10,12 +10,12 @@ use Rattle.std.specs.Str.{bytes_eq}
 use Rattle.std.specs.declared.vec.Vec.{Vec}
 use Rattle.std.proofs.lemmas.List.{length-map, length-reverse}
 use Rattle.pol_events.specs.Events.{PlainEntry, plain_entry}
-use Rattle.pol_events.specs.Subjects.{Subject, of_module, of_batch, of_recipe, subject}
+use Rattle.pol_events.specs.Subjects.{Subject, of_module, of_batch, of_recipe, subject, accepted_batch, accepted_tag, subject_batch, subject_tag}
 use Rattle.pol_history.specs.Looking.{is_accepted, is_accepted_of, is_accepted_of_batch, is_batch, is_module}
 use Rattle.pol_events.specs.declared.event.Entry.{Entry}
 use Rattle.mtp_codes.proofs.Names.{same_true}
 use Rattle.pol_history.proofs.Names.{written}
-use Rattle.pol_audit.specs.Listed.{accepted_batch, accepted_tag, batch_in, is_this, items_under, listed, tag_in}
+use Rattle.pol_audit.specs.Listed.{is_this, items_under, listed}
 
 -- an item that is kept stands at the end of its name's list
 pub added : {T : Type 0} (name other : List ℕ) (old : List T) (item : T) →
@@ -107,7 +107,7 @@ kept_nothing kind name whom told old is = rw is (go (is_this name whom))
 pub its_tag : (tag : List ℕ) (entry : PlainEntry) → is_this tag (accepted_tag entry) ≡ is_accepted_of tag entry
 its_tag tag entry = go (subject entry.event) (is_accepted entry.answer)
   where
-    go : (of' : Subject) (kept : Bool) → is_this tag (cond kept (tag_in of') None) ≡ (is_module tag of' && kept)
+    go : (of' : Subject) (kept : Bool) → is_this tag (cond kept (subject_tag of') None) ≡ (is_module tag of' && kept)
     go (of_module other) true = sym (and-true (bytes_eq other tag))
     go (of_module other) false = sym (and-false (bytes_eq other tag))
     go (of_batch batch) true = refl
@@ -120,7 +120,7 @@ pub its_batch : (batch : List ℕ) (entry : PlainEntry)
     → is_this batch (accepted_batch entry) ≡ is_accepted_of_batch batch entry
 its_batch batch entry = go (subject entry.event) (is_accepted entry.answer)
   where
-    go : (of' : Subject) (kept : Bool) → is_this batch (cond kept (batch_in of') None) ≡ (is_batch batch of' && kept)
+    go : (of' : Subject) (kept : Bool) → is_this batch (cond kept (subject_batch of') None) ≡ (is_batch batch of' && kept)
     go (of_module tag) true = refl
     go (of_module tag) false = refl
     go (of_batch other) true = sym (and-true (bytes_eq other batch))

@@ -14,13 +14,14 @@ use Rattle.std.specs.declared.vec.Vec.{Vec}
 use Rattle.std.proofs.lemmas.List.{map-append, reverse-append}
 use Rattle.chart_core.specs.declared.entry.LogEntry.{LogEntry}
 use Rattle.pol_events.specs.Events.{PlainEntry, plain_entry, plain_event, plain_history}
+use Rattle.pol_events.specs.Subjects.{accepted_batch, accepted_tag}
 use Rattle.pol_events.specs.declared.event.Entry.{Entry}
 use Rattle.pol_history.specs.Looking.{History, is_accepted, is_accepted_of, is_accepted_of_batch, is_accepted_recipe, past, past_of_batch, recipes}
 use Rattle.pol_history.specs.Batches.{is_start, log_by, taken}
 use Rattle.pol_history.specs.Modules.{present_after}
 use Rattle.pol_events.specs.Orderly.{is_orderly}
 use Rattle.pol_audit.specs.Followed.{AreFollowed}
-use Rattle.pol_audit.specs.Listed.{Grows, accepted_batch, accepted_tag, all_orderly, is_this, items_under, listed}
+use Rattle.pol_audit.specs.Listed.{Grows, all_orderly, is_this, items_under, listed}
 use Rattle.pol_audit.specs.Standing.{after_entry, held_more, running_more}
 use Rattle.pol_audit.specs.Placed.{IsPlaced, asks, closes, freezes, moves, moves_or_reports, moves_or_values, starts}
 use Rattle.pol_audit.specs.declared.cursors.Followed.{Followed}

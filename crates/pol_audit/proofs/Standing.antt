@@ -13,11 +13,12 @@ use Rattle.chart_core.specs.declared.entry.LogEntry.TheVariants.{Start, Finish, 
 use Rattle.chart_core.proofs.Latest.{last_pushed}
 use Rattle.chart_cursor.specs.Logs.{holding_by, was_held}
 use Rattle.pol_events.specs.Events.{PlainEntry}
+use Rattle.pol_events.specs.Subjects.{accepted_batch}
 use Rattle.pol_history.specs.Looking.{History, is_accepted_of_batch, past_of_batch}
 use Rattle.pol_history.specs.Batches.{log_by, taken}
 use Rattle.pol_history.specs.Modules.{tags_without}
 use Rattle.mtp_codes.proofs.Names.{same_true}
-use Rattle.pol_audit.specs.Listed.{accepted_batch, is_this, items_under}
+use Rattle.pol_audit.specs.Listed.{is_this, items_under}
 use Rattle.pol_audit.specs.Standing.{after_entry, held_more, running_more}
 use Rattle.pol_audit.proofs.Listing.{its_batch}
 use Rattle.pol_audit.proofs.Logged.{log_grows, log_stays}

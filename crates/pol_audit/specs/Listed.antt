@@ -8,9 +8,8 @@ use Rattle.std.specs.Str.{bytes_eq}
 use Rattle.std.specs.declared.vec.Vec.{Vec}
 use Rattle.pol_events.specs.Events.{PlainEntry, plain_entry}
 use Rattle.pol_events.specs.Orderly.{is_orderly}
-use Rattle.pol_events.specs.Subjects.{Subject, of_module, of_batch, of_recipe, subject}
 use Rattle.pol_events.specs.declared.event.Entry.{Entry}
-use Rattle.pol_history.specs.Looking.{History, is_accepted}
+use Rattle.pol_history.specs.Looking.{History}
 
 -- the items under a name: none, where it has no list
 abbrev pub items_under : {T Z : Type 0} → List (List ℕ × Vec T Z) → List ℕ → List T
@@ -35,22 +34,3 @@ abbrev pub Grows : {T Z : Type 0} → List (List ℕ × Vec T Z) → List (List 
 Grows old new whom kept item =
     (name : List ℕ) → items_under new name
     ≡ items_under old name ++ (if is_this name whom && kept then item ∷ [] else [])
-
--- the module, or the batch, of a subject
-abbrev pub tag_in : Subject → Option (List ℕ)
-tag_in (of_module tag) = Some tag
-tag_in (of_batch batch) = None
-tag_in (of_recipe recipe) = None
-
-abbrev pub batch_in : Subject → Option (List ℕ)
-batch_in (of_module tag) = None
-batch_in (of_batch batch) = Some batch
-batch_in (of_recipe recipe) = None
-
--- the module of which an entry is an accepted event
-abbrev pub accepted_tag : PlainEntry → Option (List ℕ)
-accepted_tag entry = if is_accepted entry.answer then tag_in (subject entry.event) else None
-
--- the batch of which an entry is an accepted event
-abbrev pub accepted_batch : PlainEntry → Option (List ℕ)
-accepted_batch entry = if is_accepted entry.answer then batch_in (subject entry.event) else None

@@ -1,20 +1,14 @@
--- What contracts see of a batch's start, and of its active steps.
+-- The batches that watch a module, and the active steps of a batch.
 use Rattle.std.specs.Prelude.{ℕ, List, Bool}
 use Rattle.std.specs.Borrow.{Bor}
 use Rattle.std.specs.List.{filter_map}
 use Rattle.chart_core.specs.Active.{phase_after, is_running}
 use Rattle.chart_core.specs.Trees.{PlainStep}
 use Rattle.chart_core.specs.declared.entry.LogEntry.{LogEntry}
-use Rattle.pol_events.specs.Bound.{plain_allocation}
 use Rattle.pol_events.specs.Events.{plain_entry}
 use Rattle.pol_events.specs.declared.event.Entry.{Entry}
-use Rattle.pol_history.specs.Batches.{Started, if_open, watches}
+use Rattle.pol_history.specs.Batches.{if_open, watches}
 use Rattle.pol_history.specs.Looking.{History}
-use Rattle.pol_audit.specs.declared.batches.Start.{Start}
-
--- the recipe and the binds
-abbrev pub started : Start → Started
-started start = record { recipe = start.recipe; binds = plain_allocation start.binds }
 
 -- those of the batches that these entries start which watch the module and aren't closed, in the order of the entries
 abbrev pub watchers_in : History → List ℕ → List (Bor Entry) → List (List ℕ)

@@ -6,20 +6,14 @@ ghost use Rattle.chart_core.specs.Charts.{plain_chart};
 ghost use Rattle.pol_events.specs.Events.{plain_entry, plain_event, plain_history};
 ghost use Rattle.pol_events.specs.Bound.{tags_of};
 ghost use Rattle.pol_history.specs.Looking.{past_of_batch, recipes, last_of};
-ghost use Rattle.pol_history.specs.Batches.{starting, start_by, charted, chart_named, closing, outcome_by, if_open, taken, takes, holder_of, is_start, watches};
-ghost use Rattle.pol_audit.specs.Starts.{started};
+ghost use Rattle.pol_history.specs.Batches.{start_by, charted, chart_named, closing, outcome_by, if_open, taken, takes, holder_of, is_start, watches};
+ghost use Rattle.pol_record.specs.Gathered.{plain_start};
 
 use crate::past::Past;
 use chart_core::{Chart, LogEntry};
 use mtp_codes::Name;
-use pol_events::{Allocation, Answer, Bind, Entry, Event, Outcome};
-
-/// What a batch was started with.
-#[derive(Clone, Copy)]
-pub struct Start<'a> {
-    pub recipe: Name,
-    pub binds: Allocation<'a>,
-}
+use pol_events::{Answer, Bind, Entry, Event, Outcome};
+use pol_record::{Start, starting};
 
 /// The chart of the recipe of this name.
 pub fn chart_named<'a>(history: &'a Past<'_, '_>, name: Name) -> Option<&'a Chart>
@@ -40,30 +34,9 @@ pub fn recipe_count(history: &Past<'_, '_>) -> usize
     history.recipes().len()
 }
 
-/// What the event starts a batch with, if it is a start.
-pub fn starting(event: &Event) -> Option<Start<'_>>
-    ensures { option_map started result ≡ starting (plain_event event.now) }
-{
-    match event {
-        Event::Start {
-            recipe,
-            bind,
-            watch,
-            ..
-        } => Some(Start {
-            recipe: *recipe,
-            binds: Allocation {
-                held: bind,
-                watched: watch,
-            },
-        }),
-        _ => None,
-    }
-}
-
 /// What the batch was started with.
 pub fn start_of<'a>(history: &'a Past<'_, '_>, batch: Name) -> Option<Start<'a>>
-    ensures { option_map started result ≡ start_by (past_of_batch batch (plain_history history.now)) }
+    ensures { option_map plain_start result ≡ start_by (past_of_batch batch (plain_history history.now)) }
 {
     history
         .starts_of(batch)

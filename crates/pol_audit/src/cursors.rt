@@ -9,13 +9,14 @@ ghost use Rattle.chart_core.specs.Valid.{IsValid};
 ghost use Rattle.chart_core.specs.declared.entry.LogEntry.{LogEntry};
 ghost use Rattle.chart_cursor.specs.Logs.{chart_entries};
 ghost use Rattle.pol_events.specs.Events.{plain_entry, plain_event};
+ghost use Rattle.pol_events.specs.Subjects.{accepted_batch};
 ghost use Rattle.pol_history.specs.Batches.{charted, chart_named, taken};
 ghost use Rattle.pol_history.specs.Looking.{History, is_accepted_recipe};
 ghost use Rattle.pol_audit.specs.Followed.{AreFollowed, GoesAlong};
-ghost use Rattle.pol_audit.specs.Listed.{accepted_batch, is_this, items_under, listed};
+ghost use Rattle.pol_audit.specs.Listed.{is_this, items_under, listed};
 
 use crate::batches::closing;
-use crate::entries::{accepted_batch, is_of_recipe};
+use crate::entries::is_of_recipe;
 use crate::lists::Lists;
 use crate::recipes::Recipes;
 use chart_core::{Chart, LogEntry};
@@ -173,7 +174,7 @@ impl Cursors {
             then chart_entries (cons_option (taken entry.now.answer) []) else []))
             → AreFollowed self.new.followed.entries recipes after }
     {
-        if let Some(batch) = accepted_batch(entry) {
+        if let Some(batch) = entry.accepted_batch() {
             if let Some(did) = run_entry(&entry.answer) {
                 self.go_along(batch, &did);
             }
@@ -186,7 +187,7 @@ impl Cursors {
             → AreFollowed self.old.followed.entries recipes runs
             → AreFollowed self.new.followed.entries recipes runs }
     {
-        match (accepted_batch(entry), closing(&entry.answer)) {
+        match (entry.accepted_batch(), closing(&entry.answer)) {
             (Some(batch), Some(_)) => self.leave(batch),
             _ => {}
         }

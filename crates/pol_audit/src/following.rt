@@ -7,17 +7,18 @@ ghost use Rattle.chart_core.specs.declared.entry.LogEntry.{LogEntry};
 ghost use Rattle.chart_core.specs.Standing.{AreAfter};
 ghost use Rattle.chart_cursor.specs.Freezing.{holding};
 ghost use Rattle.chart_cursor.specs.Logs.{has_broken, was_stopped, chart_entries, active};
-ghost use Rattle.chart_cursor.specs.NextEntry.{is_broken_state, broken_step, first_broken, stop_next, stop_step, first_unhold, owed, run_next, unless_whole, unfrozen_next, next_by};
+ghost use Rattle.chart_cursor.specs.NextEntry.{first_broken, stop_next, first_unhold, owed, run_next, unless_whole, unfrozen_next, next_by};
 ghost use Rattle.chart_cursor.specs.Next.{next_after};
 ghost use Rattle.pol_events.specs.Bound.{given, plain_allocation};
 ghost use Rattle.pol_events.specs.Events.{plain_history};
 ghost use Rattle.pol_history.specs.Looking.{past, past_of_batch, recipes};
 ghost use Rattle.pol_history.specs.Batches.{asked_by, freezing_by, log_by};
 ghost use Rattle.pol_history.specs.Following.{sights_by, next_of, next_of_started};
+ghost use Rattle.pol_record.specs.Gathered.{plain_start};
 ghost use Rattle.pol_audit.specs.HeldSteps.{plain_sights};
-ghost use Rattle.pol_audit.specs.Starts.{is_active_step, started};
+ghost use Rattle.pol_audit.specs.Starts.{is_active_step};
 
-use crate::batches::{Start, start_of};
+use crate::batches::start_of;
 use crate::cursors::cursor_along;
 use crate::freezes::{is_frozen, is_holding};
 use crate::held_steps::{first_hold, first_unhold};
@@ -25,10 +26,10 @@ use crate::log::Log;
 use crate::past::Past;
 use crate::sights::Sights;
 use chart_core::{Chart, LogEntry, Step, Why, steps_in_order};
-use chart_cursor::{Cursor, CursorNext, Seen, Sight};
-use mtp_codes::{Command, Name, Speaker, State};
-use mtp_modes::permitted;
+use chart_cursor::{Cursor, CursorNext, Seen, broken_step, run_next, stop_step};
+use mtp_codes::Name;
 use pol_events::{Allocation, Next, Outcome};
+use pol_record::Start;
 use std::alloc::{AllocError, Global};
 
 /// Whether the batch broke.
@@ -60,23 +61,6 @@ pub fn chart_steps(alloc: Global, chart: &Chart) -> Result<Vec<&Step>, AllocErro
         → filter (is_active_step log) (plans_seen steps.items) ≡ active (plain_chart chart.now) log) }
 {
     steps_in_order(alloc, chart)
-}
-
-// What an active step of a batch that is stopped comes to, by what is seen of its service.
-fn stop_step(step: Name, service: Name, tag: Name, sight: Sight) -> Next
-    ensures { result ≡ stop_step step service tag sight }
-{
-    match sight {
-        Sight::Away => Next::Waiting(Why::Away { tag }),
-        Sight::Unreported => Next::Waiting(Why::NotReported { tag, name: service }),
-        Sight::Is(view) if permitted(&view, Speaker::Recipe, Command::Stop).is_ok() => {
-            Next::Did(LogEntry::Stop { step, tag, service })
-        }
-        Sight::Is(view) => Next::Did(LogEntry::Left {
-            step,
-            state: view.control.state,
-        }),
-    }
 }
 
 // An active step of a batch that is stopped, by what is seen of its service.
@@ -114,24 +98,6 @@ fn stop_next(seen: &Sights, broken: bool, steps: &[&Step], log: Log<'_>) -> Next
     })
 }
 
-fn is_broken_state(state: State) -> bool
-    ensures { result ≡ is_broken_state state }
-{
-    matches!(state, State::Stopped | State::Aborted)
-}
-
-fn broken_step(step: &Step, sight: Sight) -> Option<LogEntry>
-    ensures { result ≡ broken_step (plain_step step.now) sight }
-{
-    match sight {
-        Sight::Is(view) if is_broken_state(view.control.state) => Some(LogEntry::Broke {
-            step: step.name,
-            state: view.control.state,
-        }),
-        _ => None,
-    }
-}
-
 // The entry Broke of the first active step whose service is stopped or aborted.
 fn first_broken(seen: &Sights, steps: &[&Step], log: Log<'_>) -> Option<LogEntry>
     ensures { result ≡ first_broken
@@ -147,16 +113,6 @@ fn first_broken(seen: &Sights, steps: &[&Step], log: Log<'_>) -> Option<LogEntry
         }
     }
     None
-}
-
-fn run_next(next: CursorNext) -> Next
-    ensures { result ≡ run_next next }
-{
-    match next {
-        CursorNext::Entry(entry) => Next::Did(entry),
-        CursorNext::Wait(why) => Next::Waiting(why),
-        CursorNext::Whole => Next::Closed(Outcome::Completed),
-    }
 }
 
 // The steps of the cursor's chart in chart order.
@@ -274,7 +230,7 @@ fn next_anew(
 ) -> Result<Option<Next>, AllocError>
     ensures { IfOk result (λ next. next ≡ next_of_started (recipes (plain_history history.now))
         (past_of_batch batch (plain_history history.now)) (λ tag. past tag (plain_history history.now))
-        (started start.now)) }
+        (plain_start start.now)) }
 {
     let Some(chart) = history.recipes().chart(start.recipe) else {
         return Ok(None);
@@ -292,7 +248,7 @@ fn next_of_start(
 ) -> Result<Option<Next>, AllocError>
     ensures { IfOk result (λ next. next ≡ next_of_started (recipes (plain_history history.now))
         (past_of_batch batch (plain_history history.now)) (λ tag. past tag (plain_history history.now))
-        (started start.now)) }
+        (plain_start start.now)) }
 {
     let Some(cursor) = history.cursor(batch, start.recipe) else {
         return next_anew(alloc, history, batch, start);

@@ -5,6 +5,7 @@ ghost use Rattle.pol_history.specs.Answers.{answer_of};
 ghost use Rattle.pol_history.specs.Runs.{IsOrderly};
 ghost use Rattle.pol_entries.specs.Same.{same_answer};
 ghost use Rattle.pol_audit.specs.Judging.{Judges, judged};
+ghost use Rattle.pol_audit.specs.Placed.{IsPlaced};
 ghost use Rattle.pol_audit.specs.declared.judging.TheConstants.{MOST_JUDGED};
 
 use crate::answers::answered;
@@ -26,18 +27,24 @@ pub enum Judged {
     Wrong { place: u32, says: Answer },
 }
 
-// The right answer to an entry, where its own is wrong.
-fn wrong_answer(
+// The right answer to an entry behind these earlier ones, of which there is an index; None where its own is right.
+fn wrong_answer<'a>(
     alloc: Global,
-    history: &Past<'_, '_>,
+    earlier: &'a [Entry],
+    places: &Places<'a>,
     entry: &Entry,
 ) -> Result<Option<Answer>, AllocError>
+    requires { IsPlaced places.now (plain_history earlier.now) }
     ensures { IfOk result (λ wrong. wrong
         ≡ (if same_answer entry.now.answer
-        (answer_of (plain_history history.now) (plain_event entry.now.event)) then None
-        else Some (answer_of (plain_history history.now) (plain_event entry.now.event)))) }
+        (answer_of (plain_history earlier.now) (plain_event entry.now.event)) then None
+        else Some (answer_of (plain_history earlier.now) (plain_event entry.now.event)))) }
 {
-    let says = answered(alloc, history, &entry.event)?;
+    let past = Past {
+        entries: earlier,
+        places,
+    };
+    let says = answered(alloc, &past, &entry.event)?;
     if same_answer(&entry.answer, &says) {
         Ok(None)
     } else {
@@ -52,11 +59,7 @@ fn first_wrong(alloc: Global, history: &[Entry]) -> Result<Judged, AllocError>
 {
     let mut places = Places::new(alloc);
     for (place, entry) in history.iter().enumerate() {
-        let past = Past {
-            entries: &history[..place],
-            places: &places,
-        };
-        if let Some(says) = wrong_answer(alloc, &past, entry)? {
+        if let Some(says) = wrong_answer(alloc, &history[..place], &places, entry)? {
             return Ok(Judged::Wrong {
                 place: place as u32,
                 says,

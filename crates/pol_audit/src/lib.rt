@@ -39,13 +39,10 @@ mod sights;
 mod standings;
 mod start_rules;
 mod tails;
-mod whole;
 
 pub use answers::says;
 pub use audit::Audit;
-pub use batches::Start;
 pub use judging::{Judged, MOST_JUDGED, judge};
-pub use whole::{log_of, outcome_of, start_of};
 
 /// Where the verdict over some lines is good, the history that their entries spell is legal and its events are as a
 /// line says them.

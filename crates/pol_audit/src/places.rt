@@ -2,6 +2,7 @@
 ghost use Rattle.std.specs.Prelude.{◌≡◌, ◌∷◌, ◌++◌, ◌||◌, [], IfOk, OnOk, filter, is_some, true, if◌then◌else◌};
 ghost use Rattle.std.specs.List.{cons_option};
 ghost use Rattle.pol_events.specs.Events.{plain_entry, plain_event, plain_history};
+ghost use Rattle.pol_events.specs.Subjects.{accepted_batch, accepted_tag};
 ghost use Rattle.pol_events.specs.Orderly.{is_orderly};
 ghost use Rattle.pol_history.specs.Looking.{History, is_accepted, is_accepted_recipe};
 ghost use Rattle.pol_history.specs.Modules.{is_moving, present_after};
@@ -10,12 +11,11 @@ ghost use Rattle.pol_history.specs.Runs.{IsOrderly};
 ghost use Rattle.chart_core.specs.Entries.{chart_entry};
 ghost use Rattle.chart_cursor.specs.Logs.{chart_entries};
 ghost use Rattle.pol_audit.specs.Halts.{is_halt};
-ghost use Rattle.pol_audit.specs.Listed.{Grows, accepted_batch, accepted_tag};
+ghost use Rattle.pol_audit.specs.Listed.{Grows};
 ghost use Rattle.pol_audit.specs.Placed.{IsPlaced, is_report, is_variable};
 
 use crate::batches::taken;
 use crate::cursors::Cursors;
-use crate::entries::{accepted_batch, accepted_tag};
 use crate::lists::Lists;
 use crate::modules::{is_moving, tags_after};
 use crate::recipes::Recipes;
@@ -109,7 +109,7 @@ impl<'a> ModulePlaces<'a> {
             (accepted_tag (plain_entry entry.now))
             (is_moving (plain_event entry.now.event) || is_variable (plain_event entry.now.event)) entry.entry) }
     {
-        let tag = accepted_tag(entry);
+        let tag = entry.accepted_tag();
         let moves = is_moving(&entry.event);
         let reports = moves || is_report(&entry.event);
         let values = moves || is_variable(&entry.event);
@@ -122,7 +122,7 @@ impl<'a> ModulePlaces<'a> {
 // ---- batches
 
 /// The accepted entries of each batch: its starts, those that close it, its freezes, thaws and stops, and those that
-/// freeze it or ask a step to hold; and its log.
+/// freeze it or ask a step to hold.
 #[derive(Drop)]
 pub struct BatchPlaces<'a> {
     pub starts: Lists<&'a Entry>,
@@ -143,7 +143,7 @@ impl<'a> BatchPlaces<'a> {
             (accepted_batch (plain_entry entry.now))
             (is_freeze (plain_event entry.now.event) || is_some (held_step entry.now.answer)) entry.entry) }
     {
-        let batch = accepted_batch(entry);
+        let batch = entry.accepted_batch();
         let starts = is_starting(&entry.event);
         let closes = is_closing(&entry.answer);
         let freezes = is_freezing(&entry.event);
@@ -182,7 +182,7 @@ impl Logs {
             then filter is_halt (cons_option (taken entry.now.answer) []) else [])) }
     {
         match taken(&entry.answer) {
-            Some(did) => self.add_did(alloc, &accepted_batch(entry), &did),
+            Some(did) => self.add_did(alloc, &entry.accepted_batch(), &did),
             None => Ok(()),
         }
     }

@@ -3,12 +3,12 @@ ghost use Rattle.std.specs.Prelude.{◌≡◌, ◌++◌, ◌∷◌, [], IfOk, On
 ghost use Rattle.std.specs.Str.{bytes_eq};
 ghost use Rattle.mtp_codes.specs.Names.{is_among};
 ghost use Rattle.pol_events.specs.Events.{plain_entry};
+ghost use Rattle.pol_events.specs.Subjects.{accepted_batch};
 ghost use Rattle.pol_history.specs.Batches.{taken};
-ghost use Rattle.pol_audit.specs.Listed.{accepted_batch, is_this, items_under};
+ghost use Rattle.pol_audit.specs.Listed.{is_this, items_under};
 ghost use Rattle.pol_audit.specs.Standing.{after_entry, held_more, running_more};
 
 use crate::batches::taken;
-use crate::entries::accepted_batch;
 use crate::lists::Lists;
 use crate::modules::tags_without;
 use chart_core::LogEntry;
@@ -118,7 +118,7 @@ impl Standings {
             (items_under self.old.held.named.entries batch)) }
     {
         match taken(&entry.answer) {
-            Some(did) => self.take_of(alloc, &accepted_batch(entry), &did),
+            Some(did) => self.take_of(alloc, &entry.accepted_batch(), &did),
             None => Ok(()),
         }
     }

@@ -8,7 +8,7 @@ use Rattle.pol_events.specs.Events.{PlainEntry}
 use Rattle.pol_events.specs.Lines.{is_blank_byte}
 use Rattle.pol_events.specs.Orderly.{is_orderly}
 use Rattle.pol_history.specs.Looking.{History}
-use Rattle.pol_history.specs.Runs.{AreOrderly, IsLegal, IsOrderly}
+use Rattle.pol_history.specs.Runs.{AreOrderly, IsLegal, IsOrderly, events_of}
 use Rattle.pol_io.specs.Pieces.{pieces, line_of}
 use Rattle.pol_record.specs.Verdicts.{verdict_data, verdict_text}
 use Rattle.pol_record.specs.declared.verdicts.Verdict.{Verdict}
@@ -21,7 +21,7 @@ use Rattle.pol_safety.specs.Sound.{HistoriesAreSound, EntriesAreRight}
 use Rattle.pol_removal.specs.Removal.{RemovalOfEvents}
 use Rattle.pol_site.specs.Texts.{is_filled}
 use Rattle.pol_jobs.specs.LineWork.{after_all, line_met, met, output_by, replies}
-use Rattle.pol_cli.specs.Audits.{AuditTheorem, after_audited, audit_of, audit_work, audited, events_of}
+use Rattle.pol_cli.specs.Audits.{AuditTheorem, after_audited, audit_of, audit_work, audited}
 use Rattle.pol_retold.specs.Inputs.{lines_read}
 use Rattle.pol_cli.proofs.Journals.{legal_before, orderly_before}
 use Rattle.pol_cli.proofs.Filled.{met_filled}
@@ -81,7 +81,7 @@ audit_output =
 
 -- ---- what follows from a good verdict
 
--- the events of orderly entries are orderly, in whichever order they stand
+-- the events of orderly entries are orderly
 each_orderly : (entries : List PlainEntry) → IsOrderly entries → AreOrderly (map (λ entry. entry.event) entries)
 each_orderly [] orderly = tt
 each_orderly (entry ∷ entries) orderly = (orderly.0, each_orderly entries orderly.1)
@@ -89,7 +89,7 @@ each_orderly (entry ∷ entries) orderly = (orderly.0, each_orderly entries orde
 -- the events of an orderly history are orderly
 events_orderly : (history : History) → IsOrderly history → AreOrderly (events_of history)
 events_orderly history orderly =
-    each_orderly (reverse history) (all_turned (λ entry. is_orderly entry.event ≡ true) history orderly)
+    all_turned (λ event. is_orderly event ≡ true) (map (λ entry. entry.event) history) (each_orderly history orderly)
 
 -- where the verdict is good, what holds of all legal histories of orderly events holds of the history
 pub audit_theorem : HistoriesAreSound → EntriesAreRight → RemovalOfEvents → GoodIsTrue → (bytes : List ℕ) →

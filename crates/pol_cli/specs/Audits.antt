@@ -3,7 +3,7 @@ use Rattle.std.specs.Prelude.{ℕ, ◌≡◌, List, [], ◌∷◌, ◌++◌, len
 use Rattle.std.specs.declared.convert.Infallible.{Infallible}
 use Rattle.pol_events.specs.Events.{PlainEntry, PlainEvent}
 use Rattle.pol_history.specs.Looking.{History}
-use Rattle.pol_history.specs.Runs.{run_of}
+use Rattle.pol_history.specs.Runs.{events_of, run_of}
 use Rattle.pol_record.specs.Verdicts.{verdict_text}
 use Rattle.pol_record.specs.declared.verdicts.Verdict.{Verdict}
 use Rattle.pol_record.specs.declared.verdicts.Verdict.TheVariants as verdict
@@ -37,10 +37,6 @@ abbrev pub audit_work : LineWork Read Infallible
 audit_work = work_of (λ read line. []) after_audited (λ read. verdict_text (verdict_after read))
 
 -- ---- what a good verdict says
-
--- the events of a history, the oldest first
-abbrev pub events_of : History → List PlainEvent
-events_of history = map (λ entry. entry.event) (reverse history)
 
 -- At each time the history was sound, each entry of it is right, and taking out the events that concern some modules
 -- takes out just their entries.

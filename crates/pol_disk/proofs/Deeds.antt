@@ -4,10 +4,10 @@ use Rattle.std.proofs.lemmas.Bool.{cases_lt}
 use Rattle.std.proofs.lemmas.List.{map-append, reverse-append, take_all, drop-drop}
 use Rattle.pol_disk.specs.declared.memory.Call.{Call}
 use Rattle.pol_disk.specs.Calls.{deed_of, deeds_of}
-use Rattle.pol_disk.specs.Disks.{Torn, Holds, Elapses, Follows}
+use Rattle.pol_disk.specs.Disks.{Torn, Holds, Elapses, Follows, spliced}
 use Rattle.pol_disk.specs.Remains.{Range, MayRemain}
 use Rattle.pol_disk.specs.Records.{Deed, wrote, undone, kept_of, ranges_of, IsLeft, LeftSince}
-use Rattle.pol_disk.proofs.Splices.{spliced, take-spliced, drop-spliced}
+use Rattle.pol_disk.proofs.Splices.{take-spliced, drop-spliced}
 use Rattle.pol_disk.proofs.Remaining.{remains_written, before_write}
 
 -- a call more is a newest one

@@ -3,9 +3,9 @@ use Rattle.std.proofs.Common.{◌≡◌, ◌⊎◌, inl, inr, ⊎_elim, ℕ, ◌
 use Rattle.std.proofs.lemmas.Bool.{cases_lt, or_parts}
 use Rattle.std.proofs.lemmas.Bool.Decides.{nat_tests}
 use Rattle.std.proofs.lemmas.List.{same_lists, get_or_default, take_all, drop_all, take-take, length-take, get_or-take, get_or-drop, drop-drop}
-use Rattle.pol_disk.specs.Disks.{Torn, Holds}
+use Rattle.pol_disk.specs.Disks.{Torn, Holds, spliced}
 use Rattle.pol_disk.specs.Remains.{Range, MayRemain, is_within, is_written, reach}
-use Rattle.pol_disk.proofs.Splices.{spliced, length-spliced, take-spliced, drop-spliced, get-before, get-behind, get-inside}
+use Rattle.pol_disk.proofs.Splices.{length-spliced, take-spliced, drop-spliced, get-before, get-behind, get-inside}
 
 -- with written ranges the bytes reach at least as far
 pub reach_ge : (len : ℕ) (ranges : List Range) → len ≤ reach len ranges

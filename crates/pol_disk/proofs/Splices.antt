@@ -2,11 +2,7 @@
 use Rattle.std.proofs.Common.{◌≡◌, ℕ, ◌+◌, ◌-◌, ◌<◌, ◌≤◌, max, List, ◌++◌, length, take, drop, get_or, refl, ◌∙◌, ap, arith, append_assoc, length-append, length-drop}
 use Rattle.std.proofs.lemmas.List.{take_at, drop_at, get_or-take, get_or-drop, get_or-append_right, length-take-le}
 use Rattle.std.proofs.Math.ListN.{get_or-append}
-use Rattle.pol_disk.specs.Disks.{Torn}
-
--- the bytes with a piece over them from a place on
-abbrev pub spliced : ℕ → List ℕ → List ℕ → List ℕ
-spliced at piece bytes = take at bytes ++ piece ++ drop (at + length piece) bytes
+use Rattle.pol_disk.specs.Disks.{Torn, spliced}
 
 module _ (at : ℕ) (piece bytes : List ℕ) (le : at ≤ length bytes) where
   -- how many bytes stand before the piece

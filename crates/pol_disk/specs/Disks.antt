@@ -12,9 +12,13 @@ BothTell P (Some old) (Some new) = P old new
 abbrev pub Reads : ℕ → ℕ → List ℕ → List ℕ → Type 0
 Reads at count slice bytes = take count slice ≡ take count (drop at bytes)
 
+-- the bytes with a piece over them from a place on
+abbrev pub spliced : ℕ → List ℕ → List ℕ → List ℕ
+spliced at piece bytes = take at bytes ++ piece ++ drop (at + length piece) bytes
+
 -- the new bytes are the old ones with this piece at this place
 abbrev pub Holds : ℕ → List ℕ → List ℕ → List ℕ → Type 0
-Holds at piece old new = new ≡ take at old ++ piece ++ drop (at + length piece) old
+Holds at piece old new = new ≡ spliced at piece old
 
 -- a write of so many bytes at this place, whole or in part: any bytes in the range and past the old end, the old ones
 -- elsewhere, and a length between that before and that after the whole

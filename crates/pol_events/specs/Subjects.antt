@@ -1,6 +1,7 @@
 -- Whom an event is of.
-use Rattle.std.specs.Prelude.{ℕ, List}
-use Rattle.pol_events.specs.Events.{PlainEvent, plug, unplug, report, variable, recipe, start, advance, freeze, thaw, stop_batch, abandon, desk, exchange_begin, exchange_end, exchange_cancel}
+use Rattle.std.specs.Prelude.{ℕ, List, Option, None, Some, if◌then◌else◌}
+use Rattle.pol_events.specs.Accepted.{is_accepted}
+use Rattle.pol_events.specs.Events.{PlainEntry, PlainEvent, plug, unplug, report, variable, recipe, start, advance, freeze, thaw, stop_batch, abandon, desk, exchange_begin, exchange_end, exchange_cancel}
 use Rattle.pol_events.specs.declared.subject.Subject.{Subject as Told}
 use Rattle.pol_events.specs.declared.subject.Subject.TheVariants.{Module, Batch, Recipe}
 
@@ -33,3 +34,22 @@ abbrev pub plain_subject : Told → Subject
 plain_subject (Module tag) = of_module tag
 plain_subject (Batch batch) = of_batch batch
 plain_subject (Recipe name) = of_recipe name
+
+-- the tag of a module, or the name of a batch, that is a subject
+abbrev pub subject_tag : Subject → Option (List ℕ)
+subject_tag (of_module tag) = Some tag
+subject_tag (of_batch batch) = None
+subject_tag (of_recipe recipe) = None
+
+abbrev pub subject_batch : Subject → Option (List ℕ)
+subject_batch (of_module tag) = None
+subject_batch (of_batch batch) = Some batch
+subject_batch (of_recipe recipe) = None
+
+-- the module of which an entry is an accepted event
+abbrev pub accepted_tag : PlainEntry → Option (List ℕ)
+accepted_tag entry = if is_accepted entry.answer then subject_tag (subject entry.event) else None
+
+-- the batch of which an entry is an accepted event
+abbrev pub accepted_batch : PlainEntry → Option (List ℕ)
+accepted_batch entry = if is_accepted entry.answer then subject_batch (subject entry.event) else None

@@ -1,9 +1,9 @@
 //! Whom an event is of.
 ghost use Rattle.std.specs.Prelude.{◌≡◌};
-ghost use Rattle.pol_events.specs.Events.{plain_event};
-ghost use Rattle.pol_events.specs.Subjects.{subject, plain_subject};
+ghost use Rattle.pol_events.specs.Events.{plain_entry, plain_event};
+ghost use Rattle.pol_events.specs.Subjects.{accepted_batch, accepted_tag, plain_subject, subject};
 
-use crate::event::Event;
+use crate::event::{Entry, Event};
 use mtp_codes::Name;
 
 /// Whom an event is of.
@@ -38,6 +38,28 @@ impl Event {
             | Event::Thaw { batch, .. }
             | Event::StopBatch { batch, .. }
             | Event::Abandon { batch, .. } => Subject::Batch(*batch),
+        }
+    }
+}
+
+impl Entry {
+    /// The module of which the entry is an accepted event; None for a refused one, and for one of a batch or a recipe.
+    pub fn accepted_tag(&self) -> Option<Name>
+        ensures { result ≡ accepted_tag (plain_entry self.now) }
+    {
+        match self.event.subject() {
+            Subject::Module(tag) if self.answer.is_accepted() => Some(tag),
+            _ => None,
+        }
+    }
+
+    /// The batch of which the entry is an accepted event; None for a refused one, and for one of a module or a recipe.
+    pub fn accepted_batch(&self) -> Option<Name>
+        ensures { result ≡ accepted_batch (plain_entry self.now) }
+    {
+        match self.event.subject() {
+            Subject::Batch(batch) if self.answer.is_accepted() => Some(batch),
+            _ => None,
         }
     }
 }

@@ -1,5 +1,5 @@
 -- Runs of events, and legal histories.
-use Rattle.std.specs.Prelude.{Bool, true, false, ◌≡◌, List, [], ◌∷◌, if◌then◌else◌}
+use Rattle.std.specs.Prelude.{Bool, true, false, ◌≡◌, List, [], ◌∷◌, map, reverse, if◌then◌else◌}
 use Rattle.std.specs.List.{AllByRecursion}
 use Rattle.pol_events.specs.Events.{PlainEvent, PlainEntry}
 use Rattle.pol_events.specs.declared.answer.Answer.{Answer}
@@ -40,6 +40,10 @@ recorded_all history (entry ∷ entries) = recorded_all (recorded entry history)
 -- the history after the events: their entries are recorded
 abbrev pub history_after : History → List PlainEvent → History
 history_after history events = recorded_all history (run_after history events)
+
+-- the events of a history, the oldest first
+abbrev pub events_of : History → List PlainEvent
+events_of history = reverse (map (λ (entry : PlainEntry). entry.event) history)
 
 -- each answer is the one that the entries before it give
 abbrev pub IsLegal : History → Type 0

@@ -8,13 +8,13 @@ use Rattle.pol_events.specs.Events.{PlainEvent}
 use Rattle.pol_events.specs.declared.event.Event.{Event}
 use Rattle.pol_history.specs.Answers.{answer_of}
 use Rattle.pol_history.specs.Looking.{History}
-use Rattle.pol_history.specs.Runs.{entry_of, is_recorded, recorded}
+use Rattle.pol_history.specs.Runs.{entry_of, is_recorded, recorded, events_of}
 use Rattle.pol_jobs.specs.LineWork.{Line}
 use Rattle.pol_replay.specs.Replay.{replay_work}
 use Rattle.pol_texts.specs.Settled.{AreAlike}
 use Rattle.pol_store.specs.Keeping.{KeepsMore, LeavesEvents, StoreState}
 use Rattle.pol_store.specs.Refusals.{Refuses}
-use Rattle.pol_store.specs.Stands.{StandsFor, StandsWithOrWithout, events_of}
+use Rattle.pol_store.specs.Stands.{StandsFor, StandsWithOrWithout}
 use Rattle.pol_store.specs.declared.store.StoreRefusal.{StoreRefusal}
 use Rattle.pol_store.specs.declared.store.StoreRefusal.TheVariants.{Memory, Disk, Closed}
 use Rattle.pol_store.proofs.Histories.{events-cons, recorded_is}

@@ -6,7 +6,7 @@ use Rattle.pol_disk.specs.Disks.{LeavesOnly}
 use Rattle.pol_disk.proofs.Moments.{then, wider}
 use Rattle.pol_events.specs.Events.{PlainEvent}
 use Rattle.pol_history.specs.Looking.{History}
-use Rattle.pol_history.specs.Runs.{IsLegal}
+use Rattle.pol_history.specs.Runs.{IsLegal, events_of}
 use Rattle.pol_io.specs.Edge.{Edge}
 use Rattle.pol_io.specs.Pieces.{pieces}
 use Rattle.pol_jobs.specs.Deeds.{DidAll, DidSome}
@@ -18,7 +18,7 @@ use Rattle.pol_jobs.proofs.Ending.{completes}
 use Rattle.pol_jobs.proofs.Written.{nothing_written}
 use Rattle.pol_store.specs.declared.opening.OpenFault.{OpenFault}
 use Rattle.pol_store.specs.declared.opening.OpenFault.TheVariants as opening
-use Rattle.pol_store.specs.Stands.{StandsFor, events_of}
+use Rattle.pol_store.specs.Stands.{StandsFor}
 use Rattle.pol_store.proofs.Histories.{legal_few, length-events}
 use Rattle.pol_keep.specs.Keeping.{Telling}
 use Rattle.pol_keep.specs.Kept.{IsFaultOf, IsUnopened, KeepEnds, Keeps, StandsForAnswered, StandsForMore, answers_with, events_with, job_result}

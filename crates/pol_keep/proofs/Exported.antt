@@ -16,7 +16,8 @@ use Rattle.pol_jobs.specs.declared.output.PutFault.{PutFault}
 use Rattle.pol_jobs.specs.declared.output.PutFault.TheVariants as put_fault
 use Rattle.pol_replay.specs.BatchLines.{WritesUpTo}
 use Rattle.pol_replay.proofs.BatchLines.{cut_lines, up_to_end, up_to_next}
-use Rattle.pol_store.specs.Stands.{event_text, events_of}
+use Rattle.pol_record.specs.Texts.{event_text}
+use Rattle.pol_history.specs.Runs.{events_of}
 use Rattle.pol_keep.specs.Exported.{HandsOn, entry_lines, event_line, exported_output, journal_text, no_input, put_result}
 use Rattle.pol_keep.specs.Kept.{job_result}
 use Rattle.pol_keep.specs.declared.fault.KeepFault.{KeepFault}

@@ -9,7 +9,7 @@ use Rattle.pol_disk.proofs.Moments.{wider}
 use Rattle.pol_events.specs.Events.{PlainEvent}
 use Rattle.pol_history.specs.Answers.{answer_of}
 use Rattle.pol_history.specs.Looking.{History}
-use Rattle.pol_history.specs.Runs.{entry_of, history_after, is_recorded, recorded}
+use Rattle.pol_history.specs.Runs.{entry_of, history_after, is_recorded, recorded, events_of}
 use Rattle.pol_io.specs.Pieces.{pieces}
 use Rattle.pol_jobs.specs.Deeds.{DidAll, DidSome, MetFirst, RepliedToFirst}
 use Rattle.pol_jobs.specs.LineWork.{Line, after_all, line_met, output_by, replies}
@@ -21,7 +21,7 @@ use Rattle.pol_record.proofs.Appending.{history_after_append}
 use Rattle.pol_replay.specs.Replay.{replay_work}
 use Rattle.pol_replay.proofs.Replaying.{after_rows, replies_rows}
 use Rattle.pol_store.specs.Keeping.{StoreState}
-use Rattle.pol_store.specs.Stands.{StandsFor, events_of}
+use Rattle.pol_store.specs.Stands.{StandsFor}
 use Rattle.pol_store.proofs.Histories.{events-cons, recorded_is}
 use Rattle.pol_keep.specs.Keeping.{Calls, GoesOn, IsKept, StandsForFirst, StandsForMost, Telling, after_lines}
 use Rattle.pol_keep.specs.Kept.{StandsForAnswered, StandsForMore, answers_with, events_with, kept_events, kept_output, run_with}

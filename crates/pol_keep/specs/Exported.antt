@@ -10,7 +10,7 @@ use Rattle.pol_jobs.specs.Ends.{edge}
 use Rattle.pol_jobs.specs.LineWork.{Output, texts_of}
 use Rattle.pol_jobs.specs.declared.output.PutFault.{PutFault}
 use Rattle.pol_jobs.specs.declared.output.PutFault.TheVariants as put_fault
-use Rattle.pol_store.specs.Stands.{event_text}
+use Rattle.pol_record.specs.Texts.{event_text}
 use Rattle.pol_keep.specs.declared.fault.KeepFault.{KeepFault}
 use Rattle.pol_keep.specs.declared.fault.KeepFault.TheVariants.{Write, Memory}
 

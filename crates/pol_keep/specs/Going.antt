@@ -8,7 +8,8 @@ use Rattle.pol_io.specs.Causes.{Rose}
 use Rattle.pol_jobs.specs.LineWork.{Line}
 use Rattle.pol_replay.specs.Replay.{replay_work}
 use Rattle.pol_store.specs.Keeping.{StoreState}
-use Rattle.pol_store.specs.Stands.{StandsFor, events_of}
+use Rattle.pol_history.specs.Runs.{events_of}
+use Rattle.pol_store.specs.Stands.{StandsFor}
 use Rattle.pol_keep.specs.Keeping.{GoesOn, StandsForFirst, Telling, after_lines}
 
 -- some lines and then more of them

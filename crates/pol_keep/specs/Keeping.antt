@@ -7,7 +7,8 @@ use Rattle.pol_io.specs.Causes.{Rose}
 use Rattle.pol_jobs.specs.LineWork.{Line}
 use Rattle.pol_replay.specs.Replay.{replay_work}
 use Rattle.pol_store.specs.Keeping.{StoreState}
-use Rattle.pol_store.specs.Stands.{StandsFor, events_of}
+use Rattle.pol_history.specs.Runs.{events_of}
+use Rattle.pol_store.specs.Stands.{StandsFor}
 
 -- what a kind of disk tells
 pub record Telling (D : Type 0) : Type 1 where

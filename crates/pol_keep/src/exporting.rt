@@ -5,12 +5,12 @@ ghost use Rattle.pol_core.specs.Plants.{plant_history};
 ghost use Rattle.pol_disk.specs.Disks.{LeavesOnly};
 ghost use Rattle.pol_events.specs.Events.{PlainEvent, plain_event, plain_history};
 ghost use Rattle.pol_events.specs.Orderly.{is_orderly};
-ghost use Rattle.pol_history.specs.Runs.{IsOrderly};
+ghost use Rattle.pol_history.specs.Runs.{IsOrderly, events_of};
 ghost use Rattle.pol_io.specs.Causes.{HasCauseOf, Rose};
 ghost use Rattle.pol_jobs.specs.Ends.{Ends, edge};
 ghost use Rattle.pol_jobs.specs.Written.{WritesPart};
 ghost use Rattle.pol_store.specs.Opens.{IsNoStore};
-ghost use Rattle.pol_store.specs.Stands.{StandsFor, StandsForNone, events_of};
+ghost use Rattle.pol_store.specs.Stands.{StandsFor, StandsForNone};
 ghost use Rattle.pol_keep.specs.Exported.{HandsOn, entry_lines, event_line, exported_output, journal_text, no_input};
 ghost use Rattle.pol_keep.specs.Kept.{IsUnopened, KeepEnds, job_result};
 

@@ -3,12 +3,12 @@ ghost use Rattle.std.specs.Prelude.{◌≡◌, ◌≢◌, ℕ, List, Some, false
 ghost use Rattle.pol_core.specs.Plants.{plant_history};
 ghost use Rattle.pol_disk.specs.Disks.{LeavesOnly};
 ghost use Rattle.pol_events.specs.Events.{PlainEvent};
-ghost use Rattle.pol_history.specs.Runs.{IsLegal};
+ghost use Rattle.pol_history.specs.Runs.{IsLegal, events_of};
 ghost use Rattle.pol_io.specs.Causes.{Rose};
 ghost use Rattle.pol_io.specs.Pieces.{pieces};
 ghost use Rattle.pol_jobs.specs.Ends.{Ends, edge};
 ghost use Rattle.pol_store.specs.Opens.{IsNoStore};
-ghost use Rattle.pol_store.specs.Stands.{StandsFor, StandsForNone, events_of};
+ghost use Rattle.pol_store.specs.Stands.{StandsFor, StandsForNone};
 ghost use Rattle.pol_keep.specs.Keeping.{IsKept, telling};
 ghost use Rattle.pol_keep.specs.Kept.{IsUnopened, KeepEnds, StandsForAnswered, StandsForMore, events_with, job_result, kept_output};
 

@@ -8,10 +8,10 @@ use Rattle.std.proofs.Math.Bool.{and-false, and-true}
 use Rattle.std.proofs.lemmas.List.{map-append, reverse-append, take_more}
 use Rattle.pol_events.specs.Events.{PlainEntry, plain_entry, plain_history}
 use Rattle.pol_events.specs.declared.event.Entry.{Entry}
-use Rattle.pol_events.specs.Subjects.{Subject, of_module, of_batch, of_recipe, subject}
+use Rattle.pol_events.specs.Subjects.{Subject, accepted_batch, of_module, of_batch, of_recipe, subject, subject_batch}
 use Rattle.pol_history.specs.Looking.{History, is_batch, is_accepted, is_accepted_of_batch, past_of_batch}
 use Rattle.pol_history.specs.Batches.{starting, start_by, batches, taken, closing, outcome_by}
-use Rattle.pol_record.specs.Gathered.{PlainRecord, record_by, with_entry, batch_in, accepted_batch, newly_started, known_of, IsGathered}
+use Rattle.pol_record.specs.Gathered.{PlainRecord, record_by, with_entry, newly_started, known_of, IsGathered}
 use Rattle.pol_record.specs.declared.gathering.BatchRecords.{BatchRecords}
 use Rattle.pol_record.specs.declared.records.BatchRecord.{BatchRecord}
 
@@ -40,7 +40,7 @@ its_or_not : (entry : PlainEntry) (batch : List ℕ) → is_accepted_of_batch ba
 its_or_not entry batch = go (subject entry.event) (is_accepted entry.answer)
   where
     go : (of : Subject) (kept : Bool) →
-        (is_batch batch of && kept) ≡ option_eq bytes_eq (cond kept (batch_in of) None) (Some batch)
+        (is_batch batch of && kept) ≡ option_eq bytes_eq (cond kept (subject_batch of) None) (Some batch)
     go (of_module tag) true = refl
     go (of_module tag) false = refl
     go (of_batch other) true = and-true (bytes_eq other batch)

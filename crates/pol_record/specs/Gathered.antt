@@ -8,7 +8,6 @@ use Rattle.chart_core.specs.declared.entry.LogEntry.{LogEntry}
 use Rattle.chart_core.specs.declared.next.Outcome.{Outcome}
 use Rattle.pol_events.specs.Bound.{plain_allocation}
 use Rattle.pol_events.specs.Events.{PlainEntry}
-use Rattle.pol_events.specs.Subjects.{Subject, of_module, of_batch, of_recipe, subject}
 use Rattle.pol_history.specs.Batches.{Started, starting, start_by, started_batch, taken, log_by, closing, outcome_by, batches}
 use Rattle.pol_history.specs.Looking.{History, is_accepted, past_of_batch}
 use Rattle.pol_record.specs.Texts.{started_text}
@@ -53,16 +52,6 @@ plain_record known = record {
 }
 
 -- ---- whose an entry is
-
--- the batch that an event is of
-abbrev pub batch_in : Subject → Option (List ℕ)
-batch_in (of_module tag) = None
-batch_in (of_batch batch) = Some batch
-batch_in (of_recipe recipe) = None
-
--- the batch of which an entry is an accepted event
-abbrev pub accepted_batch : PlainEntry → Option (List ℕ)
-accepted_batch entry = if is_accepted entry.answer then batch_in (subject entry.event) else None
 
 -- the batch that an entry starts
 abbrev pub newly_started : PlainEntry → Option (List ℕ)

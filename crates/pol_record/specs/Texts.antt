@@ -15,7 +15,7 @@ use Rattle.serde_json.specs.Written.{compact_text}
 use Rattle.mtp_json.specs.PathText.{path_text}
 use Rattle.mtp_json.specs.declared.fault.FaultKind.{FaultKind}
 use Rattle.mtp_json.specs.declared.fault.FaultKind.TheVariants.{NotJson, Missing, WrongKind, OutOfRange, Unknown, Repeated, Unsound, BadChart, TooLong as TooLongKind}
-use Rattle.pol_events.specs.Events.{PlainEntry}
+use Rattle.pol_events.specs.Events.{PlainEntry, PlainEvent}
 use Rattle.pol_events.specs.Fields.{PlainField, number_field, text_field}
 use Rattle.pol_events.specs.Lines.{event_of}
 use Rattle.pol_events.specs.RuleTable.{rule_row}
@@ -90,13 +90,17 @@ unfoldable pub entry_object : Data → Data → Data
 entry_object answer event =
     object (member (codes "answer") answer (member (codes "event") event no_members))
 
+-- the text that is written of an event
+abbrev pub event_text : PlainEvent → List ℕ
+event_text event = compact_text (written_event event)
+
 -- the line of an entry of a history
 abbrev pub entry_line_text : PlainEntry → List ℕ
 entry_line_text entry = line_text (entry_object (answer_data entry.answer) (written_event entry.event))
 
 -- what is written of an entry's event is read as that event
 abbrev pub IsReadBack : PlainEntry → Type 0
-IsReadBack entry = event_of (compact_text (written_event entry.event)) ≡ Ok entry.event
+IsReadBack entry = event_of (event_text entry.event) ≡ Ok entry.event
 
 -- the last line of every output
 abbrev pub end_text : List ℕ

@@ -4,10 +4,9 @@ ghost use Rattle.serde_json.specs.Written.{compact_text};
 ghost use Rattle.pol_events.specs.Events.{plain_entry, plain_event};
 ghost use Rattle.pol_events.specs.Lines.{event_of};
 ghost use Rattle.pol_events.specs.Orderly.{is_orderly};
-ghost use Rattle.pol_events.specs.Written.{written_event};
 ghost use Rattle.pol_record.specs.Exact.{IsWritten};
 ghost use Rattle.pol_record.specs.Ranges.{is_in_range};
-ghost use Rattle.pol_record.specs.Texts.{IsReadBack, answer_data, entry_line_text};
+ghost use Rattle.pol_record.specs.Texts.{IsReadBack, answer_data, entry_line_text, event_text};
 
 use crate::answers::write_answer;
 use json::Writer;
@@ -34,9 +33,10 @@ fn put_answer(alloc: Global, out: &mut Vec<u8>, answer: &Answer) -> Result<(), A
     Ok(())
 }
 
-fn event_text(alloc: Global, event: &Event) -> Result<Vec<u8>, AllocError>
+/// The text of an event, which has to be one that a line can say.
+pub fn event_text(alloc: Global, event: &Event) -> Result<Vec<u8>, AllocError>
     requires { IsTrue (is_orderly (plain_event event.now)) }
-    ensures text { IfOk result (λ text. text.items ≡ compact_text (written_event (plain_event event.now))) }
+    ensures text { IfOk result (λ text. text.items ≡ event_text (plain_event event.now)) }
     ensures reads_back { IfOk result (λ text. event_of text.items ≡ Ok (plain_event event.now)) }
     ensures written { IfOk result (λ _. IsWritten (plain_event event.now)) }
 {

@@ -6,7 +6,7 @@ ghost use Rattle.pol_events.specs.Events.{plain_entry, plain_history};
 ghost use Rattle.pol_history.specs.Looking.{History};
 ghost use Rattle.pol_record.specs.Gathered.{IsGathered, known_of, newly_started, with_entry};
 
-use crate::records::{BatchRecord, accepted_batch, started_batch};
+use crate::records::{BatchRecord, started_batch};
 use indexmap::IndexMap;
 use mtp_codes::Name;
 use pol_events::Entry;
@@ -62,7 +62,7 @@ fn gather_entry<'a>(
         → IsGathered gathered.new (plain_entry entry.now ∷ history)) }
 {
     add_start(&mut gathered.started, entry)?;
-    match accepted_batch(entry) {
+    match entry.accepted_batch() {
         Some(batch) => add_to(alloc, &mut gathered.records, batch, entry),
         None => Ok(()),
     }

@@ -22,9 +22,9 @@ mod verdicts;
 
 pub use answers::{entry_fields, obstacle_fields, outcome_name, refusal_fields};
 pub use batches::{batch_line, batch_log, gathered_line, write_binds, write_text};
-pub use entry_lines::{entry_line, put_entry_line};
+pub use entry_lines::{entry_line, event_text, put_entry_line};
 pub use faults::kind_name;
 pub use gathering::{BatchRecords, gather};
 pub use lines::{answer_line, end_line, ended_line, fault_line, put_answer_line, put_fault_line};
-pub use records::{BatchRecord, Start};
+pub use records::{BatchRecord, Start, starting};
 pub use verdicts::{Verdict, verdict_line};

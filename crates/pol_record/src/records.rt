@@ -4,11 +4,11 @@ ghost use Rattle.std.specs.Option.{option_map};
 ghost use Rattle.pol_events.specs.Events.{plain_entry, plain_event, plain_history};
 ghost use Rattle.pol_history.specs.Batches.{starting, closing, taken};
 ghost use Rattle.pol_history.specs.Looking.{past_of_batch};
-ghost use Rattle.pol_record.specs.Gathered.{accepted_batch, newly_started, plain_record, plain_start, record_by, with_entry};
+ghost use Rattle.pol_record.specs.Gathered.{newly_started, plain_record, plain_start, record_by, with_entry};
 
 use chart_core::LogEntry;
 use mtp_codes::Name;
-use pol_events::{Allocation, Answer, Entry, Event, Outcome, Subject};
+use pol_events::{Allocation, Answer, Entry, Event, Outcome};
 use std::alloc::{AllocError, Global};
 
 /// What a batch was started with.
@@ -41,17 +41,8 @@ pub fn started_batch(entry: &Entry) -> Option<Name>
     }
 }
 
-/// The batch of which the entry is an accepted event; None for a refused one, and for one of a module or a recipe.
-pub fn accepted_batch(entry: &Entry) -> Option<Name>
-    ensures { result ≡ accepted_batch (plain_entry entry.now) }
-{
-    match entry.event.subject() {
-        Subject::Batch(batch) if entry.answer.is_accepted() => Some(batch),
-        _ => None,
-    }
-}
-
-fn starting(event: &Event) -> Option<Start<'_>>
+/// What the event starts a batch with; None where it is no start.
+pub fn starting(event: &Event) -> Option<Start<'_>>
     ensures { option_map plain_start result ≡ starting (plain_event event.now) }
 {
     match event {
@@ -109,7 +100,7 @@ pub fn record_of(
 {
     let mut known = BatchRecord::new(alloc);
     for entry in history {
-        if accepted_batch(entry) == Some(batch) {
+        if entry.accepted_batch() == Some(batch) {
             known.add(entry)?;
         }
     }

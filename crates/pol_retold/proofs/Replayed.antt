@@ -13,9 +13,9 @@ use Rattle.pol_events.specs.declared.answer.Answer.{Answer}
 use Rattle.pol_history.specs.Looking.{History}
 use Rattle.pol_history.specs.Runs.{IsLegal, entry_of, history_after, recorded, recorded_all, run_after}
 use Rattle.pol_record.specs.Lines.{InputLine, answered_lines, answered_texts, as_input_line, closing_text, events_in, happening, input_line_of, input_lines_of, meaning_of}
-use Rattle.pol_record.specs.Texts.{IsReadBack, answer_text}
+use Rattle.pol_record.specs.Texts.{IsReadBack, answer_text, event_text}
 use Rattle.pol_audit.proofs.Orderly.{all_turned}
-use Rattle.pol_retold.specs.Replayed.{IsShortEvent, ReplaysAnswer, answers_text, event_text, journal_of}
+use Rattle.pol_retold.specs.Replayed.{IsShortEvent, ReplaysAnswer, answers_text, journal_of}
 use Rattle.pol_retold.specs.Retold.{with_feed}
 use Rattle.pol_retold.proofs.Feeds.{text_no_feed}
 use Rattle.pol_retold.proofs.Judged.{earlier_legal, next_to}
@@ -23,12 +23,12 @@ use Rattle.pol_retold.proofs.Judged.{earlier_legal, next_to}
 -- ---- the run of the events
 
 -- the events of these entries
-abbrev events_of : List PlainEntry → List PlainEvent
-events_of entries = map (λ entry. entry.event) entries
+abbrev events_in_order : List PlainEntry → List PlainEvent
+events_in_order entries = map (λ entry. entry.event) entries
 
 -- the run of the later events of a legal history is that of its later entries, and leaves the history
 pub runs_again : (history : History) (later : List PlainEntry) → IsLegal (reverse later ++ history)
-    → (run_after history (events_of later) ≡ later) × (recorded_all history later ≡ reverse later ++ history)
+    → (run_after history (events_in_order later) ≡ later) × (recorded_all history later ≡ reverse later ++ history)
 runs_again history [] legal = (refl, refl)
 runs_again history (entry ∷ later) legal =
     let moved : IsLegal (reverse later ++ entry ∷ history) = subst IsLegal (next_to later entry history) legal in
@@ -38,8 +38,8 @@ runs_again history (entry ∷ later) legal =
     let kept : recorded entry history ≡ entry ∷ history =
     ap (λ kept. if kept then entry ∷ history else history) here.1 in
     let rest = runs_again (entry ∷ history) later moved in (
-      ap (λ first. first ∷ run_after (recorded first history) (events_of later)) same
-          ∙ ap (λ past. entry ∷ run_after past (events_of later)) kept
+      ap (λ first. first ∷ run_after (recorded first history) (events_in_order later)) same
+          ∙ ap (λ past. entry ∷ run_after past (events_in_order later)) kept
           ∙ ap (λ others. entry ∷ others) rest.0,
       ap (λ past. recorded_all past later) kept ∙ rest.1 ∙ sym (next_to later entry history),
     )
@@ -58,30 +58,30 @@ first_byte _ = refl
 
 -- the line of an event says the event
 line_says : (entry : PlainEntry) → IsReadBack entry → IsShortEvent entry
-    → input_line_of (with_feed (event_text entry)) ≡ happening (with_feed (event_text entry)) entry.event
+    → input_line_of (with_feed (event_text entry.event)) ≡ happening (with_feed (event_text entry.event)) entry.event
 unfolding meaning_of
 line_says entry read short =
-    ap (λ line. as_input_line (with_feed (event_text entry)) (meaning_of line))
-    (sym (line_of_feed (event_text entry) (text_no_feed (written_event entry.event))))
-    ∙ rw (le-ltb LONGEST_LINE (length (event_text entry)) short, first_byte entry.event, read) refl
+    ap (λ line. as_input_line (with_feed (event_text entry.event)) (meaning_of line))
+    (sym (line_of_feed (event_text entry.event) (text_no_feed (written_event entry.event))))
+    ∙ rw (le-ltb LONGEST_LINE (length (event_text entry.event)) short, first_byte entry.event, read) refl
 
 -- the lines of these entries' events, as they were read
 abbrev happened : List PlainEntry → List InputLine
-happened entries = map (λ entry. happening (with_feed (event_text entry)) entry.event) entries
+happened entries = map (λ entry. happening (with_feed (event_text entry.event)) entry.event) entries
 
 -- the journal of these entries is read as their events
 lines_are : (entries : List PlainEntry) → AllByRecursion IsReadBack entries → AllByRecursion IsShortEvent entries
-    → input_lines_of (flat_map (λ entry. with_feed (event_text entry)) entries) ≡ happened entries
+    → input_lines_of (flat_map (λ entry. with_feed (event_text entry.event)) entries) ≡ happened entries
 lines_are [] read short = refl
 lines_are (entry ∷ entries) read short =
-    let rest = flat_map (λ entry. with_feed (event_text entry)) entries in
-    ap input_lines_of (append_assoc (event_text entry) (10 ∷ []) rest)
-    ∙ ap (map input_line_of) (pieces_feed (event_text entry) rest (text_no_feed (written_event entry.event)))
+    let rest = flat_map (λ entry. with_feed (event_text entry.event)) entries in
+    ap input_lines_of (append_assoc (event_text entry.event) (10 ∷ []) rest)
+    ∙ ap (map input_line_of) (pieces_feed (event_text entry.event) rest (text_no_feed (written_event entry.event)))
     ∙ ap₂ (λ (first : InputLine) (others : List InputLine). first ∷ others) (line_says entry read.0 short.0)
     (lines_are entries read.1 short.1)
 
 -- the events of those lines
-happened_events : (entries : List PlainEntry) → events_in (happened entries) ≡ events_of entries
+happened_events : (entries : List PlainEntry) → events_in (happened entries) ≡ events_in_order entries
 happened_events [] = refl
 happened_events (entry ∷ entries) = ap (λ rest. entry.event ∷ rest) (happened_events entries)
 
@@ -104,10 +104,10 @@ replays_answer history legal read short =
     lines : input_lines_of (journal_of history) ≡ happened entries
     lines = lines_are entries (all_turned IsReadBack history read) (all_turned IsShortEvent history short)
 
-    events : events_in (input_lines_of (journal_of history)) ≡ events_of entries
+    events : events_in (input_lines_of (journal_of history)) ≡ events_in_order entries
     events = ap events_in lines ∙ happened_events entries
 
-    again : (run_after [] (events_of entries) ≡ entries) × (recorded_all [] entries ≡ reverse entries ++ [])
+    again : (run_after [] (events_in_order entries) ≡ entries) × (recorded_all [] entries ≡ reverse entries ++ [])
     again = runs_again [] entries (subst IsLegal (sym (append-nil (reverse entries) ∙ reverse-reverse history)) legal)
 
     ran : run_after [] (events_in (input_lines_of (journal_of history))) ≡ entries

@@ -17,5 +17,4 @@ mod run;
 pub use course::Course;
 pub use freeze::Freeze;
 pub use holds::Holds;
-pub use next::stop_step;
 pub use run::Run;

@@ -10,15 +10,14 @@ ghost use Rattle.chart_core.specs.declared.why.Why.TheVariants.{Frozen};
 ghost use Rattle.chart_cursor.specs.Holding.{flag_at, is_unasked, numbered, under_way};
 ghost use Rattle.chart_cursor.specs.Logs.{active};
 ghost use Rattle.chart_cursor.specs.Next.{next_after};
-ghost use Rattle.chart_cursor.specs.NextEntry.{did_or, first_broken, first_hold, first_unhold, run_next, stop_step, unless_whole};
+ghost use Rattle.chart_cursor.specs.NextEntry.{did_or, first_broken, first_hold, first_unhold, run_next, unless_whole};
 ghost use Rattle.chart_cursor.specs.Running.{first_placed, is_wanted};
 ghost use Rattle.chart_cursor.specs.Sights.{tag_of};
 ghost use Rattle.pol_runs.specs.Stopping.{behind, stop_found};
 
-use chart_core::{LogEntry, Next, Outcome, Why};
-use chart_cursor::{Cursor, CursorNext, RunningStep, Seen, Sight};
-use mtp_codes::{Command, Name, Speaker};
-use mtp_modes::permitted;
+use chart_core::{Next, Outcome, Why};
+use chart_cursor::{Cursor, CursorNext, RunningStep, Seen, run_next, stop_step};
+use mtp_codes::Name;
 
 // The tag of the module that plays the role; a role without one stands for itself.
 fn tag_of<S: Seen>(seen: &S, role: Name) -> Name
@@ -27,23 +26,6 @@ fn tag_of<S: Seen>(seen: &S, role: Name) -> Name
     match seen.tag(role) {
         Some(tag) => tag,
         None => role,
-    }
-}
-
-/// What an active step of a batch that is stopped comes to, by what is seen of its service.
-pub fn stop_step(step: Name, service: Name, tag: Name, sight: Sight) -> Next
-    ensures { result ≡ stop_step step service tag sight }
-{
-    match sight {
-        Sight::Away => Next::Waiting(Why::Away { tag }),
-        Sight::Unreported => Next::Waiting(Why::NotReported { tag, name: service }),
-        Sight::Is(view) if permitted(&view, Speaker::Recipe, Command::Stop).is_ok() => {
-            Next::Did(LogEntry::Stop { step, tag, service })
-        }
-        Sight::Is(view) => Next::Did(LogEntry::Left {
-            step,
-            state: view.control.state,
-        }),
     }
 }
 
@@ -60,17 +42,6 @@ pub fn stop_found<S: Seen>(step: Option<RunningStep>, seen: &S, broken: bool) ->
             tag_of(seen, step.role),
             seen.view(step.role, step.service),
         ),
-    }
-}
-
-// What comes next in the run of the chart, as the batch does it.
-fn run_next(next: CursorNext) -> Next
-    ensures { result ≡ run_next next }
-{
-    match next {
-        CursorNext::Entry(entry) => Next::Did(entry),
-        CursorNext::Wait(why) => Next::Waiting(why),
-        CursorNext::Whole => Next::Closed(Outcome::Completed),
     }
 }
 

@@ -13,8 +13,9 @@ use Rattle.pol_events.specs.Events.{PlainEntry}
 use Rattle.pol_history.specs.Looking.{History, is_accepted_of}
 use Rattle.pol_site.specs.Shown.{BoardWord, board_word, is_name_of, shown_by, word_after}
 use Rattle.pol_site.specs.Sites.{PlainSite, PlainSiteModule}
+use Rattle.pol_events.specs.Subjects.{accepted_tag}
 use Rattle.pol_shown.specs.Displays.{Displayed, Shows, ShowsAt, name_in, said_by, service_of_word}
-use Rattle.pol_shown.specs.Followed.{ShowsBelow, accepted_tag, name_after, published}
+use Rattle.pol_shown.specs.Followed.{ShowsBelow, name_after, published}
 use Rattle.pol_shown.proofs.Words.{IsQuiet, accepted_of, quiet_word, quiet_name, word_followed, name_followed, number_short, said_number}
 
 -- ---- nothing is published

@@ -11,8 +11,9 @@ use Rattle.pol_history.specs.Looking.{History, Subject, of_module, of_batch, of_
 use Rattle.pol_history.specs.Modules.{described, description_by, description_of}
 use Rattle.pol_site.specs.Shown.{BoardWord, board_word, is_name_of, name_at, shown_by, shown_in, word_after, word_of, word_of_module}
 use Rattle.pol_site.specs.Sites.{PlainSite, PlainSiteModule}
+use Rattle.pol_events.specs.Subjects.{accepted_tag, subject_tag}
 use Rattle.pol_shown.specs.Displays.{name_of_module, said_by, service_of_word}
-use Rattle.pol_shown.specs.Followed.{accepted_tag, name_after, name_or, tag_in}
+use Rattle.pol_shown.specs.Followed.{name_after, name_or}
 
 -- ---- numbers
 
@@ -110,7 +111,7 @@ name_followed site entry older word unit there accepted =
 
 -- what is accepted is about the module exactly where the tag that it is about is the one of the module
 tag_told : (tag : List ℕ) (told : Subject) (accepted : Bool) →
-    (is_module tag told && accepted) ≡ is_name_of tag (if accepted then tag_in told else None)
+    (is_module tag told && accepted) ≡ is_name_of tag (if accepted then subject_tag told else None)
 tag_told tag (of_module other) true = and-true _
 tag_told tag (of_module other) false = and-false _
 tag_told tag (of_batch batch) true = refl

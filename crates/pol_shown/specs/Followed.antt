@@ -4,7 +4,7 @@ use Rattle.mtp_codes.specs.declared.state.State.{State}
 use Rattle.mtp_desc.specs.Plain.{PlainDescription}
 use Rattle.pol_board.specs.Words.{word_of}
 use Rattle.pol_events.specs.Events.{PlainEvent, PlainEntry}
-use Rattle.pol_history.specs.Looking.{History, Subject, of_module, of_batch, of_recipe, is_accepted, subject}
+use Rattle.pol_history.specs.Looking.{History}
 use Rattle.pol_history.specs.Modules.{described}
 use Rattle.pol_site.specs.Shown.{name_at}
 use Rattle.pol_site.specs.Sites.{PlainSite}
@@ -14,16 +14,6 @@ use Rattle.pol_shown.specs.Displays.{Displayed, ShowsAt}
 abbrev pub before_newest : History → History
 before_newest [] = []
 before_newest (entry ∷ older) = older
-
--- the tag of the module that it is
-abbrev pub tag_in : Subject → Option (List ℕ)
-tag_in (of_module tag) = Some tag
-tag_in (of_batch batch) = None
-tag_in (of_recipe name) = None
-
--- the tag of the module that an accepted entry is about
-abbrev pub accepted_tag : PlainEntry → Option (List ℕ)
-accepted_tag entry = if is_accepted entry.answer then tag_in (subject entry.event) else None
 
 -- the words after one is published, where an event shows something there
 abbrev pub published : Option (Option State) → ℕ → ℕ → List ℕ → List ℕ

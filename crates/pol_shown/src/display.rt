@@ -3,13 +3,14 @@ ghost use Rattle.std.specs.Prelude.{◌≡◌, ◌<◌, ◌≤◌, ◌+◌, ◌*
 ghost use Rattle.mtp_codes.specs.declared.limits.TheConstants.{LONGEST_HISTORY, MOST_MODULES};
 ghost use Rattle.pol_board.specs.Words.{number_of};
 ghost use Rattle.pol_events.specs.Events.{plain_entry, plain_event, plain_history};
+ghost use Rattle.pol_events.specs.Subjects.{accepted_tag};
 ghost use Rattle.pol_history.specs.Looking.{is_accepted_of};
 ghost use Rattle.pol_site.specs.Shown.{shown_by};
 ghost use Rattle.pol_site.specs.PlainSite.{plain_site};
 ghost use Rattle.pol_shown.specs.Displays.{Shows, name_in};
-ghost use Rattle.pol_shown.specs.Followed.{ShowsBelow, accepted_tag, before_newest, name_after, published};
+ghost use Rattle.pol_shown.specs.Followed.{ShowsBelow, before_newest, name_after, published};
 
-use crate::shown::{accepted_tag, name_after, shown_by};
+use crate::shown::{name_after, shown_by};
 use crate::watcher::Watcher;
 use mtp_codes::Name;
 use pol_board::{Board, Publisher};
@@ -148,7 +149,7 @@ impl Display {
         let Some((entry, older)) = history.split_last() else {
             return;
         };
-        if let Some(tag) = accepted_tag(entry) {
+        if let Some(tag) = entry.accepted_tag() {
             self.follow_tag(site, older, entry, tag);
         }
     }

@@ -1,21 +1,11 @@
 //! What one event shows of one service.
 ghost use Rattle.std.specs.Prelude.{◌≡◌};
-ghost use Rattle.pol_events.specs.Events.{plain_entry, plain_event};
-ghost use Rattle.pol_shown.specs.Followed.{accepted_tag, name_after};
+ghost use Rattle.pol_events.specs.Events.{plain_event};
+ghost use Rattle.pol_shown.specs.Followed.{name_after};
 ghost use Rattle.pol_site.specs.Shown.{shown_by};
 
 use mtp_codes::{Name, State};
-use pol_events::{Entry, Event, Subject};
-
-/// The tag of the module that an accepted entry is about.
-pub(crate) fn accepted_tag(entry: &Entry) -> Option<Name>
-    ensures { result ≡ accepted_tag (plain_entry entry.now) }
-{
-    match entry.event.subject() {
-        Subject::Module(tag) if entry.answer.is_accepted() => Some(tag),
-        _ => None,
-    }
-}
+use pol_events::Event;
 
 /// What an event shows of the service of this name: the state of a report of it; where an exchange begins, that none is
 /// reported.

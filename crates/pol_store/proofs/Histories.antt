@@ -8,10 +8,9 @@ use Rattle.mtp_codes.specs.declared.limits.TheConstants.{LONGEST_HISTORY}
 use Rattle.pol_events.specs.Events.{PlainEvent, PlainEntry, plain_entry}
 use Rattle.pol_core.specs.Plants.{PlainPlant, plant_history}
 use Rattle.pol_history.specs.Looking.{History}
-use Rattle.pol_history.specs.Runs.{IsLegal, entry_of, is_recorded, recorded, history_after}
+use Rattle.pol_history.specs.Runs.{IsLegal, entry_of, is_recorded, recorded, history_after, events_of}
 use Rattle.pol_history.specs.Answers.{answer_of}
 use Rattle.pol_record.proofs.Appending.{history_after_append}
-use Rattle.pol_store.specs.Stands.{events_of}
 
 -- the events of a history with one entry more
 pub events-cons : (entry : PlainEntry) (history : History) →

@@ -9,8 +9,8 @@ use Rattle.pol_events.specs.Events.{PlainEvent}
 use Rattle.pol_core.specs.Plants.{plant_history}
 use Rattle.pol_history.specs.Looking.{History}
 use Rattle.pol_history.specs.Answers.{answer_of}
-use Rattle.pol_history.specs.Runs.{entry_of, is_recorded, recorded}
-use Rattle.pol_store.specs.Stands.{StandsWithOrWithout, events_of}
+use Rattle.pol_history.specs.Runs.{entry_of, is_recorded, recorded, events_of}
+use Rattle.pol_store.specs.Stands.{StandsWithOrWithout}
 use Rattle.pol_store.specs.Keeping.{StoreState, KeepsEvents, Keeps, KeepsMore, LeavesEvents, Open}
 use Rattle.pol_store.specs.Records.{WritesBehind}
 use Rattle.pol_store.proofs.Texts.{kept_stands, with_or_without, texts-push}

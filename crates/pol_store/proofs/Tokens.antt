@@ -32,7 +32,7 @@ use Rattle.pol_events.specs.declared.event.Event.{Event}
 use Rattle.pol_events.proofs.Again.{event_again, line_again}
 use Rattle.pol_lines.proofs.Printed.{begins_all}
 use Rattle.pol_record.specs.Objects.{data_tokens}
-use Rattle.pol_store.specs.Stands.{event_text}
+use Rattle.pol_record.specs.Texts.{event_text}
 use Rattle.pol_store.specs.Written.{IsReadBack, IsTold, control_tokens}
 
 -- ---- pieces behind one another are the tokens of the whole

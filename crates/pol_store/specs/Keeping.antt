@@ -4,7 +4,8 @@ use Rattle.pol_disk.specs.Disks.{LeavesOnly}
 use Rattle.pol_texts.specs.Settled.{IsSettled}
 use Rattle.pol_events.specs.Events.{PlainEvent}
 use Rattle.pol_core.specs.Plants.{PlainPlant, plant_history}
-use Rattle.pol_store.specs.Stands.{AreTextsOf, StandsFor, StandsWithOrWithout, events_of}
+use Rattle.pol_history.specs.Runs.{events_of}
+use Rattle.pol_store.specs.Stands.{AreTextsOf, StandsFor, StandsWithOrWithout}
 
 -- what contracts see of a store: its plant, its disk, and whether a call of the disk failed
 pub record StoreState (D : Type 0) : Type 0 where

@@ -1,16 +1,10 @@
 -- Which events an image stands for.
 use Rattle.std.specs.Prelude.{◌≡◌, ◌≢◌, ◌⊎◌, ◌≤◌, ℕ, List, [], ◌∷◌, ◌++◌, length, map, reverse, Ok}
 use Rattle.mtp_codes.specs.declared.limits.TheConstants.{LONGEST_HISTORY}
-use Rattle.serde_json.specs.Written.{compact_text}
 use Rattle.pol_texts.specs.Stands.{Stands, BeginsWith, AreRecords}
-use Rattle.pol_events.specs.Events.{PlainEvent, PlainEntry}
-use Rattle.pol_events.specs.Written.{written_event}
+use Rattle.pol_events.specs.Events.{PlainEvent}
 use Rattle.pol_events.specs.Lines.{event_of}
-use Rattle.pol_history.specs.Looking.{History}
-
--- the text that is written of an event
-abbrev pub event_text : PlainEvent → List ℕ
-event_text event = compact_text (written_event event)
+use Rattle.pol_record.specs.Texts.{event_text}
 
 -- the text is the one that is written of the event, and it is read as this event
 pub record IsTextOf (event : PlainEvent) (text : List ℕ) : Type 0 where
@@ -33,10 +27,6 @@ pub record StandsFor (events : List PlainEvent) (image : List ℕ) : Type 0 wher
 -- the image stands for the events, with one more or without it
 abbrev pub StandsWithOrWithout : List PlainEvent → PlainEvent → List ℕ → Type 0
 StandsWithOrWithout events event image = StandsFor events image ⊎ StandsFor (events ++ event ∷ []) image
-
--- the events of a history, the oldest first
-abbrev pub events_of : History → List PlainEvent
-events_of history = reverse (map (λ (entry : PlainEntry). entry.event) history)
 
 -- where so many records stand before them, these bytes begin neither with a closed gate nor with a record
 pub record IsBroken (count : ℕ) (bytes : List ℕ) : Type 0 where

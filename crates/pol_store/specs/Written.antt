@@ -11,7 +11,7 @@ use Rattle.pol_events.specs.Lines.{event_of}
 use Rattle.pol_events.specs.Ranges.{is_in_range}
 use Rattle.pol_events.specs.Written.{mode_word, origin_word, written_event}
 use Rattle.pol_record.specs.Objects.{data_tokens}
-use Rattle.pol_store.specs.Stands.{event_text}
+use Rattle.pol_record.specs.Texts.{event_text}
 
 -- the text of the event is read as the event
 abbrev pub IsReadBack : PlainEvent → Type 0

@@ -2,8 +2,8 @@
 ghost use Rattle.std.specs.Prelude.{◌≡◌, ℕ, List, []};
 ghost use Rattle.pol_events.specs.Events.{PlainEvent};
 ghost use Rattle.pol_history.specs.Looking.{History};
-ghost use Rattle.pol_history.specs.Runs.{IsLegal, history_after};
-ghost use Rattle.pol_store.specs.Stands.{StandsFor, events_of};
+ghost use Rattle.pol_history.specs.Runs.{IsLegal, history_after, events_of};
+ghost use Rattle.pol_store.specs.Stands.{StandsFor};
 
 /// An image stands for at most one list of events.
 pub fn images_stand_for_one_list()

@@ -5,9 +5,9 @@ ghost use Rattle.pol_disk.specs.Disks.{LeavesOnly, Keeps as KeepsImages};
 ghost use Rattle.pol_texts.specs.Settled.{AreAlike};
 ghost use Rattle.pol_events.specs.Events.{PlainEvent};
 ghost use Rattle.pol_core.specs.Plants.{plant_history};
-ghost use Rattle.pol_history.specs.Runs.{IsLegal};
+ghost use Rattle.pol_history.specs.Runs.{IsLegal, events_of};
 ghost use Rattle.pol_store.specs.Opens.{IsOpened, Tells};
-ghost use Rattle.pol_store.specs.Stands.{StandsFor, events_of};
+ghost use Rattle.pol_store.specs.Stands.{StandsFor};
 
 use crate::replaying::replay;
 use pol_core::Plant;

@@ -4,7 +4,7 @@ ghost use Rattle.pol_texts.specs.Settled.{behind_gate};
 ghost use Rattle.pol_events.specs.Orderly.{is_orderly};
 ghost use Rattle.pol_events.specs.Events.{plain_event};
 ghost use Rattle.pol_events.specs.Lines.{event_of};
-ghost use Rattle.pol_store.specs.Stands.{event_text};
+ghost use Rattle.pol_record.specs.Texts.{event_text};
 ghost use Rattle.pol_store.specs.Records.{IsNext, Names, OrderlyNext, OrderlyOption, WritesBehind};
 
 use crate::writing::put_event_text;

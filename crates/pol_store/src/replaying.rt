@@ -4,9 +4,8 @@ ghost use Rattle.std.specs.Prelude.{◌≡◌, ◌≢◌, ◌++◌, ◌∷◌, �
 ghost use Rattle.pol_events.specs.Orderly.{is_orderly};
 ghost use Rattle.pol_events.specs.Events.{plain_event};
 ghost use Rattle.pol_core.specs.Plants.{plant_history};
-ghost use Rattle.pol_history.specs.Runs.{IsLegal};
+ghost use Rattle.pol_history.specs.Runs.{IsLegal, events_of};
 ghost use Rattle.pol_store.specs.Opens.{Breaks, IsReplayed};
-ghost use Rattle.pol_store.specs.Stands.{events_of};
 
 use crate::opening::OpenFault;
 use crate::records::{Next, next_record};
@@ -14,8 +13,8 @@ use pol_core::Plant;
 use pol_events::Event;
 use std::alloc::{AllocError, Global};
 
-// Applies an event to a plant that has room for it.
-fn keep(plant: &mut Plant, event: Event) -> Result<(), AllocError>
+// Has an event happen in a plant that has room for it.
+fn take_event(plant: &mut Plant, event: Event) -> Result<(), AllocError>
     requires orderly { IsTrue (is_orderly (plain_event event)) }
     requires room { length (plant_history plant.old) < LONGEST_HISTORY }
     ensures { OnOk result (events_of (plant_history plant.new)
@@ -43,7 +42,7 @@ pub fn replay(alloc: Global, bytes: &[u8]) -> Result<(Plant, usize), OpenFault>
             Next::Closed => return Ok((plant, at)),
             Next::Broken => return Err(OpenFault::NotAStore { place: at as u64 }),
             Next::Record(event, size) => {
-                keep(&mut plant, event)?;
+                take_event(&mut plant, event)?;
                 at += size;
             }
         }

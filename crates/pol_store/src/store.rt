@@ -6,12 +6,12 @@ ghost use Rattle.pol_events.specs.Events.{PlainEvent, plain_event};
 ghost use Rattle.pol_events.specs.Orderly.{is_orderly};
 ghost use Rattle.pol_core.specs.Plants.{plant_history};
 ghost use Rattle.pol_history.specs.Answers.{answer_of};
-ghost use Rattle.pol_history.specs.Runs.{IsLegal, entry_of, history_after, is_recorded, recorded};
+ghost use Rattle.pol_history.specs.Runs.{IsLegal, entry_of, history_after, is_recorded, recorded, events_of};
 ghost use Rattle.pol_texts.specs.Settled.{AreAlike};
 ghost use Rattle.pol_store.specs.Keeping.{KeepsMore, LeavesEvents};
 ghost use Rattle.pol_store.specs.Opens.{Tells};
 ghost use Rattle.pol_store.specs.Refusals.{Refuses};
-ghost use Rattle.pol_store.specs.Stands.{StandsFor, events_of};
+ghost use Rattle.pol_store.specs.Stands.{StandsFor};
 
 use crate::opening::{OpenFault, open_on};
 use crate::records::behind_gate;

@@ -8,7 +8,7 @@ ghost use Rattle.pol_events.specs.Orderly.{is_orderly};
 ghost use Rattle.pol_events.specs.Ranges.{is_in_range};
 ghost use Rattle.pol_events.specs.Written.{written_batch, written_desk, written_event, written_report, written_variable};
 ghost use Rattle.pol_record.specs.Objects.{data_tokens};
-ghost use Rattle.pol_store.specs.Stands.{event_text};
+ghost use Rattle.pol_record.specs.Texts.{event_text};
 ghost use Rattle.pol_store.specs.Written.{IsReadBack, IsTold, Wrote, control_tokens};
 
 use json::Writer;
@@ -182,16 +182,6 @@ fn write_frequent(writer: &mut Writer, event: &Event) -> Result<bool, AllocError
     }
 }
 
-// The text of an event of any kind.
-fn tree_text(alloc: Global, event: &Event) -> Result<Vec<u8>, AllocError>
-    requires { IsTrue (is_orderly (plain_event event.now)) }
-    ensures text { IfOk result (λ text. text.items ≡ event_text (plain_event event.now)) }
-    ensures reads_back { IfOk result (λ text. event_of text.items ≡ Ok (plain_event event.now)) }
-{
-    let value = event_value(alloc, event)?;
-    value.to_vec(alloc)
-}
-
 /// Puts the text of an event behind what a buffer holds. Where there is no memory, what the buffer held is lost.
 #[tactic(auto, using(crate::proofs::Tokens::text_behind, crate::proofs::Tokens::tree_behind, crate::proofs::Tokens::told_again))]
 pub fn put_event_text(alloc: Global, out: &mut Vec<u8>, event: &Event) -> Result<(), AllocError>
@@ -203,7 +193,7 @@ pub fn put_event_text(alloc: Global, out: &mut Vec<u8>, event: &Event) -> Result
     let written = write_frequent(&mut writer, event)?;
     *out = writer.into_inner();
     if !written {
-        out.extend_from_slice(&tree_text(alloc, event)?)?;
+        out.extend_from_slice(&event_text(alloc, event)?)?;
     }
     Ok(())
 }

@@ -2,8 +2,7 @@
 use Rattle.std.proofs.Common.{◌≡◌, ◌≢◌, inl, inr, ⊎_elim, ℕ, ◌+◌, ◌<◌, ◌≤◌, ◌^◌, List, [], ◌∷◌, ◌++◌, length, take, drop, get_or, refl, sym, ◌∙◌, ap, arith, append_assoc, length-append, take-append-drop}
 use Rattle.std.proofs.lemmas.Bool.Decides.{eqb_tells}
 use Rattle.std.proofs.lemmas.List.{append-nil, take_at, drop_at, drop_more}
-use Rattle.pol_disk.specs.Disks.{Torn}
-use Rattle.pol_disk.proofs.Splices.{spliced}
+use Rattle.pol_disk.specs.Disks.{Torn, spliced}
 use Rattle.pol_texts.specs.Stands.{body_of, AreRecords, Begins, Stands, StandsWithOrWithout}
 use Rattle.pol_texts.specs.Settled.{behind_gate}
 

@@ -1,8 +1,8 @@
 -- Two writes with their syncs, one after the other.
 use Rattle.std.proofs.Common.{◌≡◌, inl, inr, ℕ, ◌+◌, ◌<◌, ◌≤◌, ◌^◌, List, [], ◌∷◌, ◌++◌, length, drop, Option, Some, None, IfSome, refl, sym, ◌∙◌, ap, subst, arith}
-use Rattle.pol_disk.specs.Disks.{LeavesOnly, Torn, Holds, Only, Elapses, Follows, Keeps}
+use Rattle.pol_disk.specs.Disks.{LeavesOnly, Torn, Holds, Only, Elapses, Follows, Keeps, spliced}
 use Rattle.pol_disk.specs.Disks.{BothTell}
-use Rattle.pol_disk.proofs.Splices.{spliced, torn_same, length-spliced}
+use Rattle.pol_disk.proofs.Splices.{torn_same, length-spliced}
 use Rattle.pol_disk.proofs.Moments.{started, goes_on, then, wider}
 use Rattle.pol_texts.specs.Stands.{StandsWithOrWithout, body_of}
 use Rattle.pol_texts.specs.Settled.{AreAlike, IsSynced, IsSettled, behind_gate}

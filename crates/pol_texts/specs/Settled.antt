@@ -1,7 +1,6 @@
 -- Texts on a disk, all of which a crash leaves.
 use Rattle.std.specs.Prelude.{◌≡◌, ℕ, List, ◌∷◌, [], ◌++◌, length, Option, Some, ⊤}
-use Rattle.pol_disk.specs.Disks.{Only}
-use Rattle.pol_disk.specs.Disks.{BothTell}
+use Rattle.pol_disk.specs.Disks.{BothTell, Only}
 use Rattle.pol_texts.specs.Stands.{Begins, body_of}
 
 -- bytes are told before and after, or neither before nor after

@@ -1,9 +1,7 @@
 //! A piece that is written and synced.
 ghost use Rattle.std.specs.Prelude.{◌≡◌, ◌≤◌, ℕ, List, Some, IfSome, OnOk, length};
 ghost use Rattle.pol_io.specs.Causes.{HasCause};
-ghost use Rattle.pol_disk.specs.Disks.{Holds, LeavesOnly, Torn};
-ghost use Rattle.pol_disk.specs.Disks.{BothTell};
-ghost use Rattle.pol_disk.proofs.Splices.{spliced};
+ghost use Rattle.pol_disk.specs.Disks.{BothTell, Holds, LeavesOnly, Torn, spliced};
 ghost use Rattle.pol_texts.specs.Settled.{IsSynced};
 
 use pol_disk::Disk;

@@ -6,7 +6,7 @@ use Rattle.chart_cursor.specs.Logs.{chart_entries}
 use Rattle.pol_events.specs.Events.{plain_history}
 use Rattle.pol_history.specs.Batches.{chart_named}
 use Rattle.pol_history.specs.Looking.{past, past_of_batch, recipes}
-use Rattle.pol_audit.specs.Starts.{started}
+use Rattle.pol_record.specs.Gathered.{plain_start}
 use Rattle.pol_audit.proofs.Steps.{next_charted}
 use Rattle.pol_audit.proofs.following.next_anew.Goals as goal
 
@@ -25,4 +25,4 @@ returns c =
     ∙ ap (λ chart. Some (plain_chart chart)) (sym c.in_ok-cursor.ensures.chart) in
     ap Some c.in_ok-next_along.ensures
     ∙ sym (next_charted (recipes history) (past_of_batch c.args.batch history) (λ tag. past tag history)
-    (started c.args.start.now) (plain_chart c.in_ok-cursor.cursor.chart) named)
+    (plain_start c.args.start.now) (plain_chart c.in_ok-cursor.cursor.chart) named)

@@ -5,8 +5,8 @@ use Rattle.chart_cursor.specs.Logs.{chart_entries}
 use Rattle.pol_events.specs.Events.{plain_history}
 use Rattle.pol_history.specs.Batches.{log_by}
 use Rattle.pol_history.specs.Looking.{past, past_of_batch, recipes}
+use Rattle.pol_record.specs.Gathered.{plain_start}
 use Rattle.pol_audit.specs.Followed.{GoesAlong}
-use Rattle.pol_audit.specs.Starts.{started}
 use Rattle.pol_audit.proofs.Steps.{next_charted}
 use Rattle.pol_audit.proofs.following.next_of_start.Goals as goal
 
@@ -23,4 +23,4 @@ returns c =
     (chart_entries (log_by (past_of_batch c.args.batch history))) cursor.now)) c.in-Some.is c.cursor.ensures in
     ap Some c.in_ok-next_along.ensures
     ∙ sym (next_charted (recipes history) (past_of_batch c.args.batch history) (λ tag. past tag history)
-    (started c.args.start.now) (plain_chart c.in-Some.cursor.now.chart) along.0)
+    (plain_start c.args.start.now) (plain_chart c.in-Some.cursor.now.chart) along.0)

@@ -1,8 +1,8 @@
 use Rattle.std.proofs.Common.{◌≡◌, ℕ, ◌-◌, min, List, length, take, drop, ◌∙◌, ap, rules}
 use Rattle.std.proofs.lemmas.Result.{on_ok_weaker}
+use Rattle.pol_disk.specs.Disks.{spliced}
 use Rattle.pol_disk.specs.Calls.{deeds_of}
 use Rattle.pol_disk.specs.Records.{wrote, undone}
-use Rattle.pol_disk.proofs.Splices.{spliced}
 use Rattle.pol_disk.proofs.Deeds.{deeds-push, undone-spliced}
 use Rattle.pol_disk.proofs.memory.record_write.Goals as goal
 

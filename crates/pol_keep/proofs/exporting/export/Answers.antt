@@ -1,7 +1,8 @@
 use Rattle.std.proofs.Common.{List, ℕ, arith, sym, subst}
 use Rattle.pol_core.specs.Plants.{plant_history}
 use Rattle.pol_disk.specs.Disks.{LeavesOnly}
-use Rattle.pol_store.specs.Stands.{StandsFor, events_of}
+use Rattle.pol_history.specs.Runs.{events_of}
+use Rattle.pol_store.specs.Stands.{StandsFor}
 use Rattle.pol_store.proofs.Histories.{legal_few, length-events}
 use Rattle.pol_keep.specs.Exported.{exported_output}
 use Rattle.pol_keep.proofs.Ended.{keep_ends, keeps, told_stood, unopened_is}

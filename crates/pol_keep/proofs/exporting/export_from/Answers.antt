@@ -5,7 +5,7 @@ use Rattle.std.specs.Io.KnownBytes.{Appends}
 use Rattle.pol_core.specs.Plants.{plant_history}
 use Rattle.pol_jobs.specs.Ends.{edge}
 use Rattle.pol_jobs.specs.Written.{WritesPart}
-use Rattle.pol_store.specs.Stands.{events_of}
+use Rattle.pol_history.specs.Runs.{events_of}
 use Rattle.pol_keep.proofs.Exported.{exported_ends, lines_journal, put_is_store, put_no_disk}
 use Rattle.pol_keep.proofs.exporting.export_from.Goals as goal
 

@@ -2,7 +2,8 @@ use Rattle.std.proofs.Common.{List, ℕ, arith}
 use Rattle.std.proofs.lemmas.Result.{on_ok_weaker}
 use Rattle.pol_core.specs.Plants.{plant_history}
 use Rattle.pol_disk.proofs.Moments.{wider}
-use Rattle.pol_store.specs.Stands.{StandsFor, events_of}
+use Rattle.pol_history.specs.Runs.{events_of}
+use Rattle.pol_store.specs.Stands.{StandsFor}
 use Rattle.pol_store.proofs.Histories.{legal_few, length-events}
 use Rattle.pol_keep.specs.Keeping.{telling}
 use Rattle.pol_keep.specs.Kept.{StandsForAnswered, StandsForMore, kept_output}

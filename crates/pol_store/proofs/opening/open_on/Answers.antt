@@ -5,7 +5,7 @@ use Rattle.pol_texts.specs.Settled.{IsSynced}
 use Rattle.pol_events.specs.Events.{PlainEvent}
 use Rattle.pol_core.specs.Plants.{plant_history}
 use Rattle.pol_store.specs.Opens.{Breaks, IsReplayed}
-use Rattle.pol_store.specs.Stands.{events_of}
+use Rattle.pol_history.specs.Runs.{events_of}
 use Rattle.pol_store.proofs.Opened.{begun_leaves, bytes_told, number_told, opened_long, read_leaves, replay_tells}
 use Rattle.pol_store.proofs.opening.open_on.Goals as goal
 

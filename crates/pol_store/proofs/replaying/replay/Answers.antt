@@ -4,7 +4,8 @@ use Rattle.mtp_codes.specs.declared.limits.TheConstants.{LONGEST_HISTORY}
 use Rattle.pol_events.specs.Events.{PlainEvent, plain_event}
 use Rattle.pol_core.specs.Plants.{plant_history}
 use Rattle.pol_store.specs.Records.{IsRecord}
-use Rattle.pol_store.specs.Stands.{events_of, BeginsWithEvents, IsBroken}
+use Rattle.pol_history.specs.Runs.{events_of}
+use Rattle.pol_store.specs.Stands.{BeginsWithEvents, IsBroken}
 use Rattle.pol_store.proofs.Histories.{length-plant}
 use Rattle.pol_store.proofs.Replays.{replay_more, replay_closed, replay_breaks}
 use Rattle.pol_store.proofs.replaying.replay.Goals as goal
@@ -46,7 +47,7 @@ record-preserved c =
     (subst (λ (l : List ℕ). IsRecord l event c.in-Record.size) (take_rest bytes c.record.at) sliced.0, sliced.1) in
     let counted : length c.history-count.result.now ≡ length events = ap length c.history-count.ensures.entries
     ∙ sym (length-plant c.record.plant) in
-    let grown : events_of (plant_history c.keep.new.plant) ≡ events ++ event ∷ [] = c.in_ok-keep-in-Record.ensures in
+    let grown : events_of (plant_history c.take_event.new.plant) ≡ events ++ event ∷ [] = c.in_ok-take_event-in-Record.ensures in
     let more = replay_more c.record.at c.in-Record.size c.args.bytes.now events event c.record.invariant.0 found.0 in (
       subst (λ (es : List PlainEvent). BeginsWithEvents (c.record.at + c.in-Record.size) c.args.bytes.now es)
           (sym grown) more,

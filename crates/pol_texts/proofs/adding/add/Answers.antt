@@ -1,7 +1,6 @@
 use Rattle.std.proofs.Common.{◌+◌, ◌∷◌, []}
 use Rattle.std.proofs.lemmas.Result.{on_ok_weaker}
-use Rattle.pol_disk.specs.Disks.{Holds}
-use Rattle.pol_disk.proofs.Splices.{spliced}
+use Rattle.pol_disk.specs.Disks.{Holds, spliced}
 use Rattle.pol_texts.proofs.Runs.{alike, alike_then, behind_left, gate_left, settled_after, near_after, near_one_less, near_one_more}
 use Rattle.pol_texts.proofs.adding.add.Goals as goal
 

@@ -1,6 +1,6 @@
 use Rattle.std.proofs.Common.{◌∙◌, sym}
 use Rattle.pol_events.specs.Events.{plain_entry}
-use Rattle.pol_audit.specs.Listed.{accepted_batch}
+use Rattle.pol_events.specs.Subjects.{accepted_batch}
 use Rattle.pol_audit.proofs.Followed.{grows_by}
 use Rattle.pol_audit.proofs.cursors.Cursors.go_on.Goals as goal
 

@@ -4,8 +4,7 @@ use Rattle.std.proofs.lemmas.Bool.{not-false}
 use Rattle.pol_events.specs.Events.{PlainEvent, plain_event}
 use Rattle.pol_core.specs.Plants.{plant_history}
 use Rattle.pol_history.specs.Answers.{answer_of}
-use Rattle.pol_history.specs.Runs.{is_recorded}
-use Rattle.pol_store.specs.Stands.{events_of}
+use Rattle.pol_history.specs.Runs.{is_recorded, events_of}
 use Rattle.pol_store.specs.Keeping.{StoreState, KeepsEvents, Keeps, KeepsMore, LeavesEvents}
 use Rattle.pol_store.specs.Records.{WritesBehind}
 use Rattle.pol_store.proofs.Kept.{added, at_ok, events_recorded, if_told, keeps_more, kept_more, open_again}

@@ -1,6 +1,6 @@
 use Rattle.std.proofs.Common.{ℕ, List, Option}
 use Rattle.pol_core.specs.Plants.{plant_history}
-use Rattle.pol_store.specs.Stands.{events_of}
+use Rattle.pol_history.specs.Runs.{events_of}
 use Rattle.pol_store.specs.Keeping.{KeepsEvents}
 use Rattle.pol_store.specs.Stands.{StandsFor}
 use Rattle.pol_store.proofs.Kept.{if_told}

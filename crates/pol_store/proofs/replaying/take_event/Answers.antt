@@ -2,7 +2,7 @@ use Rattle.pol_core.specs.Plants.{plant_history}
 use Rattle.pol_events.specs.Events.{plain_event}
 use Rattle.pol_store.proofs.Histories.{room_recorded}
 use Rattle.pol_store.proofs.Kept.{events_recorded}
-use Rattle.pol_store.proofs.replaying.keep.Goals as goal
+use Rattle.pol_store.proofs.replaying.take_event.Goals as goal
 
 pub returns-in-Ok : goal.returns-in-Ok
 returns-in-Ok c =
