@@ -15,9 +15,9 @@ use Rattle.pol_jobs.proofs.Meeting.{met_by_length}
 use Rattle.pol_site.specs.Sites.{PlainSite}
 use Rattle.pol_site.specs.Texts.{is_filled, is_long, site_among, site_of, site_on}
 use Rattle.pol_site.specs.declared.site.Site.{Site}
-use Rattle.pol_cli.specs.declared.jobs.site_text.Telling.{Telling}
-use Rattle.pol_cli.specs.declared.jobs.site_text.Telling.TheVariants as telling
-use Rattle.pol_cli.specs.SiteTexts.{Says, Told, telling_of, none_yet, one, more, after_line, after_filled, line_says, told, site_work}
+use Rattle.pol_cli.specs.declared.jobs.site_text.SiteLines.{SiteLines}
+use Rattle.pol_cli.specs.declared.jobs.site_text.SiteLines.TheVariants as lines
+use Rattle.pol_cli.specs.SiteTexts.{Says, Told, lines_told, none_yet, one, more, after_line, after_filled, line_says, told, site_work}
 use Rattle.pol_cli.proofs.Filled.{met_filled}
 
 -- ---- one line
@@ -64,12 +64,12 @@ told_accepted so_far site is = λ fault refuses. other (is ∙ refuses)
     other same = cc
 
 -- what isn't refused is a site
-pub telling_site : (so_far : Telling) → AcceptsEnd site_work (telling_of so_far) →
-    ((site : Site) → so_far ≡ telling.Site site → ⊥) → ⊥
-telling_site telling.Nothing accepted other = accepted _ refl
-telling_site (telling.Site site) accepted other = other site refl
-telling_site (telling.Fault fault) accepted other = accepted fault refl
-telling_site telling.More accepted other = accepted _ refl
+pub accepted_site : (so_far : SiteLines) → AcceptsEnd site_work (lines_told so_far) →
+    ((site : Site) → so_far ≡ lines.Site site → ⊥) → ⊥
+accepted_site lines.Nothing accepted other = accepted _ refl
+accepted_site (lines.Site site) accepted other = other site refl
+accepted_site (lines.Fault fault) accepted other = accepted fault refl
+accepted_site lines.More accepted other = accepted _ refl
 
 -- what tells a site is that site alone
 pub told_well : (so_far : Told) (site : PlainSite) → Ok site ≡ told so_far → one (Ok site) ≡ so_far

@@ -9,8 +9,8 @@ use Rattle.pol_site.specs.Texts.{site_of, site_on}
 use Rattle.pol_jobs.specs.Ends.{IsRead}
 use Rattle.pol_jobs.specs.LineWork.{Line, LineWork}
 use Rattle.pol_replay.specs.Meanings.{is_some_line}
-use Rattle.pol_cli.specs.declared.jobs.site_text.Telling.{Telling}
-use Rattle.pol_cli.specs.declared.jobs.site_text.Telling.TheVariants.{Nothing, Site, Fault, More}
+use Rattle.pol_cli.specs.declared.jobs.site_text.SiteLines.{SiteLines}
+use Rattle.pol_cli.specs.declared.jobs.site_text.SiteLines.TheVariants.{Nothing, Site, Fault, More}
 
 -- what the lines of a site text have told so far: nothing, where all were blank; what the one line says that isn't
 -- blank; or that there are more
@@ -20,11 +20,11 @@ pub data Told : Type 0 where
   more : Told
 
 -- the same, of what the code knows
-abbrev pub telling_of : Telling → Told
-telling_of Nothing = none_yet
-telling_of (Site site) = one (Ok (plain_site site))
-telling_of (Fault fault) = one (Err fault)
-telling_of More = more
+abbrev pub lines_told : SiteLines → Told
+lines_told Nothing = none_yet
+lines_told (Site site) = one (Ok (plain_site site))
+lines_told (Fault fault) = one (Err fault)
+lines_told More = more
 
 -- what a line says that isn't blank
 unfoldable pub line_says : Line → ReadResult PlainSite

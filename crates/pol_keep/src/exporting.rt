@@ -22,8 +22,8 @@ use pol_jobs::{PutFault, put};
 use pol_store::{Store, put_event_text};
 use std::alloc::{AllocError, Global};
 
-// From how many bytes on lines are handed on together.
-const MUCH: usize = 65_536;
+// From how many bytes on lines are written together, by one call of the sink.
+const WRITTEN_TOGETHER: usize = 65_536;
 
 // Puts the line of an event behind what a buffer holds.
 fn put_event_line(alloc: Global, lines: &mut Vec<u8>, event: &Event) -> Result<(), AllocError>
@@ -35,14 +35,14 @@ fn put_event_line(alloc: Global, lines: &mut Vec<u8>, event: &Event) -> Result<(
     Ok(())
 }
 
-// Hands on what a buffer holds, where that is much.
+// Writes what a buffer holds, where that is enough.
 #[tactic(auto, using(crate::proofs::Exported::none_handed, crate::proofs::Exported::all_handed))]
-fn hand_on<K: Sink>(lines: &mut Vec<u8>, sink: &mut K) -> Result<(), PutFault>
+fn put_if_enough<K: Sink>(lines: &mut Vec<u8>, sink: &mut K) -> Result<(), PutFault>
     ensures text { OnOk result (HandsOn (K.held sink.old) (K.held sink.new) lines.old.items lines.new.items) }
     ensures part { OnErr result (WritesPart (K.held sink.old) (K.held sink.new) lines.old.items) }
     ensures cause { HasCauseOf PutFault.Write (K.faults sink.old) (K.faults sink.new) result }
 {
-    if lines.len() < MUCH {
+    if lines.len() < WRITTEN_TOGETHER {
         return Ok(());
     }
     put(sink, lines)?;
@@ -60,7 +60,7 @@ fn put_lines<K: Sink>(alloc: Global, entries: &[Entry], sink: &mut K) -> Result<
     let mut lines = Vec::new(alloc);
     for entry in entries {
         put_event_line(alloc, &mut lines, &entry.event)?;
-        hand_on(&mut lines, sink)?;
+        put_if_enough(&mut lines, sink)?;
     }
     put(sink, &lines)
 }

@@ -13,10 +13,6 @@ member_piece member = key_piece member.key ++ leaf_piece member.leaf
 abbrev pub is_member_in_range : Member → Bool
 is_member_in_range member = is_leaf_in_range member.leaf
 
--- the front of a line: a brace, and the members so far, each with a comma
-abbrev pub front_piece : List Member → List ℕ
-front_piece members = 123 ∷ flat_map (λ member. member_piece member ++ 44 ∷ []) members
-
 -- the members go in one after another, so the last value of a key stays
 abbrev pub put_all : List Member → Members → Members
 put_all [] found = found

@@ -17,6 +17,7 @@ use Rattle.pol_events.specs.Words.{kind_words}
 use Rattle.pol_lines.specs.declared.key.Key.{Key}
 use Rattle.pol_lines.specs.declared.spots.Spot.{Spot}
 use Rattle.pol_lines.specs.Keys.{key_text}
+use Rattle.pol_lines.specs.Kinds.{keys_of}
 
 -- the path to a key, or to the whole line
 abbrev pub path_to : Option Key → List PathPart
@@ -54,7 +55,7 @@ variable_judged value =
     required (codes "tag") name value >>= λ _.
     required (codes "name") name value >>= λ _.
     judged (required (codes "value") scalar value) >>= λ _.
-    nothing_but (codes "ev at tag name value") value
+    nothing_but (keys_of Variable) value
 
 -- that of a report
 abbrev pub report_judged : Data → ReadResult ⊤
@@ -63,7 +64,7 @@ report_judged value =
     required (codes "tag") name value >>= λ _.
     required (codes "service") name value >>= λ _.
     control_in value >>= λ _.
-    nothing_but (codes "ev at tag service StateCur CommandEn Mode Src ProcedureCur") value
+    nothing_but (keys_of Report) value
 
 -- that of an operator's command
 abbrev pub desk_judged : Data → ReadResult ⊤
@@ -72,7 +73,7 @@ desk_judged value =
     required (codes "tag") name value >>= λ _.
     required (codes "service") name value >>= λ _.
     required (codes "CommandOp") (code command_codes) value >>= λ _.
-    nothing_but (codes "ev at tag service CommandOp") value
+    nothing_but (keys_of Desk) value
 
 -- that of the cancelling of an exchange
 abbrev pub cancel_judged : Data → ReadResult ⊤
@@ -80,21 +81,21 @@ cancel_judged value =
     required (codes "at") (count 0 greatest_u64) value >>= λ _.
     required (codes "tag") name value >>= λ _.
     required (codes "ticket") (count 0 greatest_u32) value >>= λ _.
-    nothing_but (codes "ev at tag ticket") value
+    nothing_but (keys_of ExchangeCancel) value
 
 -- that of an event that names a tag and nothing more
 abbrev pub tag_judged : Data → ReadResult ⊤
 tag_judged value =
     required (codes "at") (count 0 greatest_u64) value >>= λ _.
     required (codes "tag") name value >>= λ _.
-    nothing_but (codes "ev at tag") value
+    nothing_but (keys_of Unplug) value
 
 -- that of an event that names a batch and nothing more
 abbrev pub batch_judged : Data → ReadResult ⊤
 batch_judged value =
     required (codes "at") (count 0 greatest_u64) value >>= λ _.
     required (codes "batch") name value >>= λ _.
-    nothing_but (codes "ev at batch") value
+    nothing_but (keys_of Advance) value
 
 -- the first fault of a flat line of a kind; none of the others
 abbrev pub judged_by : Data → EventKind → ReadResult ⊤

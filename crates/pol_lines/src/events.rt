@@ -45,7 +45,7 @@ fn read_control(members: &[Member]) -> Option<ServiceControl>
     let mask = count_at(members, Key::CommandEn, 0, u32::MAX as u64)?;
     let mode = mode_at(members, Key::Mode)?;
     let origin = origin_at(members, Key::Src)?;
-    let procedure = count_at(members, Key::ProcedureCur, 0, 65535)?;
+    let procedure = count_at(members, Key::ProcedureCur, 0, u16::MAX as u64)?;
     Some(ServiceControl {
         state,
         mask: mask as u32,

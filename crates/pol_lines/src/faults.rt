@@ -16,7 +16,7 @@ use pol_events::LineFault;
 use std::alloc::Global;
 
 /// The fault at a spot; None without memory.
-fn fault_of(alloc: Global, spot: Spot) -> Option<JsonFault>
+fn fault_at(alloc: Global, spot: Spot) -> Option<JsonFault>
     ensures { IfSome result (λ fault. fault ≡ fault_at spot) }
 {
     let mut path = Path::new(alloc);
@@ -84,6 +84,6 @@ pub fn read_fault(alloc: Global, line: &[u8]) -> Option<LineFault>
     ensures { IfSome result (λ fault. event_of line.now ≡ Err fault) }
 {
     let spot = line_spot(line)?;
-    let fault = fault_of(alloc, spot)?;
+    let fault = fault_at(alloc, spot)?;
     Some(LineFault::Json(fault))
 }

@@ -80,6 +80,7 @@ pub fn command_at(members: &[Member], key: Key) -> Option<Command>
     Command::of_code(count_at(members, key, 0, u32::MAX as u64)? as u32)
 }
 
+/// The mode that a word names.
 pub fn mode_of(bytes: &[u8]) -> Option<Mode>
     ensures { result ≡ meaning_of bytes.now mode_words }
 {
@@ -102,6 +103,7 @@ pub fn mode_at(members: &[Member], key: Key) -> Option<Mode>
     mode_of(text_at(members, key)?)
 }
 
+/// The source of commands that a word names.
 pub fn origin_of(bytes: &[u8]) -> Option<Origin>
     ensures { result ≡ meaning_of bytes.now origin_words }
 {

@@ -10,7 +10,7 @@ use crate::conditions::read_condition;
 use crate::lists::Front;
 use crate::pieces::{eat, last};
 use crate::steps::read_step;
-use chart_core::{Arm, Condition, MOST_ARMS, Node, Step};
+use chart_core::{Arm, Condition, DEEPEST_NODE, MOST_ARMS, MOST_STEPS, Node, Step};
 use std::alloc::Global;
 
 fn in_sequence(nodes: Vec<Node>) -> Node
@@ -65,7 +65,7 @@ fn read_inner<'a>(
         (λ rest. ReadsList tree_of (3 * levels + 17) text.now (map plain_node nodes.new.items) rest.now) }
 {
     let mut rest = eat(text, b"[")?;
-    for _ in 0..256u32 {
+    for _ in 0..MOST_STEPS {
         let (node, left) = read_node(alloc, rest, levels)?;
         let Ok(()) = nodes.push(node) else {
             return None;
@@ -210,7 +210,7 @@ fn read_loop(alloc: Global, text: &[u8], levels: u32) -> Option<(Node, usize)>
 }
 
 /// The step at the front of a text as a node, with how many bytes follow it.
-fn read_leaf(alloc: Global, text: &[u8]) -> Option<(Node, usize)>
+fn read_step_node(alloc: Global, text: &[u8]) -> Option<(Node, usize)>
     ensures { IfSome result
         (λ read. Reads tree_of 16 text.now (plain_node read.0) (last_of read.1 text.now)) }
 {
@@ -231,7 +231,7 @@ fn read_node(alloc: Global, text: &[u8], levels: u32) -> Option<(Node, usize)>
         [_, _, b's', b'e', b'l', ..] if levels > 0 => read_sel(alloc, text, levels - 1),
         [_, _, b'p', b'a', ..] if levels > 0 => read_par(alloc, text, levels - 1),
         [_, _, b'l', ..] if levels > 0 => read_loop(alloc, text, levels - 1),
-        _ => read_leaf(alloc, text),
+        _ => read_step_node(alloc, text),
     }
 }
 
@@ -250,6 +250,6 @@ impl Front for NodeFronts {
     ghost deep = { 64 };
 
     fn read(alloc: Global, text: &[u8]) -> Option<(Node, usize)> {
-        read_node(alloc, text, 16)
+        read_node(alloc, text, DEEPEST_NODE)
     }
 }

@@ -63,7 +63,10 @@ fn held_of(leaf: Leaf<'_>) -> Held<'_>
     }
 }
 
-/// What follows the list of flat values at the front of a text; None for a list of more than 65,536.
+// How many values of a list are passed over at most.
+const MOST_PASSED: u32 = 65_536;
+
+/// What follows the list of flat values at the front of a text; None for one of more than `MOST_PASSED`.
 fn read_items(text: &[u8]) -> Option<&[u8]>
     ensures { IfSome result (λ rest. BeginsHeld text.now null rest.now) }
 {
@@ -71,7 +74,7 @@ fn read_items(text: &[u8]) -> Option<&[u8]>
     if let Some(after) = eat(rest, b"]") {
         return Some(after);
     }
-    for _ in 0..65536 {
+    for _ in 0..MOST_PASSED {
         let (_leaf, after) = read_leaf(rest)?;
         match after {
             [b',', more @ ..] => rest = more,

@@ -26,7 +26,7 @@ use pol_events::{Event, EventKind};
 use std::alloc::Global;
 use std::sync::Arc;
 
-fn fault_of(chart: &Chart) -> Option<ChartFault>
+fn chart_fault(chart: &Chart) -> Option<ChartFault>
     ensures { result ≡ chart_fault (plain_chart chart.now) }
 {
     chart.valid().err()
@@ -43,7 +43,7 @@ fn chart_in(alloc: Global, roles: Vec<Role>, root: Node) -> Option<Arc<Chart>>
     let Ok(chart) = make_chart(alloc, roles, root) else {
         return None;
     };
-    if fault_of(&chart).is_some() {
+    if chart_fault(&chart).is_some() {
         return None;
     }
     match Arc::new(alloc, chart) {

@@ -140,13 +140,13 @@ fn keyed<T: Drop>(key: Key, found: Result<T, FaultKind>) -> Result<T, Spot>
     }
 }
 
-fn name_at(parts: &[Part], key: Key) -> Result<Name, Spot>
+fn ask_name(parts: &[Part], key: Key) -> Result<Name, Spot>
     ensures { told result ≡ required (key_text key) name (parts_data parts.now) }
 {
     keyed(key, get_name(parts, key))
 }
 
-fn count_at(parts: &[Part], key: Key, most: u64) -> Result<u64, Spot>
+fn ask_count(parts: &[Part], key: Key, most: u64) -> Result<u64, Spot>
     ensures value { told result ≡ required (key_text key) (count 0 most) (parts_data parts.now) }
     ensures most { IfOk result (λ found. found ≤ most) }
 {
@@ -203,9 +203,9 @@ fn judge_scalar(parts: &[Part], key: Key) -> Result<(), Spot>
 fn judge_variable(parts: &[Part]) -> Result<(), Spot>
     ensures { told result ≡ variable_judged (parts_data parts.now) }
 {
-    count_at(parts, Key::At, u64::MAX)?;
-    name_at(parts, Key::Tag)?;
-    name_at(parts, Key::Name)?;
+    ask_count(parts, Key::At, u64::MAX)?;
+    ask_name(parts, Key::Tag)?;
+    ask_name(parts, Key::Name)?;
     judge_scalar(parts, Key::Value)?;
     nothing_but(parts, "ev at tag name value")
 }
@@ -215,10 +215,10 @@ fn judge_control(parts: &[Part]) -> Result<ServiceControl, Spot>
     ensures { told result ≡ control_in (parts_data parts.now) }
 {
     let state = keyed(Key::StateCur, get_state(parts, Key::StateCur))?;
-    let mask = count_at(parts, Key::CommandEn, u32::MAX as u64)?;
+    let mask = ask_count(parts, Key::CommandEn, u32::MAX as u64)?;
     let mode = keyed(Key::Mode, get_mode(parts, Key::Mode))?;
     let origin = keyed(Key::Src, get_origin(parts, Key::Src))?;
-    let procedure = count_at(parts, Key::ProcedureCur, 65535)?;
+    let procedure = ask_count(parts, Key::ProcedureCur, u16::MAX as u64)?;
     Ok(ServiceControl {
         state,
         mask: mask as u32,
@@ -231,9 +231,9 @@ fn judge_control(parts: &[Part]) -> Result<ServiceControl, Spot>
 fn judge_report(parts: &[Part]) -> Result<(), Spot>
     ensures { told result ≡ report_judged (parts_data parts.now) }
 {
-    count_at(parts, Key::At, u64::MAX)?;
-    name_at(parts, Key::Tag)?;
-    name_at(parts, Key::Service)?;
+    ask_count(parts, Key::At, u64::MAX)?;
+    ask_name(parts, Key::Tag)?;
+    ask_name(parts, Key::Service)?;
     judge_control(parts)?;
     nothing_but(
         parts,
@@ -244,9 +244,9 @@ fn judge_report(parts: &[Part]) -> Result<(), Spot>
 fn judge_desk(parts: &[Part]) -> Result<(), Spot>
     ensures { told result ≡ desk_judged (parts_data parts.now) }
 {
-    count_at(parts, Key::At, u64::MAX)?;
-    name_at(parts, Key::Tag)?;
-    name_at(parts, Key::Service)?;
+    ask_count(parts, Key::At, u64::MAX)?;
+    ask_name(parts, Key::Tag)?;
+    ask_name(parts, Key::Service)?;
     keyed(Key::CommandOp, get_command(parts, Key::CommandOp))?;
     nothing_but(parts, "ev at tag service CommandOp")
 }
@@ -254,25 +254,25 @@ fn judge_desk(parts: &[Part]) -> Result<(), Spot>
 fn judge_cancel(parts: &[Part]) -> Result<(), Spot>
     ensures { told result ≡ cancel_judged (parts_data parts.now) }
 {
-    count_at(parts, Key::At, u64::MAX)?;
-    name_at(parts, Key::Tag)?;
-    count_at(parts, Key::Ticket, u32::MAX as u64)?;
+    ask_count(parts, Key::At, u64::MAX)?;
+    ask_name(parts, Key::Tag)?;
+    ask_count(parts, Key::Ticket, u32::MAX as u64)?;
     nothing_but(parts, "ev at tag ticket")
 }
 
 fn judge_tag(parts: &[Part]) -> Result<(), Spot>
     ensures { told result ≡ tag_judged (parts_data parts.now) }
 {
-    count_at(parts, Key::At, u64::MAX)?;
-    name_at(parts, Key::Tag)?;
+    ask_count(parts, Key::At, u64::MAX)?;
+    ask_name(parts, Key::Tag)?;
     nothing_but(parts, "ev at tag")
 }
 
 fn judge_batch(parts: &[Part]) -> Result<(), Spot>
     ensures { told result ≡ batch_judged (parts_data parts.now) }
 {
-    count_at(parts, Key::At, u64::MAX)?;
-    name_at(parts, Key::Batch)?;
+    ask_count(parts, Key::At, u64::MAX)?;
+    ask_name(parts, Key::Batch)?;
     nothing_but(parts, "ev at batch")
 }
 

@@ -106,7 +106,7 @@ fn step_in(members: &[Member], settings: Vec<Setting>, finish: Option<Condition>
     let name = name_at(members, Key::Step)?;
     let role = name_at(members, Key::Role)?;
     let service = name_at(members, Key::Service)?;
-    let procedure = count_at(members, Key::Procedure, 1, 65535)? as u16;
+    let procedure = count_at(members, Key::Procedure, 1, u16::MAX as u64)? as u16;
     if repeats::<SettingFronts>(&settings) {
         return None;
     }

@@ -1,4 +1,9 @@
 //! A plant whose events are kept on a disk, each whole or not at all, whenever a crash comes.
+//!
+//! Its main contracts are those of `Store::open`, which finds again what the disk keeps, and of `Store::apply`, which
+//! answers as the plant does once the event is synced (`specs/Keeping.antt`); `specs/Stands.antt` says which events an
+//! image of the disk stands for. A record is a text of `pol_texts`: the compact JSON of an event, as a journal's line
+//! has it. This crate knows nothing of files, of lines of input, or of where answers go.
 #![tactic(auto)]
 
 mod laws;

@@ -7,7 +7,7 @@ ghost use Rattle.pol_site.specs.PlainSite.{plain_site};
 ghost use Rattle.pol_jobs.specs.Ends.{Ends, edge};
 ghost use Rattle.pol_jobs.specs.LineWork.{AcceptsEnd};
 ghost use Rattle.pol_cli.specs.SiteRuns.{planted};
-ghost use Rattle.pol_cli.specs.SiteTexts.{Says, after_filled, line_says, one, site_work, telling_of, told};
+ghost use Rattle.pol_cli.specs.SiteTexts.{Says, after_filled, line_says, one, site_work, lines_told, told};
 
 use mtp_json::{FaultKind, JsonFault, JsonRefusal, Path};
 use pol_events::is_blank;
@@ -19,7 +19,7 @@ use std::mem;
 
 /// What the lines of a site text have told so far.
 #[derive(Drop)]
-pub enum Telling {
+pub enum SiteLines {
     /// Nothing: all were blank.
     Nothing,
     /// A site: one line wasn't blank.
@@ -42,47 +42,47 @@ fn whole(alloc: Global, kind: FaultKind) -> JsonFault
 
 // What one line tells.
 #[tactic(auto, using(crate::proofs::SiteTexts::says_short))]
-fn telling_on(alloc: Global, line: &[u8]) -> Result<Telling, AllocError>
-    ensures { IfOk result (λ telling. telling_of telling ≡ one (line_says (Some line.now))) }
+fn line_told(alloc: Global, line: &[u8]) -> Result<SiteLines, AllocError>
+    ensures { IfOk result (λ lines. lines_told lines ≡ one (line_says (Some line.now))) }
 {
     match read_site(alloc, line) {
-        Ok(site) => Ok(Telling::Site(site)),
-        Err(JsonRefusal::Fault(fault)) => Ok(Telling::Fault(fault)),
+        Ok(site) => Ok(SiteLines::Site(site)),
+        Err(JsonRefusal::Fault(fault)) => Ok(SiteLines::Fault(fault)),
         Err(JsonRefusal::Memory) => Err(AllocError),
     }
 }
 
-impl Telling {
+impl SiteLines {
     // What was told, once one more line wasn't blank.
-    fn after(&self, alloc: Global, line: &[u8]) -> Result<Telling, AllocError>
-        ensures { IfOk result (λ telling. telling_of telling ≡ after_filled (telling_of self.now) (Some line.now)) }
+    fn after(&self, alloc: Global, line: &[u8]) -> Result<SiteLines, AllocError>
+        ensures { IfOk result (λ lines. lines_told lines ≡ after_filled (lines_told self.now) (Some line.now)) }
     {
         match self {
-            Telling::Nothing => telling_on(alloc, line),
-            _ => Ok(Telling::More),
+            SiteLines::Nothing => line_told(alloc, line),
+            _ => Ok(SiteLines::More),
         }
     }
 
     // The same, where that line was too long.
     #[tactic(auto, using(crate::proofs::SiteTexts::says_long))]
-    fn after_long(&self, alloc: Global) -> Telling
-        ensures { telling_of result ≡ after_filled (telling_of self.now) None }
+    fn after_long(&self, alloc: Global) -> SiteLines
+        ensures { lines_told result ≡ after_filled (lines_told self.now) None }
     {
         match self {
-            Telling::Nothing => Telling::Fault(whole(alloc, FaultKind::TooLong)),
-            _ => Telling::More,
+            SiteLines::Nothing => SiteLines::Fault(whole(alloc, FaultKind::TooLong)),
+            _ => SiteLines::More,
         }
     }
 
     // The site that the whole text tells, or its fault.
     fn told(self, alloc: Global) -> Result<Site, JsonFault>
-        ensures { seen plain_site result ≡ told (telling_of self) }
+        ensures { seen plain_site result ≡ told (lines_told self) }
     {
         match self {
-            Telling::Nothing => Err(whole(alloc, FaultKind::Missing)),
-            Telling::Site(site) => Ok(site),
-            Telling::Fault(fault) => Err(fault),
-            Telling::More => Err(whole(alloc, FaultKind::Unknown)),
+            SiteLines::Nothing => Err(whole(alloc, FaultKind::Missing)),
+            SiteLines::Site(site) => Ok(site),
+            SiteLines::Fault(fault) => Err(fault),
+            SiteLines::More => Err(whole(alloc, FaultKind::Unknown)),
         }
     }
 }
@@ -91,18 +91,18 @@ impl Telling {
 #[derive(Drop)]
 struct SiteText {
     alloc: Global,
-    telling: Telling,
+    lines: SiteLines,
 }
 
 impl SiteText {
     // The site that was told, by a text that says one.
-    #[tactic(auto, using(crate::proofs::SiteTexts::telling_site))]
+    #[tactic(auto, using(crate::proofs::SiteTexts::accepted_site))]
     fn into_site(self) -> Site
-        requires { AcceptsEnd site_work (telling_of self.telling) }
-        ensures { told (telling_of self.telling) ≡ Ok (plain_site result) }
+        requires { AcceptsEnd site_work (lines_told self.lines) }
+        ensures { told (lines_told self.lines) ≡ Ok (plain_site result) }
     {
-        match self.telling {
-            Telling::Site(site) => site,
+        match self.lines {
+            SiteLines::Site(site) => site,
             _ => unreachable!(),
         }
     }
@@ -112,11 +112,11 @@ impl LineJob for SiteText {
     type Refusal = JsonFault;
 
     ghost use Rattle.std.specs.Prelude.{⊤};
-    ghost use Rattle.pol_cli.specs.SiteTexts.{Told, site_work, telling_of};
+    ghost use Rattle.pol_cli.specs.SiteTexts.{Told, site_work, lines_told};
 
     ghost State = { Told };
 
-    ghost state = { λ text. telling_of text.telling };
+    ghost state = { λ text. lines_told text.lines };
 
     ghost work = { site_work };
 
@@ -130,17 +130,17 @@ impl LineJob for SiteText {
     fn reply(&mut self, line: InputLine<'_>, _out: &mut Vec<u8>) -> Result<(), Stop<JsonFault>> {
         match line {
             InputLine::Text(text) if is_blank(text) => {}
-            InputLine::Text(text) => self.telling = self.telling.after(self.alloc, text)?,
-            InputLine::TooLong => self.telling = self.telling.after_long(self.alloc),
+            InputLine::Text(text) => self.lines = self.lines.after(self.alloc, text)?,
+            InputLine::TooLong => self.lines = self.lines.after_long(self.alloc),
         }
         Ok(())
     }
 
     #[tactic(auto, using(crate::proofs::SiteTexts::told_well, crate::proofs::SiteTexts::told_accepted))]
     fn end(&mut self) -> Result<(), Stop<JsonFault>> {
-        match mem::replace(&mut self.telling, Telling::Nothing).told(self.alloc) {
+        match mem::replace(&mut self.lines, SiteLines::Nothing).told(self.alloc) {
             Ok(site) => {
-                self.telling = Telling::Site(site);
+                self.lines = SiteLines::Site(site);
                 Ok(())
             }
             Err(fault) => Err(Stop::Refused(fault)),
@@ -180,7 +180,7 @@ pub fn read_text<S: Source>(alloc: Global, source: &mut S) -> Result<Site, JobFa
 {
     let mut text = SiteText {
         alloc,
-        telling: Telling::Nothing,
+        lines: SiteLines::Nothing,
     };
     work(alloc, &mut text, source, &mut Nowhere)?;
     Ok(text.into_site())

@@ -30,20 +30,20 @@ returns-in_err-put_event_line-clause-part g c =
     (c.loop-entry.lines.items ++ rest) all) cut c.loop-entry.invariant.so_far))
 
 -- the lines that wait, once one more was put behind them, and those of the entries to come
-pub returns-in_err-hand_on-clause-part : goal.returns-in_err-hand_on-clause-part
-returns-in_err-hand_on-clause-part g c =
+pub returns-in_err-put_if_enough-clause-part : goal.returns-in_err-put_if_enough-clause-part
+returns-in_err-put_if_enough-clause-part g c =
     let line : Entry → List ℕ = (λ entry. event_line (plain_event entry.event)) in
     let all = entry_lines c.args.entries.now in
     let rest = entry_lines (drop (c.loop-entry.entry-index + 1) c.args.entries.now) in
     let cut = cut_lines line c.args.entries.now c.loop-entry.entry-index c.entry-item.result c.loop-entry-test.true
     c.entry-item.is in
-    let fault = err_from_is_err_and c.from_residual-in_err-hand_on.result c.from_residual-in_err-hand_on.ensures.1 in
+    let fault = err_from_is_err_and c.from_residual-in_err-put_if_enough.result c.from_residual-in_err-put_if_enough.ensures.1 in
     rw fault.1 (cut_next _ _ _ c.put_event_line.new.lines.items rest all
     (subst (λ waiting. WritesUpTo (g.K.Sink.held c.args.sink.now) (g.K.Sink.held c.loop-entry.sink)
     (waiting ++ rest) all) (sym c.in_ok-put_event_line.ensures)
     (waits_longer _ _ c.loop-entry.lines.items (line c.entry-item.result) rest all
     (subst (λ rest. WritesUpTo (g.K.Sink.held c.args.sink.now) (g.K.Sink.held c.loop-entry.sink)
-    (c.loop-entry.lines.items ++ rest) all) cut c.loop-entry.invariant.so_far))) c.in_err-hand_on.ensures.part)
+    (c.loop-entry.lines.items ++ rest) all) cut c.loop-entry.invariant.so_far))) c.in_err-put_if_enough.ensures.part)
 
 pub loop-entry-preserved : goal.loop-entry-preserved
 loop-entry-preserved g c =
@@ -53,13 +53,13 @@ loop-entry-preserved g c =
     let cut = cut_lines line c.args.entries.now c.loop-entry.entry-index c.entry-item.result c.loop-entry-test.true
     c.entry-item.is in
     record {
-      so_far = handed_on _ _ _ c.put_event_line.new.lines.items c.hand_on.new.lines.items rest all
+      so_far = handed_on _ _ _ c.put_event_line.new.lines.items c.put_if_enough.new.lines.items rest all
           (subst (λ waiting. WritesUpTo (g.K.Sink.held c.args.sink.now) (g.K.Sink.held c.loop-entry.sink)
           (waiting ++ rest) all) (sym c.in_ok-put_event_line.ensures)
           (waits_longer _ _ c.loop-entry.lines.items (line c.entry-item.result) rest all
           (subst (λ rest. WritesUpTo (g.K.Sink.held c.args.sink.now) (g.K.Sink.held c.loop-entry.sink)
-          (c.loop-entry.lines.items ++ rest) all) cut c.loop-entry.invariant.so_far))) c.in_ok-hand_on.ensures.text;
-      sound = c.in_ok-hand_on.ensures.cause.done ∙ c.loop-entry.invariant.sound;
+          (c.loop-entry.lines.items ++ rest) all) cut c.loop-entry.invariant.so_far))) c.in_ok-put_if_enough.ensures.text;
+      sound = c.in_ok-put_if_enough.ensures.cause.done ∙ c.loop-entry.invariant.sound;
     }
 
 pub returns-clause-text : goal.returns-clause-text

@@ -4,5 +4,5 @@ use Rattle.pol_lines.proofs.recipes.chart_in.Goals as goal
 
 pub returns-in-Ok-new-clause-valid : goal.returns-in-Ok-new-clause-valid
 returns-in-Ok-new-clause-valid c =
-    rw c.in-Ok-new.ensures.ok (sym c.fault_of.ensures
-    ∙ no_fault c.fault_of.result (sym c.is_some.ensures ∙ c.if-is_some.false))
+    rw c.in-Ok-new.ensures.ok (sym c.chart_fault.ensures
+    ∙ no_fault c.chart_fault.result (sym c.is_some.ensures ∙ c.if-is_some.false))

@@ -3,7 +3,7 @@ use Rattle.chart_core.specs.Trees.{plain_step}
 use Rattle.chart_json.specs.Form.{tree_of}
 use Rattle.pol_lines.proofs.Noding.{step_node}
 use Rattle.pol_lines.proofs.Printed.{reads_as}
-use Rattle.pol_lines.proofs.nodes.read_leaf.Goals as goal
+use Rattle.pol_lines.proofs.nodes.read_step_node.Goals as goal
 
 pub returns : goal.returns
 returns c =
