@@ -44,7 +44,7 @@ class Driver:
         """Keeps each chart and each batch's recipe, since an answer doesn't repeat a step's settings; and the last command."""
         event = json.loads(line) if "bad" not in answer else {}
         done = answer.get("did", {})
-        if done.get("do") in ("start", "finish", "reset", "stop", "asked"):
+        if done.get("do") in ("start", "finish", "reset", "stop", "hold", "unhold", "asked"):
             self.last = done, self.settings(event["batch"], done["step"]) if done["do"] == "start" else []
         if answer == {"done": True}:
             if event["ev"] == "recipe":

@@ -55,7 +55,7 @@ const docs = {
       "number": 9,
       "star": false,
       "holds": "the service reported a state since docking, the new one is another, and no edge leads there",
-      "remedy": "a report was lost or is wrong. Report the states that were passed, in their order (a report was lost). A module that no open batch holds or watches may also be unplugged and plugged; one on which no step runs and whose services were last reported at rest, exchanged or its exchange begun and cancelled: it then begins unreported"
+      "remedy": "a report was lost or is wrong. Report the states that were passed, in their order (a report was lost). A module that no open batch holds or watches may also be unplugged and plugged again. One on which no step runs and whose services were last reported at rest may be exchanged, or its exchange begun and cancelled. It then begins unreported"
     },
     NoVariable: {
       "number": 10,
@@ -187,13 +187,13 @@ const docs = {
       "number": 31,
       "star": false,
       "holds": "no edge with the command leaves the last reported state",
-      "remedy": "the state machine has no such edge from the last reported state"
+      "remedy": "the state machine has no such edge from the last reported state: wait for another state, or give another command"
     },
     NotEnabled: {
       "number": 32,
       "star": false,
       "holds": "the command's bit isn't in the last reported CommandEn",
-      "remedy": "the module doesn't enable the command now"
+      "remedy": "the module doesn't enable the command now: wait for a report whose CommandEn has it"
     },
     OutOfRange: {
       "number": 33,
@@ -210,7 +210,7 @@ const docs = {
     AlreadyFrozen: {
       "number": 35,
       "star": false,
-      "holds": "the last accepted freeze, thaw or stop of the batch is a freeze; and this freeze has no hold, or that one has it",
+      "holds": "the last accepted freeze, thaw or stop of the batch is a freeze; and hold is false in this freeze or true in that one",
       "remedy": "nothing is to be done"
     },
     SelfCompletes: {
@@ -259,7 +259,7 @@ const docs = {
     },
     InState: {
       "for": "another state of the step's service than the one told",
-      "look": "the service of {step} is in {state}; wait for its next report. If it waits in Idle after a start, the command was lost (send it again: the report that follows is taken as ever), a report was lost (what helps), or somebody else has reset the service: then stop or abandon the batch"
+      "look": "the service of {step} is in {state}; wait for its next report. If it waits in Idle after a start, the command was lost (send it again: the report that follows is taken as ever), a report was lost (what helps), or somebody else has reset the service: then stop or abandon the batch. After a thaw it may wait for Held, or for the service to leave it (hold a batch)"
     },
     Forbidden: {
       "for": "a mode, state or enabled bit: the reason is one of the four above, for a recipe",
@@ -298,8 +298,8 @@ const docs = {
     exchange_cancel: "done; the old module is docked",
   },
   does: {
-    freeze: "advance does nothing until a thaw or a stop. Nothing is sent; services go on.",
-    freezeHolding: "each advance sends Hold to one service of the batch; when none is left to be asked it waits. A batch that was frozen without hold is raised to this.",
+    freeze: "advance does nothing until a thaw, a stop, an abandon or a freeze with hold true. Nothing is sent; services go on.",
+    freezeHolding: "each advance sends Hold to one service of the batch; when none is left to be asked it waits. A batch that was frozen with hold false is raised to this.",
     thaw: "the batch goes on where it was; what was held is unheld first",
     abandon: "closed at once as Abandoned. No command is sent, so its services go on as they are; its modules are free.",
   },
