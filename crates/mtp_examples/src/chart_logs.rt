@@ -1,9 +1,9 @@
 //! The log of a worked chart, and parts of it.
 
-use crate::given::named;
 use chart_core::{Chart, LogEntry, Readings};
 use chart_json::read_chart;
 use chart_runs::{is_part, is_whole};
+use given::named;
 use mtp_codes::Reading;
 use mtp_json::parse;
 use std::alloc::Global;

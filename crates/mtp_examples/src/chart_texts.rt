@@ -1,8 +1,8 @@
 //! Worked charts, and what is wrong with others.
 
-use crate::given::refusal_text;
 use chart_core::Chart;
 use chart_json::{make_chart, node_at, read_chart, roles_at, write_chart};
+use given::refusal_text;
 use mtp_json::{JsonRefusal, parse};
 use serde_json::{Value, json};
 use std::alloc::Global;

@@ -6,8 +6,8 @@ ghost use Rattle.chart_core.specs.Formulas.{plain_condition};
 ghost use Rattle.chart_core.specs.Trees.{Tree, plain_node, plain_finish};
 ghost use Rattle.chart_core.specs.Roles.{plain_role, are_roles_formed};
 
-use crate::given::named;
 use chart_core::{Chart, ChartFault, Condition, Node, Op, Role, Step};
+use given::named;
 use mtp_codes::{Reading, Short};
 use semver::VersionReq;
 use std::alloc::Global;

@@ -4,10 +4,10 @@ ghost use Rattle.std.specs.Prelude.{Some};
 ghost use Rattle.chart_cursor.specs.declared.sight.Sight.TheVariants as sight;
 ghost use Rattle.chart_cursor.specs.declared.sight.ReadingSight.TheVariants as reading;
 
-use crate::given::named;
 use chart_core::{Chart, LogEntry, Readings, Why};
 use chart_cursor::{Cursor, CursorNext, ReadingSight, Seen, Sight};
 use chart_json::read_chart;
+use given::{named, reset, start};
 use mtp_assembly::ServiceControl;
 use mtp_codes::{Command, Forbid, Mode, Name, Origin, Reading, State};
 use mtp_json::parse;
@@ -69,23 +69,6 @@ fn module(state: State, mode: Mode, level: i64) -> Result<OneModule, Fail> {
             self_completes: true,
         },
         level: Reading::Whole(level),
-    })
-}
-
-fn start() -> Result<LogEntry, Fail> {
-    Ok(LogEntry::Start {
-        step: named("s1")?,
-        tag: named("T1")?,
-        service: named("dose")?,
-        procedure: 1,
-    })
-}
-
-fn reset() -> Result<LogEntry, Fail> {
-    Ok(LogEntry::Reset {
-        step: named("s1")?,
-        tag: named("T1")?,
-        service: named("dose")?,
     })
 }
 

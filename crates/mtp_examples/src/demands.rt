@@ -1,6 +1,6 @@
 //! Demands of worked steps on a worked description.
 
-use crate::given::named;
+use given::named;
 use mtp_codes::{Setting, Short, Value};
 use mtp_desc::{Description, read_description};
 use mtp_json::{JsonRefusal, parse};

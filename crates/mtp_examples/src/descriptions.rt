@@ -1,6 +1,6 @@
 //! Worked descriptions, and what is wrong with others.
 
-use crate::given::refusal_text;
+use given::refusal_text;
 use mtp_codes::Name;
 use mtp_desc::{Description, read_description, write_description};
 use mtp_json::{JsonRefusal, parse};

@@ -1,6 +1,6 @@
 //! Readers and writers on worked texts, each with ample memory.
 
-use crate::given::named;
+use given::named;
 use mtp_codes::{Command, State};
 use mtp_json::{
     FaultKind, JsonRefusal, NameJson, Path, PathPart, command_at, form_at, form_if_there, get_name,

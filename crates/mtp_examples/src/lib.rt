@@ -16,8 +16,6 @@ mod descriptions;
 #[cfg(test)]
 mod edges;
 #[cfg(test)]
-mod given;
-#[cfg(test)]
 mod json_forms;
 #[cfg(test)]
 mod names;

@@ -1,6 +1,6 @@
 //! Worked runs of simulated modules.
 
-use crate::given::named;
+use given::named;
 use mtp_assembly::ServiceControl;
 use mtp_codes::{Command, Name, Value};
 use mtp_desc::{Description, read_description};

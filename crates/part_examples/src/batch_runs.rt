@@ -5,10 +5,10 @@ ghost use Rattle.pol_events.specs.Bound.{ArePaired};
 ghost use Rattle.chart_cursor.specs.declared.sight.Sight.TheVariants as sight;
 ghost use Rattle.chart_cursor.specs.declared.sight.ReadingSight.TheVariants as reading_sight;
 
-use crate::given::named;
 use chart_core::{LogEntry, Next, Outcome, Why};
 use chart_cursor::{ReadingSight, Seen, Sight};
 use chart_json::read_chart;
+use given::{named, reset, start};
 use mtp_assembly::ServiceControl;
 use mtp_codes::{Command, Mode, Name, Origin, State};
 use mtp_json::parse;
@@ -96,23 +96,6 @@ fn advanced(run: &mut Run, seen: &OneModule) -> Result<Next, Fail> {
         Some(_) => Err("closed".into()),
         None => Ok(run.advance(seen)),
     }
-}
-
-fn start() -> Result<LogEntry, Fail> {
-    Ok(LogEntry::Start {
-        step: named("s1")?,
-        tag: named("T1")?,
-        service: named("dose")?,
-        procedure: 1,
-    })
-}
-
-fn reset() -> Result<LogEntry, Fail> {
-    Ok(LogEntry::Reset {
-        step: named("s1")?,
-        tag: named("T1")?,
-        service: named("dose")?,
-    })
 }
 
 fn stop() -> Result<LogEntry, Fail> {

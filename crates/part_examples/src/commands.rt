@@ -1,6 +1,6 @@
 //! Commands of the operator's to a worked service.
-use crate::given::named;
 use chart_core::LogEntry;
+use given::named;
 use mtp_assembly::ServiceControl;
 use mtp_codes::{Command, Mode, Origin, State};
 use mtp_modes::ServiceView;

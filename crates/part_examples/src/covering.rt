@@ -1,8 +1,8 @@
 //! Worked modules against the role of a worked chart.
 
-use crate::given::named;
 use chart_core::Chart;
 use chart_json::read_chart;
+use given::named;
 use mtp_desc::{Description, read_description};
 use mtp_json::{JsonRefusal, parse};
 use pol_bind::{covers, held_back_by};

@@ -2,7 +2,8 @@
 
 ghost use Rattle.std.specs.Prelude.{Ok};
 
-use crate::given::{fault_text, line_of};
+use crate::event_lines::line_of;
+use given::fault_text;
 use pol_events::{LineFault, LineRefusal, read_event};
 use std::alloc::Global;
 use std::test::*;

@@ -7,8 +7,8 @@ ghost use Rattle.std.specs.Cmp.Lexicographic.{slice_cmp};
 ghost use Rattle.pol_match.specs.Bindings.{AreInOrder};
 ghost use Rattle.pol_match.specs.Candidates.{plain_candidates};
 
-use crate::given::named;
 use chart_core::Chart;
+use given::named;
 use mtp_codes::{MOST_MODULES, Name};
 use pol_events::{Bind, Event, read_event};
 use pol_match::{Candidate, Found, find_binding};

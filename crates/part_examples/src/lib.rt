@@ -14,11 +14,11 @@ mod covering;
 #[cfg(test)]
 mod docked;
 #[cfg(test)]
+mod event_lines;
+#[cfg(test)]
 mod events;
 #[cfg(test)]
 mod finder;
-#[cfg(test)]
-mod given;
 #[cfg(test)]
 mod output_lines;
 #[cfg(test)]

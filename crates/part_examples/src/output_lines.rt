@@ -1,7 +1,7 @@
 //! Output lines, byte for byte.
 
-use crate::given::named;
 use chart_core::{ChartFault, LogEntry, Readings, Why};
+use given::named;
 use mtp_codes::{Command, Forbid, Name, Reading, State};
 use mtp_json::{FaultKind, JsonFault, Path, PathPart};
 use pol_events::{Answer, Bind, Entry, Event, LineFault, Outcome, Rule};

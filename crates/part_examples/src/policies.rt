@@ -1,6 +1,6 @@
 //! Worked policies, what is wrong with others, what they say to commands, and journals under a policy.
 
-use crate::given::{fault_text, named, refusal_text};
+use given::{fault_text, named, refusal_text};
 use mtp_codes::Command;
 use mtp_json::JsonFault;
 use pol_guard::Guarding;

@@ -2,7 +2,7 @@
 
 ghost use Rattle.std.specs.Prelude.{Ok};
 
-use crate::given::line_of;
+use crate::event_lines::line_of;
 use pol_lines::{read_line, read_quick};
 use std::alloc::{AllocError, Global};
 use std::process::Abort;

@@ -1,6 +1,6 @@
 //! A whole site, and what is wrong with others.
 
-use crate::given::refusal_text;
+use given::refusal_text;
 use pol_site::{Site, read_site};
 use std::alloc::Global;
 use std::test::*;

@@ -1,6 +1,6 @@
 //! A worked doser: what it tells, and its exchange.
-use crate::given::named;
 use chart_cursor::Sight;
+use given::named;
 use mtp_assembly::ServiceControl;
 use mtp_codes::{Mode, Origin, State, Value};
 use mtp_desc::{Description, read_description};

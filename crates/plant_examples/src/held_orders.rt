@@ -1,7 +1,7 @@
 //! A batch of three parallel steps is frozen, held, thawed, stopped and broken in every order of these, and advanced
 //! twice after each. Its module obeys each command at once.
-use crate::given::named;
 use chart_core::{LogEntry, Why};
+use given::named;
 use mtp_assembly::ServiceControl;
 use mtp_codes::{Mode, Name, Origin, State};
 use pol_core::Plant;

@@ -2,8 +2,6 @@
 #![tactic(auto)]
 
 #[cfg(test)]
-mod given;
-#[cfg(test)]
 mod held_orders;
 #[cfg(test)]
 mod looking_back;

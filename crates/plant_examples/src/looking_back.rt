@@ -1,6 +1,6 @@
 //! A worked batch, answered event by event.
-use crate::given::named;
 use chart_core::LogEntry;
+use given::named;
 use pol_audit::says;
 use pol_events::{Answer, Entry, read_event};
 use std::test::*;

@@ -1,6 +1,6 @@
 //! A plant with ample memory: a worked journal, room that is taken first, and a full history.
-use crate::given::named;
 use chart_core::LogEntry;
+use given::named;
 use pol_core::{Docking, Plant};
 use pol_events::{Answer, Event, Rule, read_event};
 use std::test::*;

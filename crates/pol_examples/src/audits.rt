@@ -1,6 +1,7 @@
 //! Histories that the job audit is given: true ones, and what is told of the others.
-use super::plants::{SITE, entry_in, run_site};
+use super::plants::{entry_in, run_site};
 use super::runs::{Journal, run, run_each};
+use given::SITE;
 use std::alloc::{AllocError, Global};
 use std::test::Fail;
 

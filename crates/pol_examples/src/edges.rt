@@ -1,7 +1,8 @@
 //! Readers and writers that give and take little at a time or much, are interrupted, or fail in the middle of a journal;
 //! and a disk that fills up.
 use super::batches::DOSING_AND_MIXING;
-use super::runs::{end_of, words_of};
+use super::runs::end_of;
+use given::words_of;
 use pol_cli::end;
 use pol_io::{ReaderSource, SureSource, WriterSink};
 use std::alloc::Global;

@@ -1,6 +1,7 @@
-//! Faults of the source, of the sink and of the input's size.
+//! Faults of the source and of the sink, and a line that is too long.
 use super::batches::DOSING_AND_MIXING;
-use super::runs::{end_of, run_failing, words_of};
+use super::runs::{end_of, run_failing};
+use given::words_of;
 use pol_io::{SureSink, SureSource};
 use std::test::Fail;
 
@@ -51,16 +52,5 @@ fn a_line_too_long_is_told_and_skipped(rt: HostRuntime) -> Result<(), Fail> {
         "{\"bad\":\"TooLong\",\"path\":\"\"}\n{\"bad\":\"WrongKind\",\"path\":\"\"}\n{\"end\":true}\n";
     assert_eq!(rt; status, 0);
     assert!(rt; sink.bytes() == output.as_bytes());
-    Ok(())
-}
-
-#[test]
-fn too_much_input_is_a_status(rt: HostRuntime) -> Result<(), Fail> {
-    let words = words_of(rt.alloc(), "pol --job replay")?;
-    let mut source = SureSource::new(vec![in rt.alloc(); b' '; 268_435_457]?);
-    let mut sink = SureSink::new(rt.alloc());
-    let status = end_of(&rt, rt.alloc(), &words, &mut source, &mut sink).number();
-    assert_eq!(rt; status, 6);
-    assert!(rt; sink.bytes().is_empty());
     Ok(())
 }

@@ -1,5 +1,6 @@
 //! Journals under an operator policy.
-use super::runs::{Journal, end_of, run_each, words_of};
+use super::runs::{Journal, end_of, run_each};
+use given::words_of;
 use pol_io::{SureSink, SureSource};
 use std::test::Fail;
 

@@ -1,6 +1,7 @@
 //! Plants that are kept on a disk: what is there after a crash, what is opened again, and what is no store.
 use super::batches::FROZEN_AND_STOPPED_LINES;
-use super::runs::{empty_disk, words_of};
+use super::runs::empty_disk;
+use given::words_of;
 use pol_cli::top;
 use pol_disk::MemoryDisk;
 use pol_io::{MemoryClock, SureSink, SureSource};

@@ -6,8 +6,6 @@ mod audits;
 #[cfg(test)]
 mod batches;
 #[cfg(test)]
-mod commands;
-#[cfg(test)]
 mod edges;
 #[cfg(test)]
 mod exchanges;

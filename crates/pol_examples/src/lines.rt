@@ -2,7 +2,7 @@
 use super::runs::{Journal, replay_each};
 use std::test::Fail;
 
-const LINES: [Journal; 11] = [
+const LINES: [Journal; 7] = [
     Journal {
         title: "one module and one report",
         input: r#"{"at":1,"desc":{"services":[{"name":"dose"}],"type":"Doser","version":"1.0.0"},"ev":"plug","tag":"M1"}
@@ -45,18 +45,6 @@ const LINES: [Journal; 11] = [
 "#,
     },
     Journal {
-        title: "a line that is no object, an unknown kind of event and a description without its type",
-        input: r#"[]
-{"at":1,"ev":"jump"}
-{"at":1,"desc":{"services":[{"name":"dose"}],"version":"1.0.0"},"ev":"plug","tag":"M1"}
-"#,
-        output: r#"{"bad":"WrongKind","path":""}
-{"bad":"OutOfRange","path":"ev"}
-{"bad":"Missing","path":"desc.type"}
-{"end":true}
-"#,
-    },
-    Journal {
         title: "bad lines of six kinds",
         input: r#"[]
 {"at":1,"ev":"unplug"}
@@ -78,33 +66,6 @@ const LINES: [Journal; 11] = [
         title: "brackets nested too deep are not JSON",
         input: "[[[[[[[[[[[[[[[[[[[[[[[[[[[[[[[[[[[[[[[[[[[[[[[[[[[[[[[[[[[[[[[[[[[[[[[[[[[[[[[[[[[[[[[[[[[[[[[[[[[[[[[[[[[[[[[[[[[[[[[[[[[[[[[[]]]]]]]]]]]]]]]]]]]]]]]]]]]]]]]]]]]]]]]]]]]]]]]]]]]]]]]]]]]]]]]]]]]]]]]]]]]]]]]]]]]]]]]]]]]]]]]]]]]]]]]]]]]]]]]]]]]]]]]]]]]]]]]]\n",
         output: r#"{"bad":"NotJson","path":""}
-{"end":true}
-"#,
-    },
-    Journal {
-        title: "a line cut after one byte",
-        input: r#"{"at":1,"desc":{"services":[{"name":"dose"}],"type":"Doser","version":"1.0.0"},"ev":"plug","tag":"M1"}
-{"#,
-        output: r#"{"done":true}
-{"bad":"NotJson","path":""}
-{"end":true}
-"#,
-    },
-    Journal {
-        title: "a line cut after half",
-        input: r#"{"at":1,"desc":{"services":[{"name":"dose"}],"type":"Doser","version":"1.0.0"},"ev":"plug","tag":"M1"}
-{"CommandEn":4,"Mode":"Automatic","ProcedureCur":0,"Src":"Externa"#,
-        output: r#"{"done":true}
-{"bad":"NotJson","path":""}
-{"end":true}
-"#,
-    },
-    Journal {
-        title: "a line cut after all but its last brace",
-        input: r#"{"at":1,"desc":{"services":[{"name":"dose"}],"type":"Doser","version":"1.0.0"},"ev":"plug","tag":"M1"}
-{"CommandEn":4,"Mode":"Automatic","ProcedureCur":0,"Src":"External","StateCur":16,"at":2,"ev":"report","service":"dose","tag":"M1""#,
-        output: r#"{"done":true}
-{"bad":"NotJson","path":""}
 {"end":true}
 "#,
     },

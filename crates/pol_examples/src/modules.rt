@@ -1,8 +1,8 @@
-//! Modules: the states that they report, and when they may come and go.
+//! Modules: the states that they report, when they may come and go, and what an operator may command.
 use super::runs::{Journal, replay_each};
 use std::test::Fail;
 
-const MODULES: [Journal; 8] = [
+const MODULES: [Journal; 9] = [
     Journal {
         title: "a skipped state is refused",
         input: r#"{"at":1,"desc":{"services":[{"name":"dose"}],"type":"Doser","version":"1.0.0"},"ev":"plug","tag":"M"}
@@ -173,6 +173,30 @@ const MODULES: [Journal; 8] = [
 {"done":true}
 {"batch":"b","bind":{"A":"N"},"log":[{"do":"start","procedure":1,"service":"dose","step":"s1","tag":"N"}],"outcome":"Running","recipe":"one"}
 {"batch":"c","bind":{"A":"M"},"log":[],"outcome":"Running","recipe":"one"}
+{"end":true}
+"#,
+    },
+    Journal {
+        title: "operator commands and their refusals",
+        input: r#"{"at":1,"desc":{"services":[{"name":"dose","procedures":[{"default":true,"number":1,"params":[{"kind":"DIntServParam","max":5000,"min":0,"name":"amount"}],"self_completing":true}]}],"type":"Doser","variables":[{"kind":"AnaView","name":"level"}],"version":"1.0.0"},"ev":"plug","tag":"M"}
+{"CommandOp":4,"at":2,"ev":"desk","service":"dose","tag":"M"}
+{"CommandEn":4,"Mode":"Automatic","ProcedureCur":0,"Src":"External","StateCur":16,"at":3,"ev":"report","service":"dose","tag":"M"}
+{"CommandOp":4,"at":4,"ev":"desk","service":"dose","tag":"M"}
+{"CommandEn":0,"Mode":"Operator","ProcedureCur":0,"Src":"Internal","StateCur":16,"at":5,"ev":"report","service":"dose","tag":"M"}
+{"CommandOp":4,"at":6,"ev":"desk","service":"dose","tag":"M"}
+{"CommandEn":0,"Mode":"Operator","ProcedureCur":0,"Src":"Internal","StateCur":128,"at":7,"ev":"report","service":"dose","tag":"M"}
+{"CommandEn":4,"Mode":"Operator","ProcedureCur":0,"Src":"Internal","StateCur":4,"at":8,"ev":"report","service":"dose","tag":"M"}
+{"CommandOp":4,"at":9,"ev":"desk","service":"dose","tag":"M"}
+"#,
+        output: r#"{"done":true}
+{"name":"dose","refused":23,"rule":"NotReported","tag":"M"}
+{"done":true}
+{"refused":30,"rule":"ModeForbids"}
+{"done":true}
+{"refused":32,"rule":"NotEnabled"}
+{"done":true}
+{"done":true}
+{"refused":31,"rule":"StateForbids"}
 {"end":true}
 "#,
     },

@@ -1,16 +1,12 @@
 //! Sites that are run by the job plant.
-use super::runs::{end_of, run, words_of};
+use super::runs::{end_of, run};
+use given::{SITE, words_of};
 use pol_io::{SureSink, SureSource};
 use std::alloc::Global;
 use std::process::Abort;
 use std::sync::Wait;
 use std::test::Fail;
 use std::thread::Threads;
-
-/// A site of two dosers and a mixer, a batch of dosing and mixing, another of one dose, and an exchange.
-pub const SITE: &str =
-    r#"{"batches":[{"batch":"b1","bind":{"A":"M1","B":"M2"},"recipe":"mix"},{"batch":"b2","bind":{"A":"M3"},"recipe":"one"}],"desk":[],"exchanges":[{"after":0,"desc":{"services":[{"name":"dose","procedures":[{"default":true,"number":1,"params":[{"kind":"DIntServParam","max":5000,"min":0,"name":"amount"}],"self_completing":true}]}],"type":"Doser","variables":[{"kind":"AnaView","name":"level"}],"version":"1.1.0"},"sim":{"drift":[{"by":500,"from":0,"name":"level","to":3000}],"run":2,"ticks":1},"tag":"M3"}],"modules":[{"desc":{"services":[{"name":"dose","procedures":[{"default":true,"number":1,"params":[{"kind":"DIntServParam","max":5000,"min":0,"name":"amount"}],"self_completing":true}]}],"type":"Doser","variables":[{"kind":"AnaView","name":"level"}],"version":"1.0.0"},"sim":{"drift":[{"by":500,"from":0,"name":"level","to":3000}],"run":2,"ticks":1},"tag":"M1"},{"desc":{"services":[{"name":"stir"},{"name":"heat","procedures":[{"default":true,"number":1,"self_completing":true}]}],"type":"Mixer","variables":[{"kind":"DIntView","name":"temp"}],"version":"2.0.0"},"sim":{"drift":[{"by":10,"from":20,"name":"temp","to":90}],"run":2,"ticks":1},"tag":"M2"},{"desc":{"services":[{"name":"dose","procedures":[{"default":true,"number":1,"params":[{"kind":"DIntServParam","max":5000,"min":0,"name":"amount"}],"self_completing":true}]}],"type":"Doser","variables":[{"kind":"AnaView","name":"level"}],"version":"1.0.0"},"sim":{"drift":[{"by":500,"from":0,"name":"level","to":3000}],"run":2,"ticks":1},"tag":"M3"}],"recipes":[{"chart":{"seq":[{"loop":{"procedure":1,"role":"A","service":"dose","settings":[{"name":"amount","value":1500}],"step":"fill"},"until":{"op":"ge","role":"A","test":"level","value":1500}},{"par":[{"finish":{"op":"ge","role":"B","test":"temp","value":60},"procedure":1,"role":"B","service":"stir","step":"stir"},{"procedure":1,"role":"B","service":"heat","step":"heat"}]}]},"recipe":"mix","roles":[{"role":"A","type":"Doser","version":"^1"},{"role":"B","type":"Mixer","version":"^2"}]},{"chart":{"procedure":1,"role":"A","service":"dose","settings":[{"name":"amount","value":1500}],"step":"s1"},"recipe":"one","roles":[{"role":"A","type":"Doser","version":"^1"}]}]}
-"#;
 
 /// A site of a tank and two pumps: a batch fills the tank, and two others wait for its level.
 const TANK_SITE: &str =

@@ -1,5 +1,6 @@
-//! One row for each rule, whose answer names it: the shortest journal whose last line it refuses. The rules of full tables
-//! (PlantFull, BatchesFull, RecipesFull) stand in `limits.rt`.
+//! One row for each rule, whose answer names it: the shortest journal whose last line it refuses, by the program and by
+//! looking back. The rules of full tables (PlantFull, BatchesFull, RecipesFull) stand in `limits.rt`.
+use super::looking_back::output_of;
 use super::runs::begins;
 use std::alloc::{AllocError, Global};
 use std::test::Fail;
@@ -335,6 +336,12 @@ fn each_rule_refuses_its_line(rt: HostRuntime) -> Result<(), Fail> {
         let (input, output) = journal_of(alloc, refusal)?;
         let is_refused = begins(&rt, alloc, input.as_str(), output.as_str())?;
         assert!(rt; is_refused, "{}", refusal.answer);
+        let looked_back = output_of(alloc, input.as_str())?;
+        assert!(rt;
+            looked_back.as_slice().starts_with(output.as_bytes()),
+            "{}, by looking back",
+            refusal.answer
+        );
     }
     Ok(())
 }

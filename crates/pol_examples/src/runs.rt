@@ -1,5 +1,6 @@
 //! Running the program's jobs over memory.
 use super::looking_back::output_of;
+use given::words_of;
 use pol_cli::{Status, top};
 use pol_disk::MemoryDisk;
 use pol_io::{MemoryClock, MemorySink, MemorySource, Sink, Source, SureSink, SureSource};
@@ -16,15 +17,6 @@ pub struct Journal {
     pub title: &'static str,
     pub input: &'static str,
     pub output: &'static str,
-}
-
-/// The words of a command line, cut at its spaces.
-pub fn words_of(alloc: Global, line: &str) -> Result<Vec<String>, AllocError> {
-    let mut words = Vec::new(alloc);
-    for word in line.split(' ') {
-        words.push(word.to_string(alloc)?)?;
-    }
-    Ok(words)
 }
 
 /// A disk without a byte, of which no call fails.

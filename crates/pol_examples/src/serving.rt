@@ -1,6 +1,7 @@
 //! Jobs whose input and output come and go in small pieces or stop in the middle, and the demo, which reads nothing.
 use super::batches::DOSING_AND_MIXING;
-use super::runs::{end_of, run, words_of};
+use super::runs::{end_of, run};
+use given::words_of;
 use pol_io::{
     DripSink, DripSource, Failed, LONGEST_INPUT, MemorySource, Sink, SinkFault, Source, SureSink,
 };

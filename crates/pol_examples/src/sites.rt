@@ -27,45 +27,73 @@ struct Numbers {
     apart: u32,
 }
 
-/// Each site with what it has more than one module with one service and one batch on it.
-const SITES: [(&str, &str); 20] = [
-    ("one module and one batch", ""),
-    ("no batch", "batches 0"),
-    ("slow services", "ticks 5, run 9"),
-    ("a long drift", "run 4, to 20000"),
-    ("batches in turn on one module", "batches 5"),
-    ("one module with 32 services", "services 32"),
+/// Each site with what it has more than one module with one service and one batch on it, how many of its exchanges are
+/// made, and how many commands its desk sends.
+///
+/// All are, but where one waits for more entries than the run comes to: the second exchange of the site "an exchange at
+/// once and one that never comes", and the seventeenth command of "the desk under a batch", which waits for 32 entries.
+/// That run has 31: two openings, the first reports of a service and of a level, five entries of the batch, six reports
+/// of its step, and sixteen commands.
+const SITES: [(&str, &str, u32, u32); 20] = [
+    ("one module and one batch", "", 0, 0),
+    ("no batch", "batches 0", 0, 0),
+    ("slow services", "ticks 5, run 9", 0, 0),
+    ("a long drift", "run 4, to 20000", 0, 0),
+    ("batches in turn on one module", "batches 5", 0, 0),
+    ("one module with 32 services", "services 32", 0, 0),
     (
         "many services and batches",
         "services 32, batches 8, to 3000",
+        0,
+        0,
     ),
-    ("two modules, two each", "modules 2, batches 4, each 2"),
-    ("pairs compete", "modules 3, batches 9, each 2, run 3"),
-    ("an exchange at once", "exchanges 1"),
+    (
+        "two modules, two each",
+        "modules 2, batches 4, each 2",
+        0,
+        0,
+    ),
+    ("pairs compete", "modules 3, batches 9, each 2, run 3", 0, 0),
+    ("an exchange at once", "exchanges 1", 1, 0),
     (
         "an exchange in the middle of a batch",
         "exchanges 2, apart 9, run 5, to 3000",
+        2,
+        0,
     ),
     (
         "exchanges between batches",
         "batches 6, exchanges 4, apart 25",
+        4,
+        0,
     ),
     (
         "exchanges under pairs",
         "modules 3, batches 6, each 2, exchanges 6, apart 20",
+        6,
+        0,
     ),
-    ("exchanges that never come", "exchanges 2, apart 100000"),
-    ("the desk", "orders 8"),
-    ("the desk under a batch", "orders 20, apart 2, run 6"),
+    (
+        "an exchange at once and one that never comes",
+        "exchanges 2, apart 100000",
+        1,
+        0,
+    ),
+    ("the desk", "orders 8", 0, 8),
+    ("the desk under a batch", "orders 20, apart 2, run 6", 0, 16),
     (
         "all at once",
         "modules 4, batches 8, each 2, exchanges 5, apart 15, orders 12",
+        5,
+        12,
     ),
-    ("sixteen modules", "modules 16, batches 16, to 1500"),
-    ("64 modules", "modules 64, batches 64"),
+    ("sixteen modules", "modules 16, batches 16, to 1500", 0, 0),
+    ("64 modules", "modules 64, batches 64", 0, 0),
     (
         "64 modules and 128 batches",
         "modules 64, batches 128, exchanges 8, apart 40, orders 8",
+        8,
+        8,
     ),
 ];
 
@@ -249,7 +277,7 @@ fn site_of(alloc: Global, numbers: &Numbers) -> Result<String, AllocError> {
 #[test]
 fn twenty_sites_come_to_their_end(rt: HostRuntime) -> Result<(), Fail> {
     let alloc = rt.alloc();
-    for (title, text) in SITES {
+    for (title, text, exchanges, orders) in SITES {
         let numbers = numbers_of(text)?;
         let site = site_of(alloc, &numbers)?;
         let printed = run_site(&rt, alloc, "pol --job plant", site.as_str())?;
@@ -257,8 +285,10 @@ fn twenty_sites_come_to_their_end(rt: HostRuntime) -> Result<(), Fail> {
         let completed = lines_with(output, "\"outcome\":\"Completed\"");
         assert_eq!(rt; completed, numbers.batches, "{title}");
         let begun = lines_with(output, "\"ev\":\"exchange_begin\"");
+        assert_eq!(rt; begun, exchanges, "{title}");
         let ended = accepted_with(output, "\"ev\":\"exchange_end\"");
-        assert_eq!(rt; begun, ended, "{title}");
+        assert_eq!(rt; ended, exchanges, "{title}");
+        assert_eq!(rt; lines_with(output, "\"ev\":\"desk\""), orders, "{title}");
         assert_eq!(rt; accepted_with(output, "\"ev\":\"desk\""), 0, "{title}");
     }
     Ok(())

@@ -1,8 +1,9 @@
 //! Actors in threads of their own: two of them meet at the gate, and each event has the stamp of its turn.
 ghost use Rattle.std.specs.Prelude.{◌<◌};
 
-use super::plants::{SITE, entry_in};
-use super::runs::{empty_disk, words_of};
+use super::plants::entry_in;
+use super::runs::empty_disk;
+use given::{SITE, words_of};
 use pol_cli::top;
 use pol_io::{Clock, SureSink, SureSource};
 use pol_live::Gate;

@@ -1,6 +1,6 @@
 //! The job plant has as many watchers as its words ask for.
-use super::plants::SITE;
-use super::runs::{empty_disk, words_of};
+use super::runs::empty_disk;
+use given::{SITE, words_of};
 use pol_cli::top;
 use pol_io::{MemoryClock, SureSink, SureSource};
 use pol_live::Gate;
