@@ -39,12 +39,12 @@ plain_subject (Recipe name) = of_recipe name
 abbrev pub subject_tag : Subject → Option (List ℕ)
 subject_tag (of_module tag) = Some tag
 subject_tag (of_batch batch) = None
-subject_tag (of_recipe recipe) = None
+subject_tag (of_recipe name) = None
 
 abbrev pub subject_batch : Subject → Option (List ℕ)
 subject_batch (of_module tag) = None
 subject_batch (of_batch batch) = Some batch
-subject_batch (of_recipe recipe) = None
+subject_batch (of_recipe name) = None
 
 -- the module of which an entry is an accepted event
 abbrev pub accepted_tag : PlainEntry → Option (List ℕ)
