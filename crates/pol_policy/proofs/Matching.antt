@@ -6,7 +6,7 @@ use Rattle.mtp_codes.specs.Names.{same_name}
 use Rattle.pol_policy.specs.Allowing.{Request, lists, same_command}
 use Rattle.pol_policy.specs.Deciding.{admits_person, matches}
 use Rattle.pol_policy.specs.Names.{name_has}
-use Rattle.pol_policy.specs.Places.{IsFirstOf, has, passes_at}
+use Rattle.pol_policy.specs.Places.{IsFirstOf, IsPlacesOf, has, passes_at}
 use Rattle.pol_policy.specs.Policies.{PlainPolicy, PlainRule, plain_rule}
 use Rattle.pol_policy.specs.Tables.{IsTableOf, places_of_command}
 use Rattle.pol_policy.specs.declared.parts.PolicyRule.{PolicyRule}
@@ -46,7 +46,7 @@ table_matches policy table request made place =
 -- the name of the rule at the first place
 pub name_at_first : (rules : List PolicyRule) (places : PlaceSet) (first : Option ℕ) → IsFirstOf (has places) first
     → (test : PlainRule → Bool)
-    → ((place : ℕ) → has places place ≡ passes_at test (map plain_rule rules) place)
+    → IsPlacesOf test (map plain_rule rules) places
     → option_map (λ rule. rule.name) (option_and_then (slice_get (map plain_rule rules)) first)
     ≡ option_map (λ rule. rule.name) (find test (map plain_rule rules))
 name_at_first rules places first is test same =
@@ -70,8 +70,7 @@ named_plain rules (Some place) =
 -- of both kinds of places at once
 pub of_kind : (rules : List PolicyRule) (matching kind both : PlaceSet) (matches is_kind : PlainRule → Bool)
     → ((place : ℕ) → has both place ≡ (has matching place && has kind place))
-    → ((place : ℕ) → has matching place ≡ passes_at matches (map plain_rule rules) place)
-    → ((place : ℕ) → has kind place ≡ passes_at is_kind (map plain_rule rules) place)
-    → (place : ℕ) → has both place ≡ passes_at (λ rule. matches rule && is_kind rule) (map plain_rule rules) place
+    → IsPlacesOf matches (map plain_rule rules) matching → IsPlacesOf is_kind (map plain_rule rules) kind
+    → IsPlacesOf (λ rule. matches rule && is_kind rule) (map plain_rule rules) both
 of_kind rules matching kind both matches is_kind joined matching_is kind_is place =
     rw (joined place, matching_is place, kind_is place) (sym (passes_both matches is_kind (map plain_rule rules) place))

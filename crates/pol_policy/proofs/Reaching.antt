@@ -1,5 +1,5 @@
 -- The loops over groups: to which each leads, and what is given to their members.
-use Rattle.std.proofs.Common.{ℕ, suc, ◌≡◌, ◌+◌, ◌-◌, ◌<◌, ◌≤◌, ◌||◌, ◌&&◌, Bool, true, false, List, [], ◌∷◌, ◌++◌, length, get_or, take, drop, refl, sym, ap, ◌∙◌, arith, ⊎_elim}
+use Rattle.std.proofs.Common.{ℕ, suc, ◌≡◌, ◌+◌, ◌-◌, ◌<◌, ◌≤◌, ◌||◌, ◌&&◌, Bool, List, [], ◌∷◌, ◌++◌, length, get_or, take, drop, refl, sym, ap, ◌∙◌, arith, ⊎_elim}
 use Rattle.std.specs.List.{list_any}
 use Rattle.std.proofs.Math.Bool.{or_assoc}
 use Rattle.std.proofs.Math.Seq.{drop-cons}
@@ -9,7 +9,7 @@ use Rattle.std.proofs.lemmas.List.Folds.{list_any_more}
 use Rattle.mtp_codes.specs.Names.{is_among}
 use Rattle.pol_policy.specs.Deciding.{leads_through}
 use Rattle.pol_policy.specs.Names.{name_has}
-use Rattle.pol_policy.specs.Places.{has, passes_at}
+use Rattle.pol_policy.specs.Places.{IsPlacesOf, has}
 use Rattle.pol_policy.specs.Tables.{IsAbove, IsReach, above_has, is_next_group}
 use Rattle.pol_policy.specs.declared.name_index.NameIndex.{NameIndex}
 use Rattle.pol_policy.specs.declared.parts.Group.{Group}
@@ -41,8 +41,8 @@ each_pushed Fits groups sets next before here at group set inside =
 
 -- through no group it leads to those next to it
 pub reach_none : (groups : List Group) (sets : List PlaceSet) → length sets ≡ length groups
-    → ((from : ℕ) (group : Group) (set : PlaceSet) → from < length groups → (place : ℕ)
-    → has (get_or sets from set) place ≡ passes_at (is_next_group (get_or groups from group)) groups place)
+    → ((from : ℕ) (group : Group) (set : PlaceSet) → from < length groups
+    → IsPlacesOf (is_next_group (get_or groups from group)) groups (get_or sets from set))
     → IsReach [] groups sets
 unfolding leads_through
 reach_none groups sets whole each = record { whole = whole; each = each }

@@ -1,10 +1,10 @@
 //! For each command the places of some rules.
-ghost use Rattle.std.specs.Prelude.{◌≡◌, ◌≤◌, ℕ, length};
+ghost use Rattle.std.specs.Prelude.{◌≡◌, ◌≤◌, length};
 ghost use Rattle.std.specs.List.{list_any};
 ghost use Rattle.std.specs.Option.{option_map};
 ghost use Rattle.mtp_codes.specs.declared.command.Command.{Command as command_type};
 ghost use Rattle.pol_policy.specs.Allowing.{lists, same_command};
-ghost use Rattle.pol_policy.specs.Places.{has, passes_at};
+ghost use Rattle.pol_policy.specs.Places.{IsPlacesOf};
 ghost use Rattle.pol_policy.specs.Policies.{plain_rule};
 ghost use Rattle.pol_policy.specs.Tables.{places_of_command};
 ghost use Rattle.pol_policy.specs.declared.limits.TheConstants.{MOST_PLACES};
@@ -57,8 +57,7 @@ impl Test for Lists {
 // The places of the rules that list a command.
 fn places_of(rules: &[PolicyRule], command: Command) -> PlaceSet
     requires { length rules.now ≤ MOST_PLACES }
-    ensures { (place : ℕ) → has result place
-        ≡ passes_at (λ rule. lists same_command (plain_rule rule).commands command) rules.now place }
+    ensures { IsPlacesOf (λ rule. lists same_command (plain_rule rule).commands command) rules.now result }
 {
     places_where(&Lists { command }, rules)
 }
@@ -67,8 +66,8 @@ impl CommandIndex {
     /// The index of the commands that these rules list.
     pub fn new(rules: &[PolicyRule]) -> CommandIndex
         requires { length rules.now ≤ MOST_PLACES }
-        ensures { (command : command_type) (place : ℕ) → has (places_of_command result command) place
-            ≡ passes_at (λ rule. lists same_command (plain_rule rule).commands command) rules.now place }
+        ensures { (command : command_type) → IsPlacesOf (λ rule. lists same_command (plain_rule rule).commands command)
+            rules.now (places_of_command result command) }
     {
         CommandIndex {
             reset: places_of(rules, Command::Reset),

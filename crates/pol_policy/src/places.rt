@@ -1,6 +1,6 @@
 //! The places of the items that pass a test.
-ghost use Rattle.std.specs.Prelude.{◌≡◌, ◌≤◌, ℕ, Bool, length};
-ghost use Rattle.pol_policy.specs.Places.{has, passes_at};
+ghost use Rattle.std.specs.Prelude.{◌≡◌, ◌≤◌, Bool, length};
+ghost use Rattle.pol_policy.specs.Places.{IsPlacesOf};
 ghost use Rattle.pol_policy.specs.declared.limits.TheConstants.{MOST_PLACES};
 
 use crate::place_set::PlaceSet;
@@ -20,7 +20,7 @@ pub(crate) trait Test {
 #[tactic(auto, using(crate::proofs::Passing::passes_more))]
 pub(crate) fn places_where<T: Test>(test: &T, items: &[T::Item]) -> PlaceSet
     requires { length items.now ≤ MOST_PLACES }
-    ensures { (place : ℕ) → has result place ≡ passes_at (T.test test.now) items.now place }
+    ensures { IsPlacesOf (T.test test.now) items.now result }
 {
     let mut places = PlaceSet::new();
     for (place, item) in items.iter().enumerate() {

@@ -81,9 +81,9 @@ impl RuleTable {
     }
 
     /// The places of the rules that match.
-    pub fn matching(&self, by: Name, tag: Name, service: Name, command: Command) -> PlaceSet
+    pub fn matching(&self, person: Name, tag: Name, service: Name, command: Command) -> PlaceSet
         ensures { (place : ℕ) → has result place
-            ≡ (name_has self.now.who by place && (name_has self.now.tags tag place
+            ≡ (name_has self.now.who person place && (name_has self.now.tags tag place
             && (name_has self.now.services service place
             && has (places_of_command self.now.commands command) place))) }
     {
@@ -92,6 +92,6 @@ impl RuleTable {
                 .places_of(service)
                 .intersection(self.commands.places_of(command)),
         );
-        self.who.places_of(by).intersection(by_module)
+        self.who.places_of(person).intersection(by_module)
     }
 }
