@@ -5,7 +5,7 @@ use Rattle.std.specs.Prelude.{bit_and, bit_or}
 use Rattle.std.proofs.lemmas.Bool.Decides.{nat_tests}
 use Rattle.std.proofs.lemmas.Bool.{cases_Bool, cases_eq, cases_lt}
 use Rattle.std.proofs.lemmas.Nat.{and_le_l, and_le_r}
-use Rattle.std.proofs.lemmas.Nat.Bits.{shr_and_one, bit_at_set_same, bit_at_set_other, bit_at_and, bit_at_not, bit_at-lt, bit_at-zero, bit_at-trailing_zeros, bit_at_above, same_from_bits}
+use Rattle.std.proofs.lemmas.Nat.Bits.{shr_and_one, bit_at_set_same, bit_at_set_other, bit_at_and, bit_at_not, bit_at-lt, bit_at-zero, bit_at-trailing_zeros, bit_at_above, bit_at_ones, same_from_bits}
 use Rattle.pol_match.specs.Places.{is_in, has_all, IsWithin, IsFirstBeyond}
 
 -- what the test by a shift says
@@ -44,6 +44,21 @@ below set place small there =
     (λ low. low)
     (λ high. let fails = above set place small high in cc)
     (cases_lt place 64)
+
+-- a set that has only places below 64 is a number of 64 bits
+pub small_where_below : (set : ℕ) → ((place : ℕ) → is_in set place ≡ true → place < 64) → set < 2 ^ 64
+small_where_below set each_below =
+    let low = and_le_r set (2 ^ 64 - 1) in
+    let same : bit_and set (2 ^ 64 - 1) ≡ set = same_from_bits (bit_and set (2 ^ 64 - 1)) set (λ place.
+    let both = bit_at_and set (2 ^ 64 - 1) place in
+    ⊎_elim
+    (λ lower. let bit = bit_at-lt set place in let one = bit_at_ones 64 place lower in grind (arith, both, bit, one))
+    (λ high. ⊎_elim
+    (λ holds. let lower = each_below place holds in absurd (omega arith))
+    (λ fails. let bit = in_zero set place fails in grind (arith, both, bit))
+    (cases_Bool (is_in set place)))
+    (cases_lt place 64)) in
+    omega (arith, low, same)
 
 -- nothing is in the empty set
 pub nothing_in : (place : ℕ) → is_in 0 place ≡ false

@@ -64,26 +64,32 @@ set_below_zero tests =
 
 -- one more place is done where it was added just where its test is true
 pub set_below_more : (tests : List Bool) (place old new : ℕ) (wanted : Bool)
-    → ((each : ℕ) → is_in new each ≡ ((each == place && wanted) || is_in old each)) → wanted ≡ get_or tests place false
+    → ((each : ℕ) → is_in new each ≡ ((wanted && each == place) || is_in old each)) → wanted ≡ get_or tests place false
     → IsSetBelow tests place old → IsSetBelow tests (place + 1) new
 set_below_more tests place old new wanted has test below =
     record {
       done = λ each low. ⊎_elim
           (λ equal. let same : (each == place) ≡ true = grind (arith, nat_tests) in
           let out = below.rest each (omega arith) in
-          has each ∙ (ap (λ answer. (answer && wanted) || is_in old each) same
-          ∙ (or_false wanted (is_in old each) out ∙ (test ∙ ap (λ index. get_or tests index false) (sym equal)))))
+          has each ∙ (ap (λ answer. (wanted && answer) || is_in old each) same
+          ∙ (only_wanted wanted (is_in old each) out ∙ (test ∙ ap (λ index. get_or tests index false) (sym equal)))))
           (λ apart. let differs : (each == place) ≡ false = grind (arith, nat_tests) in
-          has each ∙ (ap (λ answer. (answer && wanted) || is_in old each) differs ∙ below.done each (omega arith)))
+          has each ∙ (ap (λ answer. (wanted && answer) || is_in old each) differs
+          ∙ (not_here wanted (is_in old each) ∙ below.done each (omega arith))))
           (cases_eq each place);
       rest = λ each high.
           let differs : (each == place) ≡ false = grind (arith, nat_tests) in
-          has each ∙ (ap (λ answer. (answer && wanted) || is_in old each) differs ∙ below.rest each (omega arith));
+          has each ∙ (ap (λ answer. (wanted && answer) || is_in old each) differs
+          ∙ (not_here wanted (is_in old each) ∙ below.rest each (omega arith)));
     }
   where
-    or_false : (one answer : Bool) → answer ≡ false → one || answer ≡ one
-    or_false true answer equal = refl
-    or_false false answer equal = equal
+    only_wanted : (one answer : Bool) → answer ≡ false → ((one && true) || answer) ≡ one
+    only_wanted true answer equal = refl
+    only_wanted false answer equal = equal
+
+    not_here : (one answer : Bool) → ((one && false) || answer) ≡ answer
+    not_here true answer = refl
+    not_here false answer = refl
 
 -- where all places are done the set is that of the tests
 pub set_below_all : (tests : List Bool) (place set : ℕ) → length tests ≤ place → IsSetBelow tests place set

@@ -6,12 +6,12 @@ ghost use Rattle.pol_match.specs.Assignments.{AreSeated, HaveNone, IsCrowded, Is
 ghost use Rattle.pol_match.specs.Outcomes.{IsOutcome};
 ghost use Rattle.pol_match.specs.declared.limits.TheConstants.{MOST_PLACES};
 
-use crate::places::with;
+use crate::places::Places;
 use crate::seats::seat;
 use std::alloc::{AllocError, Global};
 
 // Gives each row a place; else tells the places that are too few for the rows that fit no others.
-fn seat_all(rows: &[u64], holders: &mut [Option<usize>]) -> Result<(), u64>
+fn seat_all(rows: &[Places], holders: &mut [Option<usize>]) -> Result<(), Places>
     requires inside { AreInside rows.now holders.old }
     requires few { length holders.old ≤ MOST_PLACES }
     requires free { (place : ℕ) → holder_at holders.old place ≡ None }
@@ -20,7 +20,7 @@ fn seat_all(rows: &[u64], holders: &mut [Option<usize>]) -> Result<(), u64>
         (λ set. IsCrowded rows.now set × HaveNone rows.now) }
 {
     for row in 0..rows.len() {
-        let mut seen = 0;
+        let mut seen = Places::new();
         if seat(rows, holders, &mut seen, row).is_none() {
             return Err(seen);
         }
@@ -41,7 +41,7 @@ fn unseat(holders: &mut [Option<usize>], row: usize)
 
 // Gives the row the lowest place with which the rows above it can still have theirs; the settled places are those of
 // the rows below it, and stay.
-fn reseat(rows: &[u64], holders: &mut [Option<usize>], settled: u64, row: usize) -> usize
+fn reseat(rows: &[Places], holders: &mut [Option<usize>], settled: Places, row: usize) -> usize
     requires inside { AreInside rows.now holders.old }
     requires few { length holders.old ≤ MOST_PLACES }
     requires row { row < length rows.now }
@@ -57,7 +57,7 @@ fn reseat(rows: &[u64], holders: &mut [Option<usize>], settled: u64, row: usize)
 // Lowers the places of the rows, the first row first.
 fn least_of(
     alloc: Global,
-    rows: &[u64],
+    rows: &[Places],
     holders: &mut [Option<usize>],
 ) -> Result<Vec<usize>, AllocError>
     requires inside { AreInside rows.now holders.old }
@@ -66,10 +66,10 @@ fn least_of(
     ensures { IfOk result (λ places. IsLeastAssignment rows.now places.items) }
 {
     let mut places = Vec::new(alloc);
-    let mut settled = 0;
+    let mut settled = Places::new();
     for row in 0..rows.len() {
         let place = reseat(rows, holders, settled, row);
-        settled = with(settled, place);
+        settled.insert(place);
         places.push(place)?;
     }
     Ok(places)
@@ -81,7 +81,7 @@ pub(crate) enum Outcome {
     /// The place of each row.
     Assigned(Vec<usize>),
     /// More rows fit these places alone than there are.
-    Crowded(u64),
+    Crowded(Places),
 }
 
 /// The least places below `count` that the rows can have, each its own. Asks each row at most twice for a chain of rows
@@ -90,7 +90,7 @@ pub(crate) enum Outcome {
 /// # Errors
 ///
 /// AllocError where memory is wanting for a number for each place and each row.
-pub(crate) fn assign(alloc: Global, rows: &[u64], count: usize) -> Result<Outcome, AllocError>
+pub(crate) fn assign(alloc: Global, rows: &[Places], count: usize) -> Result<Outcome, AllocError>
     requires inside { (row place : ℕ) → fits rows.now row place ≡ true → place < count }
     requires few { count ≤ MOST_PLACES }
     ensures { IfOk result (λ outcome. IsOutcome rows.now outcome) }

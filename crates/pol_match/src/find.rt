@@ -23,7 +23,7 @@ ghost use Rattle.pol_match.specs.declared.limits.TheConstants.{MOST_PLACES};
 use crate::assignment::{Outcome, assign};
 use crate::candidate::{Candidate, Found};
 use crate::fit::fits;
-use crate::places::{has, has_all, with_if};
+use crate::places::Places;
 use chart_core::{Chart, Role, Step, steps_in_order};
 use mtp_codes::Name;
 use pol_bind::{Needs, Test, needs_of, tests_in_order};
@@ -31,13 +31,13 @@ use pol_events::Bind;
 use std::alloc::{AllocError, Global};
 
 // The places of the candidates that fit a role that needs this.
-fn row_of(needs: &Needs<'_>, candidates: &[Candidate]) -> u64
+fn row_of(needs: &Needs<'_>, candidates: &[Candidate]) -> Places
     requires { length candidates.now ≤ MOST_MODULES }
     ensures { result ≡ row_by (plain_needs needs.now) (plain_candidates candidates.now) }
 {
-    let mut row = 0;
+    let mut row = Places::new();
     for (place, candidate) in candidates.iter().enumerate() {
-        row = with_if(row, place, fits(needs, candidate));
+        row.insert_if(place, fits(needs, candidate));
     }
     row
 }
@@ -50,7 +50,7 @@ fn row_of_role<'a>(
     tests: &[Test],
     role: Name,
     candidates: &[Candidate],
-) -> Result<u64, AllocError>
+) -> Result<Places, AllocError>
     requires steps { plans_seen steps.now ≡ steps_of (plain_chart chart.now) }
     requires tests { plain_tests tests.now ≡ tests_in (plain_node chart.now.root) }
     requires few { length candidates.now ≤ MOST_MODULES }
@@ -68,7 +68,7 @@ fn rows_of<'a>(
     tests: &[Test],
     roles: &[Role],
     candidates: &[Candidate],
-) -> Result<Vec<u64>, AllocError>
+) -> Result<Vec<Places>, AllocError>
     requires steps { plans_seen steps.now ≡ steps_of (plain_chart chart.now) }
     requires tests { plain_tests tests.now ≡ tests_in (plain_node chart.now.root) }
     requires few { length candidates.now ≤ MOST_MODULES }
@@ -118,15 +118,15 @@ fn binds_at(
 fn roles_within(
     alloc: Global,
     roles: &[Role],
-    rows: &[u64],
-    set: u64,
+    rows: &[Places],
+    set: Places,
 ) -> Result<Vec<Name>, AllocError>
     requires { length rows.now ≡ length roles.now }
     ensures { IfOk result (λ names. names.items ≡ those_with (has_all set) rows.now (names_in roles.now)) }
 {
     let mut names = Vec::new(alloc);
     for (at, role) in roles.iter().enumerate() {
-        if has_all(set, rows[at]) {
+        if set.contains_all(rows[at]) {
             names.push(role.role)?;
         }
     }
@@ -134,20 +134,20 @@ fn roles_within(
 }
 
 // Whether a row within the set has the place.
-fn is_reached(rows: &[u64], set: u64, place: usize) -> bool
+fn is_reached(rows: &[Places], set: Places, place: usize) -> bool
     requires { place < MOST_PLACES }
     ensures { result ≡ is_reached rows.now set place }
 {
     rows.iter()
-        .any(|row| has_all(set, *row) && has(*row, place))
+        .any(|row| set.contains_all(*row) && row.contains(place))
 }
 
 // The tags of the candidates that rows within the set have.
 fn tags_reached(
     alloc: Global,
     candidates: &[Candidate],
-    rows: &[u64],
-    set: u64,
+    rows: &[Places],
+    set: Places,
 ) -> Result<Vec<Name>, AllocError>
     requires { length candidates.now ≤ MOST_MODULES }
     ensures tags { IfOk result (λ tags. tags.items
@@ -183,8 +183,8 @@ fn shortage_within(
     alloc: Global,
     chart: &Chart,
     candidates: &[Candidate],
-    rows: &[u64],
-    set: u64,
+    rows: &[Places],
+    set: Places,
 ) -> Result<Found, AllocError>
     requires few { length candidates.now ≤ MOST_MODULES }
     requires rows { rows.now ≡ rows_for (plain_chart chart.now) (plain_candidates candidates.now) }

@@ -4,46 +4,73 @@ ghost use Rattle.std.specs.Prelude.{◌≡◌, ◌==◌, ◌&&◌, ◌||◌, ◌
 ghost use Rattle.pol_match.specs.Places.{has_all, is_in, IsFirstBeyond, IsWithin};
 ghost use Rattle.pol_match.specs.declared.limits.TheConstants.{MOST_PLACES};
 
-/// Whether the place is in the set.
-pub(crate) fn has(set: u64, place: usize) -> bool
-    requires { place < MOST_PLACES }
-    ensures { result ≡ is_in set place }
-{
-    (set >> place) & 1 == 1
+use std::marker::Model;
+
+/// A set of places below `MOST_PLACES`. A clause sees the number whose bits they are.
+#[derive(Clone, Copy)]
+pub(crate) struct Places {
+    bits: u64,
 }
 
-/// Whether the set has each place of the other.
-pub(crate) fn has_all(set: u64, other: u64) -> bool
-    ensures { result ≡ has_all set other }
-{
-    other & !set == 0
+impl Model for Places {
+    ghost Value = { ℕ };
+
+    ghost view = { λ places. places.bits };
+
+    ghost inverse = { λ bits. record { bits = bits } };
 }
 
-/// The set with this place.
-pub(crate) fn with(set: u64, place: usize) -> u64
-    requires { place < MOST_PLACES }
-    ensures { (each : ℕ) → is_in result each ≡ (each == place || is_in set each) }
-{
-    set | (1 << place)
-}
+impl Places {
+    /// The set of no place.
+    pub fn new() -> Places
+        ensures { result ≡ 0 }
+    {
+        Places { bits: 0 }
+    }
 
-/// The set, with this place where the answer is yes.
-pub(crate) fn with_if(set: u64, place: usize, is_wanted: bool) -> u64
-    requires { place < MOST_PLACES }
-    ensures { (each : ℕ) → is_in result each ≡ ((each == place && is_wanted) || is_in set each) }
-{
-    if is_wanted { with(set, place) } else { set }
-}
+    /// Adds a place.
+    pub fn insert(&mut self, place: usize)
+        requires { place < MOST_PLACES }
+        ensures { (other : ℕ) → is_in self.new other ≡ (other == place || is_in self.old other) }
+    {
+        self.bits |= 1 << place;
+    }
 
-/// The first place of the set that the other one lacks.
-pub(crate) fn first_beyond(set: u64, other: u64) -> Option<usize>
-    ensures some { IfSome result (λ place. IsFirstBeyond set other place) }
-    ensures none { IfNone result (IsWithin set other) }
-{
-    let rest = set & !other;
-    if rest == 0 {
-        None
-    } else {
-        Some(rest.trailing_zeros() as usize)
+    /// Adds a place where it is wanted.
+    pub fn insert_if(&mut self, place: usize, wanted: bool)
+        requires { place < MOST_PLACES }
+        ensures { (other : ℕ) → is_in self.new other ≡ ((wanted && other == place) || is_in self.old other) }
+    {
+        if wanted {
+            self.insert(place);
+        }
+    }
+
+    /// Whether the place is in the set.
+    pub fn contains(self, place: usize) -> bool
+        requires { place < MOST_PLACES }
+        ensures { result ≡ is_in self place }
+    {
+        (self.bits >> place) & 1 == 1
+    }
+
+    /// Whether each place of the other set is in this one.
+    pub fn contains_all(self, other: Places) -> bool
+        ensures { result ≡ has_all self other }
+    {
+        other.bits & !self.bits == 0
+    }
+
+    /// The first place of the set that the other one lacks.
+    pub fn first_beyond(self, other: Places) -> Option<usize>
+        ensures some { IfSome result (λ place. IsFirstBeyond self other place) }
+        ensures none { IfNone result (IsWithin self other) }
+    {
+        let rest = self.bits & !other.bits;
+        if rest == 0 {
+            None
+        } else {
+            Some(rest.trailing_zeros() as usize)
+        }
     }
 }

@@ -5,11 +5,11 @@ ghost use Rattle.pol_match.specs.Places.{is_in};
 ghost use Rattle.pol_match.specs.Seats.{AreInside, holder_at, IsKept, IsSeated, IsSeating, IsStuck, IsVacated, Sits};
 ghost use Rattle.pol_match.specs.declared.limits.TheConstants.{MOST_PLACES};
 
-use crate::places::{first_beyond, with};
+use crate::places::Places;
 
 // Makes the place free: its holder, if it has one, moves to a place that wasn't seen.
 #[cycle(seat)]
-fn vacate(rows: &[u64], holders: &mut [Option<usize>], seen: &mut u64, place: usize) -> bool
+fn vacate(rows: &[Places], holders: &mut [Option<usize>], seen: &mut Places, place: usize) -> bool
     requires inside { AreInside rows.now holders.old }
     requires few { length holders.old ≤ MOST_PLACES }
     requires place { place < length holders.old }
@@ -30,9 +30,9 @@ fn vacate(rows: &[u64], holders: &mut [Option<usize>], seen: &mut u64, place: us
 /// can't have a place; what was seen by then has no free place.
 #[cycle(seat)]
 pub(crate) fn seat(
-    rows: &[u64],
+    rows: &[Places],
     holders: &mut [Option<usize>],
-    seen: &mut u64,
+    seen: &mut Places,
     row: usize,
 ) -> Option<usize>
     requires inside { AreInside rows.now holders.old }
@@ -44,8 +44,8 @@ pub(crate) fn seat(
         (IsStuck rows.now holders.old holders.new seen.old seen.new row)
         (λ place. IsSeated rows.now holders.old holders.new seen.old row place) }
 {
-    while let Some(place) = first_beyond(rows[row], *seen) {
-        *seen = with(*seen, place);
+    while let Some(place) = rows[row].first_beyond(*seen) {
+        seen.insert(place);
         if vacate(rows, holders, seen, place) {
             holders[place] = Some(row);
             return Some(place);

@@ -9,12 +9,13 @@ use Rattle.pol_match.proofs.find.row_of.Goals as goal
 
 pub loop-place-init : goal.loop-place-init
 loop-place-init c =
-    set_below_zero (map (fits_needs (plain_needs c.args.needs.now)) (plain_candidates c.args.candidates.now))
+    rw c.new-row.ensures
+    (set_below_zero (map (fits_needs (plain_needs c.args.needs.now)) (plain_candidates c.args.candidates.now)))
 
 pub loop-place-preserved : goal.loop-place-preserved
 loop-place-preserved c =
     set_below_more (map (fits_needs (plain_needs c.args.needs.now)) (plain_candidates c.args.candidates.now))
-    c.loop-place.place c.loop-place.row c.with_if-row.result c.fits.result c.with_if-row.ensures
+    c.loop-place.place c.loop-place.row c.insert_if.new.self c.fits.result c.insert_if.ensures
     (c.fits.ensures ∙ fits_at_place (fits_needs (plain_needs c.args.needs.now)) c.args.candidates.now
     c.loop-place.place c.index-candidates-place.result c.loop-place-test.true c.index-candidates-place.is)
     c.loop-place.invariant

@@ -12,7 +12,7 @@ front done rest all n same long = omega (arith, ap length same, length-append do
 pub returns-clause-few : goal.returns-clause-few
 returns-clause-few c =
     front c.loop-place.tags.items _ _ _ c.loop-place.invariant
-    (those_few c.args.rows.now c.args.set (tags_in (plain_candidates c.args.candidates.now)) c.ranges.set.fits
+    (those_few c.args.rows.now c.args.set (tags_in (plain_candidates c.args.candidates.now)) (omega arith)
     (omega (
       arith,
       length-map (plain_candidates c.args.candidates.now) (λ candidate. candidate.tag),

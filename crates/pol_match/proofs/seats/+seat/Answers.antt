@@ -1,26 +1,35 @@
-use Rattle.std.proofs.Common.{arith, true, ◌≡◌, ◌<◌, ◌≤◌, ℕ, length, List, Option, sym, subst}
-use Rattle.pol_match.specs.Places.{IsWithin}
+use Rattle.std.proofs.Common.{arith, true, ◌≡◌, ◌<◌, ◌≤◌, ◌∙◌, ℕ, length, List, Option, get_or, sym, subst}
+use Rattle.std.specs.Prelude.{slice_index}
+use Rattle.std.proofs.lemmas.List.{get_or_default}
+use Rattle.pol_match.specs.Places.{IsFirstBeyond, IsWithin}
 use Rattle.pol_match.specs.Seats.{fits, IsVacated}
 use Rattle.pol_match.proofs.Counting.{unseen, unseen_less}
 use Rattle.pol_match.proofs.Chains.{MayBeVacated, may_be_vacated, more_within, more_here, out_of, row_there, seated}
 use Rattle.pol_match.proofs.seats.+seat.Goals as goal
 
+-- the first place of what was read at a row is that of the row
+first_of_row : (rows : List ℕ) (row read set place : ℕ) → row < length rows → read ≡ get_or rows row read
+    → IsFirstBeyond read set place → IsFirstBeyond (slice_index rows row) set place
+first_of_row rows row read set place inside is first =
+    subst (λ (each : ℕ). IsFirstBeyond each set place) (is ∙ get_or_default rows row read 0 inside) first
+
 pub seat-vacate-requires : goal.seat-vacate-requires
 seat-vacate-requires t c =
-    let next = c.in-Some.ensures.some in
+    let next = first_of_row c.args.rows.now c.args.row c.index-rows-row.result c.loop-place.seen c.in-Some.place
+    c.requires.row c.index-rows-row.is c.in-Some.ensures.some in
     let closed = c.loop-place.invariant.closed in
     let before = sym c.loop-place.invariant.same in
     let rows = c.args.rows.now in
     let set = c.loop-place.seen in
-    let more = c.with.result in
+    let more = c.insert.new.self in
     let place = c.in-Some.place in
     let old = c.args.seen.now in
-    let within : IsWithin old more = λ each there. more_within set more place c.with.ensures each
+    let within : IsWithin old more = λ each there. more_within set more place c.insert.ensures each
     (closed.grown each there) in
     let less : unseen more < unseen old = unseen_less old more place within next.below
-    (out_of old set place closed.grown next.new) (more_here set more place c.with.ensures) in
+    (out_of old set place closed.grown next.new) (more_here set more place c.insert.ensures) in
     let may = subst (MayBeVacated rows more place) before (may_be_vacated rows c.args.holders.now old set more place
-    c.requires.seating closed next.new c.with.ensures) in (
+    c.requires.seating closed next.new c.insert.ensures) in (
       omega (arith, less, c.decreases),
       (
         subst (λ (holders : List (Option ℕ)). (row place : ℕ) → fits rows row place ≡ true → place < length holders)
@@ -38,22 +47,24 @@ seat-vacate-requires t c =
 
 pub seat-returns-then-vacate : goal.seat-returns-then-vacate
 seat-returns-then-vacate t c =
-    seated c.args.rows.now c.args.holders.now c.vacate.new.holders c.args.seen.now c.loop-place.seen c.with.result
+    let next = first_of_row c.args.rows.now c.args.row c.index-rows-row.result c.loop-place.seen c.in-Some.place
+    c.requires.row c.index-rows-row.is c.in-Some.ensures.some in
+    seated c.args.rows.now c.args.holders.now c.vacate.new.holders c.args.seen.now c.loop-place.seen c.insert.new.self
     c.args.row c.in-Some.place
     (record {
       seating = c.requires.seating;
       alone = c.requires.alone;
       closed = c.loop-place.invariant.closed;
-      next = c.in-Some.ensures.some;
-      has_more = c.with.ensures;
+      next = next;
+      has_more = c.insert.ensures;
       low = omega (
         arith,
-        c.requires.inside c.args.row c.in-Some.place c.in-Some.ensures.some.here,
+        c.requires.inside c.args.row c.in-Some.place next.here,
         c.vacate.auto.holders,
         c.loop-place.auto.holders,
       );
       vacated = subst (λ (holders : List (Option ℕ)). IsVacated c.args.rows.now holders c.vacate.new.holders
-          c.with.result c.in-Some.place) c.loop-place.invariant.same c.if-vacate.ensures;
+          c.insert.new.self c.in-Some.place) c.loop-place.invariant.same c.if-vacate.ensures;
     })
 
 pub seat-loop-place-smaller : goal.seat-loop-place-smaller
@@ -61,11 +72,11 @@ seat-loop-place-smaller t c =
     let next = c.in-Some.ensures.some in
     let kept = c.if-vacate.ensures in
     let set = c.loop-place.seen in
-    let more = c.with.result in
+    let more = c.insert.new.self in
     let place = c.in-Some.place in
     unseen_less set c.vacate.new.seen place (λ each there. kept.closed.grown each
-    (more_within set more place c.with.ensures each there)) next.below next.new
-    (kept.closed.grown place (more_here set more place c.with.ensures))
+    (more_within set more place c.insert.ensures each there)) next.below next.new
+    (kept.closed.grown place (more_here set more place c.insert.ensures))
 
 pub vacate-seat-requires : goal.vacate-seat-requires
 vacate-seat-requires t c = (
