@@ -3,7 +3,6 @@ ghost use Rattle.std.specs.Prelude.{◌≡◌, ◌&&◌, ◌∷◌, ◌++◌, []
 ghost use Rattle.json.specs.Token as token;
 ghost use Rattle.mtp_json.specs.Written.{is_scalar, scalar_data};
 ghost use Rattle.pol_events.specs.Events.{advance, desk, plain_event, report, variable};
-ghost use Rattle.pol_events.specs.Lines.{event_of};
 ghost use Rattle.pol_events.specs.Orderly.{is_orderly};
 ghost use Rattle.pol_events.specs.Ranges.{is_in_range};
 ghost use Rattle.pol_events.specs.Written.{written_batch, written_desk, written_event, written_report, written_variable};
@@ -14,8 +13,8 @@ ghost use Rattle.pol_store.specs.Written.{IsReadBack, IsTold, Wrote, control_tok
 use json::Writer;
 use mtp_assembly::ServiceControl;
 use mtp_codes::{Command, Name, Value};
-use pol_events::{Event, event_value, mode_word, origin_word};
-use pol_record::write_text;
+use pol_events::{Event, mode_word, origin_word};
+use pol_record::{event_text, write_text};
 use std::alloc::{AllocError, Global};
 use std::mem;
 
