@@ -55,7 +55,7 @@ impl<D: Disk> Model for Store<D> {
 
     ghost use Rattle.pol_core.specs.Plants.{plant_history};
     ghost use Rattle.pol_store.specs.Keeping.{Keeps, Open};
-    ghost use Rattle.pol_store.specs.Stands.{events_of};
+    ghost use Rattle.pol_history.specs.Runs.{events_of};
 
     ghost view = { λ store. record { plant = store.plant; disk = store.disk; closed = store.closed } };
 
