@@ -1,5 +1,5 @@
 //! Judging a history: each of its answers against the one that the entries before it give.
-ghost use Rattle.std.specs.Prelude.{◌≡◌, ◌≤◌, IfOk, Some, None, length, map, if◌then◌else◌};
+ghost use Rattle.std.specs.Prelude.{◌≡◌, ◌≤◌, [], IfOk, Some, None, length, map, if◌then◌else◌};
 ghost use Rattle.pol_events.specs.Events.{plain_entry, plain_event, plain_history};
 ghost use Rattle.pol_history.specs.Answers.{answer_of};
 ghost use Rattle.pol_history.specs.Runs.{IsOrderly};
@@ -52,14 +52,19 @@ fn wrong_answer<'a>(
     }
 }
 
-fn first_wrong(alloc: Global, history: &[Entry]) -> Result<Judged, AllocError>
+// The first wrong answer of a history, by an index of no entry, which takes those that are right.
+fn judge_each<'a>(
+    alloc: Global,
+    history: &'a [Entry],
+    places: &mut Places<'a>,
+) -> Result<Judged, AllocError>
     requires few { length history.now ≤ MOST_JUDGED }
     requires orderly { IsOrderly (plain_history history.now) }
+    requires empty { IsPlaced places.old [] }
     ensures { IfOk result (λ found. found ≡ judged (map plain_entry history.now)) }
 {
-    let mut places = Places::new(alloc);
     for (place, entry) in history.iter().enumerate() {
-        if let Some(says) = wrong_answer(alloc, &history[..place], &places, entry)? {
+        if let Some(says) = wrong_answer(alloc, &history[..place], places, entry)? {
             return Ok(Judged::Wrong {
                 place: place as u32,
                 says,
@@ -68,6 +73,15 @@ fn first_wrong(alloc: Global, history: &[Entry]) -> Result<Judged, AllocError>
         places.add(alloc, entry)?;
     }
     Ok(Judged::Good)
+}
+
+fn first_wrong(alloc: Global, history: &[Entry]) -> Result<Judged, AllocError>
+    requires few { length history.now ≤ MOST_JUDGED }
+    requires orderly { IsOrderly (plain_history history.now) }
+    ensures { IfOk result (λ found. found ≡ judged (map plain_entry history.now)) }
+{
+    let mut places = Places::new(alloc);
+    judge_each(alloc, history, &mut places)
 }
 
 /// Judges a history, the oldest entry first: it is good exactly where each answer is the one that the entries before it

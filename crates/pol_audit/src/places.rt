@@ -300,14 +300,28 @@ impl<'a> Places<'a> {
     }
 }
 
+// Adds the entries of a history to an index of none, which is lent: one that a loop may give up is dear to prove.
+fn place_all<'a>(
+    alloc: Global,
+    history: &'a [Entry],
+    places: &mut Places<'a>,
+) -> Result<(), AllocError>
+    requires orderly { IsOrderly (plain_history history.now) }
+    requires empty { IsPlaced places.old [] }
+    ensures { OnOk result (IsPlaced places.new (plain_history history.now)) }
+{
+    for entry in history {
+        places.add(alloc, entry)?;
+    }
+    Ok(())
+}
+
 /// The index of a history.
 pub fn placed(alloc: Global, history: &[Entry]) -> Result<Places<'_>, AllocError>
     requires { IsOrderly (plain_history history.now) }
     ensures { IfOk result (λ places. IsPlaced places (plain_history history.now)) }
 {
     let mut places = Places::new(alloc);
-    for entry in history {
-        places.add(alloc, entry)?;
-    }
+    place_all(alloc, history, &mut places)?;
     Ok(places)
 }

@@ -3,11 +3,11 @@ use Rattle.pol_events.specs.Events.{plain_history}
 use Rattle.pol_record.proofs.Known.{one_more}
 use Rattle.pol_audit.specs.Placed.{IsPlaced}
 use Rattle.pol_audit.proofs.Found.{orderly_at}
-use Rattle.pol_audit.proofs.places.placed.Goals as goal
+use Rattle.pol_audit.proofs.places.place_all.Goals as goal
 
 pub add-requires : goal.add-requires
 add-requires c =
-    orderly_at c.args.history.now c.loop-entry.entry-index c.entry-item.result c.requires c.loop-entry-test.true
+    orderly_at c.args.history.now c.loop-entry.entry-index c.entry-item.result c.requires.orderly c.loop-entry-test.true
     c.entry-item.is
 
 pub loop-entry-preserved : goal.loop-entry-preserved

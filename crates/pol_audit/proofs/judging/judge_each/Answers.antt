@@ -3,7 +3,7 @@ use Rattle.pol_events.specs.Events.{plain_history}
 use Rattle.pol_record.proofs.Known.{one_more}
 use Rattle.pol_audit.specs.Placed.{IsPlaced}
 use Rattle.pol_audit.proofs.Found.{goes_on, orderly_at, stops_here}
-use Rattle.pol_audit.proofs.judging.first_wrong.Goals as goal
+use Rattle.pol_audit.proofs.judging.judge_each.Goals as goal
 
 pub add-requires : goal.add-requires
 add-requires c =

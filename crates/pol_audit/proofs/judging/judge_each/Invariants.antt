@@ -2,7 +2,7 @@ use Rattle.std.proofs.Common.{◌≡◌, drop, map, take}
 use Rattle.pol_events.specs.Events.{plain_entry, plain_history}
 use Rattle.pol_audit.specs.Placed.{IsPlaced}
 use Rattle.pol_audit.specs.Judging.{judged, wrong_after}
-use Rattle.pol_audit.proofs.judging.first_wrong.Given as goal
+use Rattle.pol_audit.proofs.judging.judge_each.Given as goal
 
 abbrev pub invariant-loop-place : goal.invariant-loop-place
 invariant-loop-place l =
