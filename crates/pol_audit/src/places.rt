@@ -300,7 +300,7 @@ impl<'a> Places<'a> {
     }
 }
 
-// Adds the entries of a history to an index of none, which is lent: one that a loop may give up is dear to prove.
+// Adds the entries of a history to an index of none.
 fn place_all<'a>(
     alloc: Global,
     history: &'a [Entry],
