@@ -2,7 +2,7 @@
 use Rattle.std.proofs.Common.{◌≡◌, ℕ, Bool, true, false, cond, List, [], ◌∷◌, ◌++◌, append-nil, Option, Some, None, refl, ap, sym, subst, ◌∙◌}
 use Rattle.std.specs.List.{cons_option}
 use Rattle.std.specs.Map.{lookup}
-use Rattle.std.specs.Option.{IfSome, IsSome, option_map, option_or}
+use Rattle.std.specs.Option.{IfSome, IsSome, option_or}
 use Rattle.std.specs.Prelude.{is_some}
 use Rattle.std.specs.Str.{bytes_eq}
 use Rattle.mtp_codes.proofs.Names.{same_refl, same_true}
@@ -10,7 +10,7 @@ use Rattle.chart_core.specs.Charts.{plain_chart}
 use Rattle.chart_core.specs.Roles.{PlainChart}
 use Rattle.chart_core.specs.Standing.{AreAfter}
 use Rattle.chart_core.specs.declared.entry.LogEntry.{LogEntry}
-use Rattle.pol_events.specs.Events.{PlainEntry, PlainEvent}
+use Rattle.pol_events.specs.Events.{PlainEntry}
 use Rattle.pol_history.specs.Batches.{charted, chart_named}
 use Rattle.pol_history.specs.Looking.{History}
 use Rattle.pol_audit.specs.Followed.{AreFollowed, GoesAlong}

@@ -6,7 +6,7 @@ use Rattle.std.specs.Map.{lookup}
 use Rattle.std.specs.Option.{option_map_or}
 use Rattle.std.specs.Str.{bytes_eq}
 use Rattle.std.specs.declared.vec.Vec.{Vec}
-use Rattle.pol_events.specs.Events.{PlainEntry, plain_entry}
+use Rattle.pol_events.specs.Events.{plain_entry}
 use Rattle.pol_events.specs.Orderly.{is_orderly}
 use Rattle.pol_events.specs.declared.event.Entry.{Entry}
 use Rattle.pol_history.specs.Looking.{History}

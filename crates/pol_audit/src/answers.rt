@@ -14,6 +14,7 @@ ghost use Rattle.pol_history.specs.Rules.{batch_closed, no_batch, plant_full, re
 ghost use Rattle.pol_history.specs.Answers.{advanced, answer_of, otherwise, rules, stopped};
 ghost use Rattle.pol_history.specs.Runs.{IsOrderly};
 ghost use Rattle.pol_bind.specs.Roles.{names_in};
+ghost use Rattle.pol_audit.specs.Placed.{IsPlaced};
 
 use crate::batch_rules::{
     active_step, already_frozen, batch_closed, batch_known, batches_full, held_back, no_batch,
@@ -27,7 +28,7 @@ use crate::module_rules::{
 };
 use crate::modules::next_ticket;
 use crate::past::Past;
-use crate::places::placed;
+use crate::places::{Places, placed};
 use crate::start_rules::{busy, first_of, modules_unfit};
 use chart_core::{Chart, LogEntry, Role};
 use mtp_assembly::ServiceControl;
@@ -309,8 +310,8 @@ fn otherwise(alloc: Global, history: &Past<'_, '_>, event: &Event) -> Result<Ans
     }
 }
 
-/// The answer to an event after the entries of an indexed history.
-pub fn answered(alloc: Global, history: &Past<'_, '_>, event: &Event) -> Result<Answer, AllocError>
+// The answer to an event after the entries of an indexed history.
+fn answered(alloc: Global, history: &Past<'_, '_>, event: &Event) -> Result<Answer, AllocError>
     ensures { IfOk result (λ answer. answer
         ≡ answer_of (plain_history history.now) (plain_event event.now)) }
 {
@@ -321,6 +322,21 @@ pub fn answered(alloc: Global, history: &Past<'_, '_>, event: &Event) -> Result<
         Some(rule) => Ok(Answer::Refused(rule)),
         None => otherwise(alloc, history, event),
     }
+}
+
+/// The answer to an event after these entries, of which this is the index.
+pub fn answered_by<'a>(
+    alloc: Global,
+    entries: &'a [Entry],
+    places: &Places<'a>,
+    event: &Event,
+) -> Result<Answer, AllocError>
+    requires { IsPlaced places.now (plain_history entries.now) }
+    ensures { IfOk result (λ answer. answer
+        ≡ answer_of (plain_history entries.now) (plain_event event.now)) }
+{
+    let past = Past { entries, places };
+    answered(alloc, &past, event)
 }
 
 /// The answer to an event after a history, the oldest entry first: the one that `pol_history` defines. It is a refusal
@@ -339,9 +355,5 @@ pub fn says(alloc: Global, history: &[Entry], event: &Event) -> Result<Answer, A
     ensures { IfOk result (λ answer. answer ≡ answer_of (plain_history history.now) (plain_event event.now)) }
 {
     let places = placed(alloc, history)?;
-    let past = Past {
-        entries: history,
-        places: &places,
-    };
-    answered(alloc, &past, event)
+    answered_by(alloc, history, &places, event)
 }

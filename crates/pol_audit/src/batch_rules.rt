@@ -120,9 +120,9 @@ fn is_on(binds: Allocation<'_>, role: Name, tag: Name) -> bool
 }
 
 // The name of the first active step whose role has the tag.
-fn step_on(binds: Allocation<'_>, tag: Name, steps: &[&Step], log: Log<'_>) -> Option<Name>
+fn step_on(binds: Allocation<'_>, tag: Name, steps: &[&Step], log: &Log<'_>) -> Option<Name>
     ensures { result ≡ option_map (λ step. step.name)
-        (step_on (given (plain_allocation binds.entry)) tag (filter (is_active_step log.entry.whole.now) (plans_seen steps.now))) }
+        (step_on (given (plain_allocation binds.entry)) tag (filter (is_active_step log.now.whole.now) (plans_seen steps.now))) }
 {
     for step in steps {
         if !is_active_step(step, log) {
@@ -153,7 +153,7 @@ fn active_step_of(
     };
     let log = history.log(batch);
     let steps = chart_steps(alloc, chart)?;
-    match step_on(start.binds, tag, &steps, log) {
+    match step_on(start.binds, tag, &steps, &log) {
         Some(step) => Ok(Some(Rule::ActiveStep { batch, step })),
         None => Ok(None),
     }

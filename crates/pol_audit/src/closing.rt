@@ -1,7 +1,9 @@
 //! The lines that are to follow the entries of a history.
 ghost use Rattle.std.specs.Prelude.{◌≡◌, ◌≤◌, IfOk, length, map, suc};
 ghost use Rattle.pol_events.specs.Events.{plain_history};
+ghost use Rattle.pol_history.specs.Batches.{batches};
 ghost use Rattle.pol_record.specs.Gathered.{known_of, record_text};
+ghost use Rattle.pol_record.specs.Texts.{batch_text};
 ghost use Rattle.pol_audit.specs.Verdict.{closing_lines};
 
 use mtp_codes::Name;
@@ -26,6 +28,16 @@ fn batch_lines(
     Ok(lines)
 }
 
+// The line of each batch of the history in the order of the starts.
+#[tactic(auto, using(crate::proofs::ClosingLines::records_are))]
+fn record_lines(alloc: Global, history: &[Entry]) -> Result<Vec<Vec<u8>>, AllocError>
+    ensures { IfOk result (λ lines. map (λ line. line.items) lines.items
+        ≡ map (batch_text (plain_history history.now)) (batches (plain_history history.now))) }
+{
+    let gathered = gather(alloc, history)?;
+    batch_lines(alloc, &gathered, &gathered.started)
+}
+
 /// The line of each batch of the history in the order of the starts, and the end line; each with its line feed.
 #[tactic(auto, using(crate::proofs::ClosingLines::closing_is, crate::proofs::ClosingLines::closing_few))]
 pub fn closing_lines(alloc: Global, history: &[Entry]) -> Result<Vec<Vec<u8>>, AllocError>
@@ -33,8 +45,7 @@ pub fn closing_lines(alloc: Global, history: &[Entry]) -> Result<Vec<Vec<u8>>, A
         ≡ closing_lines (plain_history history.now)) }
     ensures few { IfOk result (λ lines. length lines.items ≤ suc (length history.now)) }
 {
-    let gathered = gather(alloc, history)?;
-    let mut lines = batch_lines(alloc, &gathered, &gathered.started)?;
+    let mut lines = record_lines(alloc, history)?;
     let last = end_line(alloc)?;
     lines.push(last)?;
     Ok(lines)

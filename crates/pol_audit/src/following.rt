@@ -49,8 +49,8 @@ pub fn was_stopped(log: &[LogEntry]) -> bool
 
 /// Whether the step is active after the log.
 #[tactic(auto, unfolding(crate::specs::Starts::is_active_step))]
-pub fn is_active_step(step: &Step, log: Log<'_>) -> bool
-    ensures { result ≡ is_active_step log.entry.whole.now (plain_step step.now) }
+pub fn is_active_step(step: &Step, log: &Log<'_>) -> bool
+    ensures { result ≡ is_active_step log.now.whole.now (plain_step step.now) }
 {
     log.is_active(step.name)
 }
@@ -81,10 +81,10 @@ fn stop_seen(seen: &Sights, step: &Step) -> Next
 }
 
 // A batch that is stopped: its first active step, and when there is none it is closed.
-fn stop_next(seen: &Sights, broken: bool, steps: &[&Step], log: Log<'_>) -> Next
+fn stop_next(seen: &Sights, broken: bool, steps: &[&Step], log: &Log<'_>) -> Next
     ensures { result ≡ stop_next
         (plain_sights seen.now)
-        broken (filter (is_active_step log.entry.whole.now) (plans_seen steps.now)) }
+        broken (filter (is_active_step log.now.whole.now) (plans_seen steps.now)) }
 {
     for step in steps {
         if is_active_step(step, log) {
@@ -99,10 +99,10 @@ fn stop_next(seen: &Sights, broken: bool, steps: &[&Step], log: Log<'_>) -> Next
 }
 
 // The entry Broke of the first active step whose service is stopped or aborted.
-fn first_broken(seen: &Sights, steps: &[&Step], log: Log<'_>) -> Option<LogEntry>
+fn first_broken(seen: &Sights, steps: &[&Step], log: &Log<'_>) -> Option<LogEntry>
     ensures { result ≡ first_broken
         (plain_sights seen.now)
-        (filter (is_active_step log.entry.whole.now) (plans_seen steps.now)) }
+        (filter (is_active_step log.now.whole.now) (plans_seen steps.now)) }
 {
     for step in steps {
         if !is_active_step(step, log) {
@@ -124,13 +124,13 @@ fn cursor_steps(alloc: Global, cursor: &Cursor) -> Result<Vec<&Step>, AllocError
 }
 
 // What comes next of the steps that are owed an Unhold; where none is, in the run of the chart.
-fn unhold_or_run(cursor: &Cursor, steps: &[&Step], log: Log<'_>, seen: &Sights) -> CursorNext
-    requires { AreAfter (plain_chart cursor.now.chart) cursor.now.marks (chart_entries log.whole.now) }
+fn unhold_or_run(cursor: &Cursor, steps: &[&Step], log: &Log<'_>, seen: &Sights) -> CursorNext
+    requires { AreAfter (plain_chart cursor.now.chart) cursor.now.marks (chart_entries log.now.whole.now) }
     ensures { result ≡ unless_whole
         (first_unhold (plain_sights seen.now)
-        (owed (plain_sights seen.now) log.entry.whole.now
-        (filter (is_active_step log.entry.whole.now) (plans_seen steps.now))))
-        (next_after (plain_chart cursor.now.chart) (chart_entries log.entry.whole.now) (plain_sights seen.now)) }
+        (owed (plain_sights seen.now) log.now.whole.now
+        (filter (is_active_step log.now.whole.now) (plans_seen steps.now))))
+        (next_after (plain_chart cursor.now.chart) (chart_entries log.now.whole.now) (plain_sights seen.now)) }
 {
     match first_unhold(seen, steps, log) {
         CursorNext::Whole => cursor.next_of_log(seen),
@@ -138,26 +138,36 @@ fn unhold_or_run(cursor: &Cursor, steps: &[&Step], log: Log<'_>, seen: &Sights) 
     }
 }
 
+// What a batch with these steps does next that isn't frozen.
+fn next_of_steps(cursor: &Cursor, steps: &[&Step], log: &Log<'_>, seen: &Sights) -> Next
+    requires after { AreAfter (plain_chart cursor.now.chart) cursor.now.marks (chart_entries log.now.whole.now) }
+    requires steps { filter (is_active_step log.now.whole.now) (plans_seen steps.now)
+        ≡ active (plain_chart cursor.now.chart) log.now.whole.now }
+    ensures { result ≡ unfrozen_next (plain_chart cursor.now.chart) log.now.whole.now (plain_sights seen.now) }
+{
+    let broken = log.has_broken();
+    if broken || log.was_stopped() {
+        return stop_next(seen, broken, steps, log);
+    }
+    if let Some(entry) = first_broken(seen, steps, log) {
+        return Next::Did(entry);
+    }
+    run_next(unhold_or_run(cursor, steps, log, seen))
+}
+
 // What a batch does next that isn't frozen.
 fn unfrozen_next(
     alloc: Global,
     cursor: &Cursor,
-    log: Log<'_>,
+    log: &Log<'_>,
     seen: &Sights,
 ) -> Result<Next, AllocError>
-    requires { AreAfter (plain_chart cursor.now.chart) cursor.now.marks (chart_entries log.whole.now) }
+    requires { AreAfter (plain_chart cursor.now.chart) cursor.now.marks (chart_entries log.now.whole.now) }
     ensures { IfOk result (λ next. next
-        ≡ unfrozen_next (plain_chart cursor.now.chart) log.entry.whole.now (plain_sights seen.now)) }
+        ≡ unfrozen_next (plain_chart cursor.now.chart) log.now.whole.now (plain_sights seen.now)) }
 {
     let steps = cursor_steps(alloc, cursor)?;
-    let broken = log.has_broken();
-    if broken || log.was_stopped() {
-        return Ok(stop_next(seen, broken, &steps, log));
-    }
-    if let Some(entry) = first_broken(seen, &steps, log) {
-        return Ok(Next::Did(entry));
-    }
-    Ok(run_next(unhold_or_run(cursor, &steps, log, seen)))
+    Ok(next_of_steps(cursor, &steps, log, seen))
 }
 
 // What a frozen batch does next whose services are held.
@@ -165,12 +175,12 @@ fn hold_next(
     alloc: Global,
     cursor: &Cursor,
     batch: Name,
-    log: Log<'_>,
+    log: &Log<'_>,
     seen: &Sights,
 ) -> Result<Next, AllocError>
     ensures { IfOk result (λ next. next ≡ next_by (plain_chart cursor.now.chart)
         (holding (asked_by (past_of_batch batch (plain_history seen.now.history.now))))
-        log.entry.whole.now (plain_sights seen.now)) }
+        log.now.whole.now (plain_sights seen.now)) }
 {
     let steps = cursor_steps(alloc, cursor)?;
     match first_hold(seen, batch, &steps, log) {
@@ -184,13 +194,13 @@ fn next_by(
     alloc: Global,
     cursor: &Cursor,
     batch: Name,
-    log: Log<'_>,
+    log: &Log<'_>,
     seen: &Sights,
 ) -> Result<Next, AllocError>
-    requires { AreAfter (plain_chart cursor.now.chart) cursor.now.marks (chart_entries log.whole.now) }
+    requires { AreAfter (plain_chart cursor.now.chart) cursor.now.marks (chart_entries log.now.whole.now) }
     ensures { IfOk result (λ next. next ≡ next_by (plain_chart cursor.now.chart)
         (freezing_by (past_of_batch batch (plain_history seen.now.history.now)))
-        log.entry.whole.now (plain_sights seen.now)) }
+        log.now.whole.now (plain_sights seen.now)) }
 {
     if !is_frozen(seen.history, batch) {
         return unfrozen_next(alloc, cursor, log, seen);
@@ -218,7 +228,7 @@ fn next_along(
 {
     let seen = Sights { history, binds };
     let log = history.log(batch);
-    next_by(alloc, cursor, batch, log, &seen)
+    next_by(alloc, cursor, batch, &log, &seen)
 }
 
 // The next entry of a batch with this start, where no cursor of its recipe's chart is kept: one is made.

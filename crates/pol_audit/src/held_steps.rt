@@ -30,10 +30,10 @@ fn hold_seen(seen: &Sights, step: &Step) -> Option<LogEntry>
 
 /// The entry Hold of the first active step that the batch hasn't asked to hold since its last freeze and that a recipe
 /// may send Hold.
-pub fn first_hold(seen: &Sights, batch: Name, steps: &[&Step], log: Log<'_>) -> Option<LogEntry>
+pub fn first_hold(seen: &Sights, batch: Name, steps: &[&Step], log: &Log<'_>) -> Option<LogEntry>
     ensures { result ≡ first_hold (plain_sights seen.now)
         (unasked (asked_by (past_of_batch batch (plain_history seen.now.history.now)))
-        (filter (is_active_step log.entry.whole.now) (plans_seen steps.now))) }
+        (filter (is_active_step log.now.whole.now) (plans_seen steps.now))) }
 {
     for step in steps {
         if !is_active_step(step, log) || was_asked(seen.history, batch, step.name) {
@@ -58,8 +58,8 @@ fn unhold_seen(seen: &Sights, step: &Step) -> CursorNext
 }
 
 // What a step comes to after the log: nothing unless it is active and was held.
-fn owed_next(seen: &Sights, step: &Step, log: Log<'_>) -> CursorNext
-    ensures { result ≡ owed_next (plain_sights seen.now) log.entry.whole.now (plain_step step.now) }
+fn owed_next(seen: &Sights, step: &Step, log: &Log<'_>) -> CursorNext
+    ensures { result ≡ owed_next (plain_sights seen.now) log.now.whole.now (plain_step step.now) }
 {
     if is_active_step(step, log) && log.was_held(step.name) {
         unhold_seen(seen, step)
@@ -71,9 +71,9 @@ fn owed_next(seen: &Sights, step: &Step, log: Log<'_>) -> CursorNext
 /// The entry Unhold of the first active step that is owed one and may be sent Unhold; else the obstacle of the first
 /// that is owed one; Whole where none is.
 #[tactic(auto, using(crate::proofs::HeldSteps::none_behind))]
-pub fn first_unhold(seen: &Sights, steps: &[&Step], log: Log<'_>) -> CursorNext
+pub fn first_unhold(seen: &Sights, steps: &[&Step], log: &Log<'_>) -> CursorNext
     ensures { result ≡ first_unhold (plain_sights seen.now)
-        (owed (plain_sights seen.now) log.entry.whole.now (filter (is_active_step log.entry.whole.now) (plans_seen steps.now))) }
+        (owed (plain_sights seen.now) log.now.whole.now (filter (is_active_step log.now.whole.now) (plans_seen steps.now))) }
 {
     let mut next = CursorNext::Whole;
     for step in steps {

@@ -8,8 +8,7 @@ ghost use Rattle.pol_audit.specs.Judging.{Judges, judged};
 ghost use Rattle.pol_audit.specs.Placed.{IsPlaced};
 ghost use Rattle.pol_audit.specs.declared.judging.TheConstants.{MOST_JUDGED};
 
-use crate::answers::answered;
-use crate::past::Past;
+use crate::answers::answered_by;
 use crate::places::Places;
 use pol_entries::same_answer;
 use pol_events::{Answer, Entry};
@@ -40,11 +39,7 @@ fn wrong_answer<'a>(
         (answer_of (plain_history earlier.now) (plain_event entry.now.event)) then None
         else Some (answer_of (plain_history earlier.now) (plain_event entry.now.event)))) }
 {
-    let past = Past {
-        entries: earlier,
-        places,
-    };
-    let says = answered(alloc, &past, &entry.event)?;
+    let says = answered_by(alloc, earlier, places, &entry.event)?;
     if same_answer(&entry.answer, &says) {
         Ok(None)
     } else {
@@ -80,7 +75,7 @@ fn first_wrong(alloc: Global, history: &[Entry]) -> Result<Judged, AllocError>
     requires orderly { IsOrderly (plain_history history.now) }
     ensures { IfOk result (λ found. found ≡ judged (map plain_entry history.now)) }
 {
-    let mut places = Places::new(alloc);
+    let mut places = Box::new(alloc, Places::new(alloc))?;
     judge_each(alloc, history, &mut places)
 }
 

@@ -233,7 +233,8 @@ impl<'a> KnownPlaces<'a> {
     }
 }
 
-/// An index of the entries of a history, and a cursor for each open batch.
+/// An index of the entries of a history, and a cursor for each open batch. Who owns one has it in a box, so that the
+/// drop of its parts is proved once.
 #[derive(Drop)]
 pub struct Places<'a> {
     pub modules: ModulePlaces<'a>,
@@ -317,11 +318,11 @@ fn place_all<'a>(
 }
 
 /// The index of a history.
-pub fn placed(alloc: Global, history: &[Entry]) -> Result<Places<'_>, AllocError>
+pub fn placed(alloc: Global, history: &[Entry]) -> Result<Box<Places<'_>>, AllocError>
     requires { IsOrderly (plain_history history.now) }
-    ensures { IfOk result (λ places. IsPlaced places (plain_history history.now)) }
+    ensures { IfOk result (λ places. IsPlaced places.value (plain_history history.now)) }
 {
-    let mut places = Places::new(alloc);
+    let mut places = Box::new(alloc, Places::new(alloc))?;
     place_all(alloc, history, &mut places)?;
     Ok(places)
 }

@@ -14,7 +14,7 @@ pub returns-then-is_active_step : goal.returns-then-is_active_step
 returns-then-is_active_step c =
     let seen = sights_by (given (plain_allocation c.args.seen.now.binds))
     (λ tag. past tag (plain_history c.args.seen.now.history.now)) in
-    let test = is_active_step c.args.log.whole.now in
+    let test = is_active_step c.args.log.now.whole.now in
     c.stop_seen.ensures c.args.broken (filter test (plans_seen (drop (suc c.loop-step.step-index) c.args.steps.now)))
     ∙ ap (stop_next seen c.args.broken)
     (kept_first test c.args.steps.now c.loop-step.step-index c.step-item.result c.loop-step-test.true c.step-item.is

@@ -10,7 +10,7 @@ use Rattle.pol_audit.proofs.held_steps.first_unhold.Goals as goal
 pub loop-step-preserved : goal.loop-step-preserved
 loop-step-preserved c =
     let seen = plain_sights c.args.seen.now in
-    let log = c.args.log.whole.now in
+    let log = c.args.log.now.whole.now in
     let rest = first_owed seen log (plans_seen (drop (c.loop-step.step-index + 1) c.args.steps.now)) in
     ap (λ next. first_next next rest)
     (c.earlier-next.ensures ∙ ap (first_next c.loop-step.next) c.owed_next.ensures)

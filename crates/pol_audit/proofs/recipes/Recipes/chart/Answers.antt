@@ -1,8 +1,7 @@
-use Rattle.std.proofs.Common.{◌≡◌, ◌∙◌, ap, rules, tests}
-use Rattle.std.specs.Option.{option_map}
+use Rattle.std.proofs.Common.{◌∙◌, ap, rules, tests}
 use Rattle.chart_core.specs.Charts.{plain_chart}
 use Rattle.pol_history.specs.Looking.{last_of}
-use Rattle.pol_history.specs.Batches.{charted, chart_named}
+use Rattle.pol_history.specs.Batches.{charted}
 use Rattle.pol_audit.specs.Listed.{listed}
 use Rattle.pol_audit.proofs.LookingBack.{last_found, listed_back}
 use Rattle.pol_audit.proofs.Steps.{found_valid}
