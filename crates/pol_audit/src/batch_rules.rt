@@ -122,7 +122,8 @@ fn is_on(binds: Allocation<'_>, role: Name, tag: Name) -> bool
 // The name of the first active step whose role has the tag.
 fn step_on(binds: Allocation<'_>, tag: Name, steps: &[&Step], log: &Log<'_>) -> Option<Name>
     ensures { result ≡ option_map (λ step. step.name)
-        (step_on (given (plain_allocation binds.entry)) tag (filter (is_active_step log.now.whole.now) (plans_seen steps.now))) }
+        (step_on (given (plain_allocation binds.entry)) tag
+        (filter (is_active_step log.now.whole.now) (plans_seen steps.now))) }
 {
     for step in steps {
         if !is_active_step(step, log) {

@@ -73,7 +73,8 @@ fn owed_next(seen: &Sights, step: &Step, log: &Log<'_>) -> CursorNext
 #[tactic(auto, using(crate::proofs::HeldSteps::none_behind))]
 pub fn first_unhold(seen: &Sights, steps: &[&Step], log: &Log<'_>) -> CursorNext
     ensures { result ≡ first_unhold (plain_sights seen.now)
-        (owed (plain_sights seen.now) log.now.whole.now (filter (is_active_step log.now.whole.now) (plans_seen steps.now))) }
+        (owed (plain_sights seen.now) log.now.whole.now
+        (filter (is_active_step log.now.whole.now) (plans_seen steps.now))) }
 {
     let mut next = CursorNext::Whole;
     for step in steps {

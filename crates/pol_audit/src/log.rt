@@ -12,7 +12,7 @@ use chart_core::LogEntry;
 use mtp_codes::Name;
 
 /// A batch's log, the oldest entry first.
-#[derive(Clone, Copy)]
+#[derive(Drop)]
 pub struct Log<'a> {
     /// All of it.
     pub whole: &'a [LogEntry],
