@@ -1,8 +1,7 @@
 //! The rules that recipes, a batch's past and the holders of modules decide.
-ghost use Rattle.std.specs.Prelude.{◌≡◌, IfOk, Some, filter, map, option_and_then};
+ghost use Rattle.std.specs.Prelude.{◌≡◌, IfOk, Some, map, option_and_then};
 ghost use Rattle.std.specs.Option.{option_map};
 ghost use Rattle.mtp_codes.specs.Faults.{first_of};
-ghost use Rattle.chart_core.specs.Order.{plans_seen};
 ghost use Rattle.mtp_desc.specs.PlainDescription.{plain_description};
 ghost use Rattle.pol_events.specs.Events.{plain_history};
 ghost use Rattle.pol_events.specs.Bound.{bound_tag, given, is_tag, plain_allocation, step_on};
@@ -10,7 +9,7 @@ ghost use Rattle.pol_events.specs.declared.answer.Rule.TheVariants.{Watched};
 ghost use Rattle.pol_history.specs.Looking.{past_of_batch, recipes};
 ghost use Rattle.pol_history.specs.Batches.{holder_of, start_by};
 ghost use Rattle.pol_history.specs.Rules.{active_step, active_step_on, already_frozen, batch_closed, batch_known, batches_full, held_back, no_batch, not_frozen, recipe_known, recipes_full, uncovered_by, uncovered_in, watched};
-ghost use Rattle.pol_audit.specs.Starts.{is_active_step, watchers_in};
+ghost use Rattle.pol_audit.specs.Starts.{active_seen, watchers_in};
 
 use crate::batches::{
     chart_named, holder_of, outcome_of, recipe_count, start_count, start_of, watcher_by,
@@ -122,8 +121,7 @@ fn is_on(binds: Allocation<'_>, role: Name, tag: Name) -> bool
 // The name of the first active step whose role has the tag.
 fn step_on(binds: Allocation<'_>, tag: Name, steps: &[&Step], log: &Log<'_>) -> Option<Name>
     ensures { result ≡ option_map (λ step. step.name)
-        (step_on (given (plain_allocation binds.entry)) tag
-        (filter (is_active_step log.now.whole.now) (plans_seen steps.now))) }
+        (step_on (given (plain_allocation binds.entry)) tag (active_seen log.now.whole.now steps.now)) }
 {
     for step in steps {
         if !is_active_step(step, log) {

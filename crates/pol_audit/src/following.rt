@@ -1,8 +1,7 @@
 //! The next entry of a batch.
-ghost use Rattle.std.specs.Prelude.{◌≡◌, ◌∷◌, List, Bool, filter, IfOk};
+ghost use Rattle.std.specs.Prelude.{◌≡◌, ◌∷◌, List, Bool, IfOk};
 ghost use Rattle.chart_core.specs.Charts.{plain_chart};
 ghost use Rattle.chart_core.specs.Trees.{PlainStep, plain_step};
-ghost use Rattle.chart_core.specs.Order.{plans_seen};
 ghost use Rattle.chart_core.specs.declared.entry.LogEntry.{LogEntry};
 ghost use Rattle.chart_core.specs.Standing.{AreAfter};
 ghost use Rattle.chart_cursor.specs.Freezing.{holding};
@@ -16,7 +15,7 @@ ghost use Rattle.pol_history.specs.Batches.{asked_by, freezing_by, log_by};
 ghost use Rattle.pol_history.specs.Following.{sights_by, next_of, next_of_started};
 ghost use Rattle.pol_record.specs.Gathered.{plain_start};
 ghost use Rattle.pol_audit.specs.HeldSteps.{plain_sights};
-ghost use Rattle.pol_audit.specs.Starts.{is_active_step};
+ghost use Rattle.pol_audit.specs.Starts.{active_seen, is_active_step};
 
 use crate::batches::start_of;
 use crate::cursors::cursor_along;
@@ -58,7 +57,7 @@ pub fn is_active_step(step: &Step, log: &Log<'_>) -> bool
 /// The steps of the chart in chart order.
 pub fn chart_steps(alloc: Global, chart: &Chart) -> Result<Vec<&Step>, AllocError>
     ensures { IfOk result (λ steps. (log : List LogEntry)
-        → filter (is_active_step log) (plans_seen steps.items) ≡ active (plain_chart chart.now) log) }
+        → active_seen log steps.items ≡ active (plain_chart chart.now) log) }
 {
     steps_in_order(alloc, chart)
 }
@@ -84,7 +83,7 @@ fn stop_seen(seen: &Sights, step: &Step) -> Next
 fn stop_next(seen: &Sights, broken: bool, steps: &[&Step], log: &Log<'_>) -> Next
     ensures { result ≡ stop_next
         (plain_sights seen.now)
-        broken (filter (is_active_step log.now.whole.now) (plans_seen steps.now)) }
+        broken (active_seen log.now.whole.now steps.now) }
 {
     for step in steps {
         if is_active_step(step, log) {
@@ -102,7 +101,7 @@ fn stop_next(seen: &Sights, broken: bool, steps: &[&Step], log: &Log<'_>) -> Nex
 fn first_broken(seen: &Sights, steps: &[&Step], log: &Log<'_>) -> Option<LogEntry>
     ensures { result ≡ first_broken
         (plain_sights seen.now)
-        (filter (is_active_step log.now.whole.now) (plans_seen steps.now)) }
+        (active_seen log.now.whole.now steps.now) }
 {
     for step in steps {
         if !is_active_step(step, log) {
@@ -118,7 +117,7 @@ fn first_broken(seen: &Sights, steps: &[&Step], log: &Log<'_>) -> Option<LogEntr
 // The steps of the cursor's chart in chart order.
 fn cursor_steps(alloc: Global, cursor: &Cursor) -> Result<Vec<&Step>, AllocError>
     ensures { IfOk result (λ steps. (log : List LogEntry)
-        → filter (is_active_step log) (plans_seen steps.items) ≡ active (plain_chart cursor.now.chart) log) }
+        → active_seen log steps.items ≡ active (plain_chart cursor.now.chart) log) }
 {
     chart_steps(alloc, cursor.chart())
 }
@@ -128,8 +127,7 @@ fn unhold_or_run(cursor: &Cursor, steps: &[&Step], log: &Log<'_>, seen: &Sights)
     requires { AreAfter (plain_chart cursor.now.chart) cursor.now.marks (chart_entries log.now.whole.now) }
     ensures { result ≡ unless_whole
         (first_unhold (plain_sights seen.now)
-        (owed (plain_sights seen.now) log.now.whole.now
-        (filter (is_active_step log.now.whole.now) (plans_seen steps.now))))
+        (owed (plain_sights seen.now) log.now.whole.now (active_seen log.now.whole.now steps.now)))
         (next_after (plain_chart cursor.now.chart) (chart_entries log.now.whole.now) (plain_sights seen.now)) }
 {
     match first_unhold(seen, steps, log) {
@@ -141,7 +139,7 @@ fn unhold_or_run(cursor: &Cursor, steps: &[&Step], log: &Log<'_>, seen: &Sights)
 // What a batch with these steps does next that isn't frozen.
 fn next_of_steps(cursor: &Cursor, steps: &[&Step], log: &Log<'_>, seen: &Sights) -> Next
     requires after { AreAfter (plain_chart cursor.now.chart) cursor.now.marks (chart_entries log.now.whole.now) }
-    requires steps { filter (is_active_step log.now.whole.now) (plans_seen steps.now)
+    requires steps { active_seen log.now.whole.now steps.now
         ≡ active (plain_chart cursor.now.chart) log.now.whole.now }
     ensures { result ≡ unfrozen_next (plain_chart cursor.now.chart) log.now.whole.now (plain_sights seen.now) }
 {

@@ -1,13 +1,12 @@
 //! What a batch comes to with its active steps that are to be held or unheld.
-ghost use Rattle.std.specs.Prelude.{◌≡◌, filter};
+ghost use Rattle.std.specs.Prelude.{◌≡◌};
 ghost use Rattle.chart_core.specs.Trees.{plain_step};
-ghost use Rattle.chart_core.specs.Order.{plans_seen};
 ghost use Rattle.chart_cursor.specs.NextEntry.{first_hold, first_unhold, owed, unasked};
 ghost use Rattle.pol_events.specs.Events.{plain_history};
 ghost use Rattle.pol_history.specs.Batches.{asked_by};
 ghost use Rattle.pol_history.specs.Looking.{past_of_batch};
 ghost use Rattle.pol_audit.specs.HeldSteps.{hold_seen, owed_next, plain_sights, unhold_seen};
-ghost use Rattle.pol_audit.specs.Starts.{is_active_step};
+ghost use Rattle.pol_audit.specs.Starts.{active_seen};
 
 use crate::following::is_active_step;
 use crate::freezes::was_asked;
@@ -33,7 +32,7 @@ fn hold_seen(seen: &Sights, step: &Step) -> Option<LogEntry>
 pub fn first_hold(seen: &Sights, batch: Name, steps: &[&Step], log: &Log<'_>) -> Option<LogEntry>
     ensures { result ≡ first_hold (plain_sights seen.now)
         (unasked (asked_by (past_of_batch batch (plain_history seen.now.history.now)))
-        (filter (is_active_step log.now.whole.now) (plans_seen steps.now))) }
+        (active_seen log.now.whole.now steps.now)) }
 {
     for step in steps {
         if !is_active_step(step, log) || was_asked(seen.history, batch, step.name) {
@@ -73,8 +72,7 @@ fn owed_next(seen: &Sights, step: &Step, log: &Log<'_>) -> CursorNext
 #[tactic(auto, using(crate::proofs::HeldSteps::none_behind))]
 pub fn first_unhold(seen: &Sights, steps: &[&Step], log: &Log<'_>) -> CursorNext
     ensures { result ≡ first_unhold (plain_sights seen.now)
-        (owed (plain_sights seen.now) log.now.whole.now
-        (filter (is_active_step log.now.whole.now) (plans_seen steps.now))) }
+        (owed (plain_sights seen.now) log.now.whole.now (active_seen log.now.whole.now steps.now)) }
 {
     let mut next = CursorNext::Whole;
     for step in steps {

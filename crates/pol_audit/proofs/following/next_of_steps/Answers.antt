@@ -1,10 +1,8 @@
 use Rattle.std.proofs.Common.{◌∙◌, ap, sym}
-use Rattle.std.specs.Prelude.{filter}
 use Rattle.chart_core.specs.Charts.{plain_chart}
-use Rattle.chart_core.specs.Order.{plans_seen}
 use Rattle.chart_cursor.specs.NextEntry.{run_next}
 use Rattle.pol_audit.specs.HeldSteps.{plain_sights}
-use Rattle.pol_audit.specs.Starts.{is_active_step}
+use Rattle.pol_audit.specs.Starts.{active_seen}
 use Rattle.pol_audit.proofs.Steps.{goes_on}
 use Rattle.pol_audit.proofs.following.next_of_steps.Goals as goal
 
@@ -13,7 +11,7 @@ returns c =
     let seen = plain_sights c.args.seen.now in
     let log = c.args.log.now.whole.now in
     let chart = plain_chart c.args.cursor.now.chart in
-    let running = filter (is_active_step log) (plans_seen c.args.steps.now) in
+    let running = active_seen log c.args.steps.now in
     c.run_next.ensures
     ∙ ap run_next c.unhold_or_run.ensures
     ∙ goes_on chart log seen running c.requires.steps

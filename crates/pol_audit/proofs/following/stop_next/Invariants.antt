@@ -1,18 +1,16 @@
 use Rattle.std.proofs.Common.{◌≡◌, drop}
-use Rattle.std.specs.Prelude.{filter}
-use Rattle.chart_core.specs.Order.{plans_seen}
 use Rattle.chart_cursor.specs.NextEntry.{stop_next}
 use Rattle.pol_events.specs.Bound.{given, plain_allocation}
 use Rattle.pol_events.specs.Events.{plain_history}
 use Rattle.pol_history.specs.Looking.{past}
 use Rattle.pol_history.specs.Following.{sights_by}
-use Rattle.pol_audit.specs.Starts.{is_active_step}
+use Rattle.pol_audit.specs.Starts.{active_seen}
 use Rattle.pol_audit.proofs.following.stop_next.Given as goal
 
 abbrev pub invariant-loop-step : goal.invariant-loop-step
 invariant-loop-step l =
     stop_next (sights_by (given (plain_allocation l.seen.binds))
     (λ tag. past tag (plain_history l.seen.history.now))) l.broken
-    (filter (is_active_step l.log.whole.now) (plans_seen (drop l.step-index l.steps)))
+    (active_seen l.log.whole.now (drop l.step-index l.steps))
     ≡ stop_next (sights_by (given (plain_allocation l.seen.binds))
-    (λ tag. past tag (plain_history l.seen.history.now))) l.broken (filter (is_active_step l.log.whole.now) (plans_seen l.steps))
+    (λ tag. past tag (plain_history l.seen.history.now))) l.broken (active_seen l.log.whole.now l.steps)
