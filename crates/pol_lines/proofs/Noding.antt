@@ -13,7 +13,7 @@ use Rattle.chart_core.specs.Trees.{PlainArm, PlainStep, Tree, arms_of, choice, l
 use Rattle.chart_core.specs.declared.limits.TheConstants.{MOST_ARMS}
 use Rattle.chart_json.specs.Form.{arm_of, condition_of, loop_form, node_by_key, par_form, sel_form, seq_form, step_form, step_of, tree_of}
 use Rattle.chart_json.proofs.Within.{tree_steps}
-use Rattle.pol_lines.specs.Begins.{Begins, Reads, ReadsList, last_of}
+use Rattle.pol_lines.specs.Begins.{Begins, Closes, Reads, ReadsList, last_of}
 use Rattle.pol_lines.proofs.Braces.{one_member, two_members}
 use Rattle.pol_lines.proofs.Cutting.{reads_last}
 use Rattle.pol_lines.proofs.Printed.{reads_as}
@@ -113,19 +113,18 @@ when_first deep text inner between then behind after condition node piece when n
     })
 
 -- the same where the node stands first
-pub then_first : (deep : ℕ) (text inner between when behind after : List ℕ) (condition : Formula) (node : Tree)
+pub then_first : (deep count : ℕ) (text inner between : List ℕ) (condition : Formula) (node : Tree)
     → text ≡ codes "{\"then\":" ++ inner → Reads tree_of deep inner node between
-    → between ≡ codes ",\"when\":" ++ when → Reads condition_of 15 when condition behind → behind ≡ 125 ∷ after
-    → 15 ≤ deep
-    → Reads (arm_of tree_of) (suc deep) text (record { when = condition; body = node }) (last_of (length after) text)
-then_first deep text inner between when behind after condition node piece body next is_when closing fits =
-    let asked = reads_as condition_of 15 deep when condition condition behind refl fits is_when in
-    reads_last (arm_of tree_of) (suc deep) text (record { when = condition; body = node }) after (record {
+    → Closes condition_of 15 (codes ",\"when\":") between condition count → 15 ≤ deep
+    → Reads (arm_of tree_of) (suc deep) text (record { when = condition; body = node }) (last_of count text)
+then_first deep count text inner between condition node piece body when fits = rw when.counted
+    let asked = reads_as condition_of 15 deep when.inner condition condition when.behind refl fits when.reads in
+    reads_last (arm_of tree_of) (suc deep) text (record { when = condition; body = node }) when.after (record {
       value = object (member (codes "then") body.value (member (codes "when") asked.value no_members));
-      begins = two_members deep text (codes "then") inner (34 ∷ (codes "when\":" ++ when)) (codes "when") when after
-          body.value asked.value refl refl piece
-          (subst (λ s. Begins deep inner body.value s) next body.begins) refl
-          (subst (λ s. Begins deep when asked.value s) closing asked.begins);
+      begins = two_members deep text (codes "then") inner (34 ∷ (codes "when\":" ++ when.inner)) (codes "when")
+          when.inner when.after body.value asked.value refl refl piece
+          (subst (λ s. Begins deep inner body.value s) when.begins body.begins) refl
+          (subst (λ s. Begins deep when.inner asked.value s) when.closing asked.begins);
       gives = arm_value asked.value body.value condition node asked.gives body.gives;
     })
 
@@ -163,18 +162,17 @@ loop_value body until node condition is_body is_until =
     ∙ rw (is_body, is_until) refl
 
 -- the front of a text behind the node and the condition of a loop
-pub loop_node : (deep : ℕ) (text inner between until behind after : List ℕ) (node : Tree) (condition : Formula)
+pub loop_node : (deep count : ℕ) (text inner between : List ℕ) (node : Tree) (condition : Formula)
     → text ≡ codes "{\"loop\":" ++ inner → Reads tree_of deep inner node between
-    → between ≡ codes ",\"until\":" ++ until → Reads condition_of 15 until condition behind → behind ≡ 125 ∷ after
-    → 15 ≤ deep
-    → Reads tree_of (suc deep) text (loop node condition) (last_of (length after) text)
-loop_node deep text inner between until behind after node condition piece body next is_until closing fits =
-    let asked = reads_as condition_of 15 deep until condition condition behind refl fits is_until in
-    reads_last tree_of (suc deep) text (loop node condition) after (record {
+    → Closes condition_of 15 (codes ",\"until\":") between condition count → 15 ≤ deep
+    → Reads tree_of (suc deep) text (loop node condition) (last_of count text)
+loop_node deep count text inner between node condition piece body until fits = rw until.counted
+    let asked = reads_as condition_of 15 deep until.inner condition condition until.behind refl fits until.reads in
+    reads_last tree_of (suc deep) text (loop node condition) until.after (record {
       value = object (member (codes "loop") body.value (member (codes "until") asked.value no_members));
-      begins = two_members deep text (codes "loop") inner (34 ∷ (codes "until\":" ++ until)) (codes "until") until after
-          body.value asked.value refl refl piece
-          (subst (λ s. Begins deep inner body.value s) next body.begins) refl
-          (subst (λ s. Begins deep until asked.value s) closing asked.begins);
+      begins = two_members deep text (codes "loop") inner (34 ∷ (codes "until\":" ++ until.inner)) (codes "until")
+          until.inner until.after body.value asked.value refl refl piece
+          (subst (λ s. Begins deep inner body.value s) until.begins body.begins) refl
+          (subst (λ s. Begins deep until.inner asked.value s) until.closing asked.begins);
       gives = loop_value body.value asked.value node condition body.gives asked.gives;
     })

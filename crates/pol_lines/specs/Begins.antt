@@ -25,6 +25,18 @@ pub record Reads {A : Type 0} (form : Data → ReadResult A) (deep : ℕ) (text 
   pub begins : Begins deep text value rest
   pub gives : form value ≡ Ok found
 
+-- a text begins with a piece and a value that closes an object, of which the form gives what was found; so many bytes
+-- follow the object
+pub record Closes {A : Type 0} (form : Data → ReadResult A) (deep : ℕ) (piece text : List ℕ) (found : A)
+    (count : ℕ) : Type 0 where
+  pub inner : List ℕ
+  pub behind : List ℕ
+  pub after : List ℕ
+  pub begins : text ≡ piece ++ inner
+  pub reads : Reads form deep inner found behind
+  pub closing : behind ≡ 125 ∷ after
+  pub counted : count ≡ length after
+
 -- members as a line writes them, each with a comma
 abbrev pub member_pieces : json.Members → List ℕ
 member_pieces json.no_members = []

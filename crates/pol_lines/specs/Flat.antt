@@ -1,5 +1,5 @@
 -- Flat lines: an object of known keys, whose values are numbers, texts and truth values.
-use Rattle.std.specs.Prelude.{ℕ, List, [], ◌∷◌, ◌++◌, Bool, flat_map}
+use Rattle.std.specs.Prelude.{ℕ, List, [], ◌∷◌, ◌++◌, Bool}
 use Rattle.serde_json.specs.Data.{Data, object, Members, no_members, put}
 use Rattle.pol_lines.specs.declared.flat.Member.{Member}
 use Rattle.pol_lines.specs.Keys.{key_piece, key_text}

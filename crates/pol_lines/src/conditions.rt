@@ -18,7 +18,7 @@ use crate::flat::Member;
 use crate::key::Key;
 use crate::lists::Front;
 use crate::objects::{Cut, begin_object, read_flats};
-use crate::pieces::{eat, last};
+use crate::pieces::{eat, is_word, last};
 use arrayvec::ArrayVec;
 use chart_core::{Condition, DEEPEST_CONDITION, MOST_JOINED, MOST_TESTS, Op};
 use mtp_codes::{Name, Reading};
@@ -27,17 +27,17 @@ use std::alloc::Global;
 fn op_of(bytes: &[u8]) -> Option<Op>
     ensures { result ≡ meaning_of bytes.now op_words }
 {
-    if bytes == b"lt".as_slice() {
+    if is_word(bytes, b"lt") {
         Some(Op::Lt)
-    } else if bytes == b"le".as_slice() {
+    } else if is_word(bytes, b"le") {
         Some(Op::Le)
-    } else if bytes == b"eq".as_slice() {
+    } else if is_word(bytes, b"eq") {
         Some(Op::Eq)
-    } else if bytes == b"ne".as_slice() {
+    } else if is_word(bytes, b"ne") {
         Some(Op::Ne)
-    } else if bytes == b"ge".as_slice() {
+    } else if is_word(bytes, b"ge") {
         Some(Op::Ge)
-    } else if bytes == b"gt".as_slice() {
+    } else if is_word(bytes, b"gt") {
         Some(Op::Gt)
     } else {
         None

@@ -62,21 +62,15 @@ fn description_in(
         (with_value (codes "variables") (option_map array seen)
         (with_value (codes "services") (option_map array served) []))) }
 {
-    if !are_of_description(members) {
+    if !are_of_description(members) || services.is_empty() {
         return None;
     }
-    if services.is_empty() {
+    if repeats::<ServiceFronts>(&services) || repeats::<VariableFronts>(&variables) {
         return None;
     }
     let type_name = name_at(members, Key::TypeName)?;
     let version_text = short_at(members, Key::Version)?;
     let version = version_in(alloc, version_text.as_str())?;
-    if repeats::<ServiceFronts>(&services) {
-        return None;
-    }
-    if repeats::<VariableFronts>(&variables) {
-        return None;
-    }
     Some(Description {
         type_name,
         version_text,

@@ -15,6 +15,7 @@ ghost use Rattle.pol_lines.specs.Leaves.{leaf_data};
 use crate::flat::Member;
 use crate::key::Key;
 use crate::leaf::Leaf;
+use crate::pieces::is_word;
 use mtp_codes::{Command, Mode, Name, Origin, Reading, Short, State, Value};
 use pol_events::EventKind;
 
@@ -84,11 +85,11 @@ pub fn command_at(members: &[Member], key: Key) -> Option<Command>
 pub fn mode_of(bytes: &[u8]) -> Option<Mode>
     ensures { result ≡ meaning_of bytes.now mode_words }
 {
-    if bytes == b"Off".as_slice() {
+    if is_word(bytes, b"Off") {
         Some(Mode::Off)
-    } else if bytes == b"Operator".as_slice() {
+    } else if is_word(bytes, b"Operator") {
         Some(Mode::Operator)
-    } else if bytes == b"Automatic".as_slice() {
+    } else if is_word(bytes, b"Automatic") {
         Some(Mode::Automatic)
     } else {
         None
@@ -107,9 +108,9 @@ pub fn mode_at(members: &[Member], key: Key) -> Option<Mode>
 pub fn origin_of(bytes: &[u8]) -> Option<Origin>
     ensures { result ≡ meaning_of bytes.now origin_words }
 {
-    if bytes == b"Internal".as_slice() {
+    if is_word(bytes, b"Internal") {
         Some(Origin::Internal)
-    } else if bytes == b"External".as_slice() {
+    } else if is_word(bytes, b"External") {
         Some(Origin::External)
     } else {
         None
@@ -128,35 +129,35 @@ pub fn origin_at(members: &[Member], key: Key) -> Option<Origin>
 pub fn kind_of(bytes: &[u8]) -> Option<EventKind>
     ensures { result ≡ meaning_of bytes.now kind_words }
 {
-    if bytes == b"variable".as_slice() {
+    if is_word(bytes, b"variable") {
         Some(EventKind::Variable)
-    } else if bytes == b"report".as_slice() {
+    } else if is_word(bytes, b"report") {
         Some(EventKind::Report)
-    } else if bytes == b"advance".as_slice() {
+    } else if is_word(bytes, b"advance") {
         Some(EventKind::Advance)
-    } else if bytes == b"desk".as_slice() {
+    } else if is_word(bytes, b"desk") {
         Some(EventKind::Desk)
-    } else if bytes == b"unplug".as_slice() {
+    } else if is_word(bytes, b"unplug") {
         Some(EventKind::Unplug)
-    } else if bytes == b"freeze".as_slice() {
+    } else if is_word(bytes, b"freeze") {
         Some(EventKind::Freeze)
-    } else if bytes == b"thaw".as_slice() {
+    } else if is_word(bytes, b"thaw") {
         Some(EventKind::Thaw)
-    } else if bytes == b"stop".as_slice() {
+    } else if is_word(bytes, b"stop") {
         Some(EventKind::Stop)
-    } else if bytes == b"abandon".as_slice() {
+    } else if is_word(bytes, b"abandon") {
         Some(EventKind::Abandon)
-    } else if bytes == b"exchange_begin".as_slice() {
+    } else if is_word(bytes, b"exchange_begin") {
         Some(EventKind::ExchangeBegin)
-    } else if bytes == b"exchange_cancel".as_slice() {
+    } else if is_word(bytes, b"exchange_cancel") {
         Some(EventKind::ExchangeCancel)
-    } else if bytes == b"recipe".as_slice() {
+    } else if is_word(bytes, b"recipe") {
         Some(EventKind::Recipe)
-    } else if bytes == b"plug".as_slice() {
+    } else if is_word(bytes, b"plug") {
         Some(EventKind::Plug)
-    } else if bytes == b"exchange_end".as_slice() {
+    } else if is_word(bytes, b"exchange_end") {
         Some(EventKind::ExchangeEnd)
-    } else if bytes == b"start".as_slice() {
+    } else if is_word(bytes, b"start") {
         Some(EventKind::Start)
     } else {
         None

@@ -109,40 +109,54 @@ pub fn text_of(key: Key) -> &'static [u8]
     }
 }
 
-/// The only key that a text may begin with, by its first letters.
+/// One key where the letter comes next, and another where it doesn't.
+#[inline(always)]
+fn by_letter(rest: &[u8], letter: u8, key: Key, other: Key) -> Key {
+    match rest {
+        [next, ..] if *next == letter => key,
+        _ => other,
+    }
+}
+
+/// The only key that a text may begin with, by its first letters behind the quote.
 #[inline(always)]
 fn candidate(text: &[u8]) -> Option<Key> {
-    match text {
-        [_, b'a', ..] => Some(Key::At),
-        [_, b'e', ..] => Some(Key::Ev),
-        [_, b't', b'a', ..] => Some(Key::Tag),
-        [_, b't', b'y', ..] => Some(Key::TypeName),
-        [_, b't', b'e', ..] => Some(Key::Test),
-        [_, b't', ..] => Some(Key::Ticket),
-        [_, b'n', b'a', ..] => Some(Key::Name),
-        [_, b'n', ..] => Some(Key::Number),
-        [_, b'v', b'a', ..] => Some(Key::Value),
-        [_, b'v', ..] => Some(Key::Version),
-        [_, b's', _, b'r', ..] => Some(Key::Service),
-        [_, b's', _, b'l', ..] => Some(Key::SelfCompleting),
-        [_, b's', ..] => Some(Key::Step),
-        [_, b'r', b'o', ..] => Some(Key::Role),
-        [_, b'r', ..] => Some(Key::Recipe),
-        [_, b'o', ..] => Some(Key::Op),
-        [_, b'p', ..] => Some(Key::Procedure),
-        [_, b'k', ..] => Some(Key::Kind),
-        [_, b'm', b'i', ..] => Some(Key::Min),
-        [_, b'm', ..] => Some(Key::Max),
-        [_, b'd', ..] => Some(Key::IsDefault),
-        [_, b'b', ..] => Some(Key::Batch),
-        [_, b'S', b't', ..] => Some(Key::StateCur),
-        [_, b'S', ..] => Some(Key::Src),
-        [_, b'C', _, _, _, _, _, _, b'E', ..] => Some(Key::CommandEn),
-        [_, b'C', ..] => Some(Key::CommandOp),
-        [_, b'M', ..] => Some(Key::Mode),
-        [_, b'P', ..] => Some(Key::ProcedureCur),
-        _ => None,
-    }
+    let [_, first, rest @ ..] = text else {
+        return None;
+    };
+    let key = match first {
+        b'a' => Key::At,
+        b'e' => Key::Ev,
+        b't' => match rest {
+            [b'a', ..] => Key::Tag,
+            [b'y', ..] => Key::TypeName,
+            [b'e', ..] => Key::Test,
+            _ => Key::Ticket,
+        },
+        b'n' => by_letter(rest, b'a', Key::Name, Key::Number),
+        b'v' => by_letter(rest, b'a', Key::Value, Key::Version),
+        b's' => match rest {
+            [_, b'r', ..] => Key::Service,
+            [_, b'l', ..] => Key::SelfCompleting,
+            _ => Key::Step,
+        },
+        b'r' => by_letter(rest, b'o', Key::Role, Key::Recipe),
+        b'o' => Key::Op,
+        b'p' => Key::Procedure,
+        b'k' => Key::Kind,
+        b'm' => by_letter(rest, b'i', Key::Min, Key::Max),
+        b'd' => Key::IsDefault,
+        b'b' => Key::Batch,
+        b'S' => by_letter(rest, b't', Key::StateCur, Key::Src),
+        b'C' => match rest {
+            [_, _, _, _, _, _, b'E', ..] => Key::CommandEn,
+            _ => Key::CommandOp,
+        },
+        b'M' => Key::Mode,
+        b'P' => Key::ProcedureCur,
+        _ => return None,
+    };
+    Some(key)
 }
 
 /// The key at the front of a text, with what follows its colon.

@@ -90,10 +90,10 @@ pub fn read_described<'a>(
 {
     let mut found = None;
     let cut = read_value_at::<DescriptionFronts>(alloc, cut, b"\"desc\":", &mut found)?;
-    let description = found?;
     if !ends(read_flats(cut, members), line) {
         return None;
     }
+    let description = found?;
     let event = described_in(alloc, members.as_slice(), description)?;
     Some(event)
 }

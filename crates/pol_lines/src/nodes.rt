@@ -3,8 +3,8 @@ ghost use Rattle.std.specs.Prelude.{◌≡◌, ◌≤◌, ◌+◌, ◌*◌, [], 
 ghost use Rattle.chart_core.specs.Formulas.{plain_condition};
 ghost use Rattle.chart_core.specs.Trees.{Tree, arms, choice, leaf, loop, par, plain_arm, plain_node, plain_step, seq, trees};
 ghost use Rattle.chart_core.specs.declared.limits.TheConstants.{MOST_ARMS};
-ghost use Rattle.chart_json.specs.Form.{arm_of, tree_of};
-ghost use Rattle.pol_lines.specs.Begins.{Reads, ReadsList, last_of};
+ghost use Rattle.chart_json.specs.Form.{arm_of, condition_of, tree_of};
+ghost use Rattle.pol_lines.specs.Begins.{Closes, Reads, ReadsList, last_of};
 
 use crate::conditions::read_condition;
 use crate::lists::Front;
@@ -50,6 +50,17 @@ fn of_arm(when: Condition, body: Node) -> Arm
     ensures { plain_arm result ≡ record { when = plain_condition when; body = plain_node body } }
 {
     Arm { when, body }
+}
+
+/// The condition behind a key that closes an object, with how many bytes follow the object.
+fn read_closing(alloc: Global, text: &[u8], key: &[u8]) -> Option<(Condition, usize)>
+    ensures { IfSome result
+        (λ read. Closes condition_of 15 key.now text.now (plain_condition read.0) read.1) }
+{
+    let inner = eat(text, key)?;
+    let (condition, left) = read_condition(alloc, inner)?;
+    let rest = eat(last(inner, left), b"}")?;
+    Some((condition, rest.len()))
 }
 
 /// Reads at most 256 nodes into an empty list; it answers what follows them.
@@ -133,10 +144,8 @@ fn read_then_first(alloc: Global, text: &[u8], levels: u32) -> Option<(Arm, usiz
 {
     let inner = eat(text, b"{\"then\":")?;
     let (body, left) = read_node(alloc, inner, levels)?;
-    let when = eat(last(inner, left), b",\"when\":")?;
-    let (condition, left) = read_condition(alloc, when)?;
-    let rest = eat(last(when, left), b"}")?;
-    Some((of_arm(condition, body), rest.len()))
+    let (when, left) = read_closing(alloc, last(inner, left), b",\"when\":")?;
+    Some((of_arm(when, body), left))
 }
 
 /// The arm at the front of a text, with how many bytes follow it.
@@ -202,11 +211,9 @@ fn read_loop(alloc: Global, text: &[u8], levels: u32) -> Option<(Node, usize)>
 {
     let inner = eat(text, b"{\"loop\":")?;
     let (body, left) = read_node(alloc, inner, levels)?;
-    let until = eat(last(inner, left), b",\"until\":")?;
-    let (condition, left) = read_condition(alloc, until)?;
-    let rest = eat(last(until, left), b"}")?;
-    let node = in_loop(alloc, body, condition)?;
-    Some((node, rest.len()))
+    let (until, left) = read_closing(alloc, last(inner, left), b",\"until\":")?;
+    let node = in_loop(alloc, body, until)?;
+    Some((node, left))
 }
 
 /// The step at the front of a text as a node, with how many bytes follow it.

@@ -1,5 +1,6 @@
 //! Pieces at the front of a text.
 ghost use Rattle.std.specs.Prelude.{◌≡◌, ◌++◌, ◌∷◌, IfSome, IsTrue};
+ghost use Rattle.std.specs.Bool.{Decides};
 ghost use Rattle.std.specs.Str.{IsUtf8};
 ghost use Rattle.pol_lines.specs.Begins.{last_of};
 
@@ -23,6 +24,14 @@ pub fn last(text: &[u8], count: usize) -> &[u8]
     ensures { result.now ≡ last_of count text.now }
 {
     &text[text.len().saturating_sub(count)..]
+}
+
+/// Whether a text is this word.
+#[inline(always)]
+pub fn is_word(text: &[u8], word: &[u8]) -> bool
+    ensures { Decides result (text.now ≡ word.now) }
+{
+    text == word
 }
 
 /// Whether the bytes are UTF-8.

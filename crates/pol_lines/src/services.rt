@@ -46,15 +46,12 @@ fn procedure_in(members: &[Member], params: Vec<Param>) -> Option<Procedure>
         → Makes procedure_of (plain_procedure procedure) members.now
         (with_value (codes "params") (option_map array values) [])) }
 {
-    if !are_of_procedure(members) {
+    if !are_of_procedure(members) || repeats::<ParamFronts>(&params) {
         return None;
     }
     let number = count_at(members, Key::Number, 1, GREATEST_PROCEDURE as u64)? as u16;
     let is_default = truth_at(members, Key::IsDefault)?;
     let self_completing = truth_at(members, Key::SelfCompleting)?;
-    if repeats::<ParamFronts>(&params) {
-        return None;
-    }
     Some(Procedure {
         number,
         is_default,
@@ -156,16 +153,13 @@ fn service_in(members: &[Member], procedures: Vec<Procedure>) -> Option<Service>
     ensures none_given { IfSome result (λ service. map plain_procedure procedures.items ≡ only_procedure ∷ []
         → Makes service_of (plain_service service) members.now []) }
 {
-    if !are_of_service(members) {
+    if !are_of_service(members)
+        || repeats::<ProcedureFronts>(&procedures)
+        || !has_one_default(&procedures)
+    {
         return None;
     }
     let name = name_at(members, Key::Name)?;
-    if repeats::<ProcedureFronts>(&procedures) {
-        return None;
-    }
-    if !has_one_default(&procedures) {
-        return None;
-    }
     Some(Service { name, procedures })
 }
 

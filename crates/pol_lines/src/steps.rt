@@ -100,16 +100,13 @@ fn step_in(members: &[Member], settings: Vec<Setting>, finish: Option<Condition>
         → GivesStep settings.items (plain_finish finish) others
         → Makes step_of (plain_step step) members.now others) }
 {
-    if !are_of_step(members) {
+    if !are_of_step(members) || repeats::<SettingFronts>(&settings) {
         return None;
     }
     let name = name_at(members, Key::Step)?;
     let role = name_at(members, Key::Role)?;
     let service = name_at(members, Key::Service)?;
     let procedure = count_at(members, Key::Procedure, 1, u16::MAX as u64)? as u16;
-    if repeats::<SettingFronts>(&settings) {
-        return None;
-    }
     Some(Step {
         name,
         role,

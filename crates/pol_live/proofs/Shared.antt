@@ -101,7 +101,7 @@ module _ (J C : RattleType) (job : jobs.Ghosts J.Denot) (ledger : ledgers.Ghosts
   under_send : IsSend J → IsSend C → IsSend (under.the_row J C job clock ledger)
   under_send j c =
       declared_send (under.the_type J C job clock ledger) (
-        as_row_send (row_field _) (locked_send j c),
+        heap.Box-send (locked.the_row J C job ledger clock) (locked_send j c),
         (
           search (sendable, heap.crosses, books.the_send) depth 20,
           (

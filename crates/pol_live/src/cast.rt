@@ -160,9 +160,9 @@ impl<J: Job, C: Clock> Cast<J, C> {
     {
         match actor_kind(&self.site, actor) {
             ActorKind::Exchanger => self.exchanger_turn(),
-            ActorKind::Module { place } => self.module_turn(place),
-            ActorKind::Batch { place } => self.batch_turn(place),
-            ActorKind::Desk => self.desk_turn(),
+            ActorKind::Module { place } => self.module_turn(actor, place),
+            ActorKind::Batch { place } => self.batch_turn(actor, place),
+            ActorKind::Desk => self.desk_turn(actor),
         }
     }
 

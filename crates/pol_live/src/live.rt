@@ -20,16 +20,16 @@ use std::alloc::{AllocError, Global};
 use std::sync::ledger::{Blank, Book, Share};
 use std::sync::{Arc, Condvar, Mutex, Wait};
 
-// What lies under the lock: the plant, the book of what the seats made, what the seats left of the ledger, who rests,
-// and whether the run was ended.
+// What lies under the lock: the plant, in a box as it is large, the book of what the seats made, what the seats left of
+// the ledger, who rests, and whether the run was ended.
 #[derive(Drop)]
 struct Under<J: Job, C: Clock> {
-    plant: LockedPlant<J, C>,
+    plant: Box<LockedPlant<J, C>>,
     book: Book<J>,
     rest: Share<J>,
     notes: Notes,
     ended: bool,
-    ghost counted: { book.total ≡ length plant.entries },
+    ghost counted: { book.total ≡ length plant.value.entries },
     ghost spent: { (rest.parts ≡ 0) × (rest.amount ≡ 0) },
 }
 
@@ -47,6 +47,7 @@ impl<J: Job, C: Clock> Under<J, C> {
             notes,
             ..
         } = self;
+        let plant = &mut **plant;
         notes.wake(seat.actor());
         plant.is_of_a_run();
         let turned = seat.turn(plant, book);
@@ -79,12 +80,12 @@ impl<J: Job, C: Clock> Under<J, C> {
 
 // Puts a new plant under its lock.
 fn put_under<J: Job, C: Clock>(
-    plant: LockedPlant<J, C>,
+    plant: Box<LockedPlant<J, C>>,
     book: Book<J>,
     rest: Share<J>,
     notes: Notes,
 ) -> Under<J, C>
-    requires counted { book.total ≡ length plant.entries }
+    requires counted { book.total ≡ length plant.value.entries }
     requires spent { (rest.parts ≡ 0) × (rest.amount ≡ 0) }
 {
     Under {
@@ -134,6 +135,7 @@ impl<J: Job, C: Clock + Send> LivePlant<J, C> {
         ensures unmade { IfOk result (λ both. made_in_all both.1.items ≡ 0) }
     {
         let plant = LockedPlant::<J, C>::new(alloc, site, clock)?;
+        let plant = Box::new(alloc, plant)?;
         let actors = plant.actors();
         let notes = Notes::blank(alloc, actors)?;
         let bells = hang(alloc, actors)?;
@@ -248,7 +250,7 @@ impl<J: Job, C: Clock + Send> LivePlant<J, C> {
     }
 
     /// The plant, out of its lock.
-    pub(crate) fn into_plant(self) -> LockedPlant<J, C> {
+    pub(crate) fn into_plant(self) -> Box<LockedPlant<J, C>> {
         let LivePlant { under, .. } = self;
         let Under { plant, .. } = under.into_inner();
         plant
@@ -279,7 +281,7 @@ impl<J: Job, C: Clock + Send> LivePlant<J, C> {
             rest,
             ..
         } = under.into_inner();
-        let ran = leave(plant);
+        let ran = leave(Box::into_inner(plant));
         let compared = compare_all(&ran, &seats);
         let mut whole = gather(rest, seats);
         book.audit(&mut whole);

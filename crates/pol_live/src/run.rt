@@ -158,7 +158,7 @@ fn finish<J: Job, R: Wait, C: Clock + Send>(
 {
     let mut plant = live.into_plant();
     settle(rt, &mut plant)?;
-    let (history, by) = plant.into_parts();
+    let (history, by) = Box::into_inner(plant).into_parts();
     Ok(Ran { history, by })
 }
 
@@ -190,10 +190,8 @@ fn drive<J: Job + Send + Sync, R: Threads + Wait + Sync, C: Clock + Send, G: Gat
                 × AreSeated (length (actors J.site)) seats.items }
             ensures { IfOk result (λ seats. AreSeated (length (actors J.site)) seats.items) }
         {
-            let mut children = Vec::new(alloc);
-            children.reserve(seats.len())?;
-            let mut here = Vec::new(alloc);
-            here.reserve(seats.len())?;
+            let mut children = Vec::with_capacity(alloc, seats.len())?;
+            let mut here = Vec::with_capacity(alloc, seats.len())?;
             for seat in seats {
                 if !here.is_empty() {
                     here.push_reserved(seat);

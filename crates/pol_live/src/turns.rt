@@ -66,8 +66,9 @@ impl<J: Job, C: Clock> Cast<J, C> {
         Ok(Turned::Made(placed))
     }
 
-    /// A turn of the module at a place.
-    pub(crate) fn module_turn(&mut self, place: usize) -> Result<Turned, AllocError>
+    /// A turn of the module at a place, which is this actor.
+    pub(crate) fn module_turn(&mut self, actor: u32, place: usize) -> Result<Turned, AllocError>
+        requires actor { actor ≡ suc place }
         requires place { place < length J.site.modules }
         requires room { is_full (history_of self.old) ≡ false }
         ensures ok { IfOk result (λ turned. Turns J.site self.old self.new (suc place) turned) }
@@ -85,7 +86,6 @@ impl<J: Job, C: Clock> Cast<J, C> {
             Decision::Looks => Ok(Turned::Looked),
             Decision::Reports(report) => {
                 let event = report_event(unit.tag, report);
-                let actor = place as u32 + 1;
                 let placed = enter_spared(
                     &mut self.plant,
                     &mut self.by,
@@ -98,8 +98,9 @@ impl<J: Job, C: Clock> Cast<J, C> {
         }
     }
 
-    /// A turn of the batch at a place.
-    pub(crate) fn batch_turn(&mut self, place: usize) -> Result<Turned, AllocError>
+    /// A turn of the batch at a place, which is this actor.
+    pub(crate) fn batch_turn(&mut self, actor: u32, place: usize) -> Result<Turned, AllocError>
+        requires actor { actor ≡ suc (length J.site.modules + place) }
         requires place { place < length J.site.batches }
         requires room { is_full (history_of self.old) ≡ false }
         ensures ok { IfOk result
@@ -112,14 +113,14 @@ impl<J: Job, C: Clock> Cast<J, C> {
         let Some(event) = stage.next_event(self.alloc, batch, &self.plant)? else {
             return Ok(Turned::Rested);
         };
-        let actor = (self.site.modules.len() + place + 1) as u32;
         let placed = enter(&mut self.plant, &mut self.by, &mut self.clock, actor, event)?;
         self.stages[place] = stage.after(&placed.answer);
         Ok(Turned::Made(placed))
     }
 
-    /// A turn of the desk.
-    pub(crate) fn desk_turn(&mut self) -> Result<Turned, AllocError>
+    /// A turn of the desk, which is this actor.
+    pub(crate) fn desk_turn(&mut self, actor: u32) -> Result<Turned, AllocError>
+        requires actor { actor ≡ suc (length J.site.modules + (length J.site.batches + 0)) }
         requires room { is_full (history_of self.old) ≡ false }
         ensures ok { IfOk result
             (λ turned. Turns J.site self.old self.new (suc (length J.site.modules + (length J.site.batches + 0)))
@@ -131,7 +132,6 @@ impl<J: Job, C: Clock> Cast<J, C> {
         let Some(event) = self.desk.next_event(&self.site, length) else {
             return Ok(Turned::Rested);
         };
-        let actor = (self.site.modules.len() + self.site.batches.len() + 1) as u32;
         let placed = enter(&mut self.plant, &mut self.by, &mut self.clock, actor, event)?;
         self.desk.sent();
         Ok(Turned::Made(placed))

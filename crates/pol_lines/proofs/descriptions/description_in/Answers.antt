@@ -24,7 +24,7 @@ returns c = λ served seen served_is seen_is.
     subst (λ held. repeats_by same_service (map plain_service held) ≡ false) c.deref.ensures.value
     (sym c.if-repeats.ensures) in
     let unlike : repeats_by same_variable variables ≡ false =
-    subst (λ held. repeats_by same_variable (map plain_variable held) ≡ false) c.deref-2.ensures.value
+    subst (λ held. repeats_by same_variable (map plain_variable held) ≡ false) c.deref-else-repeats.ensures.value
     (sym c.if-repeats-2.ensures) in
     description_of_parts c.args.members.now served seen c.in_ok-type_name.type_name c.in_ok-version_text.version_text
     (parts_of c.in_ok-version.version) services variables c.in_ok-type_name.ensures c.in_ok-version_text.ensures

@@ -95,10 +95,9 @@ pub read_then_first-returns : goal.read_then_first-returns
 read_then_first-returns t c =
     let deep = 3 * c.args.levels + 16 in
     reads_as (arm_of tree_of) (suc deep) (3 * c.args.levels + 17) c.args.text.now _ _ _ c.of_arm.ensures (omega arith)
-    (then_first deep c.args.text.now c.in_ok-inner.inner.now _ c.in_ok-when.when.now _ c.in_ok-rest.rest.now
-    (plain_condition c.in_ok-condition.condition) (plain_node c.in_ok-body.body) c.in_ok-inner.ensures
-    c.in_ok-body.ensures (sym c.last.ensures ∙ c.in_ok-when.ensures) c.in_ok-condition.ensures
-    (sym c.last-2.ensures ∙ c.in_ok-rest.ensures) (omega arith))
+    (then_first deep _ c.args.text.now c.in_ok-inner.inner.now _ (plain_condition c.in_ok-when.when)
+    (plain_node c.in_ok-body.body) c.in_ok-inner.ensures c.in_ok-body.ensures
+    (rw (← c.last.ensures) c.in_ok-when.ensures) (omega arith))
 
 pub read_sel-returns : goal.read_sel-returns
 read_sel-returns t c =
@@ -114,7 +113,6 @@ pub read_loop-returns : goal.read_loop-returns
 read_loop-returns t c =
     let deep = 3 * c.args.levels + 16 in
     reads_as tree_of (suc deep) (3 * c.args.levels + 19) c.args.text.now _ _ _ c.in_ok-node.ensures (omega arith)
-    (loop_node deep c.args.text.now c.in_ok-inner.inner.now _ c.in_ok-until.until.now _ c.in_ok-rest.rest.now
-    (plain_node c.in_ok-body.body) (plain_condition c.in_ok-condition.condition) c.in_ok-inner.ensures
-    c.in_ok-body.ensures (sym c.last.ensures ∙ c.in_ok-until.ensures) c.in_ok-condition.ensures
-    (sym c.last-2.ensures ∙ c.in_ok-rest.ensures) (omega arith))
+    (loop_node deep _ c.args.text.now c.in_ok-inner.inner.now _ (plain_node c.in_ok-body.body)
+    (plain_condition c.in_ok-until.until) c.in_ok-inner.ensures c.in_ok-body.ensures
+    (rw (← c.last.ensures) c.in_ok-until.ensures) (omega arith))

@@ -19,7 +19,7 @@ returns-clause-given c = λ values gives.
     subst (λ held. repeats_by same_procedure (map plain_procedure held) ≡ false) c.deref.ensures.value
     (sym c.if-repeats.ensures) in
     let one : has_one_default procedures ≡ true =
-    subst (λ held. has_one_default (map plain_procedure held) ≡ true) c.deref-2.ensures.value
+    subst (λ held. has_one_default (map plain_procedure held) ≡ true) c.deref-else-repeats.ensures.value
     (sym c.if-not-has_one_default.ensures) in
     service_of_parts c.args.members.now values c.in_ok-name.name procedures c.in_ok-name.ensures
     (sym c.if-not-are_of_service.ensures) some few apart one gives

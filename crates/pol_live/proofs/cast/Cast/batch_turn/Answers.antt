@@ -1,13 +1,12 @@
-use Rattle.std.proofs.Common.{rules, ◌≡◌, ◌<◌, ◌+◌, ◌++◌, ◌∷◌, [], ◌∙◌, ap, length, refl, suc, sym, subst, arith}
+use Rattle.std.proofs.Common.{◌<◌, ◌+◌, ◌++◌, ◌∷◌, [], ◌∙◌, ap, length, refl, suc, sym, subst}
 use Rattle.std.specs.Prelude.{option_map, slice_get, slice_set}
-use Rattle.std.proofs.lemmas.List.{length-map}
 use Rattle.pol_events.specs.Events.{plain_event}
 use Rattle.pol_history.specs.Answers.{is_full}
 use Rattle.pol_core.specs.Plants.{plant_history}
 use Rattle.pol_site.specs.Actors.{a_batch}
 use Rattle.pol_site.specs.Sites.{PlainSite}
 use Rattle.pol_site.specs.PlainSite.{plain_site}
-use Rattle.pol_site.specs.Views.{plain_batch, plain_module}
+use Rattle.pol_site.specs.Views.{plain_batch}
 use Rattle.pol_actors.proofs.Owners.{actor_batch}
 use Rattle.pol_actors.proofs.Stages.{batch_acts, batch_rests, batch_turn}
 use Rattle.pol_live.specs.Turns.{Locked, history_of}
@@ -59,20 +58,16 @@ invariant_of-self-2 g c =
     let listed = ap (λ (site : PlainSite). slice_get site.batches c.args.place) (sym held)
     ∙ batch_at c.deref.result.now c.args.place c.index-batch.result.now here c.index-batch.ensures in
     let stands = own_at c.self.inside.stages.items (length g.J.Job.site.batches) c.args.place c.index-stage.result.now
-    kept.stage_count c.requires.place c.index-stage.ensures in
-    let one : c.len.result ≡ length c.deref-2.result.now.modules.items = search rules in
-    let modules = sym (length-map c.deref-2.result.now.modules.items plain_module)
-    ∙ ap (λ site. length site.modules) (ap plain_site c.deref-2.ensures ∙ c.self.invariant.0) in
-    let actor : (c.len.result + c.args.place) + 1 ≡ suc (length g.J.Job.site.modules + c.args.place) =
-    omega (arith, one, modules) in (
+    kept.stage_count c.requires.place c.index-stage.ensures in (
       c.self.invariant.0,
       batch_turned g.J.Job.site history (plant_history c.enter.new.plant) c.self.inside.by.items c.enter.new.by.items
           c.self.inside.exchanger c.self.inside.units.items c.self.inside.stages.items _ c.self.inside.desk c.args.place
-          ((c.len.result + c.args.place) + 1) (g.C.Clock.calls c.self.inside.clock) (g.C.Clock.calls c.enter.new.clock)
+          c.args.actor (g.C.Clock.calls c.self.inside.clock) (g.C.Clock.calls c.enter.new.clock)
           (g.C.Clock.last c.enter.new.clock) batch c.index-stage.result.now (plain_event c.in-Some.event)
           c.in_ok-placed.placed room listed stands
-          (sym c.in_ok-event.ensures ∙ ap (option_map plain_event) c.in-Some.is) c.in_ok-placed.ensures.ok actor
-          c.in_ok-placed.ensures.by (ap (slice_set c.self.inside.stages.items c.args.place) c.after.ensures) kept,
+          (sym c.in_ok-event.ensures ∙ ap (option_map plain_event) c.in-Some.is) c.in_ok-placed.ensures.ok
+          c.requires.actor c.in_ok-placed.ensures.by
+          (ap (slice_set c.self.inside.stages.items c.args.place) c.after.ensures) kept,
     )
 
 pub returns-clause-ok : goal.returns-clause-ok
@@ -87,11 +82,6 @@ returns-clause-ok g c =
     ∙ batch_at c.deref.result.now c.args.place c.index-batch.result.now here c.index-batch.ensures in
     let stands = own_at c.self.inside.stages.items (length g.J.Job.site.batches) c.args.place c.index-stage.result.now
     kept.stage_count c.requires.place c.index-stage.ensures in
-    let one : c.len.result ≡ length c.deref-2.result.now.modules.items = search rules in
-    let modules = sym (length-map c.deref-2.result.now.modules.items plain_module)
-    ∙ ap (λ site. length site.modules) (ap plain_site c.deref-2.ensures ∙ c.self.invariant.0) in
-    let actor : (c.len.result + c.args.place) + 1 ≡ suc (length g.J.Job.site.modules + c.args.place) =
-    omega (arith, one, modules) in
     let is = sym c.in_ok-event.ensures ∙ ap (option_map plain_event) c.in-Some.is in
     let stage_is = kept.stages_are c.args.place batch c.index-stage.result.now listed stands in
     let turn = batch_turn g.J.Job.site history c.args.place batch c.index-stage.result.now (plain_event c.in-Some.event)
@@ -106,7 +96,7 @@ returns-clause-ok g c =
       owner = batch_owner g.J.Job.site history c.args.place batch c.index-stage.result.now (plain_event c.in-Some.event)
           kept.sound listed turn;
       enters = c.in_ok-placed.ensures.ok;
-      by_is = c.in_ok-placed.ensures.by ∙ ap (λ n. c.self.inside.by.items ++ n ∷ []) actor;
+      by_is = c.in_ok-placed.ensures.by ∙ ap (λ n. c.self.inside.by.items ++ n ∷ []) c.requires.actor;
     }
 
 pub returns-in_err-placed-clause-err : goal.returns-in_err-placed-clause-err

@@ -1,6 +1,5 @@
-use Rattle.std.proofs.Common.{rules, ◌≡◌, ◌+◌, ◌++◌, ◌∷◌, [], ◌∙◌, ap, length, suc, sym, arith}
+use Rattle.std.proofs.Common.{◌++◌, ◌∷◌, [], ◌∙◌, ap, length, sym}
 use Rattle.std.specs.Prelude.{option_map, slice_get}
-use Rattle.std.proofs.lemmas.List.{length-map}
 use Rattle.pol_events.specs.Events.{plain_event}
 use Rattle.pol_history.specs.Answers.{is_full}
 use Rattle.pol_core.specs.Plants.{plant_history}
@@ -8,7 +7,6 @@ use Rattle.pol_events.proofs.Histories.{length_history}
 use Rattle.pol_site.specs.Actors.{the_desk}
 use Rattle.pol_site.specs.Settled.{waits_to_order}
 use Rattle.pol_site.specs.PlainSite.{plain_site}
-use Rattle.pol_site.specs.Views.{plain_batch, plain_module}
 use Rattle.pol_actors.specs.Orders.{order_event}
 use Rattle.pol_actors.proofs.BatchTurns.{desk_acts, desk_rests}
 use Rattle.pol_actors.proofs.Owners.{actor_desk}
@@ -38,24 +36,15 @@ invariant_of-self-2 g c =
     let count = ap length c.history.ensures.entries ∙ sym (length_history c.self.inside.plant.entries) in
     let event = sym (ap (λ n. order_event n (slice_get g.J.Job.site.desk c.self.inside.desk.ordered)) count)
     ∙ sym (ap (λ site. order_event (length c.history.result.now) (slice_get site.desk c.self.inside.desk.ordered)) held)
-    ∙ sym c.next_event.ensures ∙ ap (option_map plain_event) c.in-Some.is in
-    let one : c.len.result ≡ length c.deref-2.result.now.modules.items = search rules in
-    let other : c.len-2.result ≡ length c.deref-3.result.now.batches.items = search rules in
-    let modules = sym (length-map c.deref-2.result.now.modules.items plain_module)
-    ∙ ap (λ site. length site.modules) (ap plain_site c.deref-2.ensures ∙ c.self.invariant.0) in
-    let batches = sym (length-map c.deref-3.result.now.batches.items plain_batch)
-    ∙ ap (λ site. length site.batches) (ap plain_site c.deref-3.ensures ∙ c.self.invariant.0) in
-    let actor : (c.len.result + c.len-2.result) + 1
-    ≡ suc (length g.J.Job.site.modules + (length g.J.Job.site.batches + 0)) =
-    omega (arith, one, other, modules, batches) in (
+    ∙ sym c.next_event.ensures ∙ ap (option_map plain_event) c.in-Some.is in (
       c.self.invariant.0,
       desk_turned g.J.Job.site history (plant_history c.enter.new.plant) c.self.inside.by.items c.enter.new.by.items
           c.self.inside.exchanger c.self.inside.units.items c.self.inside.stages.items c.self.inside.desk
           c.sent.new.self
-          ((c.len.result + c.len-2.result) + 1) (g.C.Clock.calls c.self.inside.clock)
+          c.args.actor (g.C.Clock.calls c.self.inside.clock)
           (g.C.Clock.calls c.enter.new.clock)
           (g.C.Clock.last c.enter.new.clock) (plain_event c.in-Some.event) c.in_ok-placed.placed room event
-          c.in_ok-placed.ensures.ok actor c.in_ok-placed.ensures.by c.sent.ensures kept,
+          c.in_ok-placed.ensures.ok c.requires.actor c.in_ok-placed.ensures.by c.sent.ensures kept,
     )
 
 pub returns-clause-ok : goal.returns-clause-ok
@@ -68,15 +57,6 @@ returns-clause-ok g c =
     let event = sym (ap (λ n. order_event n order) count)
     ∙ sym (ap (λ site. order_event (length c.history.result.now) (slice_get site.desk c.self.inside.desk.ordered)) held)
     ∙ sym c.next_event.ensures ∙ ap (option_map plain_event) c.in-Some.is in
-    let one : c.len.result ≡ length c.deref-2.result.now.modules.items = search rules in
-    let other : c.len-2.result ≡ length c.deref-3.result.now.batches.items = search rules in
-    let modules = sym (length-map c.deref-2.result.now.modules.items plain_module)
-    ∙ ap (λ site. length site.modules) (ap plain_site c.deref-2.ensures ∙ c.self.invariant.0) in
-    let batches = sym (length-map c.deref-3.result.now.batches.items plain_batch)
-    ∙ ap (λ site. length site.batches) (ap plain_site c.deref-3.ensures ∙ c.self.invariant.0) in
-    let actor : (c.len.result + c.len-2.result) + 1
-    ≡ suc (length g.J.Job.site.modules + (length g.J.Job.site.batches + 0)) =
-    omega (arith, one, other, modules, batches) in
     rw (← c.self.view_is) record {
       room = ap (λ (locked : Locked). is_full (history_of locked)) c.self.view_is ∙ c.requires.room;
       who = the_desk;
@@ -86,5 +66,5 @@ returns-clause-ok g c =
       event = plain_event c.in-Some.event;
       owner = desk_owner g.J.Job.site (length history) order (plain_event c.in-Some.event) event;
       enters = c.in_ok-placed.ensures.ok;
-      by_is = c.in_ok-placed.ensures.by ∙ ap (λ n. c.self.inside.by.items ++ n ∷ []) actor;
+      by_is = c.in_ok-placed.ensures.by ∙ ap (λ n. c.self.inside.by.items ++ n ∷ []) c.requires.actor;
     }

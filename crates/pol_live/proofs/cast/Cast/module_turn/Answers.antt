@@ -1,4 +1,4 @@
-use Rattle.std.proofs.Common.{◌≡◌, ◌<◌, ◌+◌, ◌++◌, ◌∷◌, [], ◌∙◌, List, ap, length, refl, suc, sym, subst, arith}
+use Rattle.std.proofs.Common.{◌<◌, ◌++◌, ◌∷◌, [], ◌∙◌, List, ap, length, refl, suc, sym, subst}
 use Rattle.std.specs.Prelude.{slice_get, slice_set}
 use Rattle.pol_events.specs.Events.{plain_event, plain_history}
 use Rattle.pol_events.specs.declared.event.Entry.{Entry}
@@ -69,8 +69,7 @@ invariant_of-self-in-Reports g c =
     c.index-unit.ensures c.index_mut.ensures.value (sym c.is_docked.ensures ∙ c.if-not-is_docked.false)
     c.history.ensures.entries in
     let turned = module_turned at (sym c.in_ok-turn.ensures.decides ∙ c.in-Reports.is) in
-    let last = g.C.Clock.last c.enter_spared-placed.new.clock in
-    let actor : c.args.place + 1 ≡ suc c.args.place = omega arith in (
+    let last = g.C.Clock.last c.enter_spared-placed.new.clock in (
       c.self.invariant.0,
       kept_reported at last c.in-Reports.report
           (entered_is (plain_history c.reserve.new.self.entries) (plant_history c.enter_spared-placed.new.plant) _ _
@@ -78,8 +77,8 @@ invariant_of-self-in-Reports g c =
           (report_event 0 c.index-unit.result.now.tag c.in-Reports.report) c.enter_spared-placed.result
           c.enter_spared-placed.ensures.ok c.report_event-event.ensures)
           (c.enter_spared-placed.ensures.by
-          ∙ ap (λ makers. makers ++ (c.args.place + 1) ∷ []) c.in_ok-reserve-2.ensures.items
-          ∙ ap (λ n. c.self.inside.by.items ++ n ∷ []) actor)
+          ∙ ap (λ makers. makers ++ c.args.actor ∷ []) c.in_ok-reserve-2.ensures.items
+          ∙ ap (λ n. c.self.inside.by.items ++ n ∷ []) c.requires.actor)
           c.in_ok-turn.ensures.after turned,
     )
 
@@ -150,7 +149,6 @@ returns-in-Reports-clause-ok g c =
     c.history.ensures.entries in
     let turned = module_turned at (sym c.in_ok-turn.ensures.decides ∙ c.in-Reports.is) in
     let unit = plain_module c.index-unit.result.now in
-    let actor : c.args.place + 1 ≡ suc c.args.place = omega arith in
     rw (← c.self.view_is) record {
       room = ap (λ (locked : Locked). is_full (history_of locked)) c.self.view_is ∙ c.requires.room;
       who = a_module unit;
@@ -166,6 +164,6 @@ returns-in-Reports-clause-ok g c =
           (plant_history c.enter_spared-placed.new.plant) (plain_event c.report_event-event.result)
           c.enter_spared-placed.result) c.in_ok-reserve.ensures.entries c.enter_spared-placed.ensures.ok;
       by_is = c.enter_spared-placed.ensures.by
-          ∙ ap (λ makers. makers ++ (c.args.place + 1) ∷ []) c.in_ok-reserve-2.ensures.items
-          ∙ ap (λ n. c.self.inside.by.items ++ n ∷ []) actor;
+          ∙ ap (λ makers. makers ++ c.args.actor ∷ []) c.in_ok-reserve-2.ensures.items
+          ∙ ap (λ n. c.self.inside.by.items ++ n ∷ []) c.requires.actor;
     }

@@ -2,6 +2,7 @@ use Rattle.std.proofs.Common.{◌∙◌, ap, length, reverse, sym, subst}
 use Rattle.pol_events.specs.Events.{plain_history}
 use Rattle.pol_site.specs.Actors.{actors}
 use Rattle.pol_live.specs.Parts.{AreParts}
+use Rattle.pol_live.specs.Turns.{Locked}
 use Rattle.pol_live.proofs.AllCompared.{all_counted}
 use Rattle.pol_live.proofs.Makers.{owners_long, owners_within}
 use Rattle.pol_live.proofs.OwnParts.{all_own}
@@ -15,11 +16,12 @@ returns-in-Ok-clause-own g c =
     let owned = c.leave-ran.ensures.run.owned in
     let long = owners_long site ran.history.items ran.by.items owned in
     let counted = all_counted (length (actors site)) g.J.Ledger.parts left.rest.parts left.rest.amount
-    c.gather-whole.result.parts c.gather-whole.result.amount left.book.total (length left.plant.entries)
+    c.gather-whole.result.parts c.gather-whole.result.amount left.book.total (length c.into_inner.result.entries)
     c.args.seats.items
     c.requires.seats c.requires.parts left.spent.0 left.spent.1 c.gather-whole.ensures.parts
     c.gather-whole.ensures.amount
-    c.audit.ensures.whole left.counted in
+    c.audit.ensures.whole
+    (left.counted ∙ ap (λ (plant : Locked). length plant.entries) (sym c.into_inner.ensures)) in
     all_own ran.by.items ran.history.items (length (actors site)) c.args.seats.items long
     (owners_within site ran.by.items (reverse (plain_history ran.history.items)) owned) c.requires.seats
     (subst (AreParts ran.by.items ran.history.items) c.deref.ensures.value c.in-Ok.ensures.ok)
@@ -31,7 +33,8 @@ returns-in-Ok-clause-counted g c =
     all_counted (length (actors g.J.Job.site)) g.J.Ledger.parts left.rest.parts left.rest.amount
     c.gather-whole.result.parts c.gather-whole.result.amount left.book.total _ c.args.seats.items c.requires.seats
     c.requires.parts left.spent.0 left.spent.1 c.gather-whole.ensures.parts c.gather-whole.ensures.amount
-    c.audit.ensures.whole (left.counted ∙ ap length (sym c.leave-ran.ensures.entries))
+    c.audit.ensures.whole (left.counted ∙ ap (λ (plant : Locked). length plant.entries) (sym c.into_inner.ensures)
+    ∙ ap length (sym c.leave-ran.ensures.entries))
 
 pub returns-clause-strayed_counted : goal.returns-clause-strayed_counted
 returns-clause-strayed_counted g c =
@@ -40,4 +43,5 @@ returns-clause-strayed_counted g c =
     (all_counted (length (actors g.J.Job.site)) g.J.Ledger.parts left.rest.parts left.rest.amount
     c.gather-whole.result.parts c.gather-whole.result.amount left.book.total _ c.args.seats.items c.requires.seats
     c.requires.parts left.spent.0 left.spent.1 c.gather-whole.ensures.parts c.gather-whole.ensures.amount
-    c.audit.ensures.whole (left.counted ∙ ap length (sym c.leave-ran.ensures.entries)))
+    c.audit.ensures.whole (left.counted ∙ ap (λ (plant : Locked). length plant.entries) (sym c.into_inner.ensures)
+    ∙ ap length (sym c.leave-ran.ensures.entries)))

@@ -11,8 +11,8 @@ loop-seat-init g c =
       tt,
       tt,
       search rules,
-      omega (arith, long, c.captures.seats.ok.0, c.len.ensures, c.in_ok-reserve.ensures.ok),
-      omega (arith, long, c.captures.seats.ok.0, c.len-2.ensures, c.in_ok-reserve-2.ensures.ok),
+      omega (arith, long, c.captures.seats.ok.0, c.len.ensures, c.in_ok-children.ensures.capacity),
+      omega (arith, long, c.captures.seats.ok.0, c.len-2.ensures, c.in_ok-here.ensures.capacity),
     )
 
 pub push_reserved-requires : goal.push_reserved-requires
