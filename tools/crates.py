@@ -64,7 +64,7 @@ def lay_crate(name, root, folder):
 
 
 def lay(names, folder, root=ROOT):
-    """Lays these crates and all below them into an empty folder, as a repository of their own, and gives their names."""
+    """Lays these crates and all below them into an empty folder, a repository of its own, and gives their names."""
     laid = closure(names, uses(root))
     for name in laid:
         lay_crate(name, root, folder)
