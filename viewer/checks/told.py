@@ -111,8 +111,10 @@ def check_program(checks):
 
     def run(job, given):
         return subprocess.run([program, '--job', job], input=given, capture_output=True, check=True).stdout
-    for name in ('blend', 'broken', 'hostile'):
-        journal, answers = sets(checks)[name]
+    for name, files in sets(checks).items():
+        if len(files) == 1:
+            continue
+        journal, answers = files
         made_now = run('replay', journal.read_bytes())
         checks.that(name + ': the stored output is the program\'s', made_now == answers.read_bytes())
     plant = run('plant', checks.example('site.json').read_bytes())
