@@ -8,6 +8,7 @@ use pol_io::Failed;
 use std::fs::{self, File, OpenOptions};
 use std::io;
 use std::marker::Model;
+use std::os::fd::AsRawFd;
 use std::os::unix::fs::{FileExt, MetadataExt, OpenOptionsExt};
 
 /// A regular file, opened and locked at the first call, and made where there is none. No link is followed at its name.
@@ -61,9 +62,21 @@ fn open_or_make(rt: &HostRuntime, path: &str) -> io::Result<File> {
     }
 }
 
+// The highest number of a standard stream.
+const LAST_STREAM: i32 = 2;
+
+// The same file at a number that no standard stream has. Where one was closed, the next file that is opened gets its
+// number, and what is meant for the stream would be written over that file.
+fn above_streams(file: File) -> io::Result<File> {
+    if file.as_raw_fd() > LAST_STREAM {
+        return Ok(file);
+    }
+    file.try_clone()
+}
+
 // Opens the file and locks it against all others. The folder is synced, so that the file's name outlives a crash too.
 fn open_locked(rt: &HostRuntime, path: &str, folder: &str) -> io::Result<File> {
-    let file = open_or_make(rt, path)?;
+    let file = above_streams(open_or_make(rt, path)?)?;
     if file.try_lock().is_err() {
         return Err(io::ErrorKind::WouldBlock.into());
     }
