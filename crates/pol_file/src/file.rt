@@ -3,22 +3,30 @@ ghost use Rattle.std.specs.Prelude.{◌≡◌, ◌<◌, ◌≤◌, ℕ, List, No
 ghost use Rattle.std.specs.Io.{ReadsAtMost};
 ghost use Rattle.pol_io.specs.Causes.{Rose};
 
+use crate::opening::Opened;
 use pol_disk::Disk;
 use pol_io::Failed;
-use std::fs::{self, File, OpenOptions};
-use std::io;
+use std::io::{self, ErrorKind};
 use std::marker::Model;
-use std::os::fd::AsRawFd;
-use std::os::unix::fs::{FileExt, MetadataExt, OpenOptionsExt};
+
+// How far the use of a file has come.
+#[derive(Drop)]
+enum Stage {
+    Unopened,
+    Open(Opened),
+    // A sync failed. A later one would succeed, and write nothing of what that one should have.
+    Ended,
+}
 
 /// A regular file, opened and locked at the first call, and made where there is none. No link is followed at its name.
-/// Each error counts as a fault, and so does a lock that another holds. It tells nothing of its bytes.
+/// Each error counts as a fault, and so does a lock that another holds, on the file or on its folder. Once a sync failed
+/// each call fails. It tells nothing of its bytes.
 #[derive(Drop)]
 pub struct FileDisk<'a> {
     rt: &'a HostRuntime,
     path: &'a str,
     folder: &'a str,
-    file: Option<File>,
+    stage: Stage,
     faults: u64,
 }
 
@@ -28,75 +36,8 @@ impl<'a> Model for FileDisk<'a> {
     ghost view = { λ disk. disk.faults };
 }
 
-// Who may read and write a file that is made: its owner may do both, others may read it.
-const MODE: u32 = 0o644;
-
-fn unsupported() -> io::Error {
-    io::ErrorKind::Unsupported.into()
-}
-
-// Opens the file that is there. Since an open follows links, what stands at its name is looked at before and after.
-fn open_there(rt: &HostRuntime, path: &str) -> io::Result<File> {
-    if !fs::symlink_metadata(rt, path)?.is_file() {
-        return Err(unsupported());
-    }
-    let file = OpenOptions::new().read(true).write(true).open(rt, path)?;
-    let (found, named) = (file.metadata()?, fs::symlink_metadata(rt, path)?);
-    if found.dev() != named.dev() || found.ino() != named.ino() || !found.is_file() {
-        return Err(unsupported());
-    }
-    Ok(file)
-}
-
-// Makes the file, or opens the one that is there.
-fn open_or_make(rt: &HostRuntime, path: &str) -> io::Result<File> {
-    match OpenOptions::new()
-        .read(true)
-        .write(true)
-        .create_new(true)
-        .mode(MODE)
-        .open(rt, path)
-    {
-        Err(error) if error.kind() == io::ErrorKind::AlreadyExists => open_there(rt, path),
-        made => made,
-    }
-}
-
-// The highest number of a standard stream.
-const LAST_STREAM: i32 = 2;
-
-// The same file at a number that no standard stream has. Where one was closed, the next file that is opened gets its
-// number, and what is meant for the stream would be written over that file.
-fn above_streams(file: File) -> io::Result<File> {
-    if file.as_raw_fd() > LAST_STREAM {
-        return Ok(file);
-    }
-    file.try_clone()
-}
-
-// Opens the file and locks it against all others. The folder is synced, so that the file's name outlives a crash too.
-fn open_locked(rt: &HostRuntime, path: &str, folder: &str) -> io::Result<File> {
-    let file = above_streams(open_or_make(rt, path)?)?;
-    if file.try_lock().is_err() {
-        return Err(io::ErrorKind::WouldBlock.into());
-    }
-    File::open(rt, folder)?.sync_all()?;
-    Ok(file)
-}
-
-fn read_some(file: &File, at: u64, into: &mut [u8]) -> io::Result<usize>
-    ensures bound { ReadsAtMost result into.new }
-    ensures progress { 0 < length into.old → IfOk result (λ count. 0 < count) }
-{
-    let count = file.read_at(into, at)?;
-    if count == 0 && !into.is_empty() {
-        return Err(io::ErrorKind::UnexpectedEof.into());
-    }
-    Ok(count)
-}
-
-fn unopened() -> io::Error {
-    io::ErrorKind::NotFound.into()
+fn ended() -> io::Error {
+    ErrorKind::NotFound.into()
 }
 
 impl<'a> FileDisk<'a> {
@@ -108,7 +49,7 @@ impl<'a> FileDisk<'a> {
             rt,
             path,
             folder,
-            file: None,
+            stage: Stage::Unopened,
             faults: 0,
         }
     }
@@ -117,9 +58,9 @@ impl<'a> FileDisk<'a> {
     fn open(&mut self) -> io::Result<()>
         ensures { self.new ≡ self.old }
     {
-        if self.file.is_none() {
-            let file = open_locked(self.rt, self.path, self.folder)?;
-            self.file = Some(file);
+        if let Stage::Unopened = self.stage {
+            let opened = Opened::open(self.rt, self.path, self.folder)?;
+            self.stage = Stage::Open(opened);
         }
         Ok(())
     }
@@ -137,9 +78,9 @@ impl<'a> FileDisk<'a> {
         ensures { self.new ≡ self.old }
     {
         self.open()?;
-        match &self.file {
-            Some(file) => Ok(file.metadata()?.len()),
-            None => Err(unopened()),
+        match &self.stage {
+            Stage::Open(opened) => opened.len(),
+            _ => Err(ended()),
         }
     }
 
@@ -149,9 +90,9 @@ impl<'a> FileDisk<'a> {
         ensures faults { self.new ≡ self.old }
     {
         self.open()?;
-        match &self.file {
-            Some(file) => read_some(file, at, into),
-            None => Err(unopened()),
+        match &self.stage {
+            Stage::Open(opened) => opened.read(at, into),
+            _ => Err(ended()),
         }
     }
 
@@ -159,21 +100,25 @@ impl<'a> FileDisk<'a> {
         ensures { self.new ≡ self.old }
     {
         self.open()?;
-        match &self.file {
-            Some(file) => file.write_all_at(piece, at),
-            None => Err(unopened()),
+        match &self.stage {
+            Stage::Open(opened) => opened.write(at, piece),
+            _ => Err(ended()),
         }
     }
 
-    // The bytes and the length of the file are on the device then.
+    // Where it fails nothing more is asked of the file.
     fn try_sync(&mut self) -> io::Result<()>
         ensures { self.new ≡ self.old }
     {
         self.open()?;
-        match &self.file {
-            Some(file) => file.sync_data(),
-            None => Err(unopened()),
+        let done = match &self.stage {
+            Stage::Open(opened) => opened.sync(),
+            _ => Err(ended()),
+        };
+        if done.is_err() {
+            self.stage = Stage::Ended;
         }
+        done
     }
 }
 

@@ -2,6 +2,7 @@
 #![tactic(auto)]
 
 mod file;
+mod opening;
 #[cfg(test)]
 mod tests;
 
