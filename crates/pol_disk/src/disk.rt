@@ -3,12 +3,13 @@ ghost use Rattle.std.specs.Prelude.{◌≡◌, ◌<◌, ◌≤◌, ℕ, List, le
 ghost use Rattle.std.specs.declared.option.Option.{Option};
 ghost use Rattle.std.specs.Io.{ReadsAtMost};
 ghost use Rattle.pol_io.specs.Causes.{HasCause};
-ghost use Rattle.pol_disk.specs.Disks.{BothTell, Elapses, Follows, Holds, IsImage, Keeps, Only, Reads, Torn};
+ghost use Rattle.pol_disk.specs.Disks.{BothTell, Elapses, Follows, Holds, IsImage, Keeps, Only, Reads, StillTells, Torn};
 
 use pol_io::Failed;
 
 /// A disk: bytes that are read and written at any place, and that outlive a crash once they are synced. A call fails
-/// only where the count of faults rose in it.
+/// only where the count of faults rose in it. Where a length or a read was other than the bytes that were told, the disk
+/// tells no bytes any more; so what it tells after a call is what the call answered by.
 pub trait Disk {
     /// The bytes that reads give, where the disk tells them. One of which a sync failed needn't.
     ghost bytes: { Self → Option (List ℕ) };
@@ -27,8 +28,8 @@ pub trait Disk {
 
     /// How many bytes there are.
     fn len(&mut self) -> Result<u64, Failed>
-        ensures number { IfOk result (λ number. IfSome (bytes self.old) (λ all. number ≡ length all)) }
-        ensures bytes { bytes self.new ≡ bytes self.old }
+        ensures number { IfOk result (λ number. IfSome (bytes self.new) (λ all. number ≡ length all)) }
+        ensures bytes { StillTells (bytes self.old) (bytes self.new) }
         ensures images { Keeps (images self.old) (images self.new) }
         ensures image { IsImage (bytes self.new) (images self.new) }
         ensures time { Elapses (moment self.old) (moment self.new)
@@ -41,8 +42,8 @@ pub trait Disk {
         requires { IfSome (bytes self.old) (λ all. at < length all) }
         ensures bound { ReadsAtMost result into.new }
         ensures progress { 0 < length into.old → IfOk result (λ count. 0 < count) }
-        ensures read { IfOk result (λ count. IfSome (bytes self.old) (Reads at count into.new)) }
-        ensures bytes { bytes self.new ≡ bytes self.old }
+        ensures read { IfOk result (λ count. IfSome (bytes self.new) (Reads at count into.new)) }
+        ensures bytes { StillTells (bytes self.old) (bytes self.new) }
         ensures images { Keeps (images self.old) (images self.new) }
         ensures image { IsImage (bytes self.new) (images self.new) }
         ensures time { Elapses (moment self.old) (moment self.new)

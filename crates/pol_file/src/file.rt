@@ -1,13 +1,30 @@
 //! A file in a folder as a disk.
-ghost use Rattle.std.specs.Prelude.{◌≡◌, ◌<◌, ◌≤◌, ℕ, List, None, IfOk, length, ⊤};
+ghost use Rattle.std.specs.Prelude.{◌≡◌, ◌<◌, ◌≤◌, ℕ, List, IfOk, IfSome, OnOk, OnErr, length, take};
 ghost use Rattle.std.specs.Io.{ReadsAtMost};
 ghost use Rattle.pol_io.specs.Causes.{Rose};
+ghost use Rattle.pol_disk.specs.Answers.{GivesImage, GoesOn, MayLeave, MightHaveLeft, brought, bytes_told, measured, read, told_first, tried, written};
+ghost use Rattle.pol_disk.specs.Disks.{Follows, Keeps, Torn};
+ghost use Rattle.pol_disk.specs.Records.{left_now, left_only_now};
+ghost use Rattle.pol_file.specs.Notes.{FileState, noted};
 
 use crate::opening::Opened;
+use crate::record::Record;
+use crate::start::Start;
 use pol_disk::Disk;
 use pol_io::Failed;
 use std::io::{self, ErrorKind};
-use std::marker::Model;
+use std::marker::{Model, PhantomData};
+
+// What a call is noted as.
+const MEASURED: u64 = 0;
+
+const READ: u64 = 1;
+
+const WRITTEN: u64 = 2;
+
+const TRIED: u64 = 3;
+
+const BROUGHT: u64 = 4;
 
 // How far the use of a file has come.
 #[derive(Drop)]
@@ -20,43 +37,57 @@ enum Stage {
 
 /// A regular file, opened and locked at the first call, and made where there is none. No link is followed at its name.
 /// Each error counts as a fault, and so does a lock that another holds, on the file or on its folder. Once a sync failed
-/// each call fails. It tells nothing of its bytes.
+/// each call fails. What it tells of its bytes and images it tells by its calls with their answers, from what the file
+/// held at first, which `S` stands for; once an answer was no disk's it tells no bytes any more.
 #[derive(Drop)]
-pub struct FileDisk<'a> {
+pub struct FileDisk<'a, S: Start> {
     rt: &'a HostRuntime,
     path: &'a str,
     folder: &'a str,
     stage: Stage,
+    record: Record,
+    start: PhantomData<S>,
     faults: u64,
 }
 
-impl<'a> Model for FileDisk<'a> {
-    ghost Value = { ℕ };
+impl<'a, S: Start> Model for FileDisk<'a, S> {
+    ghost use Rattle.pol_disk.specs.Answers.{GivesImage, told_after, told_first};
+    ghost use Rattle.pol_file.specs.Notes.{FileState};
 
-    ghost view = { λ disk. disk.faults };
+    ghost Value = { FileState };
+
+    ghost view = { λ disk. record {
+      told = told_after (told_first S.Start.bytes S.Start.deeds) disk.record.calls;
+      faults = disk.faults;
+    } };
+
+    ghost invariant = { λ disk. GivesImage (told_after (told_first S.Start.bytes S.Start.deeds) disk.record.calls) };
 }
 
 fn ended() -> io::Error {
     ErrorKind::NotFound.into()
 }
 
-impl<'a> FileDisk<'a> {
-    /// The file at a path in a folder; it isn't opened yet.
-    pub fn new(rt: &'a HostRuntime, path: &'a str, folder: &'a str) -> FileDisk<'a>
-        ensures { result ≡ 0 }
+impl<'a, S: Start> FileDisk<'a, S> {
+    /// The file at a path in a folder; it isn't opened yet. The start is used up, so that one file has it.
+    pub fn new(rt: &'a HostRuntime, path: &'a str, folder: &'a str, _start: S) -> FileDisk<'a, S>
+        ensures { result ≡ record { told = told_first S.Start.bytes S.Start.deeds; faults = 0 } }
     {
         FileDisk {
             rt,
             path,
             folder,
             stage: Stage::Unopened,
+            record: Record::new(),
+            start: PhantomData,
             faults: 0,
         }
     }
 
     // Opens the file where that wasn't done yet.
     fn open(&mut self) -> io::Result<()>
-        ensures { self.new ≡ self.old }
+        ensures same { self.new ≡ self.old }
+        ensures image { GivesImage self.new.told }
     {
         if let Stage::Unopened = self.stage {
             let opened = Opened::open(self.rt, self.path, self.folder)?;
@@ -67,37 +98,48 @@ impl<'a> FileDisk<'a> {
 
     // A fault.
     fn fail(&mut self) -> Failed
-        ensures rose { Rose self.old self.new }
-        ensures later { self.old ≤ self.new }
+        ensures rose { Rose self.old.faults self.new.faults }
+        ensures later { self.old.faults ≤ self.new.faults }
+        ensures told { self.new.told ≡ self.old.told }
+        ensures image { GivesImage self.new.told }
     {
         self.faults = self.faults.saturating_add(1);
         Failed
     }
 
     fn try_len(&mut self) -> io::Result<u64>
-        ensures { self.new ≡ self.old }
+        ensures ok { IfOk result (λ size. self.new ≡ noted (measured size) self.old) }
+        ensures err { OnErr result (self.new ≡ self.old) }
+        ensures image { GivesImage self.new.told }
     {
         self.open()?;
-        match &self.stage {
-            Stage::Open(opened) => opened.len(),
-            _ => Err(ended()),
-        }
+        let size = match &self.stage {
+            Stage::Open(opened) => opened.len()?,
+            _ => return Err(ended()),
+        };
+        self.record.note(&[MEASURED, size], &[]);
+        Ok(size)
     }
 
     fn try_read(&mut self, at: u64, into: &mut [u8]) -> io::Result<usize>
         ensures bound { ReadsAtMost result into.new }
         ensures progress { 0 < length into.old → IfOk result (λ count. 0 < count) }
-        ensures faults { self.new ≡ self.old }
+        ensures ok { IfOk result (λ count. self.new ≡ noted (read at (take count into.new)) self.old) }
+        ensures err { OnErr result (self.new ≡ self.old) }
+        ensures image { GivesImage self.new.told }
     {
         self.open()?;
-        match &self.stage {
-            Stage::Open(opened) => opened.read(at, into),
-            _ => Err(ended()),
-        }
+        let count = match &self.stage {
+            Stage::Open(opened) => opened.read(at, into)?,
+            _ => return Err(ended()),
+        };
+        self.record.note(&[READ, at], &into[..count]);
+        Ok(count)
     }
 
-    fn try_write(&mut self, at: u64, piece: &[u8]) -> io::Result<()>
-        ensures { self.new ≡ self.old }
+    fn write_there(&mut self, at: u64, piece: &[u8]) -> io::Result<()>
+        ensures same { self.new ≡ self.old }
+        ensures image { GivesImage self.new.told }
     {
         self.open()?;
         match &self.stage {
@@ -106,36 +148,68 @@ impl<'a> FileDisk<'a> {
         }
     }
 
-    // Where it fails nothing more is asked of the file.
-    fn try_sync(&mut self) -> io::Result<()>
-        ensures { self.new ≡ self.old }
+    fn try_write(&mut self, at: u64, piece: &[u8]) -> io::Result<()>
+        requires { IfSome (bytes_told self.old.told) (λ all. at ≤ length all) }
+        ensures ok { OnOk result (self.new ≡ noted (written at piece.now) self.old) }
+        ensures err { OnErr result (self.new ≡ noted (tried at piece.now) self.old) }
+        ensures image { GivesImage self.new.told }
+        ensures images { Follows (Torn at (length piece.now)) (MayLeave self.old.told) (MayLeave self.new.told) }
+        ensures time { GoesOn self.old.told self.new.told }
+    {
+        match self.write_there(at, piece) {
+            Ok(()) => {
+                self.record.note(&[WRITTEN, at], piece);
+                Ok(())
+            }
+            Err(error) => {
+                self.record.note(&[TRIED, at], piece);
+                Err(error)
+            }
+        }
+    }
+
+    fn sync_there(&mut self) -> io::Result<()>
+        ensures same { self.new ≡ self.old }
+        ensures image { GivesImage self.new.told }
     {
         self.open()?;
-        let done = match &self.stage {
+        match &self.stage {
             Stage::Open(opened) => opened.sync(),
             _ => Err(ended()),
-        };
+        }
+    }
+
+    // Where it fails nothing more is asked of the file.
+    fn try_sync(&mut self) -> io::Result<()>
+        ensures ok { OnOk result (self.new ≡ noted brought self.old) }
+        ensures err { OnErr result (self.new ≡ self.old) }
+        ensures images { Keeps (MayLeave self.old.told) (MayLeave self.new.told) }
+        ensures image { GivesImage self.new.told }
+    {
+        let done = self.sync_there();
         if done.is_err() {
             self.stage = Stage::Ended;
+            return done;
         }
-        done
+        self.record.note(&[BROUGHT], &[]);
+        Ok(())
     }
 }
 
-impl<'a> Disk for FileDisk<'a> {
-    ghost bytes = { λ _. None };
+impl<'a, S: Start> Disk for FileDisk<'a, S> {
+    ghost bytes = { λ disk. bytes_told disk.told };
 
-    ghost images = { λ _ _. ⊤ };
+    ghost images = { λ disk. MayLeave disk.told };
 
-    ghost moment = { λ _. 0 };
+    ghost moment = { λ disk. length disk.told.deeds };
 
-    ghost left_since = { λ _ _ _. ⊤ };
+    ghost left_since = { λ disk. MightHaveLeft disk.told };
 
-    ghost faults = { λ disk. disk };
+    ghost faults = { λ disk. disk.faults };
 
-    ghost counts_now = { λ _ _ _ _ _. tt };
+    ghost counts_now = { λ disk t image le now. left_now disk.told.bytes disk.told.deeds t image le now };
 
-    ghost only_now = { λ _ _ _. tt };
+    ghost only_now = { λ disk image left. left_only_now disk.told.bytes disk.told.deeds image left };
 
     fn len(&mut self) -> Result<u64, Failed> {
         match self.try_len() {
