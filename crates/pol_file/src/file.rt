@@ -45,7 +45,7 @@ pub struct FileDisk<'a, S: Start> {
     path: &'a str,
     folder: &'a str,
     stage: Stage,
-    record: Record,
+    log: Record,
     start: PhantomData<S>,
     faults: u64,
 }
@@ -57,13 +57,14 @@ impl<'a, S: Start> Model for FileDisk<'a, S> {
     ghost Value = { FileState };
 
     ghost view = { λ disk. record {
-      told = told_after (told_first S.Start.bytes S.Start.deeds) disk.record.calls;
+      told = told_after (told_first S.Start.bytes S.Start.deeds) disk.log.calls;
       faults = disk.faults;
     } };
 
-    ghost invariant = { λ disk. GivesImage (told_after (told_first S.Start.bytes S.Start.deeds) disk.record.calls) };
+    ghost invariant = { λ disk. GivesImage (told_after (told_first S.Start.bytes S.Start.deeds) disk.log.calls) };
 }
 
+// What a call answers once a sync failed.
 fn ended() -> io::Error {
     ErrorKind::NotFound.into()
 }
@@ -78,7 +79,7 @@ impl<'a, S: Start> FileDisk<'a, S> {
             path,
             folder,
             stage: Stage::Unopened,
-            record: Record::new(),
+            log: Record::new(),
             start: PhantomData,
             faults: 0,
         }
@@ -107,6 +108,7 @@ impl<'a, S: Start> FileDisk<'a, S> {
         Failed
     }
 
+    // The length, noted.
     fn try_len(&mut self) -> io::Result<u64>
         ensures ok { IfOk result (λ size. self.new ≡ noted (measured size) self.old) }
         ensures err { OnErr result (self.new ≡ self.old) }
@@ -117,10 +119,11 @@ impl<'a, S: Start> FileDisk<'a, S> {
             Stage::Open(opened) => opened.len()?,
             _ => return Err(ended()),
         };
-        self.record.note(&[MEASURED, size], &[]);
+        self.log.note(&[MEASURED, size], &[]);
         Ok(size)
     }
 
+    // A read, noted with the bytes that it gave.
     fn try_read(&mut self, at: u64, into: &mut [u8]) -> io::Result<usize>
         ensures bound { ReadsAtMost result into.new }
         ensures progress { 0 < length into.old → IfOk result (λ count. 0 < count) }
@@ -133,10 +136,11 @@ impl<'a, S: Start> FileDisk<'a, S> {
             Stage::Open(opened) => opened.read(at, into)?,
             _ => return Err(ended()),
         };
-        self.record.note(&[READ, at], &into[..count]);
+        self.log.note(&[READ, at], &into[..count]);
         Ok(count)
     }
 
+    // The write itself, which isn't noted yet.
     fn write_there(&mut self, at: u64, piece: &[u8]) -> io::Result<()>
         ensures same { self.new ≡ self.old }
         ensures image { GivesImage self.new.told }
@@ -148,6 +152,7 @@ impl<'a, S: Start> FileDisk<'a, S> {
         }
     }
 
+    // A write, noted as made where the file took the whole piece, and else as tried.
     fn try_write(&mut self, at: u64, piece: &[u8]) -> io::Result<()>
         requires { IfSome (bytes_told self.old.told) (λ all. at ≤ length all) }
         ensures ok { OnOk result (self.new ≡ noted (written at piece.now) self.old) }
@@ -158,16 +163,17 @@ impl<'a, S: Start> FileDisk<'a, S> {
     {
         match self.write_there(at, piece) {
             Ok(()) => {
-                self.record.note(&[WRITTEN, at], piece);
+                self.log.note(&[WRITTEN, at], piece);
                 Ok(())
             }
             Err(error) => {
-                self.record.note(&[TRIED, at], piece);
+                self.log.note(&[TRIED, at], piece);
                 Err(error)
             }
         }
     }
 
+    // The sync itself, which isn't noted yet.
     fn sync_there(&mut self) -> io::Result<()>
         ensures same { self.new ≡ self.old }
         ensures image { GivesImage self.new.told }
@@ -179,7 +185,7 @@ impl<'a, S: Start> FileDisk<'a, S> {
         }
     }
 
-    // Where it fails nothing more is asked of the file.
+    // A sync, noted where it succeeded. Where it failed nothing more is asked of the file.
     fn try_sync(&mut self) -> io::Result<()>
         ensures ok { OnOk result (self.new ≡ noted brought self.old) }
         ensures err { OnErr result (self.new ≡ self.old) }
@@ -191,7 +197,7 @@ impl<'a, S: Start> FileDisk<'a, S> {
             self.stage = Stage::Ended;
             return done;
         }
-        self.record.note(&[BROUGHT], &[]);
+        self.log.note(&[BROUGHT], &[]);
         Ok(())
     }
 }

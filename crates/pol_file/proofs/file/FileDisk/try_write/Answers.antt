@@ -17,13 +17,13 @@ by_call P call first calls calls' view mid old more is_mid is_old is_told image 
 
 pub invariant_of-self : goal.invariant_of-self
 invariant_of-self g c =
-    by_call (GivesImage) (written c.args.at c.args.piece.now) _ c.self.inside.record.calls c.note.new.self.calls _
+    by_call (GivesImage) (written c.args.at c.args.piece.now) _ c.self.inside.log.calls c.note.new.self.calls _
     c.write_there.new.self c.args.self.now c.note.ensures c.self.view_is c.write_there.ensures.same refl
     c.write_there.ensures.image (left_written_now c.args.at c.args.piece.now c.args.self.now.told c.requires)
 
 pub invariant_of-self-in-Err : goal.invariant_of-self-in-Err
 invariant_of-self-in-Err g c =
-    by_call (GivesImage) (tried c.args.at c.args.piece.now) _ c.self.inside.record.calls c.note-in-Err.new.self.calls _
+    by_call (GivesImage) (tried c.args.at c.args.piece.now) _ c.self.inside.log.calls c.note-in-Err.new.self.calls _
     c.write_there.new.self c.args.self.now c.note-in-Err.ensures c.self.view_is c.write_there.ensures.same refl
     c.write_there.ensures.image (left_tried_now c.args.at c.args.piece.now c.args.self.now.told c.requires)
 
@@ -32,13 +32,13 @@ returns-in-Ok-clause-image g c = invariant_of-self g c
 
 pub returns-in-Ok-clause-images : goal.returns-in-Ok-clause-images
 returns-in-Ok-clause-images g c =
-    by_call (λ new. Follows (Torn c.args.at (length c.args.piece.now)) (MayLeave c.args.self.now.told) (MayLeave new)) (written c.args.at c.args.piece.now) _ c.self.inside.record.calls c.note.new.self.calls _
+    by_call (λ new. Follows (Torn c.args.at (length c.args.piece.now)) (MayLeave c.args.self.now.told) (MayLeave new)) (written c.args.at c.args.piece.now) _ c.self.inside.log.calls c.note.new.self.calls _
     c.write_there.new.self c.args.self.now c.note.ensures c.self.view_is c.write_there.ensures.same refl
     c.write_there.ensures.image (written_comes c.args.at c.args.piece.now c.args.self.now.told c.requires)
 
 pub returns-in-Ok-clause-time : goal.returns-in-Ok-clause-time
 returns-in-Ok-clause-time g c =
-    by_call (GoesOn c.args.self.now.told) (written c.args.at c.args.piece.now) _ c.self.inside.record.calls c.note.new.self.calls _
+    by_call (GoesOn c.args.self.now.told) (written c.args.at c.args.piece.now) _ c.self.inside.log.calls c.note.new.self.calls _
     c.write_there.new.self c.args.self.now c.note.ensures c.self.view_is c.write_there.ensures.same refl
     c.write_there.ensures.image (written_elapses c.args.at c.args.piece.now c.args.self.now.told c.requires)
 
@@ -47,12 +47,12 @@ returns-in-Err-clause-image g c = invariant_of-self-in-Err g c
 
 pub returns-in-Err-clause-images : goal.returns-in-Err-clause-images
 returns-in-Err-clause-images g c =
-    by_call (λ new. Follows (Torn c.args.at (length c.args.piece.now)) (MayLeave c.args.self.now.told) (MayLeave new)) (tried c.args.at c.args.piece.now) _ c.self.inside.record.calls c.note-in-Err.new.self.calls _
+    by_call (λ new. Follows (Torn c.args.at (length c.args.piece.now)) (MayLeave c.args.self.now.told) (MayLeave new)) (tried c.args.at c.args.piece.now) _ c.self.inside.log.calls c.note-in-Err.new.self.calls _
     c.write_there.new.self c.args.self.now c.note-in-Err.ensures c.self.view_is c.write_there.ensures.same refl
     c.write_there.ensures.image (tried_comes c.args.at c.args.piece.now c.args.self.now.told c.requires)
 
 pub returns-in-Err-clause-time : goal.returns-in-Err-clause-time
 returns-in-Err-clause-time g c =
-    by_call (GoesOn c.args.self.now.told) (tried c.args.at c.args.piece.now) _ c.self.inside.record.calls c.note-in-Err.new.self.calls _
+    by_call (GoesOn c.args.self.now.told) (tried c.args.at c.args.piece.now) _ c.self.inside.log.calls c.note-in-Err.new.self.calls _
     c.write_there.new.self c.args.self.now c.note-in-Err.ensures c.self.view_is c.write_there.ensures.same refl
     c.write_there.ensures.image (tried_elapses c.args.at c.args.piece.now c.args.self.now.told c.requires)
