@@ -1,6 +1,6 @@
 -- What one call more of a file tells of it.
 use Rattle.std.proofs.Common.{◌≡◌, ℕ, ◌≤◌, ◌==◌, Bool, true, false, true≢false, List, length, take, drop, Option, None, Some, IfSome, if◌then◌else◌, refl, sym, ◌∙◌, ap, subst}
-use Rattle.core.specs.Cmp.{unsigned_Decides}
+use Rattle.std.specs.Cmp.{unsigned_Decides}
 use Rattle.std.proofs.lemmas.List.{length-take-le}
 use Rattle.std.proofs.lemmas.Slice.Eq.{bytes_eq-Decides}
 use Rattle.pol_disk.specs.Answers.{FileCall, measured, read, written, tried, brought, Told, GivesImage, GoesOn, MayLeave, after_call, learnt, bytes_told, over, stand_at}
