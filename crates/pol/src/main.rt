@@ -1,10 +1,10 @@
 //! The program `pol`: a process orchestration layer for modular plants. All that it does stands in `pol_cli::run`.
 #![tactic(auto)]
 
-use pol_file::FileDisk;
+use pol_file::{FileDisk, Unknown};
 use std::process::ExitCode;
 
 fn main(rt: HostRuntime) -> ExitCode {
-    let disk = FileDisk::new(&rt, "pol.journal", ".");
+    let disk = FileDisk::new(&rt, "pol.journal", ".", Unknown);
     pol_cli::run(&rt, disk)
 }

@@ -1,14 +1,15 @@
--- One call more on a disk in memory.
+-- One call more on a disk: what it undoes, and what a crash may leave after it.
 use Rattle.std.proofs.Common.{◌≡◌, inl, inr, ⊎_elim, ℕ, ◌+◌, ◌-◌, ◌≤◌, min, List, [], ◌∷◌, ◌++◌, length, take, drop, map, reverse, refl, sym, ◌∙◌, ap, subst, arith, append_assoc, length-drop, take-append-drop}
 use Rattle.std.proofs.lemmas.Bool.{cases_lt}
 use Rattle.std.proofs.lemmas.List.{map-append, reverse-append, take_all, drop-drop}
 use Rattle.pol_disk.specs.declared.memory.Call.{Call}
+use Rattle.pol_disk.specs.Answers.{over}
 use Rattle.pol_disk.specs.Calls.{deed_of, deeds_of}
 use Rattle.pol_disk.specs.Disks.{Torn, Holds, Elapses, Follows, spliced}
 use Rattle.pol_disk.specs.Remains.{Range, MayRemain}
 use Rattle.pol_disk.specs.Records.{Deed, wrote, undone, kept_of, ranges_of, IsLeft, LeftSince}
 use Rattle.pol_disk.proofs.Splices.{take-spliced, drop-spliced}
-use Rattle.pol_disk.proofs.Remaining.{remains_written, before_write}
+use Rattle.pol_disk.proofs.Remaining.{remains_written, remains_more, before_write}
 
 -- a call more is a newest one
 pub deeds-push : (calls : List Call) (call : Call) → deeds_of (calls ++ call ∷ []) ≡ deed_of call ∷ deeds_of calls
@@ -16,42 +17,51 @@ deeds-push calls call =
     ap (λ (l : List Deed). reverse l) (map-append deed_of calls (call ∷ []))
     ∙ reverse-append (map deed_of calls) (deed_of call ∷ [])
 
+-- no bytes
+empty : (l : List ℕ) → length l ≡ 0 → l ≡ []
+empty [] none = refl
+empty (x ∷ xs) none = absurd (omega (arith, none))
+
+nothing_behind : (l : List ℕ) → l ++ [] ≡ l
+nothing_behind [] = refl
+nothing_behind (x ∷ xs) = ap (λ (l : List ℕ). x ∷ l) (nothing_behind xs)
+
+-- what stands in a range, and all behind it
+over_back : (at size : ℕ) (bytes : List ℕ) → at ≤ length bytes →
+    over at size bytes ++ drop (at + size) bytes ≡ drop at bytes
+over_back at size bytes le = ⊎_elim
+    (λ fits.
+    let count : min size (length bytes - at) ≡ size = omega (arith, fits) in
+    ap (λ (n : ℕ). take n (drop at bytes) ++ drop (at + size) bytes) count
+    ∙ ap (λ (l : List ℕ). take size (drop at bytes) ++ l) (sym (drop-drop size at bytes))
+    ∙ take-append-drop size (drop at bytes))
+    (λ past.
+    let count : min size (length bytes - at) ≡ length bytes - at = omega (arith, past) in
+    let none : length (drop (at + size) bytes) ≡ 0 = omega (arith, length-drop (at + size) bytes, past) in
+    ap (λ (n : ℕ). take n (drop at bytes) ++ drop (at + size) bytes) count
+    ∙ ap (λ (l : List ℕ). l
+    ++ drop (at + size) bytes)
+    (take_all (length bytes - at) (drop at bytes) (omega (arith, length-drop at bytes)))
+    ∙ ap (λ (l : List ℕ). drop at bytes ++ l) (empty (drop (at + size) bytes) none)
+    ∙ nothing_behind (drop at bytes))
+    (cases_lt size (length bytes - at))
+
+-- what stands in a range, put back, gives the same bytes
+pub undone_same : (at size : ℕ) (bytes : List ℕ) → at ≤ length bytes →
+    undone bytes (wrote at size (over at size bytes)) ≡ bytes
+undone_same at size bytes le =
+    append_assoc (take at bytes) (over at size bytes) (drop (at + size) bytes)
+    ∙ ap (λ (l : List ℕ). take at bytes ++ l) (over_back at size bytes le)
+    ∙ take-append-drop at bytes
+
 -- what stood in the range gives the old bytes back
 pub undone-spliced : (at : ℕ) (piece bytes : List ℕ) → at ≤ length bytes →
-    undone (spliced at piece bytes)
-    (wrote at (length piece) (take (min (length piece) (length bytes - at)) (drop at bytes))) ≡ bytes
+    undone (spliced at piece bytes) (wrote at (length piece) (over at (length piece) bytes)) ≡ bytes
 undone-spliced at piece bytes le =
-    let over : List ℕ = take (min (length piece) (length bytes - at)) (drop at bytes) in
-    let rest : over ++ drop (at + length piece) bytes ≡ drop at bytes = ⊎_elim
-    (λ fits.
-    let size : min (length piece) (length bytes - at) ≡ length piece = omega (arith, fits) in
-    ap (λ (n : ℕ). take n (drop at bytes) ++ drop (at + length piece) bytes) size
-    ∙ ap (λ (l : List ℕ). take (length piece) (drop at bytes) ++ l) (sym (drop-drop (length piece) at bytes))
-    ∙ take-append-drop (length piece) (drop at bytes))
-    (λ past.
-    let size : min (length piece) (length bytes - at) ≡ length bytes - at = omega (arith, past) in
-    let none : length (drop (at + length piece) bytes) ≡ 0 = omega
-    (arith, length-drop (at + length piece) bytes, past) in
-    ap (λ (n : ℕ). take n (drop at bytes) ++ drop (at + length piece) bytes) size
-    ∙ ap (λ (l : List ℕ). l
-    ++ drop (at + length piece) bytes)
-    (take_all (length bytes - at) (drop at bytes) (omega (arith, length-drop at bytes)))
-    ∙ ap (λ (l : List ℕ). drop at bytes ++ l) (empty (drop (at + length piece) bytes) none)
-    ∙ nothing_behind (drop at bytes))
-    (cases_lt (length piece) (length bytes - at)) in
-    ap (λ (l : List ℕ). l ++ over ++ drop (at + length piece) (spliced at piece bytes)) (take-spliced at piece bytes le)
-    ∙ ap (λ (l : List ℕ). take at bytes ++ over ++ l) (drop-spliced at piece bytes le)
-    ∙ append_assoc (take at bytes) over (drop (at + length piece) bytes)
-    ∙ ap (λ (l : List ℕ). take at bytes ++ l) rest
-    ∙ take-append-drop at bytes
-  where
-    empty : (l : List ℕ) → length l ≡ 0 → l ≡ []
-    empty [] none = refl
-    empty (x ∷ xs) none = absurd (omega (arith, none))
-
-    nothing_behind : (l : List ℕ) → l ++ [] ≡ l
-    nothing_behind [] = refl
-    nothing_behind (x ∷ xs) = ap (λ (l : List ℕ). x ∷ l) (nothing_behind xs)
+    let over_is : List ℕ = over at (length piece) bytes in
+    ap (λ (l : List ℕ). l ++ over_is ++ drop (at + length piece) (spliced at piece bytes)) (take-spliced at piece bytes le)
+    ∙ ap (λ (l : List ℕ). take at bytes ++ over_is ++ l) (drop-spliced at piece bytes le)
+    ∙ undone_same at (length piece) bytes le
 
 -- no call
 pub elapses_same : (bytes : List ℕ) (deeds : List Deed) →
@@ -89,3 +99,11 @@ follows_write at piece over old new deeds le undoes left image remains =
     before_write (kept_of old deeds) (ranges_of deeds) range image
     (subst (λ (l : List ℕ). MayRemain (kept_of l deeds) (range ∷ ranges_of deeds) image) undoes remains)
     (omega (arith, le, left.no_longer))
+
+-- a write that may have been made in part, and of which reads tell nothing: what they give is still one of the images
+pub left_tried : (at size : ℕ) (over bytes : List ℕ) (deeds : List Deed) → undone bytes (wrote at size over) ≡ bytes →
+    IsLeft bytes deeds bytes → IsLeft bytes (wrote at size over ∷ deeds) bytes
+left_tried at size over bytes deeds undoes left =
+    subst (λ (l : List ℕ). MayRemain (kept_of l deeds) (record { at = at; size = size } ∷ ranges_of deeds) bytes)
+    (sym undoes)
+    (remains_more (kept_of bytes deeds) (ranges_of deeds) (record { at = at; size = size }) bytes left)

@@ -47,6 +47,17 @@ remains_written kept ranges at piece bytes new remains le holds =
           ∙ remains.stays place old parts.1;
     }
 
+-- with a range more, what may remain may remain
+pub remains_more : (kept : List ℕ) (ranges : List Range) (range : Range) (image : List ℕ) → MayRemain kept ranges image →
+    MayRemain kept (range ∷ ranges) image
+remains_more kept ranges range image remains = record {
+  no_shorter = remains.no_shorter;
+  no_longer = omega (arith, remains.no_longer);
+  stays =
+      λ place old unwritten. remains.stays place old
+      (or_parts (is_within place range) (is_written ranges place) unwritten).1;
+}
+
 -- what may remain after a write may have remained before it, but for the range
 module _ (kept : List ℕ) (ranges : List Range) (range : Range) (image : List ℕ)
     (remains : MayRemain kept (range ∷ ranges) image) (near : range.at ≤ reach (length kept) ranges) where

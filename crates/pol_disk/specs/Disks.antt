@@ -8,6 +8,10 @@ BothTell P None (Some new) = ⊥
 BothTell P (Some old) None = ⊥
 BothTell P (Some old) (Some new) = P old new
 
+-- what is told after a call was told before it
+abbrev pub StillTells : Option (List ℕ) → Option (List ℕ) → Type 0
+StillTells old new = IfSome new (λ all. old ≡ Some all)
+
 -- so many bytes at the front of the slice are those from this place on
 abbrev pub Reads : ℕ → ℕ → List ℕ → List ℕ → Type 0
 Reads at count slice bytes = take count slice ≡ take count (drop at bytes)

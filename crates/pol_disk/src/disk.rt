@@ -3,14 +3,15 @@ ghost use Rattle.std.specs.Prelude.{◌≡◌, ◌<◌, ◌≤◌, ℕ, List, le
 ghost use Rattle.std.specs.declared.option.Option.{Option};
 ghost use Rattle.std.specs.Io.{ReadsAtMost};
 ghost use Rattle.pol_io.specs.Causes.{HasCause};
-ghost use Rattle.pol_disk.specs.Disks.{BothTell, Elapses, Follows, Holds, IsImage, Keeps, Only, Reads, Torn};
+ghost use Rattle.pol_disk.specs.Disks.{BothTell, Elapses, Follows, Holds, IsImage, Keeps, Only, Reads, StillTells, Torn};
 
 use pol_io::Failed;
 
 /// A disk: bytes that are read and written at any place, and that outlive a crash once they are synced. A call fails
-/// only where the count of faults rose in it.
+/// only where the count of faults rose in it. Where a length or a read was other than the bytes that were told, the disk
+/// tells no bytes any more; so what it tells after a call is what the call answered by.
 pub trait Disk {
-    /// The bytes that reads give, where the disk tells them.
+    /// The bytes that reads give, where the disk tells them. One of which a sync failed needn't.
     ghost bytes: { Self → Option (List ℕ) };
 
     /// The images: what a crash now may leave. A disk that doesn't tell its bytes may leave anything.
@@ -27,8 +28,8 @@ pub trait Disk {
 
     /// How many bytes there are.
     fn len(&mut self) -> Result<u64, Failed>
-        ensures number { IfOk result (λ number. IfSome (bytes self.old) (λ all. number ≡ length all)) }
-        ensures bytes { bytes self.new ≡ bytes self.old }
+        ensures number { IfOk result (λ number. IfSome (bytes self.new) (λ all. number ≡ length all)) }
+        ensures bytes { StillTells (bytes self.old) (bytes self.new) }
         ensures images { Keeps (images self.old) (images self.new) }
         ensures image { IsImage (bytes self.new) (images self.new) }
         ensures time { Elapses (moment self.old) (moment self.new)
@@ -41,8 +42,8 @@ pub trait Disk {
         requires { IfSome (bytes self.old) (λ all. at < length all) }
         ensures bound { ReadsAtMost result into.new }
         ensures progress { 0 < length into.old → IfOk result (λ count. 0 < count) }
-        ensures read { IfOk result (λ count. IfSome (bytes self.old) (Reads at count into.new)) }
-        ensures bytes { bytes self.new ≡ bytes self.old }
+        ensures read { IfOk result (λ count. IfSome (bytes self.new) (Reads at count into.new)) }
+        ensures bytes { StillTells (bytes self.old) (bytes self.new) }
         ensures images { Keeps (images self.old) (images self.new) }
         ensures image { IsImage (bytes self.new) (images self.new) }
         ensures time { Elapses (moment self.old) (moment self.new)
@@ -61,10 +62,12 @@ pub trait Disk {
             (left_since self.old) (left_since self.new) (images self.new) }
         ensures cause { HasCause (faults self.old) (faults self.new) result };
 
-    /// After it a crash leaves what reads give, and nothing else.
+    /// After it a crash leaves what reads give, and nothing else. After `Failed` a disk may tell nothing more until it is
+    /// opened anew: a kernel may take for written what never came to the device, so that reads give it, and no later sync
+    /// brings it there.
     fn sync(&mut self) -> Result<(), Failed>
         ensures durable { OnOk result (IfSome (bytes self.old) (λ all. Only all (images self.new))) }
-        ensures bytes { bytes self.new ≡ bytes self.old }
+        ensures bytes { OnOk result (bytes self.new ≡ bytes self.old) }
         ensures images { Keeps (images self.old) (images self.new) }
         ensures image { IsImage (bytes self.new) (images self.new) }
         ensures time { Elapses (moment self.old) (moment self.new)

@@ -1,183 +1,221 @@
 //! A file in a folder as a disk.
-ghost use Rattle.std.specs.Prelude.{◌≡◌, ◌<◌, ◌≤◌, ℕ, List, None, IfOk, length, ⊤};
+ghost use Rattle.std.specs.Prelude.{◌≡◌, ◌<◌, ◌≤◌, ℕ, List, IfOk, IfSome, OnOk, OnErr, length, take};
 ghost use Rattle.std.specs.Io.{ReadsAtMost};
 ghost use Rattle.pol_io.specs.Causes.{Rose};
+ghost use Rattle.pol_disk.specs.Answers.{GivesImage, GoesOn, MayLeave, MightHaveLeft, brought, bytes_told, measured, read, told_first, tried, written};
+ghost use Rattle.pol_disk.specs.Disks.{Follows, Keeps, Torn};
+ghost use Rattle.pol_disk.specs.Records.{left_now, left_only_now};
+ghost use Rattle.pol_file.specs.Notes.{FileState, noted};
 
+use crate::opening::Opened;
+use crate::record::Record;
+use crate::start::Start;
 use pol_disk::Disk;
 use pol_io::Failed;
-use std::fs::{self, File, OpenOptions};
-use std::io;
-use std::marker::Model;
-use std::os::unix::fs::{FileExt, MetadataExt, OpenOptionsExt};
+use std::io::{self, ErrorKind};
+use std::marker::{Model, PhantomData};
+
+// What a call is noted as.
+const MEASURED: u64 = 0;
+
+const READ: u64 = 1;
+
+const WRITTEN: u64 = 2;
+
+const TRIED: u64 = 3;
+
+const BROUGHT: u64 = 4;
+
+// How far the use of a file has come.
+#[derive(Drop)]
+enum Stage {
+    Unopened,
+    Open(Opened),
+    // A sync failed. A later one would succeed, and write nothing of what that one should have.
+    Ended,
+}
 
 /// A regular file, opened and locked at the first call, and made where there is none. No link is followed at its name.
-/// Each error counts as a fault, and so does a lock that another holds. It tells nothing of its bytes.
+/// Each error counts as a fault, and so does a lock that another holds, on the file or on its folder. Once a sync failed
+/// each call fails. What it tells of its bytes and images it tells by its calls with their answers, from what the file
+/// held at first, which `S` stands for; once an answer was no disk's it tells no bytes any more.
 #[derive(Drop)]
-pub struct FileDisk<'a> {
+pub struct FileDisk<'a, S: Start> {
     rt: &'a HostRuntime,
     path: &'a str,
     folder: &'a str,
-    file: Option<File>,
+    stage: Stage,
+    log: Record,
+    start: PhantomData<S>,
     faults: u64,
 }
 
-impl<'a> Model for FileDisk<'a> {
-    ghost Value = { ℕ };
+impl<'a, S: Start> Model for FileDisk<'a, S> {
+    ghost use Rattle.pol_disk.specs.Answers.{GivesImage, told_after, told_first};
+    ghost use Rattle.pol_file.specs.Notes.{FileState};
 
-    ghost view = { λ disk. disk.faults };
+    ghost Value = { FileState };
+
+    ghost view = { λ disk. record {
+      told = told_after (told_first S.Start.bytes S.Start.deeds) disk.log.calls;
+      faults = disk.faults;
+    } };
+
+    ghost invariant = { λ disk. GivesImage (told_after (told_first S.Start.bytes S.Start.deeds) disk.log.calls) };
 }
 
-// Who may read and write a file that is made: its owner may do both, others may read it.
-const MODE: u32 = 0o644;
-
-fn unsupported() -> io::Error {
-    io::ErrorKind::Unsupported.into()
+// What a call answers once a sync failed.
+fn ended() -> io::Error {
+    ErrorKind::NotFound.into()
 }
 
-// Opens the file that is there. Since an open follows links, what stands at its name is looked at before and after.
-fn open_there(rt: &HostRuntime, path: &str) -> io::Result<File> {
-    if !fs::symlink_metadata(rt, path)?.is_file() {
-        return Err(unsupported());
-    }
-    let file = OpenOptions::new().read(true).write(true).open(rt, path)?;
-    let (found, named) = (file.metadata()?, fs::symlink_metadata(rt, path)?);
-    if found.dev() != named.dev() || found.ino() != named.ino() || !found.is_file() {
-        return Err(unsupported());
-    }
-    Ok(file)
-}
-
-// Makes the file, or opens the one that is there.
-fn open_or_make(rt: &HostRuntime, path: &str) -> io::Result<File> {
-    match OpenOptions::new()
-        .read(true)
-        .write(true)
-        .create_new(true)
-        .mode(MODE)
-        .open(rt, path)
-    {
-        Err(error) if error.kind() == io::ErrorKind::AlreadyExists => open_there(rt, path),
-        made => made,
-    }
-}
-
-// Opens the file and locks it against all others. The folder is synced, so that the file's name outlives a crash too.
-fn open_locked(rt: &HostRuntime, path: &str, folder: &str) -> io::Result<File> {
-    let file = open_or_make(rt, path)?;
-    if file.try_lock().is_err() {
-        return Err(io::ErrorKind::WouldBlock.into());
-    }
-    File::open(rt, folder)?.sync_all()?;
-    Ok(file)
-}
-
-fn read_some(file: &File, at: u64, into: &mut [u8]) -> io::Result<usize>
-    ensures bound { ReadsAtMost result into.new }
-    ensures progress { 0 < length into.old → IfOk result (λ count. 0 < count) }
-{
-    let count = file.read_at(into, at)?;
-    if count == 0 && !into.is_empty() {
-        return Err(io::ErrorKind::UnexpectedEof.into());
-    }
-    Ok(count)
-}
-
-fn unopened() -> io::Error {
-    io::ErrorKind::NotFound.into()
-}
-
-impl<'a> FileDisk<'a> {
-    /// The file at a path in a folder; it isn't opened yet.
-    pub fn new(rt: &'a HostRuntime, path: &'a str, folder: &'a str) -> FileDisk<'a>
-        ensures { result ≡ 0 }
+impl<'a, S: Start> FileDisk<'a, S> {
+    /// The file at a path in a folder; it isn't opened yet. The start is used up, so that one file has it.
+    pub fn new(rt: &'a HostRuntime, path: &'a str, folder: &'a str, _start: S) -> FileDisk<'a, S>
+        ensures { result ≡ record { told = told_first S.Start.bytes S.Start.deeds; faults = 0 } }
     {
         FileDisk {
             rt,
             path,
             folder,
-            file: None,
+            stage: Stage::Unopened,
+            log: Record::new(),
+            start: PhantomData,
             faults: 0,
         }
     }
 
     // Opens the file where that wasn't done yet.
     fn open(&mut self) -> io::Result<()>
-        ensures { self.new ≡ self.old }
+        ensures same { self.new ≡ self.old }
+        ensures image { GivesImage self.new.told }
     {
-        if self.file.is_none() {
-            let file = open_locked(self.rt, self.path, self.folder)?;
-            self.file = Some(file);
+        if let Stage::Unopened = self.stage {
+            let opened = Opened::open(self.rt, self.path, self.folder)?;
+            self.stage = Stage::Open(opened);
         }
         Ok(())
     }
 
     // A fault.
     fn fail(&mut self) -> Failed
-        ensures rose { Rose self.old self.new }
-        ensures later { self.old ≤ self.new }
+        ensures rose { Rose self.old.faults self.new.faults }
+        ensures later { self.old.faults ≤ self.new.faults }
+        ensures told { self.new.told ≡ self.old.told }
+        ensures image { GivesImage self.new.told }
     {
         self.faults = self.faults.saturating_add(1);
         Failed
     }
 
+    // The length, noted.
     fn try_len(&mut self) -> io::Result<u64>
-        ensures { self.new ≡ self.old }
+        ensures ok { IfOk result (λ size. self.new ≡ noted (measured size) self.old) }
+        ensures err { OnErr result (self.new ≡ self.old) }
+        ensures image { GivesImage self.new.told }
     {
         self.open()?;
-        match &self.file {
-            Some(file) => Ok(file.metadata()?.len()),
-            None => Err(unopened()),
-        }
+        let size = match &self.stage {
+            Stage::Open(opened) => opened.len()?,
+            _ => return Err(ended()),
+        };
+        self.log.note(&[MEASURED, size], &[]);
+        Ok(size)
     }
 
+    // A read, noted with the bytes that it gave.
     fn try_read(&mut self, at: u64, into: &mut [u8]) -> io::Result<usize>
         ensures bound { ReadsAtMost result into.new }
         ensures progress { 0 < length into.old → IfOk result (λ count. 0 < count) }
-        ensures faults { self.new ≡ self.old }
+        ensures ok { IfOk result (λ count. self.new ≡ noted (read at (take count into.new)) self.old) }
+        ensures err { OnErr result (self.new ≡ self.old) }
+        ensures image { GivesImage self.new.told }
     {
         self.open()?;
-        match &self.file {
-            Some(file) => read_some(file, at, into),
-            None => Err(unopened()),
+        let count = match &self.stage {
+            Stage::Open(opened) => opened.read(at, into)?,
+            _ => return Err(ended()),
+        };
+        self.log.note(&[READ, at], &into[..count]);
+        Ok(count)
+    }
+
+    // The write itself, which isn't noted yet.
+    fn write_there(&mut self, at: u64, piece: &[u8]) -> io::Result<()>
+        ensures same { self.new ≡ self.old }
+        ensures image { GivesImage self.new.told }
+    {
+        self.open()?;
+        match &self.stage {
+            Stage::Open(opened) => opened.write(at, piece),
+            _ => Err(ended()),
         }
     }
 
+    // A write, noted as made where the file took the whole piece, and else as tried.
     fn try_write(&mut self, at: u64, piece: &[u8]) -> io::Result<()>
-        ensures { self.new ≡ self.old }
+        requires { IfSome (bytes_told self.old.told) (λ all. at ≤ length all) }
+        ensures ok { OnOk result (self.new ≡ noted (written at piece.now) self.old) }
+        ensures err { OnErr result (self.new ≡ noted (tried at piece.now) self.old) }
+        ensures image { GivesImage self.new.told }
+        ensures images { Follows (Torn at (length piece.now)) (MayLeave self.old.told) (MayLeave self.new.told) }
+        ensures time { GoesOn self.old.told self.new.told }
     {
-        self.open()?;
-        match &self.file {
-            Some(file) => file.write_all_at(piece, at),
-            None => Err(unopened()),
+        match self.write_there(at, piece) {
+            Ok(()) => {
+                self.log.note(&[WRITTEN, at], piece);
+                Ok(())
+            }
+            Err(error) => {
+                self.log.note(&[TRIED, at], piece);
+                Err(error)
+            }
         }
     }
 
-    // The bytes and the length of the file are on the device then.
-    fn try_sync(&mut self) -> io::Result<()>
-        ensures { self.new ≡ self.old }
+    // The sync itself, which isn't noted yet.
+    fn sync_there(&mut self) -> io::Result<()>
+        ensures same { self.new ≡ self.old }
+        ensures image { GivesImage self.new.told }
     {
         self.open()?;
-        match &self.file {
-            Some(file) => file.sync_data(),
-            None => Err(unopened()),
+        match &self.stage {
+            Stage::Open(opened) => opened.sync(),
+            _ => Err(ended()),
         }
+    }
+
+    // A sync, noted where it succeeded. Where it failed nothing more is asked of the file.
+    fn try_sync(&mut self) -> io::Result<()>
+        ensures ok { OnOk result (self.new ≡ noted brought self.old) }
+        ensures err { OnErr result (self.new ≡ self.old) }
+        ensures images { Keeps (MayLeave self.old.told) (MayLeave self.new.told) }
+        ensures image { GivesImage self.new.told }
+    {
+        let done = self.sync_there();
+        if done.is_err() {
+            self.stage = Stage::Ended;
+            return done;
+        }
+        self.log.note(&[BROUGHT], &[]);
+        Ok(())
     }
 }
 
-impl<'a> Disk for FileDisk<'a> {
-    ghost bytes = { λ _. None };
+impl<'a, S: Start> Disk for FileDisk<'a, S> {
+    ghost bytes = { λ disk. bytes_told disk.told };
 
-    ghost images = { λ _ _. ⊤ };
+    ghost images = { λ disk. MayLeave disk.told };
 
-    ghost moment = { λ _. 0 };
+    ghost moment = { λ disk. length disk.told.deeds };
 
-    ghost left_since = { λ _ _ _. ⊤ };
+    ghost left_since = { λ disk. MightHaveLeft disk.told };
 
-    ghost faults = { λ disk. disk };
+    ghost faults = { λ disk. disk.faults };
 
-    ghost counts_now = { λ _ _ _ _ _. tt };
+    ghost counts_now = { λ disk t image le now. left_now disk.told.bytes disk.told.deeds t image le now };
 
-    ghost only_now = { λ _ _ _. tt };
+    ghost only_now = { λ disk image left. left_only_now disk.told.bytes disk.told.deeds image left };
 
     fn len(&mut self) -> Result<u64, Failed> {
         match self.try_len() {

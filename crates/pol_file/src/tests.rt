@@ -1,6 +1,7 @@
-use crate::FileDisk;
+use crate::{FileDisk, Unknown};
 use pol_disk::Disk;
-use std::fs;
+use std::fs::{self, File};
+use std::os::fd::AsRawFd;
 use std::os::unix::fs::symlink;
 use std::test::Fail;
 
@@ -8,28 +9,77 @@ const FOLDER: &str = "pol_file_test";
 
 const PATH: &str = "pol_file_test/pol.journal";
 
+const ELSEWHERE: &str = "pol_file_test/elsewhere";
+
+// The file's length and its bytes, as a disk that was opened anew tells them.
+fn held(rt: &HostRuntime) -> (Option<u64>, [u8; 8]) {
+    let mut disk = FileDisk::new(rt, PATH, FOLDER, Unknown);
+    let mut bytes = [0; 8];
+    let size = disk.len().ok();
+    if let Some(1..) = size {
+        let _some = disk.read(0, &mut bytes);
+    }
+    (size, bytes)
+}
+
+// Writes a piece at a place within the file, or at its end, and syncs it.
+fn put(disk: &mut FileDisk<'_, Unknown>, at: u64, piece: &[u8]) -> bool {
+    match disk.len() {
+        Ok(size) if at <= size => disk.write_at(at, piece).is_ok() && disk.sync().is_ok(),
+        _ => false,
+    }
+}
+
+// Each row is written and synced on a disk of its own, and looked at on the next.
 #[test]
-fn a_file_is_made_written_and_read_and_a_link_is_refused(rt: HostRuntime) -> Result<(), Fail> {
+fn what_was_synced_is_there_for_the_next_disk(rt: HostRuntime) -> Result<(), Fail> {
     let _ = fs::remove_dir_all(&rt, FOLDER);
     fs::create_dir(&rt, FOLDER)?;
-    let mut disk = FileDisk::new(&rt, PATH, FOLDER);
-    assert_eq!(rt; disk.len().ok(), Some(0));
-    assert!(rt; disk.write_at(0, b"abc").is_ok());
-    assert!(rt; disk.sync().is_ok());
-    let mut locked_out = FileDisk::new(&rt, PATH, FOLDER);
-    assert!(rt; locked_out.len().is_err());
+    let rows: [(u64, &[u8], u64, [u8; 8]); 4] = [
+        (0, b"abcd", 4, *b"abcd\0\0\0\0"),
+        (1, b"XY", 4, *b"aXYd\0\0\0\0"),
+        (4, b"ef", 6, *b"aXYdef\0\0"),
+        (5, b"GHI", 8, *b"aXYdeGHI"),
+    ];
+    assert_eq!(rt; held(&rt), (Some(0), [0; 8]));
+    for (at, piece, size, bytes) in rows {
+        let mut disk = FileDisk::new(&rt, PATH, FOLDER, Unknown);
+        assert!(rt; put(&mut disk, at, piece));
+        drop(disk);
+        assert_eq!(rt; held(&rt), (Some(size), bytes));
+    }
+    fs::remove_dir_all(&rt, FOLDER)?;
+    Ok(())
+}
+
+#[test]
+fn a_folder_has_one_disk_at_a_time(rt: HostRuntime) -> Result<(), Fail> {
+    let _ = fs::remove_dir_all(&rt, FOLDER);
+    fs::create_dir(&rt, FOLDER)?;
+    let mut disk = FileDisk::new(&rt, PATH, FOLDER, Unknown);
+    assert!(rt; disk.len().is_ok());
+    assert!(rt; FileDisk::new(&rt, PATH, FOLDER, Unknown).len().is_err());
+    fs::rename(&rt, PATH, ELSEWHERE)?;
+    assert!(rt; FileDisk::new(&rt, PATH, FOLDER, Unknown).len().is_err());
+    assert!(rt; !fs::exists(&rt, PATH)?);
     drop(disk);
-    let mut again = FileDisk::new(&rt, PATH, FOLDER);
-    let mut back = [0; 4];
-    assert_eq!(rt; again.read(1, &mut back).ok(), Some(2));
-    assert_eq!(rt; back, *b"bc\0\0");
-    assert!(rt; again.read(3, &mut back).is_err());
-    drop(again);
+    assert!(rt; FileDisk::new(&rt, PATH, FOLDER, Unknown).len().is_ok());
     fs::remove_file(&rt, PATH)?;
-    fs::write(&rt, "pol_file_test/other", b"kept".as_slice())?;
-    symlink(&rt, "other", PATH)?;
-    let mut linked = FileDisk::new(&rt, PATH, FOLDER);
-    assert!(rt; linked.len().is_err());
+    symlink(&rt, "elsewhere", PATH)?;
+    assert!(rt; FileDisk::new(&rt, PATH, FOLDER, Unknown).len().is_err());
+    fs::remove_dir_all(&rt, FOLDER)?;
+    Ok(())
+}
+
+// Where standard input is closed, the next file that is opened gets its number: that has to be another one.
+#[test]
+fn no_standard_stream_leads_into_the_file(rt: HostRuntime) -> Result<(), Fail> {
+    let _ = fs::remove_dir_all(&rt, FOLDER);
+    fs::create_dir(&rt, FOLDER)?;
+    libc::close(0);
+    let mut disk = FileDisk::new(&rt, PATH, FOLDER, Unknown);
+    assert!(rt; disk.len().is_ok());
+    assert_eq!(rt; File::open(&rt, FOLDER)?.as_raw_fd(), 0);
     fs::remove_dir_all(&rt, FOLDER)?;
     Ok(())
 }

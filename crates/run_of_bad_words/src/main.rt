@@ -1,10 +1,10 @@
 //! The program `pol`, run on a word that is no text, which asks for nothing: it ends with status 2.
 #![tactic(auto)]
 
-use pol_file::FileDisk;
+use pol_file::{FileDisk, Unknown};
 use std::process::ExitCode;
 
 fn main(rt: HostRuntime) -> ExitCode {
-    let disk = FileDisk::new(&rt, "pol.journal", ".");
+    let disk = FileDisk::new(&rt, "pol.journal", ".", Unknown);
     pol_cli::run(&rt, disk)
 }

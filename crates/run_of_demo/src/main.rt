@@ -1,10 +1,10 @@
 //! The program `pol`, run on the five words of a demo: it writes the summary of the journal of seed 0.
 #![tactic(auto)]
 
-use pol_file::FileDisk;
+use pol_file::{FileDisk, Unknown};
 use std::process::ExitCode;
 
 fn main(rt: HostRuntime) -> ExitCode {
-    let disk = FileDisk::new(&rt, "pol.journal", ".");
+    let disk = FileDisk::new(&rt, "pol.journal", ".", Unknown);
     pol_cli::run(&rt, disk)
 }

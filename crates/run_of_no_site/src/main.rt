@@ -1,10 +1,10 @@
 //! The program `pol`, run as a plant on a site without modules, which is none: it ends with status 7.
 #![tactic(auto)]
 
-use pol_file::FileDisk;
+use pol_file::{FileDisk, Unknown};
 use std::process::ExitCode;
 
 fn main(rt: HostRuntime) -> ExitCode {
-    let disk = FileDisk::new(&rt, "pol.journal", ".");
+    let disk = FileDisk::new(&rt, "pol.journal", ".", Unknown);
     pol_cli::run(&rt, disk)
 }

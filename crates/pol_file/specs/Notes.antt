@@ -1,0 +1,21 @@
+-- How the calls of a file are noted, and what is seen of a file's disk.
+use Rattle.std.specs.Prelude.{ℕ, ◌==◌, if◌then◌else◌, List, slice_index}
+use Rattle.pol_disk.specs.Answers.{FileCall, measured, read, written, tried, brought, Told, learnt}
+
+-- a call by numbers, which call it was and its place or its answer, and by the bytes that were read or given
+abbrev pub call_of : List ℕ → List ℕ → FileCall
+call_of numbers bytes =
+    if slice_index numbers 0 == 0 then measured (slice_index numbers 1)
+    else (if slice_index numbers 0 == 1 then read (slice_index numbers 1) bytes
+    else (if slice_index numbers 0 == 2 then written (slice_index numbers 1) bytes
+    else (if slice_index numbers 0 == 3 then tried (slice_index numbers 1) bytes
+    else brought)))
+
+-- what its calls tell of the file, and how often it failed
+pub record FileState : Type 0 where
+  pub told : Told
+  pub faults : ℕ
+
+-- after one call more
+abbrev pub noted : FileCall → FileState → FileState
+noted call state = record { told = learnt call state.told; faults = state.faults }

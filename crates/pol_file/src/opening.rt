@@ -1,0 +1,152 @@
+//! A file of the operating system, opened for a disk: what is asked of the system, call by call.
+ghost use Rattle.std.specs.Prelude.{◌<◌, IfOk, length};
+ghost use Rattle.std.specs.Io.{ReadsAtMost};
+
+use std::fs::{self, File, OpenOptions};
+use std::io::{self, ErrorKind};
+use std::os::fd::AsRawFd;
+use std::os::unix::fs::{FileExt, MetadataExt, OpenOptionsExt};
+
+/// An open file, and its folder, which is locked as long as this lives.
+#[derive(Drop)]
+pub struct Opened {
+    file: File,
+    folder: File,
+}
+
+// Who may read and write a file that is made: its owner may do both, others may read it.
+const MODE: u32 = 0o644;
+
+// The highest number of a standard stream.
+const LAST_STREAM: i32 = 2;
+
+// How the system names its limit on a file's size.
+const RLIMIT_FSIZE: i32 = 1;
+
+// Opens the file that is there. Since an open follows links, what stands at its name is looked at before and after.
+fn open_there(rt: &HostRuntime, path: &str) -> io::Result<File> {
+    if !fs::symlink_metadata(rt, path)?.is_file() {
+        return Err(ErrorKind::Unsupported.into());
+    }
+    let file = OpenOptions::new().read(true).write(true).open(rt, path)?;
+    let (found, named) = (file.metadata()?, fs::symlink_metadata(rt, path)?);
+    if found.dev() != named.dev() || found.ino() != named.ino() || !found.is_file() {
+        return Err(ErrorKind::Unsupported.into());
+    }
+    Ok(file)
+}
+
+// Makes the file, or opens the one that is there.
+fn open_or_make(rt: &HostRuntime, path: &str) -> io::Result<File> {
+    match OpenOptions::new()
+        .read(true)
+        .write(true)
+        .create_new(true)
+        .mode(MODE)
+        .open(rt, path)
+    {
+        Err(error) if error.kind() == ErrorKind::AlreadyExists => open_there(rt, path),
+        made => made,
+    }
+}
+
+// The same file at a number that no standard stream has. Where one was closed, the next file that is opened gets its
+// number, and what is meant for the stream would be written over that file.
+fn above_streams(file: File) -> io::Result<File> {
+    if file.as_raw_fd() > LAST_STREAM {
+        return Ok(file);
+    }
+    file.try_clone()
+}
+
+// Locks a file or a folder against all who open it anew.
+fn lock(file: &File) -> io::Result<()> {
+    match file.try_lock() {
+        Ok(()) => Ok(()),
+        Err(_) => Err(ErrorKind::WouldBlock.into()),
+    }
+}
+
+// Sees to it that reads give what the device has: what an earlier program left unwritten is synced, and then the
+// kernel's copies are dropped. Where a sync failed the kernel may hold bytes that the device never got, for written.
+fn settle(file: &File) -> io::Result<()> {
+    file.sync_data()?;
+    let advised = libc::posix_fadvise(file.as_raw_fd(), 0, 0, libc::POSIX_FADV_DONTNEED);
+    if advised != 0 {
+        return Err(io::Error::from_raw_os_error(advised));
+    }
+    Ok(())
+}
+
+// One read, done again where it is interrupted.
+fn read_again(file: &File, at: u64, into: &mut [u8]) -> io::Result<usize>
+    ensures bound { ReadsAtMost result into.new }
+{
+    for _ in 0..u64::MAX {
+        match file.read_at(into, at) {
+            Ok(count) => return Ok(count),
+            Err(error) => {
+                if error.kind() != ErrorKind::Interrupted {
+                    return Err(error);
+                }
+            }
+        }
+    }
+    Err(ErrorKind::Interrupted.into())
+}
+
+// Whether the process may make a file as long as a write of so many bytes at this place makes it.
+fn is_within_limit(at: u64, size: u64) -> bool {
+    let mut limit = libc::types::rlimit {
+        rlim_cur: 0,
+        rlim_max: 0,
+    };
+    let asked = libc::getrlimit(RLIMIT_FSIZE, &mut limit);
+    asked == 0 && at <= limit.rlim_cur && size <= limit.rlim_cur - at
+}
+
+impl Opened {
+    /// Opens and locks the file at a path in a folder, and makes it where there is none. The folder is locked too, so
+    /// that a file that was moved away leaves no place for another; and it is synced, so that the file's name outlives
+    /// a crash. What reads give then is what the device has.
+    pub(crate) fn open(rt: &HostRuntime, path: &str, folder: &str) -> io::Result<Opened> {
+        let folder = above_streams(File::open(rt, folder)?)?;
+        lock(&folder)?;
+        let file = above_streams(open_or_make(rt, path)?)?;
+        lock(&file)?;
+        folder.sync_all()?;
+        settle(&file)?;
+        Ok(Opened { file, folder })
+    }
+
+    /// How many bytes the file has.
+    pub(crate) fn len(&self) -> io::Result<u64> {
+        Ok(self.file.metadata()?.len())
+    }
+
+    /// Reads some bytes from a place on. Where it finds none there, that is an error.
+    pub(crate) fn read(&self, at: u64, into: &mut [u8]) -> io::Result<usize>
+        ensures bound { ReadsAtMost result into.new }
+        ensures progress { 0 < length into.old → IfOk result (λ count. 0 < count) }
+    {
+        let count = read_again(&self.file, at, into)?;
+        if count == 0 && !into.is_empty() {
+            return Err(ErrorKind::UnexpectedEof.into());
+        }
+        Ok(count)
+    }
+
+    /// Writes the whole piece at a place. What would go past the limit on a file's size isn't begun, since the system
+    /// ends a program that does it.
+    pub(crate) fn write(&self, at: u64, piece: &[u8]) -> io::Result<()> {
+        if !is_within_limit(at, piece.len() as u64) {
+            return Err(ErrorKind::FileTooLarge.into());
+        }
+        self.file.write_all_at(piece, at)
+    }
+
+    /// Brings the bytes and the length of the file to the device.
+    pub(crate) fn sync(&self) -> io::Result<()> {
+        self.file.sync_data()
+    }
+}
