@@ -10,7 +10,7 @@ use pol_io::Failed;
 /// A disk: bytes that are read and written at any place, and that outlive a crash once they are synced. A call fails
 /// only where the count of faults rose in it.
 pub trait Disk {
-    /// The bytes that reads give, where the disk tells them.
+    /// The bytes that reads give, where the disk tells them. One of which a sync failed needn't.
     ghost bytes: { Self → Option (List ℕ) };
 
     /// The images: what a crash now may leave. A disk that doesn't tell its bytes may leave anything.
@@ -61,10 +61,11 @@ pub trait Disk {
             (left_since self.old) (left_since self.new) (images self.new) }
         ensures cause { HasCause (faults self.old) (faults self.new) result };
 
-    /// After it a crash leaves what reads give, and nothing else.
+    /// After it a crash leaves what reads give, and nothing else. After `Failed` a disk may tell nothing more: what reads
+    /// give then needn't be what is there, and no later sync need bring it there.
     fn sync(&mut self) -> Result<(), Failed>
         ensures durable { OnOk result (IfSome (bytes self.old) (λ all. Only all (images self.new))) }
-        ensures bytes { bytes self.new ≡ bytes self.old }
+        ensures bytes { OnOk result (bytes self.new ≡ bytes self.old) }
         ensures images { Keeps (images self.old) (images self.new) }
         ensures image { IsImage (bytes self.new) (images self.new) }
         ensures time { Elapses (moment self.old) (moment self.new)

@@ -7,7 +7,7 @@ use Rattle.pol_texts.specs.Settled.{IsSynced, IsSettled}
 use Rattle.pol_texts.specs.Stands.{Stands}
 use Rattle.pol_events.specs.Events.{PlainEvent}
 use Rattle.pol_store.specs.Stands.{StandsFor, BreaksAt}
-use Rattle.pol_store.specs.Opens.{Breaks, IsOpened, IsReplayed, IsNoStore, Tells}
+use Rattle.pol_store.specs.Opens.{Breaks, IsLeftOf, IsOpened, IsReplayed, IsNoStore, Tells}
 use Rattle.pol_store.specs.declared.opening.OpenFault.{OpenFault}
 use Rattle.pol_store.specs.declared.opening.OpenFault.TheVariants.{Memory, Disk, NotAStore}
 use Rattle.pol_store.proofs.Texts.{one_history}
@@ -110,3 +110,24 @@ pub left_images : {D : Type 0} (images : D → List ℕ → Type 0) (moment : D 
     images new image → P image
 left_images images moment left_since counts_now old new P leaves image left =
     leaves.each image (counts_now new (moment old) image leaves.later left)
+
+module _ {D : Type 0} (images : D → List ℕ → Type 0) (moment : D → ℕ) (left_since : D → ℕ → List ℕ → Type 0)
+    (old mid : D) (all : List ℕ) (first : LeavesOnly moment left_since old mid (images old)) where
+  -- the first sync leaves what was there
+  pub left_settled : LeavesOnly moment left_since old mid (IsLeftOf all (images old))
+  left_settled = wider moment left_since old mid (images old) (IsLeftOf all (images old)) first (λ image was. inl was)
+
+  -- a short disk was begun
+  pub left_begun : (new : D) → length all ≤ 1 → LeavesOnly moment left_since mid new (λ image. Stands image []) →
+      LeavesOnly moment left_since old new (IsLeftOf all (images old))
+  left_begun new short begun =
+      then moment left_since old mid new (IsLeftOf all (images old)) (λ image. Stands image []) left_settled begun
+      (λ image stands. inr (short, none_stands image stands))
+
+  -- all was read
+  pub left_read : (new : D) → ((image : List ℕ) → images mid image → images old image) →
+      LeavesOnly moment left_since mid new (images mid) →
+      LeavesOnly moment left_since old new (IsLeftOf all (images old))
+  left_read new keeps read =
+      then moment left_since old mid new (IsLeftOf all (images old)) (images mid) left_settled read
+      (λ image left. inl (keeps image left))

@@ -1,5 +1,5 @@
 -- What opening finds.
-use Rattle.std.specs.Prelude.{◌≡◌, ◌≤◌, ◌<◌, ℕ, List, length, Option, IfSome}
+use Rattle.std.specs.Prelude.{◌≡◌, ◌⊎◌, ◌≤◌, ◌<◌, ℕ, List, [], length, Option, IfSome}
 use Rattle.mtp_codes.specs.declared.limits.TheConstants.{LONGEST_HISTORY}
 use Rattle.pol_texts.specs.Stands.{Begins}
 use Rattle.pol_events.specs.Events.{PlainEvent}
@@ -41,3 +41,8 @@ pub record IsOpened (all : List ℕ) (seen : Option (List ℕ)) (images : List �
     Type 0) (end : ℕ) (events : List PlainEvent) : Type 0 where
   pub stood : StandsFor events all
   pub kept : KeepsEvents seen images end events
+
+-- what opening a disk that reads as these bytes leaves of it: an image that a crash might have left before, or, where
+-- there is at most one byte, one that stands for no event
+abbrev pub IsLeftOf : List ℕ → (List ℕ → Type 0) → List ℕ → Type 0
+IsLeftOf all images image = images image ⊎ ((length all ≤ 1) × StandsFor [] image)

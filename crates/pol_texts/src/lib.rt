@@ -11,9 +11,11 @@ mod gate;
 mod loading;
 mod putting;
 mod settling;
+mod staging;
 
 pub use adding::{add, begin};
 pub use finding::{Found, find};
 pub use gate::CLOSED_GATE;
 pub use loading::{LoadFault, load};
 pub use settling::settle;
+pub use staging::stage;

@@ -12,8 +12,8 @@ pub fn settle<D: Disk>(disk: &mut D) -> Result<u64, Failed>
     ensures number { IfOk result (λ number. IfSome (D.bytes disk.new) (λ all. number ≡ length all)) }
     ensures synced { OnOk result ((all : List ℕ) → D.bytes disk.old ≡ Some all
         → IsSynced (D.bytes disk.new) (D.images disk.new) all) }
-    ensures image { (all : List ℕ) → D.bytes disk.old ≡ Some all → D.images disk.old all }
-    ensures bytes { D.bytes disk.new ≡ D.bytes disk.old }
+    ensures image { OnOk result ((all : List ℕ) → D.bytes disk.old ≡ Some all → D.images disk.old all) }
+    ensures bytes { OnOk result (D.bytes disk.new ≡ D.bytes disk.old) }
     ensures images { Keeps (D.images disk.old) (D.images disk.new) }
     ensures moments { LeavesOnly D.moment D.left_since disk.old disk.new (D.images disk.old) }
     ensures cause { HasCause (D.faults disk.old) (D.faults disk.new) result }

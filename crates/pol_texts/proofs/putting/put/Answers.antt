@@ -1,6 +1,5 @@
 use Rattle.std.proofs.Common.{length}
-use Rattle.std.proofs.lemmas.Result.{on_ok_weaker}
-use Rattle.pol_texts.proofs.Runs.{written, synced_after, synced_now}
+use Rattle.pol_texts.proofs.Runs.{both_ok, synced_after, synced_now, written}
 use Rattle.pol_texts.proofs.putting.put.Goals as goal
 
 pub returns-in_err-write_at-clause-moments : goal.returns-in_err-write_at-clause-moments
@@ -19,8 +18,8 @@ returns-clause-moments g c = λ all synced.
 pub returns-clause-kept : goal.returns-clause-kept
 returns-clause-kept g c =
     let d = g.D.Disk in
-    on_ok_weaker c.sync.result
-    (λ durable. λ all told. synced_now c.args.at c.args.piece.now all (d.bytes c.args.disk.now)
+    both_ok c.sync.result
+    (λ durable same. λ all told. synced_now c.args.at c.args.piece.now all (d.bytes c.args.disk.now)
     (d.bytes c.write_at.new.self) (d.bytes c.sync.new.self) (d.images c.sync.new.self)
-    c.in_ok-write_at.ensures.written c.sync.ensures.bytes durable told)
-    c.sync.ensures.durable
+    c.in_ok-write_at.ensures.written same durable told)
+    c.sync.ensures.durable c.sync.ensures.bytes
