@@ -5,21 +5,15 @@ use Rattle.pol_disk.specs.Disks.{LeavesOnly}
 use Rattle.pol_disk.proofs.Moments.{then, wider}
 use Rattle.pol_texts.specs.Settled.{IsSynced, IsSettled}
 use Rattle.pol_texts.specs.Stands.{Stands}
-use Rattle.pol_events.specs.Events.{PlainEvent}
 use Rattle.pol_store.specs.Stands.{StandsFor, BreaksAt}
 use Rattle.pol_store.specs.Opens.{Breaks, IsLeftOf, IsOpened, IsReplayed, IsNoStore, Tells}
 use Rattle.pol_store.specs.declared.opening.OpenFault.{OpenFault}
 use Rattle.pol_store.specs.declared.opening.OpenFault.TheVariants.{Memory, Disk, NotAStore}
-use Rattle.pol_store.proofs.Texts.{one_history}
 use Rattle.pol_store.proofs.Broken.{breaks_none}
 
 -- a short disk stands for no event
 pub short_stands : (all : List ℕ) → length all ≤ 1 → StandsFor [] all
 short_stands all short = record { texts = []; are = tt; stands = inl (short, refl) }
-
--- and for no others
-pub short_none : (all : List ℕ) (events : List PlainEvent) → length all ≤ 1 → StandsFor events all → [] ≡ events
-short_none all events short stands = one_history all [] events (short_stands all short) stands
 
 -- an image that stands for no text stands for no event
 pub none_stands : (image : List ℕ) → Stands image [] → StandsFor [] image
@@ -79,30 +73,6 @@ replay_tells (NotAStore place) items number seen seen' faults faults' breaks sam
       (subst (λ (i : List ℕ). BreaksAt place i) is breaks)) counted read,
 )
 
-module _ {D : Type 0} (bytes : D → Option (List ℕ)) (images : D → List ℕ → Type 0) (moment : D → ℕ)
-    (left_since : D → ℕ → List ℕ → Type 0) (old mid : D) (events : List PlainEvent)
-    (stand : (image : List ℕ) → images old image →
-    StandsFor events image) (first : LeavesOnly moment left_since old mid (images old)) where
-  -- the first sync leaves what was there
-  pub settled_leaves : LeavesOnly moment left_since old mid (StandsFor events)
-  settled_leaves = wider moment left_since old mid (images old) (StandsFor events) first stand
-
-  -- a short disk was begun
-  pub begun_leaves : (new : D) (all : List ℕ) → images old all → length all ≤ 1 →
-      LeavesOnly moment left_since mid new (λ image. Stands image []) →
-      LeavesOnly moment left_since old new (StandsFor events)
-  begun_leaves new all image short begun =
-      then moment left_since old mid new (StandsFor events) (λ image. Stands image []) settled_leaves begun
-      (λ other stands. subst (λ (es : List PlainEvent). StandsFor es other)
-      (short_none all events short (stand all image)) (none_stands other stands))
-
-  -- all was read
-  pub read_leaves : (new : D) → ((image : List ℕ) → images mid image → images old image) →
-      LeavesOnly moment left_since mid new (images mid) → LeavesOnly moment left_since old new (StandsFor events)
-  read_leaves new keeps read =
-      then moment left_since old mid new (StandsFor events) (images mid) settled_leaves read
-      (λ image left. stand image (keeps image left))
-
 -- after calls of which a crash at any moment leaves only what has a property, each image has it
 pub left_images : {D : Type 0} (images : D → List ℕ → Type 0) (moment : D → ℕ) (left_since : D → ℕ → List ℕ → Type 0) →
     ((disk : D) (t : ℕ) (image : List ℕ) → t ≤ moment disk → images disk image → left_since disk t image) →
@@ -118,11 +88,11 @@ module _ {D : Type 0} (images : D → List ℕ → Type 0) (moment : D → ℕ) 
   left_settled = wider moment left_since old mid (images old) (IsLeftOf all (images old)) first (λ image was. inl was)
 
   -- a short disk was begun
-  pub left_begun : (new : D) → length all ≤ 1 → LeavesOnly moment left_since mid new (λ image. Stands image []) →
+  pub left_begun : (new : D) → images old all → length all ≤ 1 → LeavesOnly moment left_since mid new (λ image. Stands image []) →
       LeavesOnly moment left_since old new (IsLeftOf all (images old))
-  left_begun new short begun =
+  left_begun new image short begun =
       then moment left_since old mid new (IsLeftOf all (images old)) (λ image. Stands image []) left_settled begun
-      (λ image stands. inr (short, none_stands image stands))
+      (λ other stands. inr (image, short, none_stands other stands))
 
   -- all was read
   pub left_read : (new : D) → ((image : List ℕ) → images mid image → images old image) →

@@ -1,5 +1,5 @@
 -- A plant and a disk that keeps its events.
-use Rattle.std.specs.Prelude.{◌≡◌, ◌+◌, ◌<◌, ◌≤◌, ◌^◌, ℕ, List, ◌++◌, length, Bool, true, false, Option, Some, IfSome}
+use Rattle.std.specs.Prelude.{◌≡◌, ◌+◌, ◌<◌, ◌≤◌, ◌^◌, ℕ, List, [], ◌∷◌, ◌++◌, length, Bool, true, false, Option, Some, IfSome}
 use Rattle.pol_disk.specs.Disks.{LeavesOnly}
 use Rattle.pol_texts.specs.Settled.{IsSettled, IsStaged}
 use Rattle.pol_events.specs.Events.{PlainEvent}
@@ -63,6 +63,21 @@ LeavesGroup bytes moment left_since old new =
     old.closed ≡ false → (all : List ℕ) → bytes old.disk ≡ Some all
     → (kept group : List PlainEvent) → HasParts old kept group
     → LeavesOnly moment left_since old.disk new (StandsWithAllOrNone kept group)
+
+-- a crash at any moment of a call leaves the events of the store, or these and one more
+abbrev pub LeavesEvents : {D : Type 0} → (D → Option (List ℕ)) → (D → ℕ) → (D → ℕ → List ℕ → Type 0) → StoreState D →
+    D → PlainEvent → Type 0
+LeavesEvents bytes moment left_since old new event =
+    old.closed ≡ false → (all : List ℕ) → bytes old.disk ≡ Some all
+    → LeavesOnly moment left_since old.disk new
+    (StandsWithAllOrNone (events_of (plant_history old.plant)) (event ∷ []))
+
+-- a crash from now on leaves the events of the store and one more
+abbrev pub KeepsMore : {D : Type 0} → (D → Option (List ℕ)) → (D → List ℕ → Type 0) → StoreState D → D → PlainEvent →
+    Type 0
+KeepsMore bytes images old new event =
+    (all : List ℕ) → bytes old.disk ≡ Some all
+    → (image : List ℕ) → images new image → StandsFor (events_of (plant_history old.plant) ++ event ∷ []) image
 
 -- a crash from now on leaves all events of the store's plant
 abbrev pub KeepsAll : {D : Type 0} → (D → Option (List ℕ)) → (D → List ℕ → Type 0) → StoreState D → D → Type 0

@@ -42,7 +42,7 @@ pub record IsOpened (all : List ℕ) (seen : Option (List ℕ)) (images : List �
   pub stood : StandsFor events all
   pub kept : KeepsEvents seen images end events
 
--- what opening a disk that reads as these bytes leaves of it: an image that a crash might have left before, or, where
--- there is at most one byte, one that stands for no event
+-- what opening a disk leaves that reads as these bytes: an image that a crash might have left before; or one that stands
+-- for no event, where a crash might have left these bytes, and there is at most one of them
 abbrev pub IsLeftOf : List ℕ → (List ℕ → Type 0) → List ℕ → Type 0
-IsLeftOf all images image = images image ⊎ ((length all ≤ 1) × StandsFor [] image)
+IsLeftOf all images image = images image ⊎ (images all × (length all ≤ 1) × StandsFor [] image)

@@ -3,11 +3,9 @@ ghost use Rattle.std.specs.Prelude.{◌≡◌, ◌≢◌, ◌≤◌, ◌∷◌, 
 ghost use Rattle.pol_io.specs.Causes.{HasCauseOf};
 ghost use Rattle.pol_disk.specs.Disks.{LeavesOnly, Keeps as KeepsImages};
 ghost use Rattle.pol_texts.specs.Settled.{AreAlike};
-ghost use Rattle.pol_events.specs.Events.{PlainEvent};
 ghost use Rattle.pol_core.specs.Plants.{plant_history};
-ghost use Rattle.pol_history.specs.Runs.{IsLegal, events_of};
+ghost use Rattle.pol_history.specs.Runs.{IsLegal, IsOrderly, events_of};
 ghost use Rattle.pol_store.specs.Opens.{IsLeftOf, IsOpened, Tells};
-ghost use Rattle.pol_store.specs.Stands.{StandsFor};
 
 use crate::replaying::replay;
 use pol_core::Plant;
@@ -71,14 +69,12 @@ fn load_all<D: Disk>(alloc: Global, disk: &mut D, size: u64) -> Result<Vec<u8>, 
 
 /// Opens a disk: the plant whose events it keeps, and the place of the closed gate behind their records.
 pub fn open_on<D: Disk>(alloc: Global, disk: &mut D) -> Result<(Plant, u64), OpenFault>
-    ensures moments { (all : List ℕ) (events : List PlainEvent) → D.bytes disk.old ≡ Some all
-        → ((image : List ℕ) → D.images disk.old image → StandsFor events image)
-        → LeavesOnly D.moment D.left_since disk.old disk.new (StandsFor events) }
     ensures left { (all : List ℕ) → D.bytes disk.old ≡ Some all
         → LeavesOnly D.moment D.left_since disk.old disk.new (IsLeftOf all (D.images disk.old)) }
     ensures opened { IfOk result (λ done. (all : List ℕ) → D.bytes disk.old ≡ Some all
         → IsOpened all (D.bytes disk.new) (D.images disk.new) done.1 (events_of (plant_history done.0))) }
     ensures legal { IfOk result (λ done. IsLegal (plant_history done.0)) }
+    ensures orderly { IfOk result (λ done. IsOrderly (plant_history done.0)) }
     ensures image { OnOk result ((all : List ℕ) → D.bytes disk.old ≡ Some all → D.images disk.old all) }
     ensures told { OnOk result (AreAlike (D.bytes disk.old) (D.bytes disk.new)) }
     ensures tells { IfErr result (λ fault. Tells fault

@@ -6,9 +6,9 @@ ghost use Rattle.pol_events.specs.Events.{PlainEvent, plain_event};
 ghost use Rattle.pol_events.specs.Orderly.{is_orderly};
 ghost use Rattle.pol_core.specs.Plants.{plant_history};
 ghost use Rattle.pol_history.specs.Answers.{answer_of};
-ghost use Rattle.pol_history.specs.Runs.{IsLegal, entry_of, history_after, is_recorded, recorded, events_of};
+ghost use Rattle.pol_history.specs.Runs.{IsLegal, IsOrderly, entry_of, is_recorded, recorded, events_of};
 ghost use Rattle.pol_texts.specs.Settled.{AreAlike};
-ghost use Rattle.pol_store.specs.Keeping.{HasParts, KeepsAll, LeavesGroup};
+ghost use Rattle.pol_store.specs.Keeping.{HasParts, KeepsAll, KeepsMore, LeavesEvents, LeavesGroup};
 ghost use Rattle.pol_store.specs.Opens.{IsLeftOf, Tells};
 ghost use Rattle.pol_store.specs.Refusals.{Fails, Refuses};
 ghost use Rattle.pol_store.specs.Stands.{StandsFor};
@@ -22,11 +22,13 @@ use pol_texts::{add, stage};
 use std::alloc::Global;
 use std::marker::Model;
 
-/// Why an event isn't admitted.
+/// Why an event isn't kept.
 #[derive(Drop)]
 pub enum StoreRefusal {
     /// There was no memory; nothing has changed.
     Memory(Event),
+    /// The disk failed; the store is closed.
+    Disk,
     /// The store is closed.
     Closed(Event),
 }
@@ -99,21 +101,10 @@ fn has_place(end: u64, group: &[u8], behind: &[u8]) -> bool
 }
 
 impl<D: Disk> Store<D> {
-    /// Opens a disk that a crash may have left. A disk of at most one byte becomes a store without events.
+    /// Opens a disk, whatever a crash, a kill or a failed run left on it. At Ok each crash from now on leaves the events
+    /// that the disk reads as. A disk of at most one byte becomes a store without events.
     pub fn open(alloc: Global, disk: D) -> Result<Store<D>, (D, OpenFault)>
         ensures opened { IfOk result (λ store. (store.closed ≡ false) × (store.waiting ≡ 0)) }
-        ensures moments { (all : List ℕ) (events : List PlainEvent) → D.bytes disk ≡ Some all
-            → ((image : List ℕ) → D.images disk image → StandsFor events image)
-            → IfOk result (λ store. LeavesOnly D.moment D.left_since disk store.disk (StandsFor events)) }
-        ensures moments_err { (all : List ℕ) (events : List PlainEvent) → D.bytes disk ≡ Some all
-            → ((image : List ℕ) → D.images disk image → StandsFor events image)
-            → IfErr result (λ back. LeavesOnly D.moment D.left_since disk back.0 (StandsFor events)) }
-        ensures images { (all : List ℕ) (events : List PlainEvent) → D.bytes disk ≡ Some all
-            → ((image : List ℕ) → D.images disk image → StandsFor events image)
-            → IfOk result (λ store. (image : List ℕ) → D.images store.disk image → StandsFor events image) }
-        ensures images_err { (all : List ℕ) (events : List PlainEvent) → D.bytes disk ≡ Some all
-            → ((image : List ℕ) → D.images disk image → StandsFor events image)
-            → IfErr result (λ back. (image : List ℕ) → D.images back.0 image → StandsFor events image) }
         ensures left { (all : List ℕ) → D.bytes disk ≡ Some all → IfOk result (λ store.
             LeavesOnly D.moment D.left_since disk store.disk (IsLeftOf all (D.images disk))) }
         ensures left_err { (all : List ℕ) → D.bytes disk ≡ Some all → IfErr result (λ back.
@@ -123,6 +114,7 @@ impl<D: Disk> Store<D> {
         ensures stood { IfOk result (λ store. (all : List ℕ) → D.bytes disk ≡ Some all
             → StandsFor (events_of (plant_history store.plant)) all) }
         ensures legal { IfOk result (λ store. IsLegal (plant_history store.plant)) }
+        ensures orderly { IfOk result (λ store. IsOrderly (plant_history store.plant)) }
         ensures image { OnOk result ((all : List ℕ) → D.bytes disk ≡ Some all → D.images disk all) }
         ensures told { IfOk result (λ store. AreAlike (D.bytes disk) (D.bytes store.disk)) }
         ensures quiet { IfOk result (λ store. D.faults store.disk ≡ D.faults disk) }
@@ -178,8 +170,8 @@ impl<D: Disk> Store<D> {
         (plant, disk)
     }
 
-    /// Answers an event. It waits to be kept by `commit` with the others that wait, unless the answer is HistoryFull;
-    /// the disk isn't called.
+    /// Answers an event. Unless the answer is HistoryFull it waits then, with the others that wait, to be kept by
+    /// `commit`; the disk isn't called.
     pub fn admit(&mut self, event: Event) -> Result<Answer, StoreRefusal>
         requires orderly { IsTrue (is_orderly (plain_event event)) }
         ensures answer { IfOk result (λ answer. answer ≡ answer_of (plant_history self.old.plant) (plain_event event)) }
@@ -188,9 +180,11 @@ impl<D: Disk> Store<D> {
         ensures waits { OnOk result (self.new.waiting
             ≡ (if is_recorded (answer_of (plant_history self.old.plant) (plain_event event))
             then self.old.waiting + 1 else self.old.waiting)) }
-        ensures refuses { IfErr result (Refuses self.old self.new event) }
+        ensures refuses { IfErr result (Refuses D.faults self.old self.new event) }
         ensures open { OnOk result ((self.old.closed ≡ false) × (self.new.closed ≡ false)) }
+        ensures closed { self.new.closed ≡ self.old.closed }
         ensures uncalled { self.new.disk ≡ self.old.disk }
+        ensures moments { LeavesGroup D.bytes D.moment D.left_since self.old self.new.disk }
     {
         if self.closed {
             return Err(StoreRefusal::Closed(event));
@@ -240,5 +234,31 @@ impl<D: Disk> Store<D> {
         self.group.clear();
         self.waiting = 0;
         Ok(())
+    }
+
+    /// Answers an event and keeps it, where no other one waits. At Ok each crash from now on leaves it, unless the
+    /// answer is HistoryFull.
+    pub fn apply(&mut self, event: Event) -> Result<Answer, StoreRefusal>
+        requires orderly { IsTrue (is_orderly (plain_event event)) }
+        requires alone { self.old.waiting ≡ 0 }
+        ensures answer { IfOk result (λ answer. answer ≡ answer_of (plant_history self.old.plant) (plain_event event)) }
+        ensures history { OnOk result (plant_history self.new.plant
+            ≡ recorded (entry_of (plant_history self.old.plant) (plain_event event)) (plant_history self.old.plant)) }
+        ensures waits { OnOk result (self.new.waiting ≡ 0) }
+        ensures refuses { IfErr result (Refuses D.faults self.old self.new event) }
+        ensures open { OnOk result ((self.old.closed ≡ false) × (self.new.closed ≡ false)) }
+        ensures told { OnOk result (AreAlike (D.bytes self.old.disk) (D.bytes self.new.disk)) }
+        ensures quiet { OnOk result (D.faults self.new.disk ≡ D.faults self.old.disk) }
+        ensures moments { LeavesEvents D.bytes D.moment D.left_since self.old self.new.disk (plain_event event) }
+        ensures kept { IfOk result (λ answer. IsTrue (is_recorded answer)
+            → KeepsMore D.bytes D.images self.old self.new.disk (plain_event event)) }
+        ensures full { is_recorded (answer_of (plant_history self.old.plant) (plain_event event)) ≡ false
+            → self.new.disk ≡ self.old.disk }
+    {
+        let answer = self.admit(event)?;
+        match self.commit() {
+            Ok(()) => Ok(answer),
+            Err(_fault) => Err(StoreRefusal::Disk),
+        }
     }
 }

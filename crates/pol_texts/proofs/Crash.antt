@@ -71,7 +71,7 @@ group_opens (t ∷ ts) some counted gate open_gate = (
 )
 
 module _ (records behind : List ℕ) (texts : List (List ℕ)) (are : AreRecords records texts) (end : ℕ)
-    (ends : end ≡ length records) (group : List (List ℕ)) (behind_gate : List ℕ) (is_group : IsGroup group behind_gate)
+    (ends : end ≡ length records) (group : List (List ℕ)) (written : List ℕ) (is_group : IsGroup group written)
   where
     -- the bytes with the body behind the closed gate
     abbrev pub staged : List ℕ → List ℕ
@@ -79,7 +79,7 @@ module _ (records behind : List ℕ) (texts : List (List ℕ)) (are : AreRecords
 
     -- what stands behind what the first write writes
     abbrev pub tail_of : List ℕ
-    tail_of = drop (end + 1 + length behind_gate) (records ++ 0 ∷ behind)
+    tail_of = drop (end + 1 + length written) (records ++ 0 ∷ behind)
 
     -- the gate stands at the end
     gate_len : length (records ++ 0 ∷ []) ≡ end + 1
@@ -108,11 +108,11 @@ module _ (records behind : List ℕ) (texts : List (List ℕ)) (are : AreRecords
     }
 
     -- the bytes after the first write
-    pub written_behind : spliced (end + 1) behind_gate (records ++ 0 ∷ behind) ≡ staged tail_of
+    pub written_behind : spliced (end + 1) written (records ++ 0 ∷ behind) ≡ staged tail_of
     written_behind =
-        ap (λ (l : List ℕ). l ++ behind_gate ++ tail_of) (take_gate behind)
-        ∙ append_assoc (records ++ 0 ∷ []) behind_gate tail_of
-        ∙ append_assoc records (0 ∷ []) (behind_gate ++ tail_of)
+        ap (λ (l : List ℕ). l ++ written ++ tail_of) (take_gate behind)
+        ∙ append_assoc (records ++ 0 ∷ []) written tail_of
+        ∙ append_assoc records (0 ∷ []) (written ++ tail_of)
         ∙ ap (λ (l : List ℕ). records ++ 0 ∷ (l ++ tail_of)) is_group.is
         ∙ ap (λ (l : List ℕ). records ++ 0 ∷ l) (append_assoc (group_body group) (0 ∷ []) tail_of)
 
@@ -169,7 +169,7 @@ module _ (records behind : List ℕ) (texts : List (List ℕ)) (are : AreRecords
         ∙ append_assoc records (1 ∷ []) (group_body group ++ 0 ∷ tail)
 
     -- where the next gate stands
-    pub length-opened : length (records ++ 1 ∷ group_body group) ≡ end + length behind_gate
+    pub length-opened : length (records ++ 1 ∷ group_body group) ≡ end + length written
     length-opened =
         omega (
           arith,

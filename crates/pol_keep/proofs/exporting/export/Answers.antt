@@ -1,27 +1,38 @@
 use Rattle.std.proofs.Common.{List, ℕ, arith, sym, subst}
 use Rattle.pol_core.specs.Plants.{plant_history}
-use Rattle.pol_disk.specs.Disks.{LeavesOnly}
+use Rattle.pol_events.specs.Events.{PlainEvent}
 use Rattle.pol_history.specs.Runs.{events_of}
 use Rattle.pol_store.specs.Stands.{StandsFor}
 use Rattle.pol_store.proofs.Histories.{legal_few, length-events}
 use Rattle.pol_keep.specs.Exported.{exported_output}
-use Rattle.pol_keep.proofs.Ended.{keep_ends, keeps, told_stood, unopened_is}
+use Rattle.pol_keep.specs.Keeping.{telling}
+use Rattle.pol_keep.proofs.Ended.{keep_ends, keeps, on_ok_holds, opened_kept, opening_left, told_stood, unopened_is}
 use Rattle.pol_keep.proofs.exporting.export.Goals as goal
 
 pub returns-in-Ok-clause-ends : goal.returns-in-Ok-clause-ends
 returns-in-Ok-clause-ends g c =
     let history = plant_history c.in-Ok.store.plant in
     keep_ends exported_output _ _ _ _ _ c.export_from.result.0 c.export_from.ensures.is_store
-    (keeps exported_output _ _ _ _ _ _ history c.in-Ok.ensures.legal
+    (keeps exported_output _ _ _ _ _ _ history c.in-Ok.ensures.legal c.in-Ok.ensures.orderly
     (told_stood _ (StandsFor (events_of history)) c.in-Ok.ensures.stood) c.export_from.ensures.ends)
 
-pub returns-in-Ok-clause-moments : goal.returns-in-Ok-clause-moments
-returns-in-Ok-clause-moments g c = λ all old told stand.
-    rw c.export_from.ensures.disk (c.in-Ok.ensures.moments all old told stand)
+pub returns-in-Ok-clause-holds : goal.returns-in-Ok-clause-holds
+returns-in-Ok-clause-holds g c =
+    let d = g.D.Disk in
+    λ old reads. rw c.export_from.ensures.disk (opening_left
+    (telling d.bytes d.images d.moment d.left_since d.faults) c.args.disk old reads c.in-Ok.store.disk
+    (c.in-Ok.ensures.left reads.bytes reads.told))
 
-pub returns-in-Ok-clause-kept : goal.returns-in-Ok-clause-kept
-returns-in-Ok-clause-kept g c = λ all old told stand.
-    rw c.export_from.ensures.disk (c.in-Ok.ensures.images all old told stand)
+pub returns-in-Ok-clause-holds_all : goal.returns-in-Ok-clause-holds_all
+returns-in-Ok-clause-holds_all g c =
+    let d = g.D.Disk in
+    let did = c.in-Ok.ensures in
+    on_ok_holds c.export_from.result.0
+    (λ old reads.
+    let opened = opened_kept (telling d.bytes d.images d.moment d.left_since d.faults) c.args.disk old reads c.in-Ok.store
+    did.opened did.told (did.stood reads.bytes reads.told) (did.stand reads.bytes reads.told) in
+    rw c.export_from.ensures.disk (λ image now. subst (λ (events : List PlainEvent). StandsFor events image) opened.1
+    (did.stand reads.bytes reads.told image now)))
 
 pub returns-in-Ok-clause-unopened : goal.returns-in-Ok-clause-unopened
 returns-in-Ok-clause-unopened g c = λ all told none quiet.
@@ -29,11 +40,11 @@ returns-in-Ok-clause-unopened g c = λ all told none quiet.
     absurd (none (events_of history)
     (omega (arith, length-events history, legal_few history c.in-Ok.ensures.legal)) (c.in-Ok.ensures.stood all told))
 
-pub returns-in-Err-clause-moments : goal.returns-in-Err-clause-moments
-returns-in-Err-clause-moments g c = c.in-Err.ensures.moments_err
-
-pub returns-in-Err-clause-kept : goal.returns-in-Err-clause-kept
-returns-in-Err-clause-kept g c = c.in-Err.ensures.images_err
+pub returns-in-Err-clause-holds : goal.returns-in-Err-clause-holds
+returns-in-Err-clause-holds g c =
+    let d = g.D.Disk in
+    λ old reads. opening_left (telling d.bytes d.images d.moment d.left_since d.faults) c.args.disk old reads
+    c.in-Err.disk (c.in-Err.ensures.left_err reads.bytes reads.told)
 
 pub returns-in-Err-clause-unopened : goal.returns-in-Err-clause-unopened
 returns-in-Err-clause-unopened g c = λ all told none well.

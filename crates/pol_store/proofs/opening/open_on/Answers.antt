@@ -6,32 +6,8 @@ use Rattle.pol_events.specs.Events.{PlainEvent}
 use Rattle.pol_core.specs.Plants.{plant_history}
 use Rattle.pol_store.specs.Opens.{Breaks, IsReplayed}
 use Rattle.pol_history.specs.Runs.{events_of}
-use Rattle.pol_store.proofs.Opened.{begun_leaves, bytes_told, left_begun, left_read, number_told, opened_long, read_leaves, replay_tells}
+use Rattle.pol_store.proofs.Opened.{bytes_told, left_begun, left_read, number_told, opened_long, replay_tells}
 use Rattle.pol_store.proofs.opening.open_on.Goals as goal
-
-pub returns-in_err-begin-clause-moments : goal.returns-in_err-begin-clause-moments
-returns-in_err-begin-clause-moments g c = λ all events told stand.
-    let d = g.D.Disk in
-    let same = c.in_ok-size.ensures.bytes ∙ told in
-    let many : c.in_ok-size.size ≡ length all = number_told
-    (d.bytes c.settle.new.disk) all c.in_ok-size.size same c.in_ok-size.ensures.number in
-    let short : length all ≤ 1 = omega (arith, many, c.if-size-le1.true) in
-    begun_leaves d.bytes d.images d.moment d.left_since c.args.disk.now c.settle.new.disk events stand
-    c.in_ok-size.ensures.moments c.begin.new.disk all
-    (c.in_ok-size.ensures.image all told) short
-    (c.begin.ensures.moments all short (c.in_ok-size.ensures.synced all told))
-
-pub returns-then-size-le1-clause-moments : goal.returns-then-size-le1-clause-moments
-returns-then-size-le1-clause-moments g c = λ all events told stand.
-    let d = g.D.Disk in
-    let same = c.in_ok-size.ensures.bytes ∙ told in
-    let many : c.in_ok-size.size ≡ length all = number_told
-    (d.bytes c.settle.new.disk) all c.in_ok-size.size same c.in_ok-size.ensures.number in
-    let short : length all ≤ 1 = omega (arith, many, c.if-size-le1.true) in
-    begun_leaves d.bytes d.images d.moment d.left_since c.args.disk.now c.settle.new.disk events stand
-    c.in_ok-size.ensures.moments c.begin.new.disk all
-    (c.in_ok-size.ensures.image all told) short
-    (c.begin.ensures.moments all short (c.in_ok-size.ensures.synced all told))
 
 pub returns-in_err-plant-clause-tells : goal.returns-in_err-plant-clause-tells
 returns-in_err-plant-clause-tells g c =
@@ -69,13 +45,6 @@ returns-clause-opened g c = λ all told.
     opened_long all (d.bytes c.load_all.new.disk) (d.images c.load_all.new.disk) c.in_ok-plant.end events loaded
     (subst (λ (l : List ℕ). IsReplayed l c.in_ok-plant.end events) items_are c.in_ok-plant.ensures.replayed)
 
-pub returns-clause-moments : goal.returns-clause-moments
-returns-clause-moments g c = λ all events told stand.
-    let d = g.D.Disk in
-    read_leaves d.bytes d.images d.moment d.left_since c.args.disk.now c.settle.new.disk events stand
-    c.in_ok-size.ensures.moments c.load_all.new.disk
-    c.in_ok-size.ensures.images c.load_all.ensures.moments
-
 pub returns-in_err-begin-clause-left : goal.returns-in_err-begin-clause-left
 returns-in_err-begin-clause-left g c = λ all told.
     let d = g.D.Disk in
@@ -84,7 +53,7 @@ returns-in_err-begin-clause-left g c = λ all told.
     (d.bytes c.settle.new.disk) all c.in_ok-size.size same c.in_ok-size.ensures.number in
     let short : length all ≤ 1 = omega (arith, many, c.if-size-le1.true) in
     left_begun d.images d.moment d.left_since c.args.disk.now c.settle.new.disk all
-    c.in_ok-size.ensures.moments c.begin.new.disk short
+    c.in_ok-size.ensures.moments c.begin.new.disk (c.in_ok-size.ensures.image all told) short
     (c.begin.ensures.moments all short (c.in_ok-size.ensures.synced all told))
 
 pub returns-then-size-le1-clause-left : goal.returns-then-size-le1-clause-left
@@ -95,7 +64,7 @@ returns-then-size-le1-clause-left g c = λ all told.
     (d.bytes c.settle.new.disk) all c.in_ok-size.size same c.in_ok-size.ensures.number in
     let short : length all ≤ 1 = omega (arith, many, c.if-size-le1.true) in
     left_begun d.images d.moment d.left_since c.args.disk.now c.settle.new.disk all
-    c.in_ok-size.ensures.moments c.begin.new.disk short
+    c.in_ok-size.ensures.moments c.begin.new.disk (c.in_ok-size.ensures.image all told) short
     (c.begin.ensures.moments all short (c.in_ok-size.ensures.synced all told))
 
 pub returns-clause-left : goal.returns-clause-left

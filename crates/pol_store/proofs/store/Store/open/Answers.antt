@@ -3,9 +3,7 @@ use Rattle.pol_events.specs.Events.{PlainEvent}
 use Rattle.pol_core.specs.Plants.{plant_history}
 use Rattle.pol_history.specs.Runs.{events_of}
 use Rattle.pol_store.specs.Keeping.{KeepsGroup}
-use Rattle.pol_store.specs.Stands.{StandsFor}
 use Rattle.pol_store.proofs.Kept.{if_told, none_waits}
-use Rattle.pol_store.proofs.Opened.{left_images}
 use Rattle.pol_store.proofs.Texts.{kept_stands}
 use Rattle.pol_store.proofs.store.Store.open.Goals as goal
 
@@ -22,18 +20,6 @@ invariant_of-result g c =
           (sym c.new.ensures.items)
           (none_waits seen (d.images c.open_on.new.disk) c.in-Ok.end events (c.in-Ok.ensures.opened all told).kept)),
     )
-
-pub returns-in-Ok-clause-images : goal.returns-in-Ok-clause-images
-returns-in-Ok-clause-images g c = λ all events told stand.
-    let d = g.D.Disk in
-    left_images d.images d.moment d.left_since g.met.D.Disk.counts_now c.args.disk c.open_on.new.disk (StandsFor events)
-    (c.open_on.ensures.moments all events told stand)
-
-pub returns-in-Err-clause-images_err : goal.returns-in-Err-clause-images_err
-returns-in-Err-clause-images_err g c = λ all events told stand.
-    let d = g.D.Disk in
-    left_images d.images d.moment d.left_since g.met.D.Disk.counts_now c.args.disk c.open_on.new.disk (StandsFor events)
-    (c.open_on.ensures.moments all events told stand)
 
 pub returns-in-Ok-clause-stand : goal.returns-in-Ok-clause-stand
 returns-in-Ok-clause-stand g c = λ all told image left.
