@@ -159,7 +159,7 @@ module _ {D : Type 0} (disk : Telling D) (first : D) (old : List PlainEvent) (re
         (left_images disk.images disk.moment disk.left_since counts_now first mid
         (λ image. disk.images first image ⊎ StandsFor old image) opening_left image now)
 
-    module _ (last : D) (events : List PlainEvent) (same : events ≡ old) (input held held' : Option (List ℕ)) where
+    module _ (last : D) (events : List PlainEvent) (same : events ≡ old) (input : Option (List ℕ)) where
       -- where it could, the job went on from there
       pub going_moments : IfSome input (λ input. LeavesOnly disk.moment disk.left_since mid last
           (StandsForMore events input)) → IfSome input (λ input. LeavesOnly disk.moment disk.left_since first last
@@ -171,11 +171,11 @@ module _ {D : Type 0} (disk : Telling D) (first : D) (old : List PlainEvent) (re
           (λ image one. inr (subst (λ (events : List PlainEvent). StandsForMore events input image) same one)))
 
       -- what each image at the end stands for
-      pub going_kept : IfSome input (λ input. (image : List ℕ) → disk.images last image →
+      pub going_kept : (held held' : Option (List ℕ)) → IfSome input (λ input. (image : List ℕ) → disk.images last image →
           StandsForAnswered events input held held' image) → IfSome input (λ input. (image : List ℕ) →
           disk.images last image → ((held' ≡ held) × disk.images first image)
           ⊎ StandsForAnswered old input held held' image)
-      going_kept went = of_some input went (λ input went image now.
+      going_kept held held' went = of_some input went (λ input went image now.
           inr (subst (λ (events : List PlainEvent). StandsForAnswered events input held held' image) same
           (went image now)))
 

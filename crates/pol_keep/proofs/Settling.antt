@@ -235,8 +235,8 @@ module _ {D : Type 0} (disk : Telling D) (first now new : StoreState D) (settled
         rose : (fault : CommitFault) → Fails disk.faults now new fault →
             (now.closed ≡ false) × (disk.faults now.disk ≡ disk.faults first.disk) →
             Rose (disk.faults first.disk) (disk.faults new.disk)
-        rose of_group.Disk fails was = subst (λ (n : ℕ). Rose n (disk.faults new.disk)) was.1 fails.2.2
-        rose of_group.Closed fails was = absurd (no_both now.closed was.0 fails.1)
+        rose of_group.Disk fails was = subst (λ (n : ℕ). Rose n (disk.faults new.disk)) was.1 fails.2
+        rose of_group.Closed fails was = absurd (no_both now.closed was.0 fails.0)
 
     -- it was done
     pub settles : KeepsAll disk.bytes disk.images now new.disk → AreAlike (disk.bytes now.disk) (disk.bytes new.disk) →

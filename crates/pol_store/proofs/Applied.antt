@@ -1,25 +1,16 @@
 -- One event is admitted and committed, where no other one waits.
-use Rattle.std.proofs.Common.{◌≡◌, inl, inr, ℕ, ◌+◌, Bool, true, false, List, [], ◌∷◌, ◌++◌, Option, Some, refl, sym, ◌∙◌, ap, subst}
+use Rattle.std.proofs.Common.{◌≡◌, inl, inr, ℕ, ◌+◌, Bool, true, false, List, [], ◌∷◌, Option, Some, refl, sym, ◌∙◌, ap, subst}
 use Rattle.std.proofs.lemmas.List.{append-nil}
-use Rattle.std.specs.Prelude.{IsTrue, if◌then◌else◌}
+use Rattle.std.specs.Prelude.{if◌then◌else◌}
 use Rattle.pol_disk.specs.Disks.{LeavesOnly}
 use Rattle.pol_disk.proofs.Moments.{wider}
-use Rattle.pol_io.specs.Causes.{Rose}
 use Rattle.pol_events.specs.Events.{PlainEvent}
 use Rattle.pol_core.specs.Plants.{plant_history}
 use Rattle.pol_history.specs.Answers.{answer_of}
 use Rattle.pol_history.specs.Runs.{entry_of, events_of, is_recorded, recorded}
 use Rattle.pol_store.specs.Keeping.{HasParts, KeepsAll, KeepsMore, LeavesEvents, LeavesGroup, StoreState}
-use Rattle.pol_store.specs.Refusals.{Closes, Fails}
 use Rattle.pol_store.specs.Stands.{StandsFor, StandsWithAllOrNone}
-use Rattle.pol_store.specs.declared.store.CommitFault.{CommitFault}
-use Rattle.pol_store.specs.declared.store.CommitFault.TheVariants.{Disk, Closed}
 use Rattle.pol_store.proofs.Kept.{events_recorded, history_same}
-
--- what is false isn't true
-no_both : (closed : Bool) → closed ≡ false → closed ≡ true → ⊥
-no_both true isnt is = cc
-no_both false isnt is = cc
 
 module _ {D : Type 0} (bytes : D → Option (List ℕ)) (images : D → List ℕ → Type 0) (moment : D → ℕ)
     (left_since : D → ℕ → List ℕ → Type 0) (old : StoreState D) (event : PlainEvent) (alone : old.waiting ≡ 0) where
@@ -91,15 +82,3 @@ module _ {D : Type 0} (bytes : D → Option (List ℕ)) (images : D → List ℕ
         subst (λ (es : List PlainEvent). StandsFor es image)
         (events_recorded (plant_history old.plant) (plant_history admitted.plant) event history is)
         (all_kept all (ap bytes same ∙ told) image left)
-
-    -- the disk isn't called for one that isn't kept
-    pub uncalled : (new : D) → (admitted.waiting ≡ 0 → new ≡ admitted.disk) →
-        is_recorded (answer_of (plant_history old.plant) event) ≡ false → new ≡ old.disk
-    uncalled new idle is = idle (count false is) ∙ same
-
-    -- a failed commit closes the store
-    pub closes : (faults : D → ℕ) (new : StoreState D) (fault : CommitFault) → Fails faults admitted new fault →
-        old.closed ≡ false → Closes faults old new
-    closes faults new Disk fails was_open =
-        (was_open, fails.2.1, subst (λ (d : D). Rose (faults d) (faults new.disk)) same fails.2.2)
-    closes faults new Closed fails was_open = absurd (no_both admitted.closed opened fails.1)

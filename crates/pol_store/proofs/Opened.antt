@@ -5,6 +5,7 @@ use Rattle.pol_disk.specs.Disks.{LeavesOnly}
 use Rattle.pol_disk.proofs.Moments.{then, wider}
 use Rattle.pol_texts.specs.Settled.{IsSynced, IsSettled}
 use Rattle.pol_texts.specs.Stands.{Stands}
+use Rattle.pol_events.specs.Events.{PlainEvent}
 use Rattle.pol_store.specs.Stands.{StandsFor, BreaksAt}
 use Rattle.pol_store.specs.Opens.{Breaks, IsLeftOf, IsOpened, IsReplayed, IsNoStore, Tells}
 use Rattle.pol_store.specs.declared.opening.OpenFault.{OpenFault}

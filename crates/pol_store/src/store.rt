@@ -184,7 +184,6 @@ impl<D: Disk> Store<D> {
         ensures open { OnOk result ((self.old.closed ≡ false) × (self.new.closed ≡ false)) }
         ensures closed { self.new.closed ≡ self.old.closed }
         ensures uncalled { self.new.disk ≡ self.old.disk }
-        ensures moments { LeavesGroup D.bytes D.moment D.left_since self.old self.new.disk }
     {
         if self.closed {
             return Err(StoreRefusal::Closed(event));
@@ -255,6 +254,7 @@ impl<D: Disk> Store<D> {
         ensures full { is_recorded (answer_of (plant_history self.old.plant) (plain_event event)) ≡ false
             → self.new.disk ≡ self.old.disk }
     {
+        let _ = &self.alloc;
         let answer = self.admit(event)?;
         match self.commit() {
             Ok(()) => Ok(answer),

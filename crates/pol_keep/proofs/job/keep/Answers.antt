@@ -27,7 +27,7 @@ returns-in-Ok-clause-keeps g c =
           let opened = opened_kept disk c.args.disk old reads c.in-Ok.store did.opened did.told
           (did.stood reads.bytes reads.told) (did.stand reads.bytes reads.told) in
           going_moments disk c.args.disk old reads c.in-Ok.store.disk (did.left reads.bytes reads.told)
-          c.keep_on.result.1 (events_of (plant_history c.in-Ok.store.plant)) opened.1 _ _ _
+          c.keep_on.result.1 (events_of (plant_history c.in-Ok.store.plant)) opened.1 _
           (c.keep_on.ensures.moments opened.0);
       kept = λ old reads.
           let opened = opened_kept disk c.args.disk old reads c.in-Ok.store did.opened did.told
@@ -47,7 +47,7 @@ returns-in-Ok-clause-keeps_all g c =
     let opened = opened_kept disk c.args.disk old reads c.in-Ok.store did.opened did.told
     (did.stood reads.bytes reads.told) (did.stand reads.bytes reads.told) in
     going_all disk c.args.disk old reads c.in-Ok.store.disk (did.left reads.bytes reads.told) c.keep_on.result.1
-    (events_of (plant_history c.in-Ok.store.plant)) opened.1 _ _ _ (all opened.0))
+    (events_of (plant_history c.in-Ok.store.plant)) opened.1 _ (all opened.0))
     c.keep_on.ensures.kept_all
 
 pub returns-in-Ok-clause-unopened : goal.returns-in-Ok-clause-unopened
