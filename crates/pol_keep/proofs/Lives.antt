@@ -9,7 +9,7 @@ use Rattle.pol_record.specs.Lines.{events_in, input_line_of}
 use Rattle.pol_keep.specs.Keeping.{Telling}
 use Rattle.pol_keep.specs.Kept.{StandsForAnswered, StandsForMore, events_with, kept_events}
 use Rattle.pol_keep.specs.Leaving.{ReadsAs}
-use Rattle.pol_keep.specs.Life.{AnswersAreKept, AreRuns, HasAnswers, KeepsAnswered, LivesKeepAnswers, Run, RunsBehind, last_of}
+use Rattle.pol_keep.specs.Life.{AreRuns, HasAnswers, KeepsAnswered, LivesKeepAnswers, Run, RunsBehind, last_of}
 
 -- what an image has of a run, another one has that stands for its events and more
 answers_grow : {D : Type 0} (run : Run D) (old more : List PlainEvent) (bytes image : List ℕ) → StandsFor old bytes →

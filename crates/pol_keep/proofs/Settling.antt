@@ -1,11 +1,10 @@
 -- The calls of a store that keeps a plant, one at a time.
 use Rattle.std.proofs.Common.{◌≡◌, inl, inr, ℕ, ◌+◌, ◌≤◌, Bool, true, false, List, [], ◌∷◌, ◌++◌, Option, Some, None, refl, sym, ◌∙◌, ap, subst, append_assoc, append-nil, length-append}
-use Rattle.std.specs.Prelude.{IsTrue, if◌then◌else◌}
+use Rattle.std.specs.Prelude.{if◌then◌else◌}
 use Rattle.pol_core.specs.Plants.{plant_history}
 use Rattle.pol_disk.specs.Disks.{LeavesOnly}
 use Rattle.pol_disk.proofs.Moments.{then as and_then, wider}
 use Rattle.pol_events.specs.Events.{PlainEvent}
-use Rattle.pol_events.specs.declared.event.Event.{Event}
 use Rattle.pol_history.specs.Answers.{answer_of}
 use Rattle.pol_history.specs.Looking.{History}
 use Rattle.pol_history.specs.Runs.{entry_of, events_of, is_recorded, recorded}
@@ -13,12 +12,10 @@ use Rattle.pol_io.specs.Causes.{Rose}
 use Rattle.pol_jobs.specs.LineWork.{Line}
 use Rattle.pol_replay.specs.Replay.{replay_work}
 use Rattle.pol_store.specs.Keeping.{HasParts, KeepsAll, LeavesGroup, StoreState}
-use Rattle.pol_store.specs.Refusals.{Fails, Refuses}
+use Rattle.pol_store.specs.Refusals.{Fails}
 use Rattle.pol_store.specs.Stands.{StandsFor, StandsWithAllOrNone}
 use Rattle.pol_store.specs.declared.store.CommitFault.{CommitFault}
 use Rattle.pol_store.specs.declared.store.CommitFault.TheVariants as of_group
-use Rattle.pol_store.specs.declared.store.StoreRefusal.{StoreRefusal}
-use Rattle.pol_store.specs.declared.store.StoreRefusal.TheVariants.{Memory, Disk, Closed}
 use Rattle.pol_store.proofs.Histories.{events-cons, recorded_is}
 use Rattle.pol_store.proofs.Opened.{left_images}
 use Rattle.pol_texts.specs.Settled.{AreAlike}

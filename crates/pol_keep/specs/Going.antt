@@ -1,5 +1,5 @@
 -- A kept plant before it meets a line: the law of a job.
-use Rattle.std.specs.Prelude.{ℕ, ◌≡◌, List, [], ◌++◌, true}
+use Rattle.std.specs.Prelude.{ℕ, List, [], true}
 use Rattle.std.proofs.Common.{refl, sym, append-nil}
 use Rattle.pol_core.specs.Plants.{plant_history}
 use Rattle.pol_disk.proofs.Moments.{started}

@@ -1,4 +1,4 @@
-use Rattle.std.proofs.Common.{List, ℕ, arith, sym, subst}
+use Rattle.std.proofs.Common.{List, arith, subst}
 use Rattle.pol_core.specs.Plants.{plant_history}
 use Rattle.pol_events.specs.Events.{PlainEvent}
 use Rattle.pol_history.specs.Runs.{events_of}

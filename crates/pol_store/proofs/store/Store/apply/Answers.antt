@@ -1,4 +1,4 @@
-use Rattle.std.proofs.Common.{◌≡◌, ◌∙◌, true, sym, subst}
+use Rattle.std.proofs.Common.{◌≡◌, true, sym, subst}
 use Rattle.pol_events.specs.Events.{plain_event}
 use Rattle.pol_history.specs.Runs.{is_recorded}
 use Rattle.pol_store.specs.Keeping.{LeavesEvents, LeavesGroup, StoreState}
