@@ -12,6 +12,17 @@ BothTell P (Some old) (Some new) = P old new
 abbrev pub StillTells : Option (List ℕ) → Option (List ℕ) → Type 0
 StillTells old new = IfSome new (λ all. old ≡ Some all)
 
+-- a disk that tells its bytes after a call told them before it
+abbrev pub ToldOn : Option (List ℕ) → Option (List ℕ) → Type 0
+ToldOn old None = ⊤
+ToldOn None (Some new) = ⊥
+ToldOn (Some old) (Some new) = ⊤
+
+-- the bytes that a disk told, where it tells its bytes still
+abbrev pub told_through : Option (List ℕ) → Option (List ℕ) → Option (List ℕ)
+told_through old None = None
+told_through old (Some new) = old
+
 -- so many bytes at the front of the slice are those from this place on
 abbrev pub Reads : ℕ → ℕ → List ℕ → List ℕ → Type 0
 Reads at count slice bytes = take count slice ≡ take count (drop at bytes)

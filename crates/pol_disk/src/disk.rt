@@ -68,6 +68,7 @@ pub trait Disk {
     fn sync(&mut self) -> Result<(), Failed>
         ensures durable { OnOk result (IfSome (bytes self.old) (λ all. Only all (images self.new))) }
         ensures bytes { OnOk result (bytes self.new ≡ bytes self.old) }
+        ensures still { StillTells (bytes self.old) (bytes self.new) }
         ensures images { Keeps (images self.old) (images self.new) }
         ensures image { IsImage (bytes self.new) (images self.new) }
         ensures time { Elapses (moment self.old) (moment self.new)

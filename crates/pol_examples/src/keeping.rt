@@ -2,8 +2,10 @@
 use super::batches::FROZEN_AND_STOPPED_LINES;
 use super::runs::empty_disk;
 use given::words_of;
+use mtp_codes::Name;
 use pol_cli::top;
-use pol_disk::MemoryDisk;
+use pol_disk::{Disk, MemoryDisk};
+use pol_events::Event;
 use pol_io::{MemoryClock, SureSink, SureSource};
 use pol_live::OpenGate;
 use pol_store::Store;
@@ -270,4 +272,182 @@ fn a_crash_leaves_the_answered_events_and_at_most_one_more(rt: HostRuntime) -> R
         }
     }
     Err(Fail::from("no run comes to its end"))
+}
+
+// ---- a crash behind a kill
+
+// The inputs of two runs, of one event each.
+const FIRST_EVENT: &str = "{\"at\":1,\"ev\":\"unplug\",\"tag\":\"M1\"}\n";
+
+const NEXT_EVENT: &str = "{\"at\":2,\"ev\":\"unplug\",\"tag\":\"M1\"}\n";
+
+// A byte that no store writes.
+const UNWRITTEN: u8 = 255;
+
+// Writes a piece, and doesn't sync it.
+fn write_unsynced(disk: &mut MemoryDisk, at: usize, piece: &[u8]) -> Result<(), Fail> {
+    let Ok(size) = disk.len() else {
+        return Err(Fail::from("it tells no length"));
+    };
+    if at as u64 > size || disk.write_at(at as u64, piece).is_err() {
+        return Err(Fail::from("it isn't written"));
+    }
+    Ok(())
+}
+
+// The disk as a killed program left it: what it wrote since the last sync is there, and may be lost still. It stops
+// after so many calls more.
+fn as_left(alloc: Global, disk: MemoryDisk, stop: u32) -> Result<MemoryDisk, Fail> {
+    let written = disk.bytes().to_vec(alloc)?;
+    let crashed = disk.crashed(UNWRITTEN);
+    let mut first = written.len();
+    let mut last = 0;
+    for (at, byte) in crashed.bytes().iter().enumerate() {
+        if *byte == UNWRITTEN {
+            first = first.min(at);
+            last = at;
+        }
+    }
+    let calls = stop.saturating_add(2);
+    let mut left = MemoryDisk::new(alloc, crashed.bytes(), u32::MAX, calls)?;
+    match written.get(first..=last) {
+        Some(piece) => write_unsynced(&mut left, first, piece)?,
+        None => write_unsynced(&mut left, 0, b"")?,
+    }
+    Ok(left)
+}
+
+// Two runs, of which the first one is killed after so many calls of its disk, and the second one ends by a crash after
+// so many more. What both answered is kept, and of each at most one event more.
+fn outlives<R: Abort + Threads + Wait + Sync>(
+    rt: &R,
+    alloc: Global,
+    stops: (u32, u32),
+    fill: u8,
+) -> Result<(), Fail> {
+    let (killed, crashed) = stops;
+    let disk = MemoryDisk::new(alloc, &[0], u32::MAX, killed)?;
+    let first = keep_on(rt, alloc, FIRST_EVENT, disk)?;
+    let next = keep_on(rt, alloc, NEXT_EVENT, as_left(alloc, first.disk, crashed)?)?;
+    let answered = answers(&first.output).saturating_add(answers(&next.output));
+    let kept = entries(alloc, next.disk.crashed(fill))?;
+    assert!(rt;
+        matches!(kept.checked_sub(answered), Some(0..=2)),
+        "{killed}, {crashed}, {fill}"
+    );
+    Ok(())
+}
+
+// More calls than such a run makes.
+const CALLS_OF_ONE: u32 = 10;
+
+#[test]
+fn a_crash_behind_a_kill_leaves_what_both_runs_answered(rt: HostRuntime) -> Result<(), Fail> {
+    for killed in 0..CALLS_OF_ONE {
+        for crashed in 0..CALLS_OF_ONE {
+            for fill in [0, 1, 255] {
+                outlives(&rt, rt.alloc(), (killed, crashed), fill)?;
+            }
+        }
+    }
+    Ok(())
+}
+
+// ---- long journals
+
+// How many events a long journal has; their records have more than 65,536 bytes.
+const MANY_EVENTS: u32 = 2_000;
+
+#[test]
+fn a_long_journal_is_kept_and_opened_again(rt: HostRuntime) -> Result<(), Fail> {
+    let alloc = rt.alloc();
+    let mut input = String::new(alloc);
+    for at in 0..MANY_EVENTS {
+        let line = format!(in alloc; "{{\"at\":{at},\"ev\":\"unplug\",\"tag\":\"M1\"}}\n")?;
+        input.push_str(line.as_str())?;
+    }
+    let run = keep_on(&rt, alloc, input.as_str(), empty_disk(alloc)?)?;
+    assert_eq!(rt; run.status, 0);
+    assert_eq!(rt; answers(&run.output), 2_000);
+    let next = keep_on(&rt, alloc, NEXT_EVENT, run.disk)?;
+    assert_eq!(rt; next.status, 0);
+    assert_eq!(rt; entries(alloc, next.disk)?, 2_001);
+    Ok(())
+}
+
+// ---- groups
+
+// Admits so many events to a store and commits them; whether that was done.
+fn keeps_group(store: &mut Store<MemoryDisk>, events: u64) -> Result<bool, Fail> {
+    for at in 0..events {
+        let Some(tag) = Name::of_bytes(b"M1") else {
+            return Err(Fail::from("it isn't a name"));
+        };
+        if store.admit(Event::Unplug { at, tag }).is_err() {
+            return Err(Fail::from("it isn't admitted"));
+        }
+    }
+    Ok(store.commit().is_ok())
+}
+
+// Whether a group of so many events is kept on a disk that stops after so many calls; a crash then leaves all of them or
+// none.
+fn keeps_all_or_none<R: Abort>(
+    rt: &R,
+    alloc: Global,
+    events: u64,
+    stop: u32,
+    fill: u8,
+) -> Result<bool, Fail> {
+    let disk = MemoryDisk::new(alloc, &[0], u32::MAX, stop)?;
+    let Ok(mut store) = Store::open(alloc, disk) else {
+        return Ok(false);
+    };
+    let done = keeps_group(&mut store, events);
+    let (_plant, disk) = store.into_parts();
+    let done = done?;
+    let kept = entries(alloc, disk.crashed(fill))? as u64;
+    assert!(rt;
+        kept == events || (kept == 0 && !done),
+        "{events}, {stop}, {fill}"
+    );
+    Ok(done)
+}
+
+// After how many calls a group of so many events is kept.
+fn calls_of_group<R: Abort>(rt: &R, alloc: Global, events: u64) -> Result<u32, Fail> {
+    for stop in 0..MOST_CALLS {
+        let mut done = true;
+        for fill in [0, 1, 255] {
+            done = keeps_all_or_none(rt, alloc, events, stop, fill)? && done;
+        }
+        if done {
+            return Ok(stop);
+        }
+    }
+    Err(Fail::from("no group is kept"))
+}
+
+#[test]
+fn a_group_is_kept_whole_by_as_many_calls_as_one_event(rt: HostRuntime) -> Result<(), Fail> {
+    let one = calls_of_group(&rt, rt.alloc(), 1)?;
+    assert_eq!(rt; calls_of_group(&rt, rt.alloc(), 3)?, one);
+    assert_eq!(rt; calls_of_group(&rt, rt.alloc(), 40)?, one);
+    Ok(())
+}
+
+#[test]
+fn one_event_is_applied_and_kept(rt: HostRuntime) -> Result<(), Fail> {
+    let alloc = rt.alloc();
+    let Some(tag) = Name::of_bytes(b"M1") else {
+        return Err(Fail::from("it isn't a name"));
+    };
+    let Ok(mut store) = Store::open(alloc, empty_disk(alloc)?) else {
+        return Err(Fail::from("it doesn't open"));
+    };
+    let applied = store.apply(Event::Unplug { at: 1, tag }).is_ok();
+    let (_plant, disk) = store.into_parts();
+    assert!(rt; applied);
+    assert_eq!(rt; entries(alloc, disk.crashed(0))?, 1);
+    Ok(())
 }

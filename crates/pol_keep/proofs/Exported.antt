@@ -1,11 +1,10 @@
 -- The journal of a kept plant, line by line, and how the job ends that writes it.
-use Rattle.std.proofs.Common.{ℕ, ◌≡◌, ◌<◌, ◌+◌, List, [], ◌∷◌, ◌++◌, length, map, drop, Option, refl, sym, ap, subst, ◌∙◌, arith, append_assoc, append-nil, length-append}
+use Rattle.std.proofs.Common.{ℕ, ◌≡◌, ◌<◌, List, [], ◌∷◌, ◌++◌, length, map, Option, refl, sym, ap, subst, ◌∙◌, arith, append_assoc, append-nil, length-append}
 use Rattle.std.proofs.lemmas.List.{map-append, reverse-append, reverse-reverse}
 use Rattle.std.proofs.lemmas.List.Folds.{flat_map-map}
 use Rattle.std.specs.Prelude.{IfErr, OnErr, OnOk, Result, Ok, Err, reverse, ◌≢◌}
-use Rattle.std.specs.List.{flat_map}
 use Rattle.std.specs.Io.KnownBytes.{Appends}
-use Rattle.pol_events.specs.Events.{PlainEvent, PlainEntry, plain_entry, plain_event, plain_history}
+use Rattle.pol_events.specs.Events.{PlainEvent, PlainEntry, plain_entry, plain_history}
 use Rattle.pol_events.specs.declared.event.Entry.{Entry}
 use Rattle.pol_io.specs.Causes.{HasCauseOf}
 use Rattle.pol_io.specs.Edge.{Edge}
@@ -15,12 +14,11 @@ use Rattle.pol_jobs.specs.Written.{WritesPart}
 use Rattle.pol_jobs.specs.declared.output.PutFault.{PutFault}
 use Rattle.pol_jobs.specs.declared.output.PutFault.TheVariants as put_fault
 use Rattle.pol_replay.specs.BatchLines.{WritesUpTo}
-use Rattle.pol_replay.proofs.BatchLines.{cut_lines, up_to_end, up_to_next}
+use Rattle.pol_replay.proofs.BatchLines.{up_to_end, up_to_next}
 use Rattle.pol_record.specs.Texts.{event_text}
 use Rattle.pol_history.specs.Runs.{events_of}
 use Rattle.pol_keep.specs.Exported.{HandsOn, entry_lines, event_line, exported_output, journal_text, no_input, put_result}
 use Rattle.pol_keep.specs.Kept.{job_result}
-use Rattle.pol_keep.specs.declared.fault.KeepFault.{KeepFault}
 use Rattle.pol_keep.specs.declared.fault.KeepFault.TheVariants.{Disk, NotAStore}
 
 -- ---- the entries' lines are their events' journal

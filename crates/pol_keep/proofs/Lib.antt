@@ -1,5 +1,6 @@
-pub mod Applying
+pub mod Settling
 pub mod Running
 pub mod Ended
 pub mod Orderly
 pub mod Exported
+pub mod Lives

@@ -1,8 +1,7 @@
 -- What a kept plant writes and keeps, by the lines that it met.
-use Rattle.std.proofs.Common.{ℕ, ◌≡◌, ◌≤◌, ◌⊎◌, inl, inr, List, [], ◌∷◌, ◌++◌, length, map, Bool, true, false, Option, Some, None, refl, sym, ◌∙◌, ap, subst, arith, append_assoc, append-nil}
+use Rattle.std.proofs.Common.{ℕ, ◌≡◌, ◌⊎◌, inl, inr, ⊎_elim, List, [], ◌∷◌, ◌++◌, map, Bool, true, false, Option, Some, None, refl, sym, ◌∙◌, ap, ap₂, subst, append_assoc, append-nil}
 use Rattle.std.specs.Prelude.{IfSome, if◌then◌else◌}
-use Rattle.std.specs.Io.KnownBytes.{Appends}
-use Rattle.std.proofs.lemmas.List.{length-map}
+use Rattle.std.proofs.lemmas.List.{map-append}
 use Rattle.pol_core.specs.Plants.{plant_history}
 use Rattle.pol_disk.specs.Disks.{LeavesOnly}
 use Rattle.pol_disk.proofs.Moments.{wider}
@@ -11,11 +10,11 @@ use Rattle.pol_history.specs.Answers.{answer_of}
 use Rattle.pol_history.specs.Looking.{History}
 use Rattle.pol_history.specs.Runs.{entry_of, history_after, is_recorded, recorded, events_of}
 use Rattle.pol_io.specs.Pieces.{pieces}
-use Rattle.pol_jobs.specs.Deeds.{DidAll, DidSome, MetFirst, RepliedToFirst}
+use Rattle.pol_jobs.specs.Deeds.{DidAll, DidSome, MetFirst}
 use Rattle.pol_jobs.specs.LineWork.{Line, after_all, line_met, output_by, replies}
 use Rattle.pol_jobs.specs.Written.{WritesSome}
 use Rattle.pol_jobs.proofs.Serving.{replies_append}
-use Rattle.pol_jobs.proofs.Written.{all_written, some_of_more}
+use Rattle.pol_jobs.proofs.Written.{some_of_more}
 use Rattle.pol_record.specs.Lines.{answered_lines_after, answered_texts, closing_text, events_in, input_line_of}
 use Rattle.pol_record.proofs.Appending.{history_after_append}
 use Rattle.pol_replay.specs.Replay.{replay_work}
@@ -23,7 +22,7 @@ use Rattle.pol_replay.proofs.Replaying.{after_rows, replies_rows}
 use Rattle.pol_store.specs.Keeping.{StoreState}
 use Rattle.pol_store.specs.Stands.{StandsFor}
 use Rattle.pol_store.proofs.Histories.{events-cons, recorded_is}
-use Rattle.pol_keep.specs.Keeping.{Calls, GoesOn, IsKept, StandsForFirst, StandsForMost, Telling, after_lines}
+use Rattle.pol_keep.specs.Keeping.{GoesOn, IsKept, StandsForSome, Telling, after_lines}
 use Rattle.pol_keep.specs.Kept.{StandsForAnswered, StandsForMore, answers_with, events_with, kept_events, kept_output, run_with}
 
 -- ---- the run of the old and the new events
@@ -87,6 +86,12 @@ module _ (history : History) (is : history ≡ history_after [] (events_of histo
         RefusesEnd = λ bytes reason. ⊥;
       }
 
+-- what is known of an input follows from what else is
+pub of_some : {P Q : List ℕ → Type 0} (input : Option (List ℕ)) → IfSome input P →
+    ((bytes : List ℕ) → P bytes → Q bytes) → IfSome input Q
+of_some None p follows = tt
+of_some (Some bytes) p follows = follows bytes p
+
 -- ---- first lines
 
 -- the first of mapped lines are those of the first ones
@@ -105,89 +110,65 @@ cut_first (line ∷ first) behind (part ∷ parts) is =
       rest.4,
     )
 
--- all but the last of two lists with a last one
-all_but_last : (xs ys : List (List ℕ)) (x y : List ℕ) → xs ++ x ∷ [] ≡ ys ++ y ∷ [] → xs ≡ ys
-all_but_last [] [] x y same = refl
-all_but_last [] (z ∷ []) x y same = cc
-all_but_last [] (z ∷ w ∷ zs) x y same = cc
-all_but_last (z ∷ []) [] x y same = cc
-all_but_last (z ∷ w ∷ zs) [] x y same = cc
-all_but_last (z ∷ xs) (w ∷ ys) x y same =
-    let rest : xs ≡ ys = all_but_last xs ys x y cc in
-    let head : z ≡ w = cc in
-    ap (λ zs. z ∷ zs) rest ∙ ap (λ z. z ∷ ys) head
+-- no lines in all are none of the later ones
+none_later : (front rest : List (List ℕ)) → front ++ rest ≡ [] → rest ≡ []
+none_later [] rest none = none
+none_later (part ∷ front) rest none = cc
 
--- all of some lines and a last one, or all but it
-most_of : (front rest first : List (List ℕ)) (last : List ℕ) → front ++ rest ≡ first ++ last ∷ [] → length rest ≤ 1 →
-    (front ≡ first) ⊎ (front ≡ first ++ last ∷ [])
-most_of front [] first last is few = inr (sym (append-nil front) ∙ is)
-most_of front (one ∷ []) first last is few = inl (all_but_last front first one last is)
-most_of front (one ∷ other ∷ rest) first last is few = absurd (omega (arith, few))
-
-module _ (history : History) (is : history ≡ history_after [] (events_of history)) where
-  -- an image that stands for the first of some lines stands for more than the old events
-  more_of : (lines : List Line) (parts others : List (List ℕ)) (input image : List ℕ) → lines ≡ map line_met parts →
-      pieces input ≡ parts ++ others → StandsForFirst history lines image → StandsForMore (events_of history) input image
-  more_of lines parts others input image lines_are are one =
-      let cut = cut_first one.first one.behind parts (sym lines_are ∙ one.are) in
+module _ (history : History) (is : history ≡ history_after [] (events_of history)) (settled waiting : List Line)
+    (held held' : Option (List ℕ)) (input : List ℕ)
+    (met : MetFirst replay_work history settled waiting held held' input) where
+  -- the first of all lines leave no more than the new events of the first pieces
+  more_of : (image : List ℕ) → StandsForSome history [] (settled ++ waiting) image →
+      StandsForMore (events_of history) input image
+  more_of image one =
+      let lines : map line_met (met.first ++ met.later) ≡ settled ++ waiting =
+      map-append line_met met.first met.later
+      ∙ ap₂ (λ (first later : List Line). first ++ later) (sym met.settled_are) (sym met.waiting_are) in
+      let cut = cut_first one.first one.behind (met.first ++ met.later) (lines ∙ one.are) in
       record {
         first = cut.0;
-        others = cut.1 ++ others;
-        are = are ∙ (ap (λ parts. parts ++ others) cut.2 ∙ append_assoc cut.0 cut.1 others);
-        stands = subst (λ events. StandsFor events image)
-            (ap (λ lines. events_of (after_lines history lines)) (sym cut.3) ∙ events_run history is cut.0) one.stands;
+        others = cut.1 ++ met.others;
+        are =
+            met.are ∙ sym (append_assoc met.first met.later met.others)
+            ∙ ap (λ (parts : List (List ℕ)). parts ++ met.others) cut.2 ∙ append_assoc cut.0 cut.1 met.others;
+        stands = subst (λ (events : List PlainEvent). StandsFor events image)
+            (ap (λ (lines : List Line). events_of (after_lines history lines)) (sym cut.3)
+            ∙ events_run history is cut.0) one.stands;
       }
 
-  -- where the job stopped at the last line: what was written is of the answers to all but that one
-  answered_most : (lines : List Line) (first others : List (List ℕ)) (last : List ℕ) (held held' : Option (List ℕ))
-      (input image : List ℕ) → pieces input ≡ first ++ last ∷ others → lines ≡ map line_met (first ++ last ∷ []) →
-      Appends held held' (replies replay_work history first) → StandsForMost history lines image →
+  -- what was written is of the answers to the settled lines, so it is of those to more
+  taken_of : (front rest : List (List ℕ)) → met.later ≡ front ++ rest →
+      (rest ++ met.others ≡ []) ⊎ WritesSome held held' (answers_with (events_of history) (met.first ++ front))
+  taken_of front rest cut =
+      ⊎_elim
+      (λ none. inl (ap₂ (λ (xs ys : List (List ℕ)). xs ++ ys) (none_later front rest (sym cut ∙ none.0)) none.1))
+      (λ some. inr (subst (WritesSome held held')
+      (sym (replies_append replay_work history met.first front) ∙ replies_run history is (met.first ++ front))
+      (some_of_more held held' (replies replay_work history met.first)
+      (replies replay_work (after_all replay_work history met.first) front) some)))
+      met.written
+
+  -- all settled lines and the first of those that wait: each whose answer was taken is among them
+  answered_of : (image : List ℕ) → StandsForSome history settled waiting image →
       StandsForAnswered (events_of history) input held held' image
-  answered_most lines first others last held held' input image are lines_are written most =
-      let one = most.0 in
-      let cut = cut_first one.first one.behind (first ++ last ∷ []) (sym lines_are ∙ one.are) in
-      let rest_few : length cut.1 ≤ 1 = omega (arith, most.1, sym (length-map cut.1 line_met) ∙ ap length cut.4) in
+  answered_of image one =
+      let cut = cut_first one.first one.behind met.later (sym met.waiting_are ∙ one.are) in
+      let lines : settled ++ one.first ≡ map line_met (met.first ++ cut.0) =
+      ap₂ (λ (first later : List Line). first ++ later) met.settled_are (sym cut.3)
+      ∙ sym (map-append line_met met.first cut.0) in
       record {
-        first = cut.0;
-        others = cut.1 ++ others;
-        are = are ∙ (sym (append_assoc first (last ∷ []) others) ∙ (ap (λ parts. parts ++ others) cut.2
-            ∙ append_assoc cut.0 cut.1 others));
-        stands = subst (λ events. StandsFor events image)
-            (ap (λ lines. events_of (after_lines history lines)) (sym cut.3) ∙ events_run history is cut.0) one.stands;
-        taken = inr (subst (WritesSome held held') (replies_run history is cut.0)
-            (taken_most cut.0 (most_of cut.0 cut.1 first last (sym cut.2) rest_few)));
+        first = met.first ++ cut.0;
+        others = cut.1 ++ met.others;
+        are =
+            met.are ∙ ap (λ (later : List (List ℕ)). met.first ++ (later ++ met.others)) cut.2
+            ∙ ap (λ (later : List (List ℕ)). met.first ++ later) (append_assoc cut.0 cut.1 met.others)
+            ∙ sym (append_assoc met.first cut.0 (cut.1 ++ met.others));
+        stands = subst (λ (events : List PlainEvent). StandsFor events image)
+            (ap (λ (lines : List Line). events_of (after_lines history lines)) lines
+            ∙ events_run history is (met.first ++ cut.0)) one.stands;
+        taken = taken_of cut.0 cut.1 cut.2;
       }
-    where
-      taken_most : (front : List (List ℕ)) → (front ≡ first) ⊎ (front ≡ first ++ last ∷ []) →
-          WritesSome held held' (replies replay_work history front)
-      taken_most front (inl same) =
-          all_written held held' (replies replay_work history front)
-          (subst (λ front. Appends held held' (replies replay_work history front)) (sym same) written)
-      taken_most front (inr more) =
-          subst (λ front. WritesSome held held' (replies replay_work history front)) (sym more)
-          (subst (WritesSome held held') (sym (replies_append replay_work history first (last ∷ [])))
-          (some_of_more held held' (replies replay_work history first)
-          (replies replay_work (after_all replay_work history first) (last ∷ []))
-          (all_written held held' (replies replay_work history first) written)))
-
-  -- where it replied to all of them
-  answered_all : (lines : List Line) (held held' : Option (List ℕ)) (input image : List ℕ) →
-      RepliedToFirst replay_work history lines held held' input →
-      StandsFor (events_of (after_lines history lines)) image → StandsForAnswered (events_of history) input held held' image
-  answered_all lines held held' input image replied stands = record {
-    first = replied.first;
-    others = replied.others;
-    are = replied.are;
-    stands = subst (λ events. StandsFor events image)
-        (ap (λ lines. events_of (after_lines history lines)) replied.lines_are ∙ events_run history is replied.first)
-        stands;
-    taken = by_some replied.some;
-  }
-    where
-      by_some : (replied.others ≡ []) ⊎ WritesSome held held' (replies replay_work history replied.first) →
-          (replied.others ≡ []) ⊎ WritesSome held held' (answers_with (events_of history) replied.first)
-      by_some (inl none) = inl none
-      by_some (inr some) = inr (subst (WritesSome held held') (replies_run history is replied.first) some)
 
 -- ---- the lines of a call
 
@@ -198,52 +179,18 @@ module _ {D : Type 0} (disk : Telling D) (before now : StoreState D) (held held'
   -- what a crash at any moment leaves
   pub leaves_more : IfSome input (λ input. LeavesOnly disk.moment disk.left_since before.disk now.disk
       (StandsForMore (events_of (plant_history before.plant)) input))
-  leaves_more = by_input input did.first
-    where
-      by_met : (whole : Bool) (input : List ℕ) →
-          MetFirst replay_work (plant_history before.plant) did.lines whole held held' input → (image : List ℕ) →
-          StandsForFirst (plant_history before.plant) did.lines image → StandsForMore (events_of (plant_history before.plant)) input image
-      by_met true input met image one =
-          more_of (plant_history before.plant) is did.lines met.first met.others input image met.lines_are met.are
-          one
-      by_met false input met image one =
-          more_of (plant_history before.plant) is did.lines (met.first ++ met.last ∷ []) met.others input image
-          met.lines_are (met.are ∙ sym (append_assoc met.first (met.last ∷ []) met.others)) one
-
-      by_input : (input : Option (List ℕ)) →
-          IfSome input (MetFirst replay_work (plant_history before.plant) did.lines did.whole held held') →
-          IfSome input (λ input. LeavesOnly disk.moment disk.left_since before.disk now.disk (StandsForMore (events_of (plant_history before.plant)) input))
-      by_input None met = tt
-      by_input (Some input) met =
-          wider disk.moment disk.left_since before.disk now.disk
-          (StandsForFirst (plant_history before.plant) did.lines) (StandsForMore (events_of (plant_history before.plant)) input) (did.did.leaves kept)
-          (by_met did.whole input met)
+  leaves_more = of_some input did.first (λ input met.
+      wider disk.moment disk.left_since before.disk now.disk
+      (StandsForSome (plant_history before.plant) [] (did.settled ++ did.waiting))
+      (StandsForMore (events_of (plant_history before.plant)) input) (did.did.leaves kept)
+      (more_of (plant_history before.plant) is did.settled did.waiting held held' input met))
 
   -- what each image at the end stands for
   pub keeps_answered : IfSome input (λ input. (image : List ℕ) → disk.images now.disk image →
       StandsForAnswered (events_of (plant_history before.plant)) input held held' image)
-  keeps_answered = by_input input did.first
-    where
-      by_met : (whole : Bool) (input : List ℕ) →
-          MetFirst replay_work (plant_history before.plant) did.lines whole held held' input →
-          Calls disk before now (StandsForFirst (plant_history before.plant) did.lines)
-          (StandsForMost (plant_history before.plant) did.lines)
-          (after_lines (plant_history before.plant) did.lines) whole → (image : List ℕ) →
-          disk.images now.disk image → StandsForAnswered (events_of (plant_history before.plant)) input held held' image
-      by_met true input met calls image left =
-          let after = calls.kept refl kept in
-          answered_all (plant_history before.plant) is did.lines held held' input image met
-          (subst (λ history. StandsFor (events_of history) image) after.1 (after.0.stand image left))
-      by_met false input met calls image left =
-          answered_most (plant_history before.plant) is did.lines met.first met.others met.last held held' input
-          image met.are met.lines_are met.written (calls.left kept image left)
-
-      by_input : (input : Option (List ℕ)) →
-          IfSome input (MetFirst replay_work (plant_history before.plant) did.lines did.whole held held') →
-          IfSome input (λ input. (image : List ℕ) → disk.images now.disk image →
-          StandsForAnswered (events_of (plant_history before.plant)) input held held' image)
-      by_input None met = tt
-      by_input (Some input) met = by_met did.whole input met did.did
+  keeps_answered = of_some input did.first (λ input met image left.
+      answered_of (plant_history before.plant) is did.settled did.waiting held held' input met image
+      (did.did.left kept image left))
 
 -- where all lines were replied to, each image at the end stands for the events of all
 pub keeps_all : {D : Type 0} (disk : Telling D) (before now : StoreState D) (input : Option (List ℕ)) →
@@ -251,14 +198,14 @@ pub keeps_all : {D : Type 0} (disk : Telling D) (before now : StoreState D) (inp
     DidAll (GoesOn disk before now) input → IsKept disk before →
     IfSome input (λ input. (image : List ℕ) → disk.images now.disk image →
     StandsFor (events_with (events_of (plant_history before.plant)) (pieces input)) image)
-keeps_all disk before now input is did kept = by_input input did.all
+keeps_all disk before now input is did kept = of_some input did.all (λ input all image left.
+    let one = did.did.left kept image left in
+    let none : one.first ≡ [] = none_first one.first one.behind (sym one.are) in
+    subst (λ (events : List PlainEvent). StandsFor events image)
+    (ap (λ (lines : List Line). events_of (after_lines (plant_history before.plant) (did.settled ++ lines))) none
+    ∙ ap (λ (lines : List Line). events_of (after_lines (plant_history before.plant) lines))
+    (append-nil did.settled ∙ all) ∙ events_run (plant_history before.plant) is (pieces input)) one.stands)
   where
-    by_input : (input : Option (List ℕ)) → IfSome input (λ bytes. did.lines ≡ map line_met (pieces bytes)) →
-        IfSome input (λ input. (image : List ℕ) → disk.images now.disk image →
-        StandsFor (events_with (events_of (plant_history before.plant)) (pieces input)) image)
-    by_input None all = tt
-    by_input (Some input) all = λ image left.
-        let after = did.did.kept refl kept in
-        subst (λ events. StandsFor events image)
-        (ap events_of after.1 ∙ (ap (λ lines. events_of (after_lines (plant_history before.plant) lines)) all
-        ∙ events_run (plant_history before.plant) is (pieces input))) (after.0.stand image left)
+    none_first : (first behind : List Line) → first ++ behind ≡ [] → first ≡ []
+    none_first [] behind none = refl
+    none_first (line ∷ first) behind none = cc

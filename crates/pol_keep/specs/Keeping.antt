@@ -1,13 +1,14 @@
--- A kept plant, while lines are replied to.
-use Rattle.std.specs.Prelude.{ℕ, ◌≡◌, ◌≤◌, ◌⊎◌, List, [], ◌∷◌, ◌++◌, length, Bool, true, false, IsTrue, Option, Some}
+-- A kept plant, while lines are met and settled.
+use Rattle.std.specs.Prelude.{ℕ, ◌≡◌, List, [], ◌∷◌, ◌++◌, Bool, true, false, IsTrue, Option, Some}
 use Rattle.pol_core.specs.Plants.{plant_history}
-use Rattle.pol_disk.specs.Disks.{LeavesOnly}
+use Rattle.pol_disk.specs.Disks.{LeavesOnly, ToldOn}
+use Rattle.pol_events.specs.Events.{PlainEvent}
 use Rattle.pol_history.specs.Looking.{History}
+use Rattle.pol_history.specs.Runs.{events_of}
 use Rattle.pol_io.specs.Causes.{Rose}
 use Rattle.pol_jobs.specs.LineWork.{Line}
 use Rattle.pol_replay.specs.Replay.{replay_work}
-use Rattle.pol_store.specs.Keeping.{StoreState}
-use Rattle.pol_history.specs.Runs.{events_of}
+use Rattle.pol_store.specs.Keeping.{HasParts, StoreState}
 use Rattle.pol_store.specs.Stands.{StandsFor}
 
 -- what a kind of disk tells
@@ -24,34 +25,17 @@ abbrev pub telling : {D : Type 0} → (D → Option (List ℕ)) → (D → List 
 telling bytes images moment left_since faults =
     record { bytes = bytes; images = images; moment = moment; left_since = left_since; faults = faults }
 
--- the store is open, its disk tells its bytes, and each image stands for the events of its plant
+-- the disk tells its bytes: each answer so far was the one of a disk
+abbrev pub Tells : {D : Type 0} → Telling D → D → Type 0
+Tells disk now = (bytes : List ℕ) × (disk.bytes now ≡ Some bytes)
+
+-- the store is open, its disk tells its bytes, no event waits, and each image stands for the events of its plant
 pub record IsKept {D : Type 0} (disk : Telling D) (store : StoreState D) : Type 0 where
   pub opened : store.closed ≡ false
   pub bytes : List ℕ
   pub told : disk.bytes store.disk ≡ Some bytes
+  pub none : store.waiting ≡ 0
   pub stand : (image : List ℕ) → disk.images store.disk image → StandsFor (events_of (plant_history store.plant)) image
-
--- Calls from one state of a store to another: where all were answered, the store is open still, and its history is this;
--- it is closed only where the disk failed meanwhile. Of a kept store a crash at any moment leaves an image that has P,
--- and each image at the end has Q.
-pub record Calls {D : Type 0} (disk : Telling D) (before now : StoreState D) (P Q : List ℕ → Type 0) (after : History)
-    (whole : Bool) : Type 0 where
-  pub quiet : IsTrue whole → before.closed ≡ false
-      → (now.closed ≡ false) × (disk.faults now.disk ≡ disk.faults before.disk)
-  pub cause : before.closed ≡ false → now.closed ≡ true → Rose (disk.faults before.disk) (disk.faults now.disk)
-  pub leaves : IsKept disk before → LeavesOnly disk.moment disk.left_since before.disk now.disk P
-  pub left : IsKept disk before → (image : List ℕ) → disk.images now.disk image → Q image
-  pub kept : IsTrue whole → IsKept disk before → IsKept disk now × (plant_history now.plant ≡ after)
-
--- the image stands for the events of a history, or for those of the next one
-abbrev pub StandsForEither : History → History → List ℕ → Type 0
-StandsForEither history after image = StandsFor (events_of history) image ⊎ StandsFor (events_of after) image
-
--- one call, which leads to this history
-abbrev pub Applies : {D : Type 0} → Telling D → StoreState D → StoreState D → History → Bool → Type 0
-Applies disk before now after whole =
-    Calls disk before now (StandsForEither (plant_history before.plant) after)
-    (StandsForEither (plant_history before.plant) after) after whole
 
 -- ---- lines
 
@@ -60,19 +44,44 @@ abbrev pub after_lines : History → List Line → History
 after_lines history [] = history
 after_lines history (line ∷ lines) = after_lines (replay_work.after history line) lines
 
--- the image stands for the events that the first of these lines leave behind a history
-pub record StandsForFirst (history : History) (lines : List Line) (image : List ℕ) : Type 0 where
+-- One line more was met, without a call of the disk: a store that was open is open still; and where the line was replied
+-- to, this is its history, and it keeps what it kept, so that the events that are new wait.
+pub record Admits {D : Type 0} (before now : StoreState D) (after : History) (whole : Bool) : Type 0 where
+  pub uncalled : now.disk ≡ before.disk
+  pub opened : before.closed ≡ false → now.closed ≡ false
+  pub history : IsTrue whole → plant_history now.plant ≡ after
+  pub waits : IsTrue whole → (kept group : List PlainEvent) → HasParts before kept group
+      → (more : List PlainEvent) × HasParts now kept more
+
+-- the image stands for the events that the settled lines and the first of those that wait leave behind a history
+pub record StandsForSome (history : History) (settled waiting : List Line) (image : List ℕ) : Type 0 where
   pub first : List Line
   pub behind : List Line
-  pub are : lines ≡ first ++ behind
-  pub stands : StandsFor (events_of (after_lines history first)) image
+  pub are : waiting ≡ first ++ behind
+  pub stands : StandsFor (events_of (after_lines history (settled ++ first))) image
 
--- the first are all of them, or all but the last
-abbrev pub StandsForMost : History → List Line → List ℕ → Type 0
-StandsForMost history lines image = (first : StandsForFirst history lines image) × (length first.behind ≤ 1)
+-- the store is open still, it has met these lines, and it keeps the events of the settled ones: those of the others wait
+pub record HasMet {D : Type 0} (disk : Telling D) (first now : StoreState D) (settled waiting : List Line)
+    : Type 0 where
+  pub opened : now.closed ≡ false
+  pub bytes : List ℕ
+  pub told : disk.bytes now.disk ≡ Some bytes
+  pub history : plant_history now.plant ≡ after_lines (plant_history first.plant) (settled ++ waiting)
+  pub group : List PlainEvent
+  pub parts : HasParts now (events_of (after_lines (plant_history first.plant) settled)) group
 
--- from one state of a store to another these lines were met, and the last one was replied to as well or not
-abbrev pub GoesOn : {D : Type 0} → Telling D → StoreState D → StoreState D → List Line → Bool → Type 0
-GoesOn disk before now lines whole =
-    Calls disk before now (StandsForFirst (plant_history before.plant) lines)
-    (StandsForMost (plant_history before.plant) lines) (after_lines (plant_history before.plant) lines) whole
+-- From one state of a store to another these lines were met: those that are settled, and those that wait behind them,
+-- the last of which was replied to as well or not. While all were, an open store stays open and its disk doesn't fail;
+-- it is closed only where the disk failed. Of a kept store a crash at any moment leaves the old events and those of the
+-- first lines, and each image now stands for those of all settled ones and of the first that wait.
+pub record GoesOn {D : Type 0} (disk : Telling D) (first now : StoreState D) (settled waiting : List Line)
+    (whole : Bool) : Type 0 where
+  pub quiet : IsTrue whole → first.closed ≡ false
+      → (now.closed ≡ false) × (disk.faults now.disk ≡ disk.faults first.disk)
+  pub cause : first.closed ≡ false → now.closed ≡ true → Rose (disk.faults first.disk) (disk.faults now.disk)
+  pub on : ToldOn (disk.bytes first.disk) (disk.bytes now.disk)
+  pub leaves : IsKept disk first → LeavesOnly disk.moment disk.left_since first.disk now.disk
+      (StandsForSome (plant_history first.plant) [] (settled ++ waiting))
+  pub left : IsKept disk first → (image : List ℕ) → disk.images now.disk image
+      → StandsForSome (plant_history first.plant) settled waiting image
+  pub met : IsTrue whole → IsKept disk first → HasMet disk first now settled waiting

@@ -5,7 +5,7 @@ use Rattle.mtp_codes.specs.declared.limits.TheConstants.{LONGEST_HISTORY}
 use Rattle.pol_events.specs.Events.{PlainEvent}
 use Rattle.pol_history.specs.Answers.{answer_of}
 use Rattle.pol_history.specs.Looking.{History}
-use Rattle.pol_history.specs.Runs.{entry_of, history_after, is_recorded, recorded}
+use Rattle.pol_history.specs.Runs.{IsLegal, IsOrderly, entry_of, history_after, is_recorded, recorded}
 use Rattle.pol_io.specs.Edge.{Edge}
 use Rattle.pol_io.specs.Pieces.{pieces}
 use Rattle.pol_jobs.specs.Ends.{Completes, Ends}
@@ -80,12 +80,14 @@ IsFaultOf opening.Memory fault = fault ≡ Memory
 IsFaultOf opening.Disk fault = fault ≡ Disk
 IsFaultOf (opening.NotAStore place) fault = fault ≡ NotAStore place
 
--- the disk stood for these old events, at most 200,000, and the job ended as one with their output does
+-- The disk stood for these old events, at most 200,000, and the job ended as one with their output does. The run of the
+-- old events and of those of any lines is legal and orderly, so that all that is proved of such histories holds of it.
 pub record Keeps (output : List PlainEvent → Output Infallible) (seen : Option (List ℕ))
     (source source' sink sink' : Edge) (result : Result (Unit {0}) (JobFault Infallible)) : Type 0 where
   pub old : List PlainEvent
   pub few : length old ≤ LONGEST_HISTORY
   pub stood : IfSome seen (StandsFor old)
+  pub runs : (lines : List (List ℕ)) → IsLegal (run_with old lines) × IsOrderly (run_with old lines)
   pub ends : Ends (output old) source source' sink sink' result
   pub complete : Completes (output old) source source' sink sink' result
 

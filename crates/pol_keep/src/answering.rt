@@ -8,7 +8,7 @@ ghost use Rattle.pol_history.specs.Answers.{answer_of};
 ghost use Rattle.pol_history.specs.Runs.{entry_of, recorded};
 ghost use Rattle.pol_record.specs.Texts.{answer_text};
 ghost use Rattle.pol_replay.specs.Meanings.{IsOrderly, after_meaning, plain_meaning, reply_text};
-ghost use Rattle.pol_keep.specs.Keeping.{Applies, telling};
+ghost use Rattle.pol_keep.specs.Keeping.{Admits};
 
 use pol_disk::Disk;
 use pol_events::Event;
@@ -17,8 +17,7 @@ use pol_replay::LineMeaning;
 use pol_store::Store;
 use std::alloc::{AllocError, Global};
 
-// Keeps an event, and puts the line of the plant's answer behind what a buffer holds. Where the disk fails the store is
-// closed, and there is no line.
+// Admits an event, and puts the line of the plant's answer behind what a buffer holds.
 fn answer_event<D: Disk>(
     alloc: Global,
     store: &mut Store<D>,
@@ -30,18 +29,18 @@ fn answer_event<D: Disk>(
         ≡ out.old.items ++ answer_text (answer_of (plant_history store.old.plant) (plain_event event))) }
     ensures history { OnOk result (plant_history store.new.plant
         ≡ recorded (entry_of (plant_history store.old.plant) (plain_event event)) (plant_history store.old.plant)) }
-    ensures applies { Applies (telling D.bytes D.images D.moment D.left_since D.faults) store.old store.new
+    ensures admits { Admits store.old store.new
         (recorded (entry_of (plant_history store.old.plant) (plain_event event)) (plant_history store.old.plant))
         (is_ok result) }
 {
-    match store.apply(event) {
+    match store.admit(event) {
         Ok(answer) => put_answer_line(alloc, out, &answer),
         Err(_refusal) => Err(AllocError),
     }
 }
 
-/// Puts the line that answers what a line says behind what a buffer holds; nothing, where it says nothing. Its event is
-/// kept first.
+/// Puts the line that answers what a line says behind what a buffer holds; nothing, where it says nothing. Its event
+/// waits to be kept then.
 pub fn answer<D: Disk>(
     alloc: Global,
     store: &mut Store<D>,
@@ -53,7 +52,7 @@ pub fn answer<D: Disk>(
         ≡ out.old.items ++ reply_text (plant_history store.old.plant) (plain_meaning meaning)) }
     ensures history { OnOk result (plant_history store.new.plant
         ≡ after_meaning (plant_history store.old.plant) (plain_meaning meaning)) }
-    ensures applies { Applies (telling D.bytes D.images D.moment D.left_since D.faults) store.old store.new
+    ensures admits { Admits store.old store.new
         (after_meaning (plant_history store.old.plant) (plain_meaning meaning)) (is_ok result) }
 {
     match meaning {

@@ -2,7 +2,7 @@
 ghost use Rattle.std.specs.Prelude.{◌≡◌, ◌≢◌, ◌++◌, ℕ, List, Some, IfErr, IfSome, IsTrue, OnErr, OnOk};
 ghost use Rattle.std.specs.Io.KnownBytes.{Appends};
 ghost use Rattle.pol_core.specs.Plants.{plant_history};
-ghost use Rattle.pol_disk.specs.Disks.{LeavesOnly};
+ghost use Rattle.pol_disk.specs.Disks.{told_through};
 ghost use Rattle.pol_events.specs.Events.{PlainEvent, plain_event, plain_history};
 ghost use Rattle.pol_events.specs.Orderly.{is_orderly};
 ghost use Rattle.pol_history.specs.Runs.{IsOrderly, events_of};
@@ -12,6 +12,8 @@ ghost use Rattle.pol_jobs.specs.Written.{WritesPart};
 ghost use Rattle.pol_store.specs.Opens.{IsNoStore};
 ghost use Rattle.pol_store.specs.Stands.{StandsFor, StandsForNone};
 ghost use Rattle.pol_keep.specs.Exported.{HandsOn, entry_lines, event_line, exported_output, journal_text, no_input};
+ghost use Rattle.pol_keep.specs.Keeping.{telling};
+ghost use Rattle.pol_keep.specs.Leaving.{HoldsAll, HoldsOn};
 ghost use Rattle.pol_keep.specs.Kept.{IsUnopened, KeepEnds, job_result};
 
 use crate::fault::{KeepFault, put_ended, unopened};
@@ -88,23 +90,20 @@ fn export_from<K: Sink, D: Disk>(
 ///
 /// How it ends is one row for each result, with no input. `Disk` comes only where the disk's count of faults rose in
 /// this call, and `NotAStore` exactly where it did not and the disk reads as bytes for which no list of at most 200,000
-/// events stands, unless there was no memory. Where each image of the disk at the start stands for the same events, so
-/// does what a crash at any moment of the call leaves, and each image at the end.
+/// events stands, unless there was no memory. A crash at any moment of the call leaves what it might have left before, or
+/// the events that the disk reads as; where all is done, each image at the end stands for these.
 pub fn export<K: Sink, D: Disk>(alloc: Global, sink: &mut K, disk: D) -> (Result<(), KeepFault>, D)
-    ensures ends { KeepEnds exported_output (D.bytes disk) no_input no_input
+    ensures ends { KeepEnds exported_output (told_through (D.bytes disk) (D.bytes result.1)) no_input no_input
         (edge (K.held sink.old) (K.faults sink.old)) (edge (K.held sink.new) (K.faults sink.new)) result.0 }
-    ensures moments { (all : List ℕ) (old : List PlainEvent) → D.bytes disk ≡ Some all
-        → ((image : List ℕ) → D.images disk image → StandsFor old image)
-        → LeavesOnly D.moment D.left_since disk result.1 (StandsFor old) }
-    ensures kept { (all : List ℕ) (old : List PlainEvent) → D.bytes disk ≡ Some all
-        → ((image : List ℕ) → D.images disk image → StandsFor old image)
-        → (image : List ℕ) → D.images result.1 image → StandsFor old image }
+    ensures holds { HoldsOn (telling D.bytes D.images D.moment D.left_since D.faults) disk result.1 }
+    ensures holds_all { OnOk result.0 (HoldsAll (telling D.bytes D.images D.moment D.left_since D.faults)
+        disk result.1) }
     ensures disk_cause { IfErr result.0 (λ fault. fault ≡ KeepFault.Disk → Rose (D.faults disk) (D.faults result.1)) }
     ensures no_store { IfErr result.0 (λ fault. (place : ℕ) → fault ≡ KeepFault.NotAStore place
-        → (D.faults result.1 ≡ D.faults disk) × IfSome (D.bytes disk) (λ all. IsNoStore all place)) }
+        → (D.faults result.1 ≡ D.faults disk) × IfSome (D.bytes result.1) (λ all. IsNoStore all place)) }
     ensures unwritten { IfErr result.0 (λ fault. (place : ℕ) → fault ≡ KeepFault.NotAStore place
         → sink.new ≡ sink.old) }
-    ensures unopened { (all : List ℕ) → D.bytes disk ≡ Some all → StandsForNone all
+    ensures unopened { (all now : List ℕ) → D.bytes disk ≡ Some all → D.bytes result.1 ≡ Some now → StandsForNone all
         → ¬ Rose (D.faults disk) (D.faults result.1) → IsUnopened result.0 }
 {
     match Store::open(alloc, disk) {

@@ -1,7 +1,7 @@
 //! The job on a kept plant.
 ghost use Rattle.std.specs.Prelude.{◌≡◌, ◌≢◌, ℕ, List, Some, false, IfErr, IfSome, OnOk};
 ghost use Rattle.pol_core.specs.Plants.{plant_history};
-ghost use Rattle.pol_disk.specs.Disks.{LeavesOnly};
+ghost use Rattle.pol_disk.specs.Disks.{LeavesOnly, ToldOn, told_through};
 ghost use Rattle.pol_events.specs.Events.{PlainEvent};
 ghost use Rattle.pol_history.specs.Runs.{IsLegal, events_of};
 ghost use Rattle.pol_io.specs.Causes.{Rose};
@@ -10,6 +10,7 @@ ghost use Rattle.pol_jobs.specs.Ends.{Ends, edge};
 ghost use Rattle.pol_store.specs.Opens.{IsNoStore};
 ghost use Rattle.pol_store.specs.Stands.{StandsFor, StandsForNone};
 ghost use Rattle.pol_keep.specs.Keeping.{IsKept, telling};
+ghost use Rattle.pol_keep.specs.Leaving.{KeepsAllLines, KeepsLines};
 ghost use Rattle.pol_keep.specs.Kept.{IsUnopened, KeepEnds, StandsForAnswered, StandsForMore, events_with, job_result, kept_output};
 
 use crate::fault::{KeepFault, ended, unopened};
@@ -36,14 +37,15 @@ fn keep_on<S: Source, K: Sink, D: Disk>(
     ensures disk_cause { IfErr result.0 (λ fault. fault ≡ KeepFault.Disk
         → Rose (D.faults store.disk) (D.faults result.1)) }
     ensures is_store { IfErr result.0 (λ fault. (place : ℕ) → fault ≢ KeepFault.NotAStore place) }
+    ensures on { ToldOn (D.bytes store.disk) (D.bytes result.1) }
     ensures moments { IsKept (telling D.bytes D.images D.moment D.left_since D.faults) store
         → IfSome (S.left source.old) (λ input. LeavesOnly D.moment D.left_since store.disk result.1
         (StandsForMore (events_of (plant_history store.plant)) input)) }
     ensures kept { IsKept (telling D.bytes D.images D.moment D.left_since D.faults) store
         → IfSome (S.left source.old) (λ input. (image : List ℕ) → D.images result.1 image
         → StandsForAnswered (events_of (plant_history store.plant)) input (K.held sink.old) (K.held sink.new) image) }
-    ensures kept_all { IsKept (telling D.bytes D.images D.moment D.left_since D.faults) store
-        → OnOk result.0 (IfSome (S.left source.old) (λ input. (image : List ℕ) → D.images result.1 image
+    ensures kept_all { OnOk result.0 (IsKept (telling D.bytes D.images D.moment D.left_since D.faults) store
+        → IfSome (S.left source.old) (λ input. (image : List ℕ) → D.images result.1 image
         → StandsFor (events_with (events_of (plant_history store.plant)) (pieces input)) image)) }
 {
     let mut keeping = Keeping { alloc, store };
@@ -59,37 +61,29 @@ fn keep_on<S: Source, K: Sink, D: Disk>(
 ///
 /// How it ends is one row for each result. `Disk` comes only where the disk's count of faults rose in this call, and
 /// `NotAStore` exactly where it did not and the disk reads as bytes for which no list of at most 200,000 events stands,
-/// unless there was no memory. Where each image of the disk at the start stands for the old events, a crash at any moment
-/// of the call leaves a disk that stands for the old events and the new ones of the first lines, and at the end each
-/// image stands for so many of these that each line whose answer the sink took whole is among them; where all is done,
-/// for those of all lines.
+/// unless there was no memory. The old events are those that the disk reads as, whatever a crash might leave of it. A
+/// crash at any moment of the call leaves what it might have left before, or the old events and the new ones of the first
+/// lines. What is said of the disk's bytes holds where it tells them to the end: where each answer was the one of a disk. At the end each image stands for so many of these that each line whose answer the sink took whole is among them;
+/// where all is done, for those of all lines.
 pub fn keep<S: Source, K: Sink, D: Disk>(
     alloc: Global,
     source: &mut S,
     sink: &mut K,
     disk: D,
 ) -> (Result<(), KeepFault>, D)
-    ensures ends { KeepEnds kept_output (D.bytes disk)
+    ensures ends { KeepEnds kept_output (told_through (D.bytes disk) (D.bytes result.1))
         (edge (S.left source.old) (S.faults source.old)) (edge (S.left source.new) (S.faults source.new))
         (edge (K.held sink.old) (K.faults sink.old)) (edge (K.held sink.new) (K.faults sink.new)) result.0 }
-    ensures moments { (all : List ℕ) (old : List PlainEvent) → D.bytes disk ≡ Some all
-        → ((image : List ℕ) → D.images disk image → StandsFor old image)
-        → IfSome (S.left source.old) (λ input.
-        LeavesOnly D.moment D.left_since disk result.1 (StandsForMore old input)) }
-    ensures kept { (all : List ℕ) (old : List PlainEvent) → D.bytes disk ≡ Some all
-        → ((image : List ℕ) → D.images disk image → StandsFor old image)
-        → IfSome (S.left source.old) (λ input. (image : List ℕ) → D.images result.1 image
-        → StandsForAnswered old input (K.held sink.old) (K.held sink.new) image) }
-    ensures kept_all { (all : List ℕ) (old : List PlainEvent) → D.bytes disk ≡ Some all
-        → ((image : List ℕ) → D.images disk image → StandsFor old image)
-        → OnOk result.0 (IfSome (S.left source.old) (λ input. (image : List ℕ) → D.images result.1 image
-        → StandsFor (events_with old (pieces input)) image)) }
+    ensures keeps { KeepsLines (telling D.bytes D.images D.moment D.left_since D.faults) disk result.1
+        (S.left source.old) (K.held sink.old) (K.held sink.new) }
+    ensures keeps_all { OnOk result.0 (KeepsAllLines (telling D.bytes D.images D.moment D.left_since D.faults)
+        disk result.1 (S.left source.old)) }
     ensures disk_cause { IfErr result.0 (λ fault. fault ≡ KeepFault.Disk → Rose (D.faults disk) (D.faults result.1)) }
     ensures no_store { IfErr result.0 (λ fault. (place : ℕ) → fault ≡ KeepFault.NotAStore place
-        → (D.faults result.1 ≡ D.faults disk) × IfSome (D.bytes disk) (λ all. IsNoStore all place)) }
+        → (D.faults result.1 ≡ D.faults disk) × IfSome (D.bytes result.1) (λ all. IsNoStore all place)) }
     ensures unread { IfErr result.0 (λ fault. (place : ℕ) → fault ≡ KeepFault.NotAStore place
         → (source.new ≡ source.old) × (sink.new ≡ sink.old)) }
-    ensures unopened { (all : List ℕ) → D.bytes disk ≡ Some all → StandsForNone all
+    ensures unopened { (all now : List ℕ) → D.bytes disk ≡ Some all → D.bytes result.1 ≡ Some now → StandsForNone all
         → ¬ Rose (D.faults disk) (D.faults result.1) → IsUnopened result.0 }
 {
     match Store::open(alloc, disk) {

@@ -6,11 +6,12 @@ use pol_io::Sink;
 use pol_jobs::{InputLine, LineJob, PutFault, Stop};
 use pol_replay::{close, read_meaning};
 use pol_store::Store;
-use std::alloc::Global;
+use std::alloc::{AllocError, Global};
 use std::convert::Infallible;
 
-/// A replay on a plant that is kept: it keeps the event of each line before it answers it, and closes with the line of
-/// each batch and the end line. Where the disk fails it stops as for want of memory, and its store is closed.
+/// A replay on a plant that is kept: the event of each line is kept before its answer is handed on, and that before the
+/// next line is met. It closes with the line of each batch and the end line. Where the disk fails it stops as for want of
+/// memory, and its store is closed.
 pub struct Keeping<D: Disk> {
     /// The memory that it takes.
     pub alloc: Global,
@@ -21,10 +22,16 @@ pub struct Keeping<D: Disk> {
 impl<D: Disk> LineJob for Keeping<D> {
     type Refusal = Infallible;
 
+    const SETTLES_EACH: bool = true;
+
+    ghost use Rattle.std.specs.Prelude.{true};
+
+    ghost SETTLES_EACH = { true };
+
     ghost use Rattle.pol_history.specs.Looking.{History};
     ghost use Rattle.pol_core.specs.Plants.{plant_history};
     ghost use Rattle.pol_replay.specs.Replay.{replay_work};
-    ghost use Rattle.pol_keep.specs.Going.{goes_nowhere, goes_further};
+    ghost use Rattle.pol_keep.specs.Going.{goes_nowhere};
     ghost use Rattle.pol_keep.specs.Keeping.{GoesOn, telling};
 
     ghost State = { History };
@@ -33,20 +40,23 @@ impl<D: Disk> LineJob for Keeping<D> {
 
     ghost work = { replay_work };
 
-    ghost Did = { λ before now lines whole.
-        GoesOn (telling D.bytes D.images D.moment D.left_since D.faults) before.store now.store lines whole };
+    ghost Did = { λ first now settled waiting whole.
+        GoesOn (telling D.bytes D.images D.moment D.left_since D.faults) first.store now.store settled waiting whole };
 
     ghost did_nothing = { λ keeping.
         goes_nowhere (telling D.bytes D.images D.moment D.left_since D.faults) D.only_now keeping.store };
-
-    ghost did_more = { λ first keeping next lines more whole.
-        goes_further (telling D.bytes D.images D.moment D.left_since D.faults)
-        first.store keeping.store next.store lines more whole };
 
     fn reply(&mut self, line: InputLine<'_>, out: &mut Vec<u8>) -> Result<(), Stop<Infallible>> {
         let meaning = read_meaning(self.alloc, line)?;
         answer(self.alloc, &mut self.store, meaning, out)?;
         Ok(())
+    }
+
+    fn settle(&mut self) -> Result<(), AllocError> {
+        match self.store.commit() {
+            Ok(()) => Ok(()),
+            Err(_fault) => Err(AllocError),
+        }
     }
 
     fn end(&mut self) -> Result<(), Stop<Infallible>> {

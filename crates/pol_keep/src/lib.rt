@@ -1,10 +1,11 @@
-//! A plant that is kept on a disk, as a job over lines: a replay that goes on from the events that the disk stands for,
+//! A plant that is kept on a disk, as a job over lines: a replay that goes on from the events that the disk reads as,
 //! and keeps each new one before it is answered.
 //!
 //! Its answers are those of the run of the old and the new events, and then come the lines of that whole run
 //! (`specs/Kept.antt`). A crash at any moment leaves the old events and those of the first lines, and at the end at
-//! least those that were answered. The disk is opened before the source is read. The kept events are written out as the
-//! lines of a journal by `export` (`specs/Exported.antt`).
+//! least those that were answered (`specs/Leaving.antt`); so over many runs, each ended by a crash, no answered event is
+//! lost (`specs/Life.antt`). The disk is opened before the source is read. The kept events are written out as the lines
+//! of a journal by `export` (`specs/Exported.antt`).
 #![tactic(auto)]
 
 mod answering;
@@ -12,7 +13,9 @@ mod exporting;
 mod fault;
 mod job;
 mod keeping;
+mod laws;
 
 pub use exporting::export;
 pub use fault::KeepFault;
 pub use job::keep;
+pub use laws::answers_are_kept;

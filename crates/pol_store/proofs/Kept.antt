@@ -1,19 +1,22 @@
 -- A store that isn't closed, over its calls.
-use Rattle.std.proofs.Common.{◌≡◌, inl, ℕ, ◌+◌, ◌<◌, ◌^◌, Bool, true, false, List, [], ◌∷◌, ◌++◌, length, Option, Some, None, Result, Ok, Err, refl, ◌∙◌, ap, subst, arith, length-append}
+use Rattle.std.proofs.Common.{◌≡◌, inl, ℕ, ◌+◌, ◌<◌, ◌^◌, Bool, true, false, List, [], ◌∷◌, ◌++◌, length, take, drop, Option, Some, None, Result, Ok, Err, refl, sym, ◌∙◌, ap, subst, arith, append_assoc, length-append}
+use Rattle.std.proofs.lemmas.List.{append-nil}
+use Rattle.std.proofs.Math.Seq.{take-append_seam, drop-append_seam}
 use Rattle.std.specs.Prelude.{IfSome, OnOk, is_err}
 use Rattle.pol_disk.specs.Disks.{LeavesOnly}
 use Rattle.pol_disk.proofs.Moments.{started, wider}
-use Rattle.pol_texts.specs.Settled.{AreAlike, IsSettled, behind_gate}
+use Rattle.pol_texts.specs.Settled.{AreAlike, IsGroup, IsSettled, IsStaged, behind_gate}
 use Rattle.pol_texts.specs.Stands as of_texts
+use Rattle.pol_texts.specs.Stands.{body_of}
 use Rattle.pol_events.specs.Events.{PlainEvent}
 use Rattle.pol_core.specs.Plants.{plant_history}
 use Rattle.pol_history.specs.Looking.{History}
 use Rattle.pol_history.specs.Answers.{answer_of}
 use Rattle.pol_history.specs.Runs.{entry_of, is_recorded, recorded, events_of}
-use Rattle.pol_store.specs.Stands.{StandsWithOrWithout}
-use Rattle.pol_store.specs.Keeping.{StoreState, KeepsEvents, Keeps, KeepsMore, LeavesEvents, Open}
+use Rattle.pol_store.specs.Stands.{AreTextsOf, StandsFor, StandsWithAllOrNone}
+use Rattle.pol_store.specs.Keeping.{AreParts, HasParts, IsFit, Keeps, KeepsAll, KeepsEvents, KeepsGroup, LeavesGroup, Open, StoreState}
 use Rattle.pol_store.specs.Records.{WritesBehind}
-use Rattle.pol_store.proofs.Texts.{kept_stands, with_or_without, texts-push}
+use Rattle.pol_store.proofs.Texts.{all_or_none, kept_stands, length-texts, texts-append, texts-push}
 use Rattle.pol_store.proofs.Histories.{events-cons, recorded_is}
 
 -- a store that is open keeps its events
@@ -27,11 +30,12 @@ open_again true kept k = tt
 open_again false kept k = k
 
 -- the same of a disk that tells its bytes
-pub told_keeps : (seen : Option (List ℕ)) (images : List ℕ →
-    Type 0) (end : ℕ) (events : List PlainEvent) (all : List ℕ) → seen ≡ Some all → Keeps seen images end events →
-    KeepsEvents seen images end events
-told_keeps seen images end events all told keeps =
-    subst (λ (o : Option (List ℕ)). IfSome o (λ (l : List ℕ). KeepsEvents seen images end events)) told keeps
+pub told_keeps : (seen : Option (List ℕ)) (images : List ℕ → Type 0) (end : ℕ) (behind : List ℕ)
+    (events : List PlainEvent) (waiting : ℕ) (all : List ℕ) → seen ≡ Some all →
+    Keeps seen images end behind events waiting → KeepsGroup seen images end behind events waiting
+told_keeps seen images end behind events waiting all told keeps =
+    subst (λ (o : Option (List ℕ)). IfSome o (λ (l : List ℕ). KeepsGroup seen images end behind events waiting)) told
+    keeps
 
 -- bytes that are told
 abbrev some : List ℕ → Option (List ℕ)
@@ -47,11 +51,12 @@ at_ok (Ok x) good p = p
 at_ok (Err e) good p = absurd cc
 
 -- the closed gate lies within the bytes
-pub near_end : (seen : Option (List ℕ)) (images : List ℕ → Type 0) (end : ℕ) (events : List PlainEvent) →
-    Keeps seen images end events → IfSome seen (λ all. end < length all)
-near_end None images end events keeps = tt
-near_end (Some all) images end events keeps =
-    let s = keeps.settled in
+pub near_end : (seen : Option (List ℕ)) (images : List ℕ → Type 0) (end : ℕ) (behind : List ℕ)
+    (events : List PlainEvent) (waiting : ℕ) → Keeps seen images end behind events waiting →
+    IfSome seen (λ all. end < length all)
+near_end None images end behind events waiting keeps = tt
+near_end (Some all) images end behind events waiting keeps =
+    let s = keeps.keeps.settled in
     omega (
       arith,
       s.ends,
@@ -60,6 +65,12 @@ near_end (Some all) images end events keeps =
       ap length s.begins.is,
       length-append s.begins.records (0 ∷ s.begins.behind),
     )
+
+-- what holds wherever bytes are told
+pub if_now : (seen : Option (List ℕ)) (X : Type 0) → ((now : List ℕ) → seen ≡ Some now → X) →
+    IfSome seen (λ (l : List ℕ). X)
+if_now None X f = tt
+if_now (Some now) X f = f now refl
 
 -- what holds of a disk that told its bytes holds of one that tells them still
 pub if_told : (seen seen' : Option (List ℕ)) (X : Type 0) → AreAlike seen seen' →
@@ -75,65 +86,152 @@ pub events_recorded : (history new : History) (event : PlainEvent) → new ≡ r
 events_recorded history new event is told =
     ap events_of (is ∙ recorded_is history event told) ∙ events-cons (entry_of history event) history
 
+-- where it isn't, nothing changes
+pub history_same : (history new : History) (event : PlainEvent) → new ≡ recorded (entry_of history event) history →
+    is_recorded (answer_of history event) ≡ false → new ≡ history
+history_same history new event is told = is ∙ (rw told refl)
+
+-- so many events that wait are one list, and so are those before them
+pub same_parts : (events : List PlainEvent) (waiting : ℕ) (kept group kept' group' : List PlainEvent) →
+    AreParts events waiting kept group → AreParts events waiting kept' group' → (kept ≡ kept') × (group ≡ group')
+same_parts events waiting kept group kept' group' parts parts' =
+    let same : kept ++ group ≡ kept' ++ group' = sym parts.are ∙ parts'.are in
+    let long : length kept ≡ length kept' = omega (
+      arith,
+      ap length same,
+      length-append kept group,
+      length-append kept' group',
+      parts.many,
+      parts'.many,
+    ) in (
+      sym (take-append_seam kept group) ∙ ap (λ (l : List PlainEvent). take (length kept) l) same
+          ∙ ap (λ (n : ℕ). take n (kept' ++ group')) long ∙ take-append_seam kept' group',
+      sym (drop-append_seam kept group) ∙ ap (λ (l : List PlainEvent). drop (length kept) l) same
+          ∙ ap (λ (n : ℕ). drop n (kept' ++ group')) long ∙ drop-append_seam kept' group',
+    )
+
+-- what waits for some texts is a group
+pub group_staged : (texts : List (List ℕ)) (behind : List ℕ) → 0 < length texts → IsStaged texts behind →
+    IsGroup texts behind
+group_staged [] behind some staged = absurd (omega (arith, some))
+group_staged (t ∷ ts) behind some staged = staged
+
+-- there is something to be written for an event
+pub writes_long : (event : PlainEvent) (behind : List ℕ) → WritesBehind event behind → 0 < length behind
+writes_long event behind writes = omega (arith, ap length writes.is, length-append (body_of writes.text) (0 ∷ []))
+
+-- a disk that keeps all events, of which none waits
+pub none_waits : (seen : Option (List ℕ)) (images : List ℕ → Type 0) (end : ℕ) (events : List PlainEvent) →
+    KeepsEvents seen images end events → KeepsGroup seen images end [] events 0
+none_waits seen images end events keeps = record {
+  kept = events;
+  group = [];
+  parts = record { are = sym (append-nil events); many = refl };
+  keeps = keeps;
+  texts = [];
+  texts_are = tt;
+  staged = refl;
+}
+
+-- one event more waits
+pub one_waits : (seen : Option (List ℕ)) (images : List ℕ → Type 0) (end : ℕ) (behind more new : List ℕ)
+    (events after : List PlainEvent) (event : PlainEvent) (waiting : ℕ) → WritesBehind event more
+    → ((texts : List (List ℕ)) (text : List ℕ) → IsStaged texts behind → more ≡ behind_gate text →
+    length text < 2 ^ 64 → IsStaged (texts ++ text ∷ []) new)
+    → after ≡ events ++ event ∷ [] → Keeps seen images end behind events waiting →
+    Keeps seen images end new after (waiting + 1)
+one_waits None images end behind more new events after event waiting writes staged grown keeps = tt
+one_waits (Some all) images end behind more new events after event waiting writes staged grown k = record {
+  kept = k.kept;
+  group = k.group ++ event ∷ [];
+  parts =
+      record {
+        are =
+            grown ∙ ap (λ (es : List PlainEvent). es ++ event ∷ []) k.parts.are
+            ∙ append_assoc k.kept k.group (event ∷ []);
+        many = omega (arith, k.parts.many, length-append k.group (event ∷ []));
+      };
+  keeps = k.keeps;
+  texts = k.texts ++ writes.text ∷ [];
+  texts_are = texts-push k.group k.texts event writes.text k.texts_are writes.names;
+  staged = staged k.texts writes.text k.staged writes.is writes.counted;
+}
+
 module _ {D : Type 0} (bytes : D → Option (List ℕ)) (images : D → List ℕ → Type 0) (moment : D → ℕ)
     (left_since : D → ℕ → List ℕ → Type 0)
     (only_now : (disk : D) (image : List ℕ) → left_since disk (moment disk) image →
-    images disk image) (s : StoreState D) (end : ℕ) (event : PlainEvent) where
+    images disk image) (s : StoreState D) (end : ℕ) (behind : List ℕ) where
   -- the events of the store
   abbrev events : List PlainEvent
   events = events_of (plant_history s.plant)
 
   -- its invariant
   abbrev IsOpen : Type 0
-  IsOpen = Open s.closed (Keeps (bytes s.disk) (images s.disk) end events)
-
-  -- what a crash may leave: its events with the new one or without it
-  abbrev P : List ℕ → Type 0
-  P = StandsWithOrWithout events event
+  IsOpen = Open s.closed (IsFit end s.waiting behind
+      × Keeps (bytes s.disk) (images s.disk) end behind events s.waiting)
 
   -- of an open store that tells its bytes
   keeps_now : IsOpen → s.closed ≡ false → (all : List ℕ) → bytes s.disk ≡ Some all →
-      KeepsEvents (bytes s.disk) (images s.disk) end events
-  keeps_now o is all told = told_keeps (bytes s.disk) (images s.disk) end events all told (open_is s.closed _ is o)
+      KeepsGroup (bytes s.disk) (images s.disk) end behind events s.waiting
+  keeps_now o is all told =
+      told_keeps (bytes s.disk) (images s.disk) end behind events s.waiting all told (open_is s.closed _ is o).1
+
+  -- each image stands for the events that are kept
+  pub kept_now : IsOpen → s.closed ≡ false → (all : List ℕ) → bytes s.disk ≡ Some all →
+      (kept group : List PlainEvent) → HasParts s kept group → (image : List ℕ) → images s.disk image →
+      StandsFor kept image
+  kept_now o is all told kept group parts image left =
+      let k = keeps_now o is all told in
+      subst (λ (es : List PlainEvent). StandsFor es image)
+      (same_parts events s.waiting k.kept k.group kept group k.parts parts).0
+      (kept_stands (bytes s.disk) (images s.disk) end k.kept k.keeps image left)
 
   -- the disk wasn't called
-  pub unchanged : IsOpen → LeavesEvents bytes moment left_since s s.disk event
-  unchanged o = λ is all told. started moment left_since s.disk P
-      (λ image left. inl
-      (kept_stands (bytes s.disk) (images s.disk) end events (keeps_now o is all told) image
-      (only_now s.disk image left)))
+  pub unchanged : IsOpen → LeavesGroup bytes moment left_since s s.disk
+  unchanged o = λ is all told kept group parts.
+      started moment left_since s.disk (StandsWithAllOrNone kept group)
+      (λ image left. inl (kept_now o is all told kept group parts image (only_now s.disk image left)))
 
-  -- a record was added, or failed to be
-  pub added : (new : D) (behind : List ℕ) → IsOpen → WritesBehind event behind
-      → ((texts : List (List ℕ)) (text : List ℕ) → behind ≡ behind_gate text → length text < 2 ^ 64 →
-      IsSettled (bytes s.disk) (images s.disk) end texts
-      → LeavesOnly moment left_since s.disk new (of_texts.StandsWithOrWithout texts text))
-      → LeavesEvents bytes moment left_since s new event
-  added new behind o writes leaves = λ is all told.
+  -- the records of the group were added, or failed to be
+  pub added : (new : D) → IsOpen → 0 < s.waiting
+      → ((texts group : List (List ℕ)) → IsGroup group behind → IsSettled (bytes s.disk) (images s.disk) end texts
+      → LeavesOnly moment left_since s.disk new (of_texts.StandsWithAllOrNone texts group))
+      → LeavesGroup bytes moment left_since s new
+  added new o some leaves = λ is all told kept group parts.
       let k = keeps_now o is all told in
-      wider moment left_since s.disk new (of_texts.StandsWithOrWithout k.texts writes.text) P
-      (leaves k.texts writes.text writes.is writes.counted k.settled)
-      (λ image left. with_or_without events k.texts event writes.text image k.are writes.names left)
+      let same = same_parts events s.waiting k.kept k.group kept group k.parts parts in
+      let many : 0 < length k.texts = omega (arith, some, k.parts.many, length-texts k.group k.texts k.texts_are) in
+      subst (λ (es : List PlainEvent). LeavesOnly moment left_since s.disk new (StandsWithAllOrNone es group)) same.0
+      (subst (λ (es : List PlainEvent). LeavesOnly moment left_since s.disk new (StandsWithAllOrNone k.kept es)) same.1
+      (wider moment left_since s.disk new (of_texts.StandsWithAllOrNone k.keeps.texts k.texts)
+      (StandsWithAllOrNone k.kept k.group)
+      (leaves k.keeps.texts k.texts (group_staged k.texts behind many k.staged) k.keeps.settled)
+      (λ image left. all_or_none k.kept k.group k.keeps.texts k.texts image k.keeps.are k.texts_are left)))
 
-  -- an added record is kept
-  pub kept_more : (new : D) (behind : List ℕ) → IsOpen → WritesBehind event behind
-      → ((texts : List (List ℕ)) (text : List ℕ) → behind ≡ behind_gate text → length text < 2 ^ 64 →
-      IsSettled (bytes s.disk) (images s.disk) end texts
-      → IsSettled (bytes new) (images new) (end + length behind) (texts ++ text ∷ []))
+  -- added records are kept
+  pub kept_more : (new : D) → IsOpen → 0 < s.waiting
+      → ((texts group : List (List ℕ)) → IsGroup group behind → IsSettled (bytes s.disk) (images s.disk) end texts
+      → IsSettled (bytes new) (images new) (end + length behind) (texts ++ group))
       → s.closed ≡ false → (all : List ℕ) → bytes s.disk ≡ Some all →
-      KeepsEvents (bytes new) (images new) (end + length behind) (events ++ event ∷ [])
-  kept_more new behind o writes kept is all told =
-      let k = keeps_now o is all told in record {
-        texts = k.texts ++ writes.text ∷ [];
-        are = texts-push events k.texts event writes.text k.are writes.names;
-        settled = kept k.texts writes.text writes.is writes.counted k.settled;
+      KeepsEvents (bytes new) (images new) (end + length behind) events
+  kept_more new o some kept is all told =
+      let k = keeps_now o is all told in
+      let many : 0 < length k.texts = omega (arith, some, k.parts.many, length-texts k.group k.texts k.texts_are) in
+      record {
+        texts = k.keeps.texts ++ k.texts;
+        are =
+            subst (λ (es : List PlainEvent). AreTextsOf es (k.keeps.texts ++ k.texts)) (sym k.parts.are)
+            (texts-append k.kept k.group k.keeps.texts k.texts k.keeps.are k.texts_are);
+        settled = kept k.keeps.texts k.texts (group_staged k.texts behind many k.staged) k.keeps.settled;
       }
 
-  -- so each image has it
-  pub keeps_more : (new : D) (behind : List ℕ) → s.closed ≡ false
-      → ((all : List ℕ) → bytes s.disk ≡ Some all →
-      KeepsEvents (bytes new) (images new) (end + length behind) (events ++ event ∷ []))
-      → KeepsMore bytes images s new event
-  keeps_more new behind is kept =
-      λ all told image left. kept_stands (bytes new) (images new) (end + length behind) (events
-      ++ event ∷ []) (kept all told) image left
+  -- so each image has them
+  pub keeps_all : (new : D) → ((all : List ℕ) → bytes s.disk ≡ Some all →
+      KeepsEvents (bytes new) (images new) (end + length behind) events) → KeepsAll bytes images s new
+  keeps_all new kept = λ all told image left.
+      kept_stands (bytes new) (images new) (end + length behind) events (kept all told) image left
+
+  -- of a store for which nothing waits too
+  pub all_kept : IsOpen → s.closed ≡ false → s.waiting ≡ 0 → KeepsAll bytes images s s.disk
+  all_kept o is none = λ all told image left.
+      kept_now o is all told events [] record { are = sym (append-nil events); many = sym none } image left

@@ -4,4 +4,5 @@ pub mod Histories
 mod Replays
 pub mod Tokens
 mod Kept
+mod Applied
 pub mod Opened

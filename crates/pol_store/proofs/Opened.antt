@@ -1,25 +1,20 @@
 -- A disk is opened.
-use Rattle.std.proofs.Common.{◌≡◌, inl, inr, ℕ, ◌<◌, ◌≤◌, List, [], length, Option, Some, None, refl, subst, arith}
-use Rattle.std.specs.Prelude.{IfSome}
-use Rattle.pol_disk.specs.Disks.{LeavesOnly}
+use Rattle.std.proofs.Common.{◌≡◌, inl, inr, ℕ, ◌<◌, ◌≤◌, List, [], length, Option, Some, None, refl, sym, ap, ◌∙◌, subst, arith}
+use Rattle.std.specs.Prelude.{IfSome, unwrap_or}
+use Rattle.pol_disk.specs.Disks.{LeavesOnly, StillTells}
 use Rattle.pol_disk.proofs.Moments.{then, wider}
 use Rattle.pol_texts.specs.Settled.{IsSynced, IsSettled}
 use Rattle.pol_texts.specs.Stands.{Stands}
 use Rattle.pol_events.specs.Events.{PlainEvent}
 use Rattle.pol_store.specs.Stands.{StandsFor, BreaksAt}
-use Rattle.pol_store.specs.Opens.{Breaks, IsOpened, IsReplayed, IsNoStore, Tells}
+use Rattle.pol_store.specs.Opens.{Breaks, IsLeftOf, IsOpened, IsReplayed, IsNoStore, Tells}
 use Rattle.pol_store.specs.declared.opening.OpenFault.{OpenFault}
 use Rattle.pol_store.specs.declared.opening.OpenFault.TheVariants.{Memory, Disk, NotAStore}
-use Rattle.pol_store.proofs.Texts.{one_history}
 use Rattle.pol_store.proofs.Broken.{breaks_none}
 
 -- a short disk stands for no event
 pub short_stands : (all : List ℕ) → length all ≤ 1 → StandsFor [] all
 short_stands all short = record { texts = []; are = tt; stands = inl (short, refl) }
-
--- and for no others
-pub short_none : (all : List ℕ) (events : List PlainEvent) → length all ≤ 1 → StandsFor events all → [] ≡ events
-short_none all events short stands = one_history all [] events (short_stands all short) stands
 
 -- an image that stands for no text stands for no event
 pub none_stands : (image : List ℕ) → Stands image [] → StandsFor [] image
@@ -44,6 +39,10 @@ opened_long all seen images end events synced replayed = record {
   };
 }
 
+-- bytes that were told twice are the same
+pub same_told : (seen : Option (List ℕ)) (all now : List ℕ) → seen ≡ Some all → seen ≡ Some now → now ≡ all
+same_told seen all now told again = ap (λ (o : Option (List ℕ)). unwrap_or o []) (sym again ∙ told)
+
 -- a disk that breaks is no store
 pub no_store : (all : List ℕ) (place : ℕ) → 1 < length all → BreaksAt place all → IsNoStore all place
 no_store all place long breaks = record { long = long; none = breaks_none place all long breaks; breaks = breaks }
@@ -66,42 +65,18 @@ both (Some l) A B C f a b = f l a b
 
 -- what a fault of the replay says of the disk
 pub replay_tells : (fault : OpenFault) (items : List ℕ) (number : ℕ) (seen seen' : Option (List ℕ))
-    (faults faults' : ℕ) → Breaks items fault → seen' ≡ seen → faults' ≡ faults
-    → 1 < number → IfSome seen (λ l. number ≡ length l) → IfSome seen (λ l. items ≡ l) →
+    (faults faults' : ℕ) → Breaks items fault → StillTells seen seen' → faults' ≡ faults
+    → 1 < number → IfSome seen' (λ l. number ≡ length l) → IfSome seen' (λ l. items ≡ l) →
     Tells fault seen seen' faults faults'
-replay_tells Memory items number seen seen' faults faults' breaks same faultless long counted read = same
-replay_tells Disk items number seen seen' faults faults' breaks same faultless long counted read = tt
-replay_tells (NotAStore place) items number seen seen' faults faults' breaks same faultless long counted read = (
+replay_tells Memory items number seen seen' faults faults' breaks still faultless long counted read = still
+replay_tells Disk items number seen seen' faults faults' breaks still faultless long counted read = tt
+replay_tells (NotAStore place) items number seen seen' faults faults' breaks still faultless long counted read = (
   faultless,
-  same,
-  both seen (λ l. number ≡ length l) (λ l. items ≡ l) (λ l. IsNoStore l place)
+  still,
+  both seen' (λ l. number ≡ length l) (λ l. items ≡ l) (λ l. IsNoStore l place)
       (λ l many is. no_store l place (omega (arith, long, many))
       (subst (λ (i : List ℕ). BreaksAt place i) is breaks)) counted read,
 )
-
-module _ {D : Type 0} (bytes : D → Option (List ℕ)) (images : D → List ℕ → Type 0) (moment : D → ℕ)
-    (left_since : D → ℕ → List ℕ → Type 0) (old mid : D) (events : List PlainEvent)
-    (stand : (image : List ℕ) → images old image →
-    StandsFor events image) (first : LeavesOnly moment left_since old mid (images old)) where
-  -- the first sync leaves what was there
-  pub settled_leaves : LeavesOnly moment left_since old mid (StandsFor events)
-  settled_leaves = wider moment left_since old mid (images old) (StandsFor events) first stand
-
-  -- a short disk was begun
-  pub begun_leaves : (new : D) (all : List ℕ) → images old all → length all ≤ 1 →
-      LeavesOnly moment left_since mid new (λ image. Stands image []) →
-      LeavesOnly moment left_since old new (StandsFor events)
-  begun_leaves new all image short begun =
-      then moment left_since old mid new (StandsFor events) (λ image. Stands image []) settled_leaves begun
-      (λ other stands. subst (λ (es : List PlainEvent). StandsFor es other)
-      (short_none all events short (stand all image)) (none_stands other stands))
-
-  -- all was read
-  pub read_leaves : (new : D) → ((image : List ℕ) → images mid image → images old image) →
-      LeavesOnly moment left_since mid new (images mid) → LeavesOnly moment left_since old new (StandsFor events)
-  read_leaves new keeps read =
-      then moment left_since old mid new (StandsFor events) (images mid) settled_leaves read
-      (λ image left. stand image (keeps image left))
 
 -- after calls of which a crash at any moment leaves only what has a property, each image has it
 pub left_images : {D : Type 0} (images : D → List ℕ → Type 0) (moment : D → ℕ) (left_since : D → ℕ → List ℕ → Type 0) →
@@ -110,3 +85,24 @@ pub left_images : {D : Type 0} (images : D → List ℕ → Type 0) (moment : D 
     images new image → P image
 left_images images moment left_since counts_now old new P leaves image left =
     leaves.each image (counts_now new (moment old) image leaves.later left)
+
+module _ {D : Type 0} (images : D → List ℕ → Type 0) (moment : D → ℕ) (left_since : D → ℕ → List ℕ → Type 0)
+    (old mid : D) (all : List ℕ) (first : LeavesOnly moment left_since old mid (images old)) where
+  -- the first sync leaves what was there
+  pub left_settled : LeavesOnly moment left_since old mid (IsLeftOf all (images old))
+  left_settled = wider moment left_since old mid (images old) (IsLeftOf all (images old)) first (λ image was. inl was)
+
+  -- a short disk was begun
+  pub left_begun : (new : D) → images old all → length all ≤ 1 → LeavesOnly moment left_since mid new (λ image. Stands image []) →
+      LeavesOnly moment left_since old new (IsLeftOf all (images old))
+  left_begun new image short begun =
+      then moment left_since old mid new (IsLeftOf all (images old)) (λ image. Stands image []) left_settled begun
+      (λ other stands. inr (image, short, none_stands other stands))
+
+  -- all was read
+  pub left_read : (new : D) → ((image : List ℕ) → images mid image → images old image) →
+      LeavesOnly moment left_since mid new (images mid) →
+      LeavesOnly moment left_since old new (IsLeftOf all (images old))
+  left_read new keeps read =
+      then moment left_since old mid new (IsLeftOf all (images old)) (images mid) left_settled read
+      (λ image left. inl (keeps image left))

@@ -5,7 +5,7 @@ use Rattle.pol_texts.proofs.Unique.{one_list}
 use Rattle.pol_texts.specs.Stands as of_texts
 use Rattle.pol_events.specs.Events.{PlainEvent}
 use Rattle.pol_events.specs.declared.fault.LineFault.{LineFault}
-use Rattle.pol_store.specs.Stands.{IsTextOf, AreTextsOf, StandsFor, StandsWithOrWithout}
+use Rattle.pol_store.specs.Stands.{IsTextOf, AreTextsOf, StandsFor, StandsWithAllOrNone}
 use Rattle.pol_store.specs.Keeping.{KeepsEvents}
 
 -- what reading an event gives
@@ -53,13 +53,20 @@ length-texts [] (t ∷ ts) are = absurd are
 length-texts (x ∷ xs) [] are = absurd are
 length-texts (x ∷ xs) (t ∷ ts) are = omega (arith, length-texts xs ts are.1)
 
--- an image with a text more stands for an event more
-pub with_or_without : (xs : List PlainEvent) (texts : List (List ℕ)) (x : PlainEvent) (text image : List ℕ) →
-    AreTextsOf xs texts → IsTextOf x text → of_texts.StandsWithOrWithout texts text image →
-    StandsWithOrWithout xs x image
-with_or_without xs texts x text image are is (inl without) = inl record { texts = texts; are = are; stands = without }
-with_or_without xs texts x text image are is (inr with) =
-    inr record { texts = texts ++ text ∷ []; are = texts-push xs texts x text are is; stands = with }
+-- the texts of more events
+pub texts-append : (xs ys : List PlainEvent) (texts more : List (List ℕ)) → AreTextsOf xs texts →
+    AreTextsOf ys more → AreTextsOf (xs ++ ys) (texts ++ more)
+texts-append [] ys [] more are are' = are'
+texts-append [] ys (t ∷ ts) more are are' = absurd are
+texts-append (x ∷ xs) ys [] more are are' = absurd are
+texts-append (x ∷ xs) ys (t ∷ ts) more are are' = (are.0, texts-append xs ys ts more are.1 are')
+
+-- an image with a group of texts more stands for a group of events more
+pub all_or_none : (xs group : List PlainEvent) (texts more : List (List ℕ)) (image : List ℕ) → AreTextsOf xs texts →
+    AreTextsOf group more → of_texts.StandsWithAllOrNone texts more image → StandsWithAllOrNone xs group image
+all_or_none xs group texts more image are are' (inl none) = inl record { texts = texts; are = are; stands = none }
+all_or_none xs group texts more image are are' (inr all) =
+    inr record { texts = texts ++ more; are = texts-append xs group texts more are are'; stands = all }
 
 -- of a disk that keeps events each image stands for them
 pub kept_stands : (seen : Option (List ℕ)) (images : List ℕ → Type 0) (end : ℕ) (xs : List PlainEvent) →

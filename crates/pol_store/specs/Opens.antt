@@ -1,6 +1,7 @@
 -- What opening finds.
-use Rattle.std.specs.Prelude.{◌≡◌, ◌≤◌, ◌<◌, ℕ, List, length, Option, IfSome}
+use Rattle.std.specs.Prelude.{◌≡◌, ◌⊎◌, ◌≤◌, ◌<◌, ℕ, List, [], length, Option, IfSome}
 use Rattle.mtp_codes.specs.declared.limits.TheConstants.{LONGEST_HISTORY}
+use Rattle.pol_disk.specs.Disks.{StillTells}
 use Rattle.pol_texts.specs.Stands.{Begins}
 use Rattle.pol_events.specs.Events.{PlainEvent}
 use Rattle.pol_store.specs.declared.opening.OpenFault.{OpenFault}
@@ -29,15 +30,21 @@ pub record IsNoStore (image : List ℕ) (place : ℕ) : Type 0 where
   pub none : StandsForNone image
   pub breaks : BreaksAt place image
 
--- what a fault says: of NotAStore, that no call of the disk failed; of Memory, that reads give what they gave
+-- what a fault says, where the disk tells its bytes still: of NotAStore, that no call of the disk failed; of Memory, that reads
+-- give what they gave
 abbrev pub Tells : OpenFault → Option (List ℕ) → Option (List ℕ) → ℕ → ℕ → Type 0
-Tells Memory seen seen' faults faults' = seen' ≡ seen
+Tells Memory seen seen' faults faults' = StillTells seen seen'
 Tells Disk seen seen' faults faults' = Unit {0}
 Tells (NotAStore place) seen seen' faults faults' =
-    (faults' ≡ faults) × (seen' ≡ seen) × IfSome seen (λ image. IsNoStore image place)
+    (faults' ≡ faults) × StillTells seen seen' × IfSome seen' (λ image. IsNoStore image place)
 
 -- the disk read as these bytes, which stand for the events, and it keeps the events now
 pub record IsOpened (all : List ℕ) (seen : Option (List ℕ)) (images : List ℕ →
     Type 0) (end : ℕ) (events : List PlainEvent) : Type 0 where
   pub stood : StandsFor events all
   pub kept : KeepsEvents seen images end events
+
+-- what opening a disk leaves that reads as these bytes: an image that a crash might have left before; or one that stands
+-- for no event, where a crash might have left these bytes, and there is at most one of them
+abbrev pub IsLeftOf : List ℕ → (List ℕ → Type 0) → List ℕ → Type 0
+IsLeftOf all images image = images image ⊎ (images all × (length all ≤ 1) × StandsFor [] image)

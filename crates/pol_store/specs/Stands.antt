@@ -1,5 +1,5 @@
 -- Which events an image stands for.
-use Rattle.std.specs.Prelude.{◌≡◌, ◌≢◌, ◌⊎◌, ◌≤◌, ℕ, List, [], ◌∷◌, ◌++◌, length, map, reverse, Ok}
+use Rattle.std.specs.Prelude.{◌≡◌, ◌≢◌, ◌⊎◌, ◌≤◌, ℕ, List, [], ◌∷◌, ◌++◌, length, Ok}
 use Rattle.mtp_codes.specs.declared.limits.TheConstants.{LONGEST_HISTORY}
 use Rattle.pol_texts.specs.Stands.{Stands, BeginsWith, AreRecords}
 use Rattle.pol_events.specs.Events.{PlainEvent}
@@ -24,9 +24,9 @@ pub record StandsFor (events : List PlainEvent) (image : List ℕ) : Type 0 wher
   pub are : AreTextsOf events texts
   pub stands : Stands image texts
 
--- the image stands for the events, with one more or without it
-abbrev pub StandsWithOrWithout : List PlainEvent → PlainEvent → List ℕ → Type 0
-StandsWithOrWithout events event image = StandsFor events image ⊎ StandsFor (events ++ event ∷ []) image
+-- the image stands for the events, with all of a group behind them or with none of it
+abbrev pub StandsWithAllOrNone : List PlainEvent → List PlainEvent → List ℕ → Type 0
+StandsWithAllOrNone events group image = StandsFor events image ⊎ StandsFor (events ++ group) image
 
 -- where so many records stand before them, these bytes begin neither with a closed gate nor with a record
 pub record IsBroken (count : ℕ) (bytes : List ℕ) : Type 0 where

@@ -1,8 +1,8 @@
 //! A plant whose events are kept on a disk, each whole or not at all, whenever a crash comes.
 //!
-//! Its main contracts are those of `Store::open`, which finds again what the disk keeps, and of `Store::apply`, which
-//! answers as the plant does once the event is synced (`specs/Keeping.antt`); `specs/Stands.antt` says which events an
-//! image of the disk stands for. A record is a text of `pol_texts`: the compact JSON of an event, as a journal's line
+//! Its main contracts are those of `Store::open`, which finds again what the disk keeps, of `Store::admit`, which
+//! answers as the plant does, and of `Store::commit`, which keeps all that were admitted, by two syncs; `Store::apply`
+//! is both for one event (`specs/Keeping.antt`). `specs/Stands.antt` says which events an image of the disk stands for. A record is a text of `pol_texts`: the compact JSON of an event, as a journal's line
 //! has it. This crate knows nothing of files, of lines of input, or of where answers go.
 #![tactic(auto)]
 
@@ -15,5 +15,5 @@ mod writing;
 
 pub use laws::{histories_are_runs, images_stand_for_one_list};
 pub use opening::OpenFault;
-pub use store::{Store, StoreRefusal};
+pub use store::{CommitFault, Store, StoreRefusal};
 pub use writing::put_event_text;

@@ -1,13 +1,10 @@
 //! A disk is opened.
 ghost use Rattle.std.specs.Prelude.{◌≡◌, ◌≢◌, ◌≤◌, ◌∷◌, ℕ, List, Some, IfOk, IfErr, IfSome, OnOk, length};
 ghost use Rattle.pol_io.specs.Causes.{HasCauseOf};
-ghost use Rattle.pol_disk.specs.Disks.{LeavesOnly, Keeps as KeepsImages};
-ghost use Rattle.pol_texts.specs.Settled.{AreAlike};
-ghost use Rattle.pol_events.specs.Events.{PlainEvent};
+ghost use Rattle.pol_disk.specs.Disks.{LeavesOnly, StillTells, ToldOn, Keeps as KeepsImages};
 ghost use Rattle.pol_core.specs.Plants.{plant_history};
-ghost use Rattle.pol_history.specs.Runs.{IsLegal, events_of};
-ghost use Rattle.pol_store.specs.Opens.{IsOpened, Tells};
-ghost use Rattle.pol_store.specs.Stands.{StandsFor};
+ghost use Rattle.pol_history.specs.Runs.{IsLegal, IsOrderly, events_of};
+ghost use Rattle.pol_store.specs.Opens.{IsLeftOf, IsOpened, Tells};
 
 use crate::replaying::replay;
 use pol_core::Plant;
@@ -55,8 +52,8 @@ impl From<Failed> for OpenFault {
 // The bytes of a disk that has so many.
 fn load_all<D: Disk>(alloc: Global, disk: &mut D, size: u64) -> Result<Vec<u8>, OpenFault>
     requires { IfSome (D.bytes disk.old) (λ all. size ≡ length all) }
-    ensures read { IfOk result (λ bytes. IfSome (D.bytes disk.old) (λ all. bytes.items ≡ all)) }
-    ensures bytes { D.bytes disk.new ≡ D.bytes disk.old }
+    ensures read { IfOk result (λ bytes. IfSome (D.bytes disk.new) (λ all. bytes.items ≡ all)) }
+    ensures bytes { StillTells (D.bytes disk.old) (D.bytes disk.new) }
     ensures images { KeepsImages (D.images disk.old) (D.images disk.new) }
     ensures moments { LeavesOnly D.moment D.left_since disk.old disk.new (D.images disk.old) }
     ensures cause { HasCauseOf OpenFault.Disk (D.faults disk.old) (D.faults disk.new) result }
@@ -69,16 +66,17 @@ fn load_all<D: Disk>(alloc: Global, disk: &mut D, size: u64) -> Result<Vec<u8>, 
     }
 }
 
-/// Opens a disk: the plant whose events it keeps, and the place of the closed gate behind their records.
+/// Opens a disk: the plant whose events it keeps, and the place of the closed gate behind their records. What is said of
+/// the bytes that the disk told before holds where it tells its bytes behind the call too: so each answer was right.
 pub fn open_on<D: Disk>(alloc: Global, disk: &mut D) -> Result<(Plant, u64), OpenFault>
-    ensures moments { (all : List ℕ) (events : List PlainEvent) → D.bytes disk.old ≡ Some all
-        → ((image : List ℕ) → D.images disk.old image → StandsFor events image)
-        → LeavesOnly D.moment D.left_since disk.old disk.new (StandsFor events) }
-    ensures opened { IfOk result (λ done. (all : List ℕ) → D.bytes disk.old ≡ Some all
-        → IsOpened all (D.bytes disk.new) (D.images disk.new) done.1 (events_of (plant_history done.0))) }
+    ensures left { (all now : List ℕ) → D.bytes disk.old ≡ Some all → D.bytes disk.new ≡ Some now
+        → LeavesOnly D.moment D.left_since disk.old disk.new (IsLeftOf all (D.images disk.old)) }
+    ensures opened { IfOk result (λ done. (all now : List ℕ) → D.bytes disk.old ≡ Some all
+        → D.bytes disk.new ≡ Some now → IsOpened all (D.bytes disk.new) (D.images disk.new) done.1 (events_of (plant_history done.0))) }
     ensures legal { IfOk result (λ done. IsLegal (plant_history done.0)) }
-    ensures image { (all : List ℕ) → D.bytes disk.old ≡ Some all → D.images disk.old all }
-    ensures told { OnOk result (AreAlike (D.bytes disk.old) (D.bytes disk.new)) }
+    ensures orderly { IfOk result (λ done. IsOrderly (plant_history done.0)) }
+    ensures image { OnOk result ((all : List ℕ) → D.bytes disk.old ≡ Some all → D.images disk.old all) }
+    ensures on { ToldOn (D.bytes disk.old) (D.bytes disk.new) }
     ensures tells { IfErr result (λ fault. Tells fault
         (D.bytes disk.old) (D.bytes disk.new) (D.faults disk.old) (D.faults disk.new)) }
     ensures cause { HasCauseOf OpenFault.Disk (D.faults disk.old) (D.faults disk.new) result }

@@ -4,7 +4,7 @@ ghost use Rattle.std.specs.Prelude.{◌≡◌, ◌≢◌, ◌++◌, ◌∷◌, �
 ghost use Rattle.pol_events.specs.Orderly.{is_orderly};
 ghost use Rattle.pol_events.specs.Events.{plain_event};
 ghost use Rattle.pol_core.specs.Plants.{plant_history};
-ghost use Rattle.pol_history.specs.Runs.{IsLegal, events_of};
+ghost use Rattle.pol_history.specs.Runs.{IsLegal, IsOrderly, events_of};
 ghost use Rattle.pol_store.specs.Opens.{Breaks, IsReplayed};
 
 use crate::opening::OpenFault;
@@ -30,6 +30,7 @@ fn take_event(plant: &mut Plant, event: Event) -> Result<(), AllocError>
 pub fn replay(alloc: Global, bytes: &[u8]) -> Result<(Plant, usize), OpenFault>
     ensures replayed { IfOk result (λ done. IsReplayed bytes.now done.1 (events_of (plant_history done.0))) }
     ensures legal { IfOk result (λ done. IsLegal (plant_history done.0)) }
+    ensures orderly { IfOk result (λ done. IsOrderly (plant_history done.0)) }
     ensures breaks { IfErr result (Breaks bytes.now) }
     ensures no_disk { IfErr result (λ fault. fault ≢ OpenFault.Disk) }
 {

@@ -1,16 +1,16 @@
 //! A plant whose events are kept on a disk.
-ghost use Rattle.std.specs.Prelude.{◌≡◌, ◌++◌, ◌∷◌, [], ℕ, List, Some, true, false, IfOk, IfErr, OnOk, IsTrue, length};
+ghost use Rattle.std.specs.Prelude.{◌≡◌, ◌+◌, ◌<◌, ◌^◌, ◌++◌, ◌∷◌, [], ℕ, List, Some, true, false, if◌then◌else◌, IfOk, IfErr, OnOk, IsTrue, length};
 ghost use Rattle.pol_io.specs.Causes.{Rose};
-ghost use Rattle.pol_disk.specs.Disks.{LeavesOnly};
+ghost use Rattle.pol_disk.specs.Disks.{LeavesOnly, ToldOn};
 ghost use Rattle.pol_events.specs.Events.{PlainEvent, plain_event};
 ghost use Rattle.pol_events.specs.Orderly.{is_orderly};
 ghost use Rattle.pol_core.specs.Plants.{plant_history};
 ghost use Rattle.pol_history.specs.Answers.{answer_of};
-ghost use Rattle.pol_history.specs.Runs.{IsLegal, entry_of, history_after, is_recorded, recorded, events_of};
+ghost use Rattle.pol_history.specs.Runs.{IsLegal, IsOrderly, entry_of, is_recorded, recorded, events_of};
 ghost use Rattle.pol_texts.specs.Settled.{AreAlike};
-ghost use Rattle.pol_store.specs.Keeping.{KeepsMore, LeavesEvents};
-ghost use Rattle.pol_store.specs.Opens.{Tells};
-ghost use Rattle.pol_store.specs.Refusals.{Refuses};
+ghost use Rattle.pol_store.specs.Keeping.{HasParts, KeepsAll, KeepsMore, LeavesEvents, LeavesGroup};
+ghost use Rattle.pol_store.specs.Opens.{IsLeftOf, Tells};
+ghost use Rattle.pol_store.specs.Refusals.{Fails, Refuses};
 ghost use Rattle.pol_store.specs.Stands.{StandsFor};
 
 use crate::opening::{OpenFault, open_on};
@@ -18,7 +18,7 @@ use crate::records::behind_gate;
 use pol_core::Plant;
 use pol_disk::Disk;
 use pol_events::{Answer, Event, Rule};
-use pol_texts::add;
+use pol_texts::{add, stage};
 use std::alloc::Global;
 use std::marker::Model;
 
@@ -33,6 +33,15 @@ pub enum StoreRefusal {
     Closed(Event),
 }
 
+/// Why the events that wait aren't kept.
+#[derive(Clone, Copy, Debug, PartialEq, Eq)]
+pub enum CommitFault {
+    /// The disk failed; the store is closed.
+    Disk,
+    /// The store is closed.
+    Closed,
+}
+
 /// A plant and the disk that keeps its events.
 pub struct Store<D: Disk> {
     alloc: Global,
@@ -40,6 +49,10 @@ pub struct Store<D: Disk> {
     disk: D,
     // The place of the closed gate behind the last record.
     end: u64,
+    // What is to be written behind that gate for the events that wait.
+    group: Vec<u8>,
+    // How many events wait.
+    waiting: u64,
     closed: bool,
 }
 
@@ -54,13 +67,20 @@ impl<D: Disk> Model for Store<D> {
     ghost coded = { Prim.hlevel (codes, plant_type.the_row.coded, D.code) };
 
     ghost use Rattle.pol_core.specs.Plants.{plant_history};
-    ghost use Rattle.pol_store.specs.Keeping.{Keeps, Open};
+    ghost use Rattle.pol_store.specs.Keeping.{IsFit, Keeps, Open};
     ghost use Rattle.pol_history.specs.Runs.{events_of};
 
-    ghost view = { λ store. record { plant = store.plant; disk = store.disk; closed = store.closed } };
+    ghost view = { λ store. record {
+      plant = store.plant;
+      disk = store.disk;
+      closed = store.closed;
+      waiting = store.waiting;
+    } };
 
     ghost invariant = { λ store. Open store.closed
-        (Keeps (D.bytes store.disk) (D.images store.disk) store.end (events_of (plant_history store.plant))) };
+        (IsFit store.end store.waiting store.group.items
+        × Keeps (D.bytes store.disk) (D.images store.disk) store.end store.group.items
+        (events_of (plant_history store.plant)) store.waiting) };
 }
 
 // Whether the event of such an answer is kept: all are, unless the history is full.
@@ -70,27 +90,35 @@ fn is_kept(answer: &Answer) -> bool
     !matches!(answer, Answer::Refused(Rule::HistoryFull))
 }
 
+// Whether a group with this text more fits behind the end.
+fn has_place(end: u64, group: &[u8], behind: &[u8]) -> bool
+    ensures { IsTrue result → end + (length group.now + length behind.now) < 2 ^ 64 }
+{
+    match end.checked_add(group.len() as u64) {
+        Some(next) => next.checked_add(behind.len() as u64).is_some(),
+        None => false,
+    }
+}
+
 impl<D: Disk> Store<D> {
-    /// Opens a disk that a crash may have left. A disk of at most one byte becomes a store without events.
+    /// Opens a disk, whatever a crash, a kill or a failed run left on it. At Ok each crash from now on leaves the events
+    /// that the disk reads as. A disk of at most one byte becomes a store without events. What is said of the bytes that the
+    /// disk told before holds where it tells its bytes still: so no answer was other than these.
     pub fn open(alloc: Global, disk: D) -> Result<Store<D>, (D, OpenFault)>
-        ensures opened { IfOk result (λ store. store.closed ≡ false) }
-        ensures moments { (all : List ℕ) (events : List PlainEvent) → D.bytes disk ≡ Some all
-            → ((image : List ℕ) → D.images disk image → StandsFor events image)
-            → IfOk result (λ store. LeavesOnly D.moment D.left_since disk store.disk (StandsFor events)) }
-        ensures moments_err { (all : List ℕ) (events : List PlainEvent) → D.bytes disk ≡ Some all
-            → ((image : List ℕ) → D.images disk image → StandsFor events image)
-            → IfErr result (λ back. LeavesOnly D.moment D.left_since disk back.0 (StandsFor events)) }
-        ensures images { (all : List ℕ) (events : List PlainEvent) → D.bytes disk ≡ Some all
-            → ((image : List ℕ) → D.images disk image → StandsFor events image)
-            → IfOk result (λ store. (image : List ℕ) → D.images store.disk image → StandsFor events image) }
-        ensures images_err { (all : List ℕ) (events : List PlainEvent) → D.bytes disk ≡ Some all
-            → ((image : List ℕ) → D.images disk image → StandsFor events image)
-            → IfErr result (λ back. (image : List ℕ) → D.images back.0 image → StandsFor events image) }
-        ensures stood { IfOk result (λ store. (all : List ℕ) → D.bytes disk ≡ Some all
-            → StandsFor (events_of (plant_history store.plant)) all) }
+        ensures opened { IfOk result (λ store. (store.closed ≡ false) × (store.waiting ≡ 0)) }
+        ensures left { (all now : List ℕ) → D.bytes disk ≡ Some all → IfOk result (λ store.
+            D.bytes store.disk ≡ Some now → LeavesOnly D.moment D.left_since disk store.disk (IsLeftOf all (D.images disk))) }
+        ensures left_err { (all now : List ℕ) → D.bytes disk ≡ Some all → IfErr result (λ back.
+            D.bytes back.0 ≡ Some now → LeavesOnly D.moment D.left_since disk back.0 (IsLeftOf all (D.images disk))) }
+        ensures stand { IfOk result (λ store. (now : List ℕ) → D.bytes store.disk ≡ Some now → (image : List ℕ)
+            → D.images store.disk image → StandsFor (events_of (plant_history store.plant)) image) }
+        ensures stood { IfOk result (λ store. (all now : List ℕ) → D.bytes disk ≡ Some all
+            → D.bytes store.disk ≡ Some now → StandsFor (events_of (plant_history store.plant)) all) }
         ensures legal { IfOk result (λ store. IsLegal (plant_history store.plant)) }
-        ensures image { (all : List ℕ) → D.bytes disk ≡ Some all → D.images disk all }
-        ensures told { IfOk result (λ store. AreAlike (D.bytes disk) (D.bytes store.disk)) }
+        ensures orderly { IfOk result (λ store. IsOrderly (plant_history store.plant)) }
+        ensures image { OnOk result ((all : List ℕ) → D.bytes disk ≡ Some all → D.images disk all) }
+        ensures on { IfOk result (λ store. ToldOn (D.bytes disk) (D.bytes store.disk)) }
+        ensures on_err { IfErr result (λ back. ToldOn (D.bytes disk) (D.bytes back.0)) }
         ensures quiet { IfOk result (λ store. D.faults store.disk ≡ D.faults disk) }
         ensures tells { IfErr result (λ back. Tells back.1
             (D.bytes disk) (D.bytes back.0) (D.faults disk) (D.faults back.0)) }
@@ -103,6 +131,8 @@ impl<D: Disk> Store<D> {
                 plant,
                 disk,
                 end,
+                group: Vec::new(alloc),
+                waiting: 0,
                 closed: false,
             }),
             Err(fault) => Err((disk, fault)),
@@ -113,7 +143,8 @@ impl<D: Disk> Store<D> {
     pub fn plant(&self) -> &Plant
         ensures plant { result.now ≡ self.now.plant }
         ensures kept { self.now.closed ≡ false → (all : List ℕ) → D.bytes self.now.disk ≡ Some all
-            → (image : List ℕ) → D.images self.now.disk image → StandsFor (events_of (plant_history self.now.plant)) image }
+            → (kept group : List PlainEvent) → HasParts self.now kept group
+            → (image : List ℕ) → D.images self.now.disk image → StandsFor kept image }
     {
         &self.plant
     }
@@ -134,17 +165,88 @@ impl<D: Disk> Store<D> {
             plant,
             disk,
             end: _,
+            group: _,
+            waiting: _,
             closed: _,
         } = self;
         (plant, disk)
     }
 
-    /// Answers an event and keeps it. At Ok each crash from now on leaves it, unless the answer is HistoryFull.
-    pub fn apply(&mut self, event: Event) -> Result<Answer, StoreRefusal>
+    /// Answers an event. Unless the answer is HistoryFull it waits then, with the others that wait, to be kept by
+    /// `commit`; the disk isn't called.
+    pub fn admit(&mut self, event: Event) -> Result<Answer, StoreRefusal>
         requires orderly { IsTrue (is_orderly (plain_event event)) }
         ensures answer { IfOk result (λ answer. answer ≡ answer_of (plant_history self.old.plant) (plain_event event)) }
         ensures history { OnOk result (plant_history self.new.plant
             ≡ recorded (entry_of (plant_history self.old.plant) (plain_event event)) (plant_history self.old.plant)) }
+        ensures waits { OnOk result (self.new.waiting
+            ≡ (if is_recorded (answer_of (plant_history self.old.plant) (plain_event event))
+            then self.old.waiting + 1 else self.old.waiting)) }
+        ensures refuses { IfErr result (Refuses D.faults self.old self.new event) }
+        ensures open { OnOk result ((self.old.closed ≡ false) × (self.new.closed ≡ false)) }
+        ensures closed { self.new.closed ≡ self.old.closed }
+        ensures uncalled { self.new.disk ≡ self.old.disk }
+    {
+        if self.closed {
+            return Err(StoreRefusal::Closed(event));
+        }
+        let Ok(behind) = behind_gate(self.alloc, &event) else {
+            return Err(StoreRefusal::Memory(event));
+        };
+        if !has_place(self.end, &self.group, &behind) || self.group.reserve(behind.len()).is_err() {
+            return Err(StoreRefusal::Memory(event));
+        }
+        let answer = match self.plant.apply(event) {
+            Ok(answer) => answer,
+            Err((event, _error)) => return Err(StoreRefusal::Memory(event)),
+        };
+        if !is_kept(&answer) {
+            return Ok(answer);
+        }
+        stage(&mut self.group, &behind);
+        self.waiting += 1;
+        Ok(answer)
+    }
+
+    /// Keeps all events that wait, by two syncs, or by none where no event waits. At Ok each crash from now on leaves
+    /// them; a crash meanwhile leaves all of them or none.
+    pub fn commit(&mut self) -> Result<(), CommitFault>
+        ensures plant { self.new.plant ≡ self.old.plant }
+        ensures waits { OnOk result (self.new.waiting ≡ 0) }
+        ensures fails { IfErr result (Fails D.faults self.old self.new) }
+        ensures open { OnOk result ((self.old.closed ≡ false) × (self.new.closed ≡ false)) }
+        ensures told { OnOk result (AreAlike (D.bytes self.old.disk) (D.bytes self.new.disk)) }
+        ensures on { ToldOn (D.bytes self.old.disk) (D.bytes self.new.disk) }
+        ensures quiet { OnOk result (D.faults self.new.disk ≡ D.faults self.old.disk) }
+        ensures moments { LeavesGroup D.bytes D.moment D.left_since self.old self.new.disk }
+        ensures kept { OnOk result (KeepsAll D.bytes D.images self.old self.new.disk) }
+        ensures idle { self.old.waiting ≡ 0 → self.new.disk ≡ self.old.disk }
+    {
+        if self.closed {
+            return Err(CommitFault::Closed);
+        }
+        if self.waiting == 0 {
+            return Ok(());
+        }
+        if add(&mut self.disk, self.end, &self.group).is_err() {
+            self.closed = true;
+            return Err(CommitFault::Disk);
+        }
+        self.end += self.group.len() as u64;
+        self.group.clear();
+        self.waiting = 0;
+        Ok(())
+    }
+
+    /// Answers an event and keeps it, where no other one waits. At Ok each crash from now on leaves it, unless the
+    /// answer is HistoryFull.
+    pub fn apply(&mut self, event: Event) -> Result<Answer, StoreRefusal>
+        requires orderly { IsTrue (is_orderly (plain_event event)) }
+        requires alone { self.old.waiting ≡ 0 }
+        ensures answer { IfOk result (λ answer. answer ≡ answer_of (plant_history self.old.plant) (plain_event event)) }
+        ensures history { OnOk result (plant_history self.new.plant
+            ≡ recorded (entry_of (plant_history self.old.plant) (plain_event event)) (plant_history self.old.plant)) }
+        ensures waits { OnOk result (self.new.waiting ≡ 0) }
         ensures refuses { IfErr result (Refuses D.faults self.old self.new event) }
         ensures open { OnOk result ((self.old.closed ≡ false) × (self.new.closed ≡ false)) }
         ensures told { OnOk result (AreAlike (D.bytes self.old.disk) (D.bytes self.new.disk)) }
@@ -155,27 +257,11 @@ impl<D: Disk> Store<D> {
         ensures full { is_recorded (answer_of (plant_history self.old.plant) (plain_event event)) ≡ false
             → self.new.disk ≡ self.old.disk }
     {
-        if self.closed {
-            return Err(StoreRefusal::Closed(event));
+        let _ = &self.alloc;
+        let answer = self.admit(event)?;
+        match self.commit() {
+            Ok(()) => Ok(answer),
+            Err(_fault) => Err(StoreRefusal::Disk),
         }
-        let Ok(behind) = behind_gate(self.alloc, &event) else {
-            return Err(StoreRefusal::Memory(event));
-        };
-        let Some(next) = self.end.checked_add(behind.len() as u64) else {
-            return Err(StoreRefusal::Memory(event));
-        };
-        let answer = match self.plant.apply(event) {
-            Ok(answer) => answer,
-            Err((event, _error)) => return Err(StoreRefusal::Memory(event)),
-        };
-        if !is_kept(&answer) {
-            return Ok(answer);
-        }
-        if add(&mut self.disk, self.end, &behind).is_err() {
-            self.closed = true;
-            return Err(StoreRefusal::Disk);
-        }
-        self.end = next;
-        Ok(answer)
     }
 }

@@ -1,8 +1,9 @@
 -- A disk is synced and measured.
-use Rattle.std.proofs.Common.{◌≡◌, ℕ, List, Option, Some, Result, Ok, Err, ◌∙◌, subst}
+use Rattle.std.proofs.Common.{◌≡◌, ℕ, List, Option, Some, Result, Ok, Err, sym, ◌∙◌, subst}
 use Rattle.std.specs.Prelude.{IfSome, OnOk}
-use Rattle.pol_disk.specs.Disks.{Elapses, Keeps, LeavesOnly, Only, IsImage}
+use Rattle.pol_disk.specs.Disks.{Elapses, Keeps, LeavesOnly, Only, IsImage, StillTells}
 use Rattle.pol_disk.proofs.Moments.{started, goes_on}
+use Rattle.pol_disk.proofs.Telling.{told_before}
 use Rattle.pol_texts.specs.Settled.{IsSynced}
 
 module _ {D : Type 0} (bytes : D → Option (List ℕ)) (images : D → List ℕ → Type 0) (moment : D → ℕ)
@@ -33,13 +34,14 @@ image_was seen seen' images images' same image keeps all told =
     keeps all (subst (λ (o : Option (List ℕ)). IfSome o images') (same ∙ told) image)
 
 -- a sync and then such a call
-pub synced_then : (seen seen' : Option (List ℕ)) (images images' : List ℕ → Type 0) → seen' ≡ seen →
-    IfSome seen (λ all. Only all images) → Keeps images images' → (all : List ℕ) → seen ≡ Some all →
-    IsSynced seen' images' all
-synced_then seen seen' images images' same durable keeps all told =
-    let only : Only all images = subst (λ (o : Option (List ℕ)). IfSome o (λ all. Only all images)) told durable in
+pub synced_then : (seen mid seen' : Option (List ℕ)) (images images' : List ℕ → Type 0) → mid ≡ seen →
+    StillTells mid seen' → IfSome seen (λ all. Only all images) → Keeps images images' → (all : List ℕ) →
+    seen' ≡ Some all → IsSynced seen' images' all
+synced_then seen mid seen' images images' same still durable keeps all told =
+    let was : seen ≡ Some all = sym same ∙ told_before mid seen' still all told in
+    let only : Only all images = subst (λ (o : Option (List ℕ)). IfSome o (λ all. Only all images)) was durable in
     record {
-      told = same ∙ told;
+      told = told;
       only = λ image left. only image (keeps image left);
     }
 

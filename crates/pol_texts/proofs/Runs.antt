@@ -1,11 +1,12 @@
 -- Two writes with their syncs, one after the other.
-use Rattle.std.proofs.Common.{◌≡◌, inl, inr, ℕ, ◌+◌, ◌<◌, ◌≤◌, ◌^◌, List, [], ◌∷◌, ◌++◌, length, drop, Option, Some, None, IfSome, refl, sym, ◌∙◌, ap, subst, arith}
+use Rattle.std.proofs.Common.{◌≡◌, inl, inr, ℕ, ◌+◌, ◌<◌, ◌≤◌, List, [], ◌∷◌, ◌++◌, length, drop, Option, Some, None, Result, Ok, Err, IfSome, refl, sym, ◌∙◌, ap, subst, arith}
+use Rattle.std.specs.Prelude.{OnOk}
 use Rattle.pol_disk.specs.Disks.{LeavesOnly, Torn, Holds, Only, Elapses, Follows, Keeps, spliced}
 use Rattle.pol_disk.specs.Disks.{BothTell}
 use Rattle.pol_disk.proofs.Splices.{torn_same, length-spliced}
 use Rattle.pol_disk.proofs.Moments.{started, goes_on, then, wider}
-use Rattle.pol_texts.specs.Stands.{StandsWithOrWithout, body_of}
-use Rattle.pol_texts.specs.Settled.{AreAlike, IsSynced, IsSettled, behind_gate}
+use Rattle.pol_texts.specs.Stands.{StandsWithAllOrNone}
+use Rattle.pol_texts.specs.Settled.{AreAlike, IsGroup, IsSynced, IsSettled, group_body}
 use Rattle.pol_texts.proofs.Crash.{tail_of, torn_behind, written_behind, torn_gate, written_gate, opened, length-opened}
 
 -- one put on a settled disk
@@ -112,14 +113,13 @@ pub near_one_more : (at : ℕ) (bytes : Option (List ℕ)) → IfSome bytes (λ 
 near_one_more at None near = tt
 near_one_more at (Some all) near = omega (arith, near)
 
--- a text is added to a settled disk
+-- a group of texts is added to a settled disk
 module _ {D : Type 0} (bytes : D → Option (List ℕ)) (images : D → List ℕ → Type 0) (moment : D → ℕ)
     (left_since : D → ℕ → List ℕ → Type 0)
-    (texts : List (List ℕ)) (text behind : List ℕ) (is : behind ≡ behind_gate text) (counted : length text < 2 ^ 64)
-    (end : ℕ) where
-  -- what a crash may leave: the texts with the new one or without it
+    (texts group : List (List ℕ)) (behind : List ℕ) (is_group : IsGroup group behind) (end : ℕ) where
+  -- what a crash may leave: the texts with all of the group or none of it
   abbrev P : List ℕ → Type 0
-  P = StandsWithOrWithout texts text
+  P = StandsWithAllOrNone texts group
 
   -- the write behind the closed gate leaves the texts without it
   pub behind_left : (old mid : D) (s : IsSettled (bytes old) (images old) end texts) →
@@ -127,17 +127,16 @@ module _ {D : Type 0} (bytes : D → Option (List ℕ)) (images : D → List ℕ
       LeavesOnly moment left_since old mid P
   behind_left old mid s leaves = wider moment left_since old mid (Torn (end + 1) (length behind) s.bytes) P leaves
       (λ image torn. inl
-      (inr (torn_behind s.begins.records s.begins.behind texts s.begins.are end s.ends text counted (length behind)
+      (inr (torn_behind s.begins.records s.begins.behind texts s.begins.are end s.ends group behind is_group (length behind)
       image (subst (λ (l : List ℕ). Torn (end + 1) (length behind) l image) s.begins.is torn))))
 
   -- the bytes after that write
   pub staged_is : (old : D) (s : IsSettled (bytes old) (images old) end texts) →
       spliced (end + 1) behind s.bytes ≡ s.begins.records
-      ++ 0 ∷ (body_of text ++ 0 ∷ tail_of s.begins.records s.begins.behind texts s.begins.are end s.ends text counted)
+      ++ 0 ∷ (group_body group ++ 0 ∷ tail_of s.begins.records s.begins.behind texts s.begins.are end s.ends group behind is_group)
   staged_is old s =
-      ap (λ (p : List ℕ). spliced (end + 1) p s.bytes) is
-      ∙ ap (λ (l : List ℕ). spliced (end + 1) (behind_gate text) l) s.begins.is
-      ∙ written_behind s.begins.records s.begins.behind texts s.begins.are end s.ends text counted
+      ap (λ (l : List ℕ). spliced (end + 1) behind l) s.begins.is
+      ∙ written_behind s.begins.records s.begins.behind texts s.begins.are end s.ends group behind is_group
 
   -- the write of the gate leaves them with it or without it
   pub gate_left : (old mid new : D) (s : IsSettled (bytes old) (images old) end texts) →
@@ -147,30 +146,29 @@ module _ {D : Type 0} (bytes : D → Option (List ℕ)) (images : D → List ℕ
   gate_left old mid new s first second =
       then moment left_since old mid new P (Torn end 1 (spliced (end + 1) behind s.bytes))
       (behind_left old mid s first) second
-      (λ image torn. torn_gate s.begins.records s.begins.behind texts s.begins.are end s.ends text counted _ image
+      (λ image torn. torn_gate s.begins.records s.begins.behind texts s.begins.are end s.ends group behind is_group _ image
       (subst (λ (l : List ℕ). Torn end 1 l image) (staged_is old s) torn))
 
   -- after both the disk is settled with it
   pub settled_after : (old new : D) (s : IsSettled (bytes old) (images old) end texts) →
       IsSynced (bytes new) (images new) (spliced end (1 ∷ []) (spliced (end + 1) behind s.bytes))
-      → IsSettled (bytes new) (images new) (end + length behind) (texts ++ text ∷ [])
+      → IsSettled (bytes new) (images new) (end + length behind) (texts ++ group)
   settled_after old new s synced =
-      let tail = tail_of s.begins.records s.begins.behind texts s.begins.are end s.ends text counted in
+      let tail = tail_of s.begins.records s.begins.behind texts s.begins.are end s.ends group behind is_group in
       let is_opened : spliced end (1 ∷ []) (spliced (end + 1) behind s.bytes) ≡ s.begins.records
-      ++ 1 ∷ (body_of text ++ 0 ∷ tail) =
+      ++ 1 ∷ (group_body group ++ 0 ∷ tail) =
       ap (λ (l : List ℕ). spliced end (1 ∷ []) l) (staged_is old s)
-      ∙ written_gate s.begins.records s.begins.behind texts s.begins.are end s.ends text counted tail in record {
+      ∙ written_gate s.begins.records s.begins.behind texts s.begins.are end s.ends group behind is_group tail in record {
         bytes = spliced end (1 ∷ []) (spliced (end + 1) behind s.bytes);
         synced = synced;
         begins =
-            opened s.begins.records s.begins.behind texts s.begins.are end s.ends text counted 1 tail _
+            opened s.begins.records s.begins.behind texts s.begins.are end s.ends group behind is_group 1 tail _
             (λ e. omega arith) is_opened;
         ends =
             omega (
               arith,
-              ap length is,
               length-opened s.begins.records s.begins.behind texts s.begins.are end s.ends
-                  text counted,
+                  group behind is_group,
             );
       }
 
@@ -183,3 +181,8 @@ settled_empty told images all short synced = record {
   begins = record { records = []; behind = drop 1 all; is = refl; are = refl };
   ends = refl;
 }
+
+-- what follows from two facts that hold at Ok
+pub both_ok : {T E P Q R : Type 0} (r : Result T E) → (P → Q → R) → OnOk r P → OnOk r Q → OnOk r R
+both_ok (Ok x) f p q = f p q
+both_ok (Err e) f p q = tt

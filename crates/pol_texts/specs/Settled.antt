@@ -1,5 +1,5 @@
 -- Texts on a disk, all of which a crash leaves.
-use Rattle.std.specs.Prelude.{◌≡◌, ℕ, List, ◌∷◌, [], ◌++◌, length, Option, Some, ⊤}
+use Rattle.std.specs.Prelude.{◌≡◌, ◌<◌, ◌^◌, ℕ, List, ◌∷◌, [], ◌++◌, length, Option, Some, ⊤}
 use Rattle.pol_disk.specs.Disks.{BothTell, Only}
 use Rattle.pol_texts.specs.Stands.{Begins, body_of}
 
@@ -23,3 +23,30 @@ pub record IsSettled (seen : Option (List ℕ)) (images : List ℕ →
 -- what is written behind the closed gate: a record's body, and the next closed gate
 abbrev pub behind_gate : List ℕ → List ℕ
 behind_gate text = body_of text ++ 0 ∷ []
+
+-- records of these texts, each behind a gate of 1
+abbrev pub opened_records : List (List ℕ) → List ℕ
+opened_records [] = []
+opened_records (text ∷ texts) = 1 ∷ (body_of text ++ opened_records texts)
+
+-- what stands behind the gate of the first of these records
+abbrev pub group_body : List (List ℕ) → List ℕ
+group_body [] = []
+group_body (text ∷ texts) = body_of text ++ opened_records texts
+
+-- each text's length fits into eight bytes
+abbrev pub AreCounted : List (List ℕ) → Type 0
+AreCounted [] = Unit {0}
+AreCounted (text ∷ texts) = (length text < 2 ^ 64) × AreCounted texts
+
+-- what is written behind the closed gate for a group of texts, of which there is one at least: the records but the
+-- first one's gate, and the next closed gate
+pub record IsGroup (group : List (List ℕ)) (behind : List ℕ) : Type 0 where
+  pub some : 0 < length group
+  pub counted : AreCounted group
+  pub is : behind ≡ group_body group ++ 0 ∷ []
+
+-- these bytes wait to be written for these texts: none for none
+abbrev pub IsStaged : List (List ℕ) → List ℕ → Type 0
+IsStaged [] behind = behind ≡ []
+IsStaged (text ∷ texts) behind = IsGroup (text ∷ texts) behind

@@ -1,8 +1,9 @@
 //! Texts kept on a disk, one after another: each is there whole or not at all, whenever a crash comes.
 //!
 //! A record is a gate byte, eight bytes with the text's length, and the text; behind the last record stands a closed
-//! gate (`specs/Stands.antt`). A text is added in two steps, each written and synced: first the record's body and the
-//! next closed gate behind the closed gate, and then the gate is opened. It knows nothing of what the texts say.
+//! gate (`specs/Stands.antt`). Texts are added as a group, of one or of many, in two steps, each written and synced:
+//! first what stands behind the closed gate, up to the next closed one, and then the gate is opened. A crash leaves all
+//! of the group or none of it (`specs/Settled.antt`). It knows nothing of what the texts say.
 #![tactic(auto)]
 
 mod adding;
@@ -11,9 +12,11 @@ mod gate;
 mod loading;
 mod putting;
 mod settling;
+mod staging;
 
 pub use adding::{add, begin};
 pub use finding::{Found, find};
 pub use gate::CLOSED_GATE;
 pub use loading::{LoadFault, load};
 pub use settling::settle;
+pub use staging::stage;

@@ -1,7 +1,7 @@
 //! All bytes of a disk.
 ghost use Rattle.std.specs.Prelude.{◌≡◌, ◌+◌, ◌<◌, ◌≤◌, IfOk, IfErr, IfSome, OnOk, length, take, drop};
 ghost use Rattle.pol_io.specs.Causes.{HasCause, HasCauseOf};
-ghost use Rattle.pol_disk.specs.Disks.{Elapses, Keeps, LeavesOnly};
+ghost use Rattle.pol_disk.specs.Disks.{Elapses, Keeps, LeavesOnly, StillTells};
 
 use pol_disk::Disk;
 use pol_io::Failed;
@@ -43,9 +43,9 @@ fn read_behind<D: Disk>(disk: &mut D, bytes: &mut [u8], filled: usize) -> Result
     ensures front { take filled bytes.new ≡ take filled bytes.old }
     ensures bound { IfOk result (λ count. filled + count ≤ length bytes.new) }
     ensures some { IfOk result (λ count. 0 < count) }
-    ensures read { IfOk result (λ count. IfSome (D.bytes disk.old)
+    ensures read { IfOk result (λ count. IfSome (D.bytes disk.new)
         (λ all. take count (drop filled bytes.new) ≡ take count (drop filled all))) }
-    ensures bytes { D.bytes disk.new ≡ D.bytes disk.old }
+    ensures bytes { StillTells (D.bytes disk.old) (D.bytes disk.new) }
     ensures images { Keeps (D.images disk.old) (D.images disk.new) }
     ensures time { Elapses (D.moment disk.old) (D.moment disk.new)
         (D.left_since disk.old) (D.left_since disk.new) (D.images disk.new) }
@@ -57,8 +57,8 @@ fn read_behind<D: Disk>(disk: &mut D, bytes: &mut [u8], filled: usize) -> Result
 // Fills the slice with the bytes of a disk that has so many.
 fn read_all<D: Disk>(disk: &mut D, bytes: &mut [u8]) -> Result<(), Failed>
     requires { IfSome (D.bytes disk.old) (λ all. length bytes.old ≡ length all) }
-    ensures read { OnOk result (IfSome (D.bytes disk.old) (λ all. bytes.new ≡ all)) }
-    ensures bytes { D.bytes disk.new ≡ D.bytes disk.old }
+    ensures read { OnOk result (IfSome (D.bytes disk.new) (λ all. bytes.new ≡ all)) }
+    ensures bytes { StillTells (D.bytes disk.old) (D.bytes disk.new) }
     ensures images { Keeps (D.images disk.old) (D.images disk.new) }
     ensures moments { LeavesOnly D.moment D.left_since disk.old disk.new (D.images disk.old) }
     ensures cause { HasCause (D.faults disk.old) (D.faults disk.new) result }
@@ -73,8 +73,8 @@ fn read_all<D: Disk>(disk: &mut D, bytes: &mut [u8]) -> Result<(), Failed>
 /// Reads all bytes of a disk that has so many.
 pub fn load<D: Disk>(alloc: Global, disk: &mut D, size: u64) -> Result<Vec<u8>, LoadFault>
     requires { IfSome (D.bytes disk.old) (λ all. size ≡ length all) }
-    ensures read { IfOk result (λ bytes. IfSome (D.bytes disk.old) (λ all. bytes.items ≡ all)) }
-    ensures bytes { D.bytes disk.new ≡ D.bytes disk.old }
+    ensures read { IfOk result (λ bytes. IfSome (D.bytes disk.new) (λ all. bytes.items ≡ all)) }
+    ensures bytes { StillTells (D.bytes disk.old) (D.bytes disk.new) }
     ensures images { Keeps (D.images disk.old) (D.images disk.new) }
     ensures moments { LeavesOnly D.moment D.left_since disk.old disk.new (D.images disk.old) }
     ensures cause { HasCauseOf LoadFault.Disk (D.faults disk.old) (D.faults disk.new) result }

@@ -1,40 +1,60 @@
-use Rattle.std.proofs.Common.{List, ℕ, arith, sym, subst}
+use Rattle.std.proofs.Common.{◌≡◌, List, Some, arith, subst}
 use Rattle.pol_core.specs.Plants.{plant_history}
-use Rattle.pol_disk.specs.Disks.{LeavesOnly}
+use Rattle.pol_disk.proofs.Telling.{on_same, through_known}
+use Rattle.pol_events.specs.Events.{PlainEvent}
 use Rattle.pol_history.specs.Runs.{events_of}
 use Rattle.pol_store.specs.Stands.{StandsFor}
 use Rattle.pol_store.proofs.Histories.{legal_few, length-events}
 use Rattle.pol_keep.specs.Exported.{exported_output}
-use Rattle.pol_keep.proofs.Ended.{keep_ends, keeps, told_stood, unopened_is}
+use Rattle.pol_keep.specs.Keeping.{telling}
+use Rattle.pol_keep.proofs.Ended.{keep_ends, keeps, on_ok_holds, opened_kept, opening_left, unopened_is}
 use Rattle.pol_keep.proofs.exporting.export.Goals as goal
 
 pub returns-in-Ok-clause-ends : goal.returns-in-Ok-clause-ends
 returns-in-Ok-clause-ends g c =
+    let d = g.D.Disk in
     let history = plant_history c.in-Ok.store.plant in
-    keep_ends exported_output _ _ _ _ _ c.export_from.result.0 c.export_from.ensures.is_store
-    (keeps exported_output _ _ _ _ _ _ history c.in-Ok.ensures.legal
-    (told_stood _ (StandsFor (events_of history)) c.in-Ok.ensures.stood) c.export_from.ensures.ends)
+    rw c.export_from.ensures.disk (keep_ends exported_output _ _ _ _ _ c.export_from.result.0
+    c.export_from.ensures.is_store
+    (keeps exported_output _ _ _ _ _ _ history c.in-Ok.ensures.legal c.in-Ok.ensures.orderly
+    (through_known (d.bytes c.args.disk) (d.bytes c.in-Ok.store.disk) (d.bytes c.in-Ok.store.disk)
+    (StandsFor (events_of history)) (on_same (d.bytes c.in-Ok.store.disk)) c.in-Ok.ensures.stood)
+    c.export_from.ensures.ends))
 
-pub returns-in-Ok-clause-moments : goal.returns-in-Ok-clause-moments
-returns-in-Ok-clause-moments g c = λ all old told stand.
-    rw c.export_from.ensures.disk (c.in-Ok.ensures.moments all old told stand)
+pub returns-in-Ok-clause-holds : goal.returns-in-Ok-clause-holds
+returns-in-Ok-clause-holds g c =
+    let d = g.D.Disk in
+    rw c.export_from.ensures.disk (λ old reads tells. opening_left
+    (telling d.bytes d.images d.moment d.left_since d.faults) c.args.disk old reads c.in-Ok.store.disk
+    (c.in-Ok.ensures.left reads.bytes tells.0 reads.told tells.1))
 
-pub returns-in-Ok-clause-kept : goal.returns-in-Ok-clause-kept
-returns-in-Ok-clause-kept g c = λ all old told stand.
-    rw c.export_from.ensures.disk (c.in-Ok.ensures.images all old told stand)
+pub returns-in-Ok-clause-holds_all : goal.returns-in-Ok-clause-holds_all
+returns-in-Ok-clause-holds_all g c =
+    let d = g.D.Disk in
+    let did = c.in-Ok.ensures in
+    on_ok_holds c.export_from.result.0
+    (rw c.export_from.ensures.disk (λ old reads tells.
+    let opened = opened_kept (telling d.bytes d.images d.moment d.left_since d.faults) c.args.disk old reads c.in-Ok.store
+    did.opened tells (did.stood reads.bytes tells.0 reads.told tells.1) (did.stand tells.0 tells.1) in
+    (λ image now. subst (λ (events : List PlainEvent). StandsFor events image) opened.1
+    (did.stand tells.0 tells.1 image now))))
 
 pub returns-in-Ok-clause-unopened : goal.returns-in-Ok-clause-unopened
-returns-in-Ok-clause-unopened g c = λ all told none quiet.
+returns-in-Ok-clause-unopened g c = λ all now told later none quiet.
+    let d = g.D.Disk in
     let history = plant_history c.in-Ok.store.plant in
+    let mid : d.bytes c.in-Ok.store.disk ≡ Some now = subst (λ disk. d.bytes disk ≡ Some now)
+    c.export_from.ensures.disk later in
     absurd (none (events_of history)
-    (omega (arith, length-events history, legal_few history c.in-Ok.ensures.legal)) (c.in-Ok.ensures.stood all told))
+    (omega (arith, length-events history, legal_few history c.in-Ok.ensures.legal))
+    (c.in-Ok.ensures.stood all now told mid))
 
-pub returns-in-Err-clause-moments : goal.returns-in-Err-clause-moments
-returns-in-Err-clause-moments g c = c.in-Err.ensures.moments_err
-
-pub returns-in-Err-clause-kept : goal.returns-in-Err-clause-kept
-returns-in-Err-clause-kept g c = c.in-Err.ensures.images_err
+pub returns-in-Err-clause-holds : goal.returns-in-Err-clause-holds
+returns-in-Err-clause-holds g c =
+    let d = g.D.Disk in
+    λ old reads tells. opening_left (telling d.bytes d.images d.moment d.left_since d.faults) c.args.disk old reads
+    c.in-Err.disk (c.in-Err.ensures.left_err reads.bytes tells.0 reads.told tells.1)
 
 pub returns-in-Err-clause-unopened : goal.returns-in-Err-clause-unopened
-returns-in-Err-clause-unopened g c = λ all told none well.
+returns-in-Err-clause-unopened g c = λ all now told later none well.
     unopened_is c.in-Err.fault c.unopened.result c.unopened.ensures (λ is. well (c.in-Err.ensures.disk_cause is))

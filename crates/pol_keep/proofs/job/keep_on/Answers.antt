@@ -41,11 +41,20 @@ returns-clause-kept g c = λ kept.
     c.work-done.ensures.did_all c.work-done.ensures.did_some) kept)
 
 pub returns-clause-kept_all : goal.returns-clause-kept_all
-returns-clause-kept_all g c = λ kept.
+returns-clause-kept_all g c =
     let d = g.D.Disk in
     let history = plant_history c.args.store.plant in
     let disk = telling d.bytes d.images d.moment d.left_since d.faults in
     rw c.into_parts-plant.ensures.1 (when_done _ c.ended.result c.work-done.result c.ended.ensures.job
     (on_ok_weaker c.work-done.result
-    (λ all. keeps_all disk c.args.store c.work-done.new.job.store _ (runs_legal history c.requires.legal) all kept)
+    (λ all kept. keeps_all disk c.args.store c.work-done.new.job.store _ (runs_legal history c.requires.legal) all kept)
     c.work-done.ensures.did_all))
+
+pub returns-clause-on : goal.returns-clause-on
+returns-clause-on g c =
+    let d = g.D.Disk in
+    let history = plant_history c.args.store.plant in
+    let disk = telling d.bytes d.images d.moment d.left_since d.faults in
+    let did = did_either replay_work history (GoesOn disk c.args.store c.work-done.new.job.store) _ _ _ c.work-done.result
+    c.work-done.ensures.did_all c.work-done.ensures.did_some in
+    rw c.into_parts-plant.ensures.1 did.did.on

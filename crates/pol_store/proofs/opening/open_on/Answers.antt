@@ -1,37 +1,14 @@
-use Rattle.std.proofs.Common.{◌≡◌, ℕ, ◌<◌, ◌≤◌, List, length, Option, ◌∙◌, subst, arith}
+use Rattle.std.proofs.Common.{◌≡◌, ℕ, ◌<◌, ◌≤◌, List, length, Option, Some, ◌∙◌, subst, arith}
 use Rattle.std.specs.Prelude.{IfSome}
 use Rattle.std.proofs.lemmas.Result.{err_from_is_err_and}
+use Rattle.pol_disk.proofs.Telling.{on_still, on_then, still_holds, still_then, told_before, was_told}
 use Rattle.pol_texts.specs.Settled.{IsSynced}
 use Rattle.pol_events.specs.Events.{PlainEvent}
 use Rattle.pol_core.specs.Plants.{plant_history}
-use Rattle.pol_store.specs.Opens.{Breaks, IsReplayed}
+use Rattle.pol_store.specs.Opens.{Breaks, IsOpened, IsReplayed}
 use Rattle.pol_history.specs.Runs.{events_of}
-use Rattle.pol_store.proofs.Opened.{begun_leaves, bytes_told, number_told, opened_long, read_leaves, replay_tells}
+use Rattle.pol_store.proofs.Opened.{bytes_told, left_begun, left_read, number_told, opened_long, opened_short, replay_tells, same_told}
 use Rattle.pol_store.proofs.opening.open_on.Goals as goal
-
-pub returns-in_err-begin-clause-moments : goal.returns-in_err-begin-clause-moments
-returns-in_err-begin-clause-moments g c = λ all events told stand.
-    let d = g.D.Disk in
-    let same = c.in_ok-size.ensures.bytes ∙ told in
-    let many : c.in_ok-size.size ≡ length all = number_told
-    (d.bytes c.settle.new.disk) all c.in_ok-size.size same c.in_ok-size.ensures.number in
-    let short : length all ≤ 1 = omega (arith, many, c.if-size-le1.true) in
-    begun_leaves d.bytes d.images d.moment d.left_since c.args.disk.now c.settle.new.disk events stand
-    c.in_ok-size.ensures.moments c.begin.new.disk all
-    (c.in_ok-size.ensures.image all told) short
-    (c.begin.ensures.moments all short (c.in_ok-size.ensures.synced all told))
-
-pub returns-then-size-le1-clause-moments : goal.returns-then-size-le1-clause-moments
-returns-then-size-le1-clause-moments g c = λ all events told stand.
-    let d = g.D.Disk in
-    let same = c.in_ok-size.ensures.bytes ∙ told in
-    let many : c.in_ok-size.size ≡ length all = number_told
-    (d.bytes c.settle.new.disk) all c.in_ok-size.size same c.in_ok-size.ensures.number in
-    let short : length all ≤ 1 = omega (arith, many, c.if-size-le1.true) in
-    begun_leaves d.bytes d.images d.moment d.left_since c.args.disk.now c.settle.new.disk events stand
-    c.in_ok-size.ensures.moments c.begin.new.disk all
-    (c.in_ok-size.ensures.image all told) short
-    (c.begin.ensures.moments all short (c.in_ok-size.ensures.synced all told))
 
 pub returns-in_err-plant-clause-tells : goal.returns-in_err-plant-clause-tells
 returns-in_err-plant-clause-tells g c =
@@ -41,37 +18,84 @@ returns-in_err-plant-clause-tells g c =
     let breaks : Breaks items c.in_err-plant.field-0.0 = subst
     (λ (l : List ℕ). Breaks l c.in_err-plant.field-0.0) c.deref.ensures.value c.in_err-plant.ensures.breaks in
     let long : 1 < c.in_ok-size.size = omega (arith, c.if-size-le1.false) in
-    let counted = subst
-    (λ (o : Option (List ℕ)). IfSome o
-    (λ l. c.in_ok-size.size ≡ length l)) c.in_ok-size.ensures.bytes c.in_ok-size.ensures.number in
-    let read = subst
-    (λ (o : Option (List ℕ)). IfSome o (λ l. items ≡ l)) c.in_ok-size.ensures.bytes c.in_ok-bytes.ensures.read in
+    let counted = still_holds (d.bytes c.settle.new.disk) (d.bytes c.load_all.new.disk)
+    (λ l. c.in_ok-size.size ≡ length l) c.in_ok-bytes.ensures.bytes c.in_ok-size.ensures.number in
     rw (fault.1, fault.2)
     (replay_tells c.in_err-plant.field-0.0 items c.in_ok-size.size (d.bytes c.args.disk.now)
-    (d.bytes c.load_all.new.disk) (d.faults c.args.disk.now) (d.faults c.load_all.new.disk)
-    breaks (c.in_ok-bytes.ensures.bytes ∙ c.in_ok-size.ensures.bytes) (c.in_ok-bytes.ensures.cause.done
-    ∙ c.in_ok-size.ensures.cause.done) long counted read)
+    (d.bytes c.load_all.new.disk) (d.faults c.args.disk.now) (d.faults c.load_all.new.disk) breaks
+    (still_then (d.bytes c.args.disk.now) (d.bytes c.settle.new.disk) (d.bytes c.load_all.new.disk)
+    c.in_ok-size.ensures.bytes c.in_ok-bytes.ensures.bytes) (c.in_ok-bytes.ensures.cause.done
+    ∙ c.in_ok-size.ensures.cause.done) long counted c.in_ok-bytes.ensures.read)
 
 pub returns-clause-opened : goal.returns-clause-opened
-returns-clause-opened g c = λ all told.
+returns-clause-opened g c = λ all now told later.
     let d = g.D.Disk in
-    let same = c.in_ok-size.ensures.bytes ∙ told in
-    let synced = c.in_ok-size.ensures.synced all told in
+    let mid : d.bytes c.settle.new.disk ≡ Some now = told_before (d.bytes c.settle.new.disk)
+    (d.bytes c.load_all.new.disk) c.in_ok-bytes.ensures.bytes now later in
+    let first : d.bytes c.args.disk.now ≡ Some now = told_before (d.bytes c.args.disk.now)
+    (d.bytes c.settle.new.disk) c.in_ok-size.ensures.bytes now mid in
+    let synced = c.in_ok-size.ensures.synced now mid in
     let events : List PlainEvent = events_of (plant_history c.in_ok-plant.plant) in
-    let items_are : c.deref.result.now ≡ all = c.deref.ensures.value
-    ∙ bytes_told (d.bytes c.settle.new.disk) all c.in_ok-bytes.bytes.items same c.in_ok-bytes.ensures.read in
-    let loaded : IsSynced (d.bytes c.load_all.new.disk) (d.images c.load_all.new.disk) all =
+    let items_are : c.deref.result.now ≡ now = c.deref.ensures.value
+    ∙ bytes_told (d.bytes c.load_all.new.disk) now c.in_ok-bytes.bytes.items later c.in_ok-bytes.ensures.read in
+    let loaded : IsSynced (d.bytes c.load_all.new.disk) (d.images c.load_all.new.disk) now =
     record {
-      told = c.in_ok-bytes.ensures.bytes
-          ∙ synced.told;
+      told = later;
       only = λ image left. synced.only image (c.in_ok-bytes.ensures.images image left);
     } in
-    opened_long all (d.bytes c.load_all.new.disk) (d.images c.load_all.new.disk) c.in_ok-plant.end events loaded
-    (subst (λ (l : List ℕ). IsReplayed l c.in_ok-plant.end events) items_are c.in_ok-plant.ensures.replayed)
+    subst
+    (λ (l : List ℕ). IsOpened l (d.bytes c.load_all.new.disk) (d.images c.load_all.new.disk) c.in_ok-plant.end events)
+    (same_told (d.bytes c.args.disk.now) all now told first)
+    (opened_long now (d.bytes c.load_all.new.disk) (d.images c.load_all.new.disk) c.in_ok-plant.end events loaded
+    (subst (λ (l : List ℕ). IsReplayed l c.in_ok-plant.end events) items_are c.in_ok-plant.ensures.replayed))
 
-pub returns-clause-moments : goal.returns-clause-moments
-returns-clause-moments g c = λ all events told stand.
+pub returns-in_err-begin-clause-left : goal.returns-in_err-begin-clause-left
+returns-in_err-begin-clause-left g c = λ all now told later.
     let d = g.D.Disk in
-    read_leaves d.bytes d.images d.moment d.left_since c.args.disk.now c.settle.new.disk events stand
-    c.in_ok-size.ensures.moments c.load_all.new.disk
-    c.in_ok-size.ensures.images c.load_all.ensures.moments
+    let mid = was_told (d.bytes c.settle.new.disk) (d.bytes c.begin.new.disk) c.begin.ensures.on now later in
+    let first = told_before (d.bytes c.args.disk.now) (d.bytes c.settle.new.disk)
+    c.in_ok-size.ensures.bytes mid.0 mid.1 in
+    let same : d.bytes c.settle.new.disk ≡ Some all = subst (λ (l : List ℕ). d.bytes c.settle.new.disk ≡ Some l)
+    (same_told (d.bytes c.args.disk.now) all mid.0 told first) mid.1 in
+    let many : c.in_ok-size.size ≡ length all = number_told
+    (d.bytes c.settle.new.disk) all c.in_ok-size.size same c.in_ok-size.ensures.number in
+    let short : length all ≤ 1 = omega (arith, many, c.if-size-le1.true) in
+    left_begun d.images d.moment d.left_since c.args.disk.now c.settle.new.disk all
+    c.in_ok-size.ensures.moments c.begin.new.disk (c.in_ok-size.ensures.image all told) short
+    (c.begin.ensures.moments all short (c.in_ok-size.ensures.synced all same))
+
+pub returns-then-size-le1-clause-left : goal.returns-then-size-le1-clause-left
+returns-then-size-le1-clause-left g c = λ all now told later.
+    let d = g.D.Disk in
+    let mid = was_told (d.bytes c.settle.new.disk) (d.bytes c.begin.new.disk) c.begin.ensures.on now later in
+    let first = told_before (d.bytes c.args.disk.now) (d.bytes c.settle.new.disk)
+    c.in_ok-size.ensures.bytes mid.0 mid.1 in
+    let same : d.bytes c.settle.new.disk ≡ Some all = subst (λ (l : List ℕ). d.bytes c.settle.new.disk ≡ Some l)
+    (same_told (d.bytes c.args.disk.now) all mid.0 told first) mid.1 in
+    let many : c.in_ok-size.size ≡ length all = number_told
+    (d.bytes c.settle.new.disk) all c.in_ok-size.size same c.in_ok-size.ensures.number in
+    let short : length all ≤ 1 = omega (arith, many, c.if-size-le1.true) in
+    left_begun d.images d.moment d.left_since c.args.disk.now c.settle.new.disk all
+    c.in_ok-size.ensures.moments c.begin.new.disk (c.in_ok-size.ensures.image all told) short
+    (c.begin.ensures.moments all short (c.in_ok-size.ensures.synced all same))
+
+pub returns-then-size-le1-clause-opened : goal.returns-then-size-le1-clause-opened
+returns-then-size-le1-clause-opened g c = λ all now told later.
+    let d = g.D.Disk in
+    let mid = was_told (d.bytes c.settle.new.disk) (d.bytes c.begin.new.disk) c.begin.ensures.on now later in
+    let first = told_before (d.bytes c.args.disk.now) (d.bytes c.settle.new.disk)
+    c.in_ok-size.ensures.bytes mid.0 mid.1 in
+    let same : d.bytes c.settle.new.disk ≡ Some all = subst (λ (l : List ℕ). d.bytes c.settle.new.disk ≡ Some l)
+    (same_told (d.bytes c.args.disk.now) all mid.0 told first) mid.1 in
+    let many : c.in_ok-size.size ≡ length all = number_told
+    (d.bytes c.settle.new.disk) all c.in_ok-size.size same c.in_ok-size.ensures.number in
+    let short : length all ≤ 1 = omega (arith, many, c.if-size-le1.true) in
+    rw c.new.ensures
+    (opened_short all (d.bytes c.begin.new.disk) (d.images c.begin.new.disk) short
+    (c.in_ok-begin.ensures.kept all short (c.in_ok-size.ensures.synced all same)))
+
+pub returns-clause-left : goal.returns-clause-left
+returns-clause-left g c = λ all now told later.
+    let d = g.D.Disk in
+    left_read d.images d.moment d.left_since c.args.disk.now c.settle.new.disk all
+    c.in_ok-size.ensures.moments c.load_all.new.disk c.in_ok-size.ensures.images c.load_all.ensures.moments

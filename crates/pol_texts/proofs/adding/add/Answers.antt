@@ -1,6 +1,7 @@
 use Rattle.std.proofs.Common.{◌+◌, ◌∷◌, []}
 use Rattle.std.proofs.lemmas.Result.{on_ok_weaker}
 use Rattle.pol_disk.specs.Disks.{Holds, spliced}
+use Rattle.pol_disk.proofs.Telling.{on_then}
 use Rattle.pol_texts.proofs.Runs.{alike, alike_then, behind_left, gate_left, settled_after, near_after, near_one_less, near_one_more}
 use Rattle.pol_texts.proofs.adding.add.Goals as goal
 
@@ -15,15 +16,15 @@ put-requires-2 g c =
     (near_one_more c.args.end (d.bytes c.args.disk.now) c.requires.1) c.in_ok-put.ensures.told)
 
 pub returns-in_err-put-clause-moments : goal.returns-in_err-put-clause-moments
-returns-in_err-put-clause-moments g c = λ texts text is counted settled.
+returns-in_err-put-clause-moments g c = λ texts group is_group settled.
     let d = g.D.Disk in
-    behind_left d.bytes d.images d.moment d.left_since texts text c.args.behind.now is counted c.args.end
+    behind_left d.bytes d.images d.moment d.left_since texts group c.args.behind.now is_group c.args.end
     c.args.disk.now c.put.new.disk settled (c.put.ensures.moments settled.bytes settled.synced)
 
 pub returns-clause-moments : goal.returns-clause-moments
-returns-clause-moments g c = λ texts text is counted settled.
+returns-clause-moments g c = λ texts group is_group settled.
     let d = g.D.Disk in
-    gate_left d.bytes d.images d.moment d.left_since texts text c.args.behind.now is counted c.args.end c.args.disk.now
+    gate_left d.bytes d.images d.moment d.left_since texts group c.args.behind.now is_group c.args.end c.args.disk.now
     c.put.new.disk c.put-2.new.disk settled
     (c.put.ensures.moments settled.bytes settled.synced)
     (c.put-2.ensures.moments (spliced (c.args.end + 1) c.args.behind.now settled.bytes)
@@ -33,9 +34,9 @@ pub returns-clause-kept : goal.returns-clause-kept
 returns-clause-kept g c =
     let d = g.D.Disk in
     on_ok_weaker c.put-2.result
-    (λ kept. λ texts text is counted settled.
+    (λ kept. λ texts group is_group settled.
     let first = c.in_ok-put.ensures.kept settled.bytes settled.synced.told in
-    settled_after d.bytes d.images d.moment d.left_since texts text c.args.behind.now is counted c.args.end
+    settled_after d.bytes d.images d.moment d.left_since texts group c.args.behind.now is_group c.args.end
     c.args.disk.now c.put-2.new.disk settled
     (kept (spliced (c.args.end + 1) c.args.behind.now settled.bytes) first.told))
     c.put-2.ensures.kept
@@ -49,3 +50,9 @@ returns-clause-told g c =
     (d.bytes c.put.new.disk) c.in_ok-put.ensures.told)
     (alike (Holds c.args.end (1 ∷ [])) (d.bytes c.put.new.disk) (d.bytes c.put-2.new.disk) told))
     c.put-2.ensures.told
+
+pub returns-clause-on : goal.returns-clause-on
+returns-clause-on g c =
+    let d = g.D.Disk in
+    on_then (d.bytes c.args.disk.now) (d.bytes c.put.new.disk) (d.bytes c.put-2.new.disk) c.put.ensures.on
+    c.put-2.ensures.on

@@ -1,29 +1,35 @@
-use Rattle.std.proofs.Common.{ℕ, List, Option}
+use Rattle.std.proofs.Common.{ℕ, ◌<◌, ◌^◌, List, length, Option, sym, ap, subst, arith, rules}
+use Rattle.pol_disk.proofs.Telling.{was_told}
+use Rattle.pol_events.specs.Events.{PlainEvent}
 use Rattle.pol_core.specs.Plants.{plant_history}
 use Rattle.pol_history.specs.Runs.{events_of}
-use Rattle.pol_store.specs.Keeping.{KeepsEvents}
-use Rattle.pol_store.specs.Stands.{StandsFor}
-use Rattle.pol_store.proofs.Kept.{if_told}
-use Rattle.pol_store.proofs.Opened.{left_images}
+use Rattle.pol_store.specs.Keeping.{KeepsGroup}
+use Rattle.pol_store.proofs.Kept.{if_now, none_waits}
+use Rattle.pol_store.proofs.Texts.{kept_stands}
 use Rattle.pol_store.proofs.store.Store.open.Goals as goal
 
 pub invariant_of-result : goal.invariant_of-result
 invariant_of-result g c =
     let d = g.D.Disk in
     let seen : Option (List ℕ) = d.bytes c.open_on.new.disk in
-    if_told (d.bytes c.args.disk) seen
-    (KeepsEvents seen (d.images c.open_on.new.disk) c.in-Ok.end
-    (events_of (plant_history c.in-Ok.plant))) c.in-Ok.ensures.told
-    (λ all told. (c.in-Ok.ensures.opened all told).kept)
+    let events : List PlainEvent = events_of (plant_history c.in-Ok.plant) in
+    let small : c.in-Ok.end < 2 ^ 64 = search rules in (
+      record { fits = omega (arith, ap length c.new.ensures.items, small); long = omega arith },
+      if_now seen (KeepsGroup seen (d.images c.open_on.new.disk) c.in-Ok.end c.new.result.items events 0)
+          (λ now later.
+          let first = was_told (d.bytes c.args.disk) seen c.in-Ok.ensures.on now later in
+          subst (λ (l : List ℕ). KeepsGroup seen (d.images c.open_on.new.disk) c.in-Ok.end l events 0)
+          (sym c.new.ensures.items)
+          (none_waits seen (d.images c.open_on.new.disk) c.in-Ok.end events
+          (c.in-Ok.ensures.opened first.0 now first.1 later).kept)),
+    )
 
-pub returns-in-Ok-clause-images : goal.returns-in-Ok-clause-images
-returns-in-Ok-clause-images g c = λ all events told stand.
+pub returns-in-Ok-clause-stand : goal.returns-in-Ok-clause-stand
+returns-in-Ok-clause-stand g c = λ now later image left.
     let d = g.D.Disk in
-    left_images d.images d.moment d.left_since g.met.D.Disk.counts_now c.args.disk c.open_on.new.disk (StandsFor events)
-    (c.open_on.ensures.moments all events told stand)
+    let first = was_told (d.bytes c.args.disk) (d.bytes c.open_on.new.disk) c.in-Ok.ensures.on now later in
+    kept_stands (d.bytes c.open_on.new.disk) (d.images c.open_on.new.disk) c.in-Ok.end
+    (events_of (plant_history c.in-Ok.plant)) (c.in-Ok.ensures.opened first.0 now first.1 later).kept image left
 
-pub returns-in-Err-clause-images_err : goal.returns-in-Err-clause-images_err
-returns-in-Err-clause-images_err g c = λ all events told stand.
-    let d = g.D.Disk in
-    left_images d.images d.moment d.left_since g.met.D.Disk.counts_now c.args.disk c.open_on.new.disk (StandsFor events)
-    (c.open_on.ensures.moments all events told stand)
+pub returns-in-Ok-clause-stood : goal.returns-in-Ok-clause-stood
+returns-in-Ok-clause-stood g c = λ all now told later. (c.in-Ok.ensures.opened all now told later).stood

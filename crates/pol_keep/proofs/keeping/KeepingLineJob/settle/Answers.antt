@@ -1,0 +1,17 @@
+use Rattle.pol_keep.specs.Keeping.{telling}
+use Rattle.pol_keep.proofs.Settling.{settles, unsettled}
+use Rattle.pol_keep.proofs.keeping.KeepingLineJob.settle.Goals as goal
+
+pub returns-in-Ok-clause-settled : goal.returns-in-Ok-clause-settled
+returns-in-Ok-clause-settled g c = λ first settled waiting so_far.
+    let d = g.D.Disk in
+    let did = c.in-Ok.ensures in
+    settles (telling d.bytes d.images d.moment d.left_since d.faults) first.store c.args.self.now.store
+    c.commit.new.self settled waiting so_far did.moments did.on did.kept did.told did.plant did.waits did.open.1 did.quiet
+
+pub returns-in-Err-clause-failed : goal.returns-in-Err-clause-failed
+returns-in-Err-clause-failed g c = λ first settled waiting so_far.
+    let d = g.D.Disk in
+    let did = c.in-Err.ensures in
+    unsettled (telling d.bytes d.images d.moment d.left_since d.faults) first.store c.args.self.now.store
+    c.commit.new.self settled waiting so_far did.moments did.on g.met.D.Disk.counts_now _ did.fails
