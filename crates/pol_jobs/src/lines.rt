@@ -17,8 +17,8 @@ use crate::stop::Stop;
 use pol_io::{IoFault, Line, Lines, Sink, Source};
 use std::alloc::Global;
 
-/// The replies that wait are written once they have so many bytes, also where more lines stand there: so memory stays
-/// flat, and no reader waits long.
+// The replies that wait are written once they have so many bytes, also where more lines stand there: so memory stays
+// flat, and no reader waits long.
 const LONGEST_GROUP: usize = 65_536;
 
 // Puts what the job replies to the next line into an empty buffer, unless it stops there; None is the end of input.
