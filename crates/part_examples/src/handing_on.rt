@@ -5,7 +5,7 @@ ghost use Rattle.std.specs.Option.{unwrap_or};
 ghost use Rattle.pol_jobs.specs.LineWork.{work_of};
 
 use pol_io::{DripSource, Sink, SinkFault};
-use pol_jobs::{InputLine, LineJob, PutFault, Stop, work};
+use pol_jobs::{InputLine, JobFault, LineJob, PutFault, Stop, work};
 use std::alloc::{AllocError, Global};
 use std::cell::Cell;
 use std::convert::Infallible;
@@ -19,12 +19,15 @@ const WRITTEN: u64 = 3;
 
 const HANDED_ON: u64 = 4;
 
+const STOPPED: u64 = 9;
+
 // The calls so far, a digit for each.
 fn note(calls: &Cell<u64>, call: u64) {
     calls.set(calls.get().wrapping_mul(10).wrapping_add(call));
 }
 
 // A job that replies to each line with the line itself, and finds no memory at the line `!`.
+#[derive(Drop)]
 struct Echoing<'a, const EACH: bool> {
     calls: &'a Cell<u64>,
 }
@@ -49,7 +52,7 @@ impl<const EACH: bool> LineJob for Echoing<'_, EACH> {
     fn reply(&mut self, line: InputLine<'_>, out: &mut Vec<u8>) -> Result<(), Stop<Infallible>> {
         note(self.calls, MET);
         if let InputLine::Text(text) = line {
-            if text == b"!" {
+            if text == b"!".as_slice() {
                 return Err(Stop::Memory);
             }
             out.extend_from_slice(text)?;
@@ -72,6 +75,7 @@ impl<const EACH: bool> LineJob for Echoing<'_, EACH> {
 }
 
 // A sink that takes each piece whole, and keeps none.
+#[derive(Drop)]
 struct Noting<'a> {
     calls: &'a Cell<u64>,
 }
@@ -93,16 +97,21 @@ impl Sink for Noting<'_> {
 }
 
 // The calls of such a job over an input of which each read gives so many bytes.
-fn calls_of<const EACH: bool>(alloc: Global, input: Vec<u8>, at_most: usize) -> u64 {
+fn calls_of<const EACH: bool>(alloc: Global, input: Vec<u8>, at_most: u32) -> u64 {
     let calls = Cell::new(0);
     let mut job: Echoing<'_, EACH> = Echoing { calls: &calls };
     let mut sink = Noting { calls: &calls };
-    let _result = work(
+    match work(
         alloc,
         &mut job,
         &mut DripSource::new(input, at_most),
         &mut sink,
-    );
+    ) {
+        Ok(()) => {}
+        Err(JobFault::Memory) => note(&calls, STOPPED),
+        Err(JobFault::Read | JobFault::Write | JobFault::TooMuch) => calls.set(0),
+        Err(JobFault::Refused(never)) => match never {},
+    }
     calls.get()
 }
 
@@ -116,7 +125,7 @@ fn replies_are_handed_on_where_the_source_is_asked_and_each_by_itself_where_a_jo
         ("a\nb\nc\n", 2, 1_234_123_412_342, 1_234_123_412_342),
         ("a\nb", 64, 1_234_123, 123_412_342),
         ("a\n\nb\n", 64, 1_112_342, 123_412_412_342),
-        ("a\nb\n!\n", 64, 11_123, 123_412_341),
+        ("a\nb\n!\n", 64, 111_239, 1_234_123_419),
     ] {
         let bytes = Vec::from_slice(rt.alloc(), input.as_bytes())?;
         let calls = calls_of::<false>(rt.alloc(), bytes, at_most);
