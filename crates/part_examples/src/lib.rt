@@ -20,6 +20,8 @@ mod events;
 #[cfg(test)]
 mod finder;
 #[cfg(test)]
+mod handing_on;
+#[cfg(test)]
 mod output_lines;
 #[cfg(test)]
 mod policies;

@@ -51,8 +51,12 @@ impl Finding {
 impl LineJob for Finding {
     type Refusal = Infallible;
 
-    ghost use Rattle.std.specs.Prelude.{⊤};
+    const SETTLES_EACH: bool = false;
+
+    ghost use Rattle.std.specs.Prelude.{⊤, false};
     ghost use Rattle.pol_find.specs.Finding.{Known, find_work, known_by};
+
+    ghost SETTLES_EACH = { false };
 
     ghost State = { Known };
 
@@ -60,11 +64,9 @@ impl LineJob for Finding {
 
     ghost work = { find_work };
 
-    ghost Did = { λ _ _ _ _. ⊤ };
+    ghost Did = { λ _ _ _ _ _. ⊤ };
 
     ghost did_nothing = { λ _. tt };
-
-    ghost did_more = { λ _ _ _ _ _ _ _ _. tt };
 
     fn reply(&mut self, line: InputLine<'_>, _out: &mut Vec<u8>) -> Result<(), Stop<Infallible>> {
         match read_meaning(self.alloc, line)? {
@@ -72,6 +74,10 @@ impl LineJob for Finding {
             LineMeaning::Fault(_) => self.bad = self.bad.saturating_add(1),
             LineMeaning::Event(event) => apply(&mut self.plant, event)?,
         }
+        Ok(())
+    }
+
+    fn settle(&mut self) -> Result<(), AllocError> {
         Ok(())
     }
 

@@ -16,7 +16,7 @@ use pol_io::Sink;
 use pol_jobs::{InputLine, LineJob, PutFault, Stop};
 use pol_policy::{Policy, read_policy};
 use pol_replay::close;
-use std::alloc::Global;
+use std::alloc::{AllocError, Global};
 
 /// What a guard has between two lines.
 #[derive(Drop)]
@@ -85,9 +85,13 @@ impl Guarding {
 impl LineJob for Guarding {
     type Refusal = JsonFault;
 
-    ghost use Rattle.std.specs.Prelude.{⊤};
+    const SETTLES_EACH: bool = false;
+
+    ghost use Rattle.std.specs.Prelude.{⊤, false};
     ghost use Rattle.pol_guard.specs.Guards.{known_by};
     ghost use Rattle.pol_guard.specs.Work.{Known, guard_work};
+
+    ghost SETTLES_EACH = { false };
 
     ghost State = { Known };
 
@@ -95,11 +99,9 @@ impl LineJob for Guarding {
 
     ghost work = { guard_work };
 
-    ghost Did = { λ _ _ _ _. ⊤ };
+    ghost Did = { λ _ _ _ _ _. ⊤ };
 
     ghost did_nothing = { λ _. tt };
-
-    ghost did_more = { λ _ _ _ _ _ _ _ _. tt };
 
     fn reply(&mut self, line: InputLine<'_>, out: &mut Vec<u8>) -> Result<(), Stop<JsonFault>> {
         if !is_some_line(line) {
@@ -115,6 +117,10 @@ impl LineJob for Guarding {
                 reply_to(self.alloc, policy, plant, line, out)?;
             }
         }
+        Ok(())
+    }
+
+    fn settle(&mut self) -> Result<(), AllocError> {
         Ok(())
     }
 

@@ -1,5 +1,5 @@
 -- A line that was read and met.
-use Rattle.std.proofs.Common.{◌≡◌, ◌≤◌, ◌<◌, ◌++◌, ℕ, List, [], ◌∷◌, Bor, Some, None, refl, sym, ◌∙◌, ap, subst, length, Bool, true, false, if◌then◌else◌}
+use Rattle.std.proofs.Common.{◌≡◌, ◌≤◌, ◌<◌, ◌++◌, ℕ, List, [], Bor, Some, None, refl, sym, ◌∙◌, ap, subst, length, Bool, true, false, if◌then◌else◌}
 use Rattle.std.specs.Prelude.{nat_lt, Result, Ok, Err, OnOk, IfErr}
 use Rattle.std.specs.Result.{is_ok}
 use Rattle.std.proofs.lemmas.Bool.{le-leb, lt-leb, ltb-false, ltb-true}
@@ -10,6 +10,7 @@ use Rattle.pol_io.proofs.Known.{between_weaker}
 use Rattle.pol_jobs.specs.Faults.{RefusedFor}
 use Rattle.pol_jobs.specs.LineWork.{LineWork, Accepts, Line, met}
 use Rattle.pol_jobs.specs.Moments.{IsNext, Met, Moment, Replies}
+use Rattle.pol_jobs.specs.Settling.{Deeds, Meets}
 use Rattle.pol_jobs.specs.declared.stop.Stop.{Stop}
 
 -- a short line is met as its bytes
@@ -37,7 +38,7 @@ behind_nothing : {E : Type 0} (result : Result (Unit {0}) E) (out old reply : Li
 behind_nothing (Ok done) out old reply empty is = is ∙ ap (λ old. old ++ reply) empty
 behind_nothing (Err stop) out old reply empty is = tt
 
-module _ {State Reason : Type 0} (work : LineWork State Reason) (Did : List Line → Bool → Type 0)
+module _ {State Reason Job : Type 0} (work : LineWork State Reason) (Did : Deeds Job) (job job' : Job)
     (before now : Moment State) (made : Result (Unit {0}) (Stop Reason)) (old out : List ℕ) (empty : old ≡ []) where
   -- a line that was met so
   met_as : (text : List ℕ) (one : Line) → met text ≡ one →
@@ -59,7 +60,7 @@ module _ {State Reason : Type 0} (work : LineWork State Reason) (Did : List Line
       OnOk made (now.state ≡ work.after before.state (Some text.now)) →
       OnOk made (Accepts work before.state (Some text.now)) →
       IfErr made (RefusedFor (work.Refuses before.state (Some text.now))) →
-      Did (Some text.now ∷ []) (is_ok made) → IsNext work Did before now (Some made) out
+      Meets Did job job' (Some text.now) (is_ok made) → IsNext work Did job job' before now (Some made) out
   text_next text reads said after accepted refused did = record {
     next = Some text.now;
     replies = between_weaker (Answers (line.Text text) now.lines.ended)
@@ -87,8 +88,8 @@ module _ {State Reason : Type 0} (work : LineWork State Reason) (Did : List Line
   pub long_next : Reads before.left now.left before.lines now.lines line.TooLong →
       OnOk made (out ≡ old ++ work.reply before.state None) →
       OnOk made (now.state ≡ work.after before.state None) → OnOk made (Accepts work before.state None) →
-      IfErr made (RefusedFor (work.Refuses before.state None)) → Did (None ∷ []) (is_ok made) →
-      IsNext work Did before now (Some made) out
+      IfErr made (RefusedFor (work.Refuses before.state None)) → Meets Did job job' None (is_ok made) →
+      IsNext work Did job job' before now (Some made) out
   long_next reads said after accepted refused did = record {
     next = None;
     replies = between_weaker (Answers line.TooLong now.lines.ended)

@@ -1,5 +1,5 @@
 -- How far a job over lines has come, and what it has written when it stops.
-use Rattle.std.specs.Prelude.{ℕ, ◌≡◌, ◌<◌, ◌≤◌, List, [], ◌∷◌, map, Bool, true, false, IsTrue, Option, Some, None, Result, IfErr, IfNone, OnOk, OnSome}
+use Rattle.std.specs.Prelude.{ℕ, ◌≡◌, ◌<◌, ◌≤◌, List, [], ◌++◌, map, Bool, true, false, IsTrue, Option, Some, None, Result, IfErr, IfNone, OnOk, OnSome}
 use Rattle.std.specs.Result.{is_ok}
 use Rattle.std.specs.Io.KnownBytes.{Appends, IsAtEnd}
 use Rattle.pol_io.specs.Known.{Between, Counts}
@@ -9,6 +9,7 @@ use Rattle.pol_io.specs.declared.limits.TheConstants.{LONGEST_INPUT}
 use Rattle.pol_jobs.specs.LineWork.{Line, LineWork, Output, Accepts, AcceptsLines, line_met, met, replies, after_all, output_by}
 use Rattle.pol_jobs.specs.Ends.{IsRead, WritesTaken, WritesTakenAndMore, LeavesPart, IsRefused}
 use Rattle.pol_jobs.specs.Faults.{RefusedFor}
+use Rattle.pol_jobs.specs.Settling.{Deeds, Meets}
 use Rattle.pol_jobs.specs.declared.fault.JobFault.{JobFault}
 use Rattle.pol_jobs.specs.declared.fault.JobFault.TheVariants.{Read, Write, Memory, TooMuch, Refused}
 use Rattle.pol_jobs.specs.declared.stop.Stop.{Stop}
@@ -38,34 +39,44 @@ pub record Moves {State : Type 0} (before now : Moment State) : Type 0 where
   pub at_end : IsTrue now.lines.ended → (IsTrue before.lines.ended → IsAtEnd before.left) → IsAtEnd now.left
   pub sound : IsTrue now.lines.sound
 
--- the lines before the rest were replied to since the first moment, and what the job knows now is what it knows after
--- them
+-- The lines before the rest were replied to since the first moment, and what the job knows now is what it knows after
+-- them: the replies to those that are settled were written, and a buffer holds the replies to those that wait behind
+-- them.
 pub record Served {State Reason : Type 0} (work : LineWork State Reason) (first now : Moment State)
-    (held held' : Option (List ℕ)) (bytes rest : List ℕ) : Type 0 where
+    (held held' : Option (List ℕ)) (buffer bytes rest : List ℕ) : Type 0 where
   pub done : List ℕ
+  pub settled : List (List ℕ)
+  pub waiting : List (List ℕ)
+  pub are : pieces done ≡ settled ++ waiting
   pub so_far : IsDone now.lines.ended bytes done rest
   pub state_is : now.state ≡ after_all work first.state (pieces done)
-  pub appended : Appends held held' (replies work first.state (pieces done))
+  pub written : Appends held held' (replies work first.state settled)
+  pub held_back : buffer ≡ replies work (after_all work first.state settled) waiting
   pub accepted : AcceptsLines (output_by work first.state) done
 
 -- the lines are those
-pub record ServedLines {State Reason : Type 0} (work : LineWork State Reason) (lines : List Line)
-    (first now : Moment State) (held held' : Option (List ℕ)) (bytes rest : List ℕ) : Type 0 where
-  pub served : Served work first now held held' bytes rest
-  pub lines_are : lines ≡ map line_met (pieces served.done)
+pub record ServedLines {State Reason : Type 0} (work : LineWork State Reason) (settled waiting : List Line)
+    (first now : Moment State) (held held' : Option (List ℕ)) (buffer bytes rest : List ℕ) : Type 0 where
+  pub served : Served work first now held held' buffer bytes rest
+  pub settled_are : settled ≡ map line_met served.settled
+  pub waiting_are : waiting ≡ map line_met served.waiting
 
 -- the lines before the rest were replied to since the first moment, and this is what else the job did meanwhile; which
 -- lines they are is known where the source tells its bytes
-pub record HasServed {State Reason : Type 0} (work : LineWork State Reason) (Did : List Line → Bool → Type 0)
-    (first now : Moment State) (held held' : Option (List ℕ)) : Type 0 where
-  pub lines : List Line
-  pub did : Did lines true
-  pub served : Between (ServedLines work lines first now held held') first.left (ahead now.lines now.left)
+pub record HasServed {State Reason : Type 0} (work : LineWork State Reason)
+    (Did : List Line → List Line → Bool → Type 0) (first now : Moment State) (held held' : Option (List ℕ))
+    (buffer : List ℕ) : Type 0 where
+  pub settled : List Line
+  pub waiting : List Line
+  pub did : Did settled waiting true
+  pub served : Between (ServedLines work settled waiting first now held held' buffer) first.left
+      (ahead now.lines now.left)
 
 -- the lines before the rest were replied to since the first moment, where the source tells its bytes
 abbrev pub IsServed : {State Reason : Type 0} → LineWork State Reason → Moment State → Moment State → Option (List ℕ)
-    → Option (List ℕ) → Type 0
-IsServed work first now held held' = Between (Served work first now held held') first.left (ahead now.lines now.left)
+    → Option (List ℕ) → List ℕ → Type 0
+IsServed work first now held held' buffer =
+    Between (Served work first now held held' buffer) first.left (ahead now.lines now.left)
 
 -- the input was read to its end, its lines were replied to, and this is what the job knows after them
 pub record Replied {State Reason : Type 0} (work : LineWork State Reason) (start state : State)
@@ -90,19 +101,19 @@ Replies work before now ended None reply next text rest = (text ≡ []) × (rest
 Replies work before now ended (Some made) reply next text rest =
     (line : List ℕ) × IsFirstLine ended line text rest × Met work before now made reply (met line) × (next ≡ met line)
 
--- what else the job did with the next line, or at the end
-abbrev pub DidNext : {Reason : Type 0} → (List Line → Bool → Type 0) → Option (Result (Unit {0}) (Stop Reason)) → Line
+-- what else the job did with the next line; nothing at the end
+abbrev pub DidNext : {Job Reason : Type 0} → Deeds Job → Job → Job → Option (Result (Unit {0}) (Stop Reason)) → Line
     → Type 0
-DidNext Did None next = Did [] true
-DidNext Did (Some made) next = Did (next ∷ []) (is_ok made)
+DidNext Did job job' None next = job' ≡ job
+DidNext Did job job' (Some made) next = Meets Did job job' next (is_ok made)
 
 -- one more line is read and replied to, or the end is seen
-pub record IsNext {State Reason : Type 0} (work : LineWork State Reason) (Did : List Line → Bool → Type 0)
+pub record IsNext {State Reason Job : Type 0} (work : LineWork State Reason) (Did : Deeds Job) (job job' : Job)
     (before now : Moment State) (made : Option (Result (Unit {0}) (Stop Reason))) (reply : List ℕ) : Type 0 where
   pub next : Line
   pub replies : Between (Replies work before.state now.state now.lines.ended made reply next)
       (ahead before.lines before.left) (ahead now.lines now.left)
-  pub did : DidNext Did made next
+  pub did : DidNext Did job job' made next
   pub gives : OnSome made (given before.lines < given now.lines)
   pub moves : Moves before now
   pub ended : IfNone made (IsTrue now.lines.ended)

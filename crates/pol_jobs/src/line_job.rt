@@ -1,5 +1,5 @@
 //! A job that does something with each line of its input.
-ghost use Rattle.std.specs.Prelude.{◌≡◌, ◌++◌, ◌∷◌, [], List, Bool, true, IfErr, OnOk, OnErr};
+ghost use Rattle.std.specs.Prelude.{◌≡◌, ◌++◌, ◌∷◌, [], List, Bool, true, false, IfErr, OnOk, OnErr};
 ghost use Rattle.std.specs.Result.{is_ok};
 ghost use Rattle.pol_io.specs.Causes.{HasCauseOf};
 ghost use Rattle.pol_jobs.specs.Faults.{RefusedFor};
@@ -10,6 +10,7 @@ ghost use Rattle.pol_jobs.specs.Written.{Closes, ClosesPart};
 use crate::output::PutFault;
 use crate::stop::Stop;
 use pol_io::Sink;
+use std::alloc::AllocError;
 
 /// A line of the input as a job meets it.
 #[derive(Clone, Copy)]
@@ -22,9 +23,19 @@ pub enum InputLine<'a> {
 
 /// A job that does something with each line of its input, and then closes its output. It may refuse its input, with a
 /// line or at its end; one that never does has `Infallible` for its reasons.
+///
+/// The replies to several lines that stand there at once are written together, once what was done for these lines is
+/// settled.
 pub trait LineJob {
     /// Why a job of this kind refuses its input.
-    type Refusal;
+    type Refusal: Drop;
+
+    /// Whether each line is settled, and its reply handed on, before the next one is met, also where more lines stand
+    /// there already.
+    const SETTLES_EACH: bool;
+
+    /// The same, where contracts speak of it.
+    ghost SETTLES_EACH: { Bool };
 
     /// What a job of this kind knows between two lines.
     ghost State: { Type 0 };
@@ -35,9 +46,9 @@ pub trait LineJob {
     /// What it does with each line, and at the end.
     ghost work: { LineWork State Self.Refusal };
 
-    /// What else such a job did, from one state of it to another, while it met these lines; whether it replied to the
-    /// last of them too, or stopped there.
-    ghost Did: { Self → Self → List Line → Bool → Type 0 };
+    /// What else such a job did, from its first state to this one: the lines that are settled, those that wait behind
+    /// them, and whether it replied to the last of these too, or stopped there.
+    ghost Did: { Self → Self → List Line → List Line → Bool → Type 0 };
 
     /// Puts what it replies to a line behind what a buffer holds: an output line, or nothing.
     fn reply(&mut self, line: InputLine<'_>, out: &mut Vec<u8>) -> Result<(), Stop<Self::Refusal>>
@@ -46,14 +57,33 @@ pub trait LineJob {
         ensures after { OnOk result (state self.new ≡ work.after (state self.old) (plain_line line.entry)) }
         ensures accepted { OnOk result (Accepts work (state self.old) (plain_line line.entry)) }
         ensures refused { IfErr result (RefusedFor (work.Refuses (state self.old) (plain_line line.entry))) }
-        ensures did { Did self.old self.new (plain_line line.entry ∷ []) (is_ok result) };
+        ensures did { (first : Self) (settled waiting : List Line) → Did first self.old settled waiting true
+            → Did first self.new settled (waiting ++ plain_line line.entry ∷ []) (is_ok result) };
+
+    /// Makes lasting what was done for the lines so far, before their replies are handed on. Of a job that doesn't
+    /// settle each line this is asked also where it stopped at a line: then the lines before that one are settled.
+    fn settle(&mut self) -> Result<(), AllocError>
+        ensures kept { state self.new ≡ state self.old }
+        ensures settled { OnOk result ((first : Self) (settled waiting : List Line) → Did first self.old settled waiting true
+            → Did first self.new (settled ++ waiting) [] true) }
+        ensures failed { OnErr result ((first : Self) (settled waiting : List Line) → Did first self.old settled waiting true
+            → Did first self.new settled waiting false) }
+        ensures settled_before { OnOk result (SETTLES_EACH ≡ false
+            → (first : Self) (settled waiting : List Line) (last : Line)
+            → Did first self.old settled (waiting ++ last ∷ []) false
+            → Did first self.new (settled ++ waiting) (last ∷ []) false) }
+        ensures failed_before { OnErr result (SETTLES_EACH ≡ false
+            → (first : Self) (settled waiting : List Line) (last : Line)
+            → Did first self.old settled (waiting ++ last ∷ []) false
+            → Did first self.new settled (waiting ++ last ∷ []) false) };
 
     /// Sees the end of the input, which it may refuse as a whole.
     fn end(&mut self) -> Result<(), Stop<Self::Refusal>>
         ensures kept { OnOk result (state self.new ≡ state self.old) }
         ensures accepted { OnOk result (AcceptsEnd work (state self.old)) }
         ensures refused { IfErr result (RefusedFor (work.RefusesEnd (state self.old))) }
-        ensures did { Did self.old self.new [] true };
+        ensures did { (first : Self) (settled : List Line) → Did first self.old settled [] true
+            → Did first self.new settled [] true };
 
     /// Writes what closes the output.
     fn close<K: Sink>(&mut self, sink: &mut K) -> Result<(), PutFault>
@@ -61,12 +91,9 @@ pub trait LineJob {
         ensures text { OnOk result (Closes (work.Closing (state self.old)) (K.held sink.old) (K.held sink.new)) }
         ensures part { OnErr result (ClosesPart (work.Closing (state self.old)) (K.held sink.old) (K.held sink.new)) }
         ensures cause { HasCauseOf PutFault.Write (K.faults sink.old) (K.faults sink.new) result }
-        ensures did { Did self.old self.new [] true };
+        ensures did { (first : Self) (settled : List Line) → Did first self.old settled [] true
+            → Did first self.new settled [] true };
 
     /// Before it meets a line, it did nothing.
-    ghost did_nothing: { (job : Self) → Did job job [] true };
-
-    /// What it did with some lines, and then with more of them, it did with all.
-    ghost did_more: { (first job next : Self) (lines more : List Line) (whole : Bool)
-        → Did first job lines true → Did job next more whole → Did first next (lines ++ more) whole };
+    ghost did_nothing: { (job : Self) → Did job job [] [] true };
 }

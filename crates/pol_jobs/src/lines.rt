@@ -1,15 +1,14 @@
 //! Doing a job line by line.
-ghost use Rattle.std.specs.Prelude.{◌≡◌, ◌≢◌, [], false, true, IsTrue, IfOk, IfErr, OnOk, OnErr};
-ghost use Rattle.std.specs.Io.KnownBytes.{Appends};
+ghost use Rattle.std.specs.Prelude.{◌≡◌, [], false, IsTrue, IfOk, IfErr, OnOk, OnErr};
 ghost use Rattle.pol_io.specs.Causes.{HasCauseOf};
 ghost use Rattle.pol_io.specs.Faults.{Stops};
 ghost use Rattle.pol_io.specs.Known.{Between};
-ghost use Rattle.pol_io.specs.LinesState.{ahead};
+ghost use Rattle.pol_io.specs.LinesState.{ahead, needs_no_source};
 ghost use Rattle.pol_jobs.specs.Deeds.{DidAll, DidSome};
 ghost use Rattle.pol_jobs.specs.Ends.{Completes, Ends, IsTooMuch, Writes, edge};
 ghost use Rattle.pol_jobs.specs.LineWork.{AcceptsEnd, KnowsAfter, output_by};
 ghost use Rattle.pol_jobs.specs.Moments.{moment, IsFresh, IsNext, Leaves, Replied};
-ghost use Rattle.pol_jobs.specs.Written.{WritesSome};
+ghost use Rattle.pol_jobs.specs.Settling.{Puts, PutsBefore, PutsDue, PutsPart};
 
 use crate::fault::JobFault;
 use crate::line_job::{InputLine, LineJob};
@@ -17,6 +16,10 @@ use crate::output::{PutFault, hand_on, put};
 use crate::stop::Stop;
 use pol_io::{IoFault, Line, Lines, Sink, Source};
 use std::alloc::Global;
+
+// The replies that wait are written once they have so many bytes, also where more lines stand there: so memory stays
+// flat, and no reader waits long.
+const LONGEST_GROUP: usize = 65_536;
 
 // Puts what the job replies to the next line into an empty buffer, unless it stops there; None is the end of input.
 fn next_reply<S: Source, J: LineJob>(
@@ -27,13 +30,14 @@ fn next_reply<S: Source, J: LineJob>(
 ) -> Result<Option<Result<(), Stop<J::Refusal>>>, IoFault>
     requires sound { IsTrue lines.old.sound }
     requires empty { out.old.items ≡ [] }
-    ensures next { IfOk result (λ made. IsNext J.work (J.Did job.old job.new)
+    ensures next { IfOk result (λ made. IsNext J.work J.Did job.old job.new
         (moment (J.state job.old) lines.old (S.left source.old))
         (moment (J.state job.new) lines.new (S.left source.new)) made out.new.items) }
     ensures fault { IfErr result (λ fault.
         Stops lines.old.taken (ahead lines.old (S.left source.old)) (S.left source.old) (S.left source.new) fault) }
     ensures open_end { OnErr result (lines.old.ended ≡ false) }
-    ensures did { OnErr result (J.Did job.old job.new [] true) }
+    ensures unasked { IsTrue (needs_no_source lines.old) → source.new ≡ source.old }
+    ensures idle { OnErr result (job.new ≡ job.old) }
     ensures cause { HasCauseOf IoFault.Read (S.faults source.old) (S.faults source.new) result }
 {
     match lines.next_line(source) {
@@ -44,20 +48,70 @@ fn next_reply<S: Source, J: LineJob>(
     }
 }
 
-// Writes a reply. Where the next line doesn't stand there yet, all that was written is handed on: the source is only
-// asked when everybody has their replies.
-#[tactic(auto, using(crate::proofs::Written::nothing_written))]
-fn put_reply<K: Sink>(lines: &mut Lines, sink: &mut K, reply: &[u8]) -> Result<(), PutFault>
-    ensures same { lines.new ≡ lines.old }
-    ensures text { OnOk result (Appends (K.held sink.old) (K.held sink.new) reply.now) }
-    ensures part { OnErr result (WritesSome (K.held sink.old) (K.held sink.new) reply.now) }
+// Settles the lines that wait, and then writes the replies to them.
+fn put_replies<K: Sink, J: LineJob>(
+    job: &mut J,
+    sink: &mut K,
+    replies: &mut Vec<u8>,
+) -> Result<(), PutFault>
+    ensures kept { J.state job.new ≡ J.state job.old }
+    ensures put { OnOk result (Puts J.Did J.SETTLES_EACH job.old job.new
+        (K.held sink.old) (K.held sink.new) replies.old.items) }
+    ensures empty { OnOk result (replies.new.items ≡ []) }
+    ensures part { OnErr result (PutsPart J.Did J.SETTLES_EACH job.old job.new
+        (K.held sink.old) (K.held sink.new) replies.old.items) }
     ensures cause { HasCauseOf PutFault.Write (K.faults sink.old) (K.faults sink.new) result }
 {
-    put(sink, reply)?;
-    if lines.has_next() {
+    job.settle()?;
+    put(sink, replies)?;
+    replies.clear();
+    Ok(())
+}
+
+// Puts the replies out where it is time: the next line doesn't stand there yet, so that the source is only asked when
+// everybody has their replies; or the job settles each line; or too much waits.
+fn put_due<K: Sink, J: LineJob>(
+    lines: &mut Lines,
+    job: &mut J,
+    sink: &mut K,
+    replies: &mut Vec<u8>,
+) -> Result<(), PutFault>
+    ensures same { lines.new ≡ lines.old }
+    ensures kept { J.state job.new ≡ J.state job.old }
+    ensures put { OnOk result (PutsDue J.Did J.SETTLES_EACH lines.old job.old job.new
+        (K.held sink.old) (K.held sink.new) replies.old.items replies.new.items) }
+    ensures part { OnErr result (PutsPart J.Did J.SETTLES_EACH job.old job.new
+        (K.held sink.old) (K.held sink.new) replies.old.items) }
+    ensures cause { HasCauseOf PutFault.Write (K.faults sink.old) (K.faults sink.new) result }
+{
+    let goes_on = lines.has_next() && !J::SETTLES_EACH;
+    if goes_on && replies.len() < LONGEST_GROUP {
+        return Ok(());
+    }
+    put_replies(job, sink, replies)?;
+    if goes_on {
         return Ok(());
     }
     hand_on(sink)
+}
+
+// Where the job stopped at a line, puts out the replies to the lines before it. A job that settles each line has no
+// others.
+fn put_before_stop<K: Sink, J: LineJob>(
+    job: &mut J,
+    sink: &mut K,
+    replies: &mut Vec<u8>,
+) -> Result<(), PutFault>
+    ensures put { OnOk result (PutsBefore J.Did J.SETTLES_EACH job.old job.new
+        (K.held sink.old) (K.held sink.new) replies.old.items) }
+    ensures part { OnErr result ((J.SETTLES_EACH ≡ false) × PutsPart J.Did J.SETTLES_EACH job.old job.new
+        (K.held sink.old) (K.held sink.new) replies.old.items) }
+    ensures cause { HasCauseOf PutFault.Write (K.faults sink.old) (K.faults sink.new) result }
+{
+    if J::SETTLES_EACH {
+        return Ok(());
+    }
+    put_replies(job, sink, replies)
 }
 
 // Replies to each line of the source.
@@ -83,11 +137,17 @@ fn reply_to_all<S: Source, K: Sink, J: LineJob>(
     ensures write_cause { HasCauseOf JobFault.Write (K.faults sink.old) (K.faults sink.new) result }
 {
     let mut out = Vec::new(alloc);
+    let mut replies = Vec::new(alloc);
     while let Some(made) = next_reply(lines, job, source, &mut out)? {
-        made?;
-        put_reply(lines, sink, &out)?;
+        if let Err(stop) = made {
+            put_before_stop(job, sink, &mut replies)?;
+            return Err(stop.into());
+        }
+        replies.extend_from_slice(&out)?;
         out.clear();
+        put_due(lines, job, sink, &mut replies)?;
     }
+    put_replies(job, sink, &mut replies)?;
     Ok(())
 }
 
@@ -123,8 +183,8 @@ fn reply_and_close<S: Source, K: Sink, J: LineJob>(
 
 /// Does the job: replies to each line of the source, and then closes the output. How it ends is one row for each
 /// result; and where nothing fails, an input that fits is done or refused as it should be, unless there was no memory.
-/// What else the job did, it did with all lines of the input, or with the first ones, of which it may have stopped at
-/// the last.
+/// What else the job did, it did and settled with all lines of the input, or with the first ones; of these some may wait
+/// unsettled behind the others, and no more was written than the replies to the settled ones.
 #[tactic(auto, using(crate::proofs::Ending::work_ends))]
 pub fn work<S: Source, K: Sink, J: LineJob>(
     alloc: Global,

@@ -2,6 +2,7 @@
 use std::alloc::AllocError;
 
 /// Why a job goes no further, at a line or at the end of its input.
+#[derive(Drop)]
 pub enum Stop<R> {
     /// There was no memory.
     Memory,

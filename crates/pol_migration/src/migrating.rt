@@ -55,8 +55,12 @@ impl Migrating {
 impl LineJob for Migrating {
     type Refusal = Infallible;
 
-    ghost use Rattle.std.specs.Prelude.{⊤};
+    const SETTLES_EACH: bool = false;
+
+    ghost use Rattle.std.specs.Prelude.{⊤, false};
     ghost use Rattle.pol_migration.specs.Job.{migrating_work};
+
+    ghost SETTLES_EACH = { false };
 
     ghost State = { ⊤ };
 
@@ -64,16 +68,18 @@ impl LineJob for Migrating {
 
     ghost work = { migrating_work };
 
-    ghost Did = { λ _ _ _ _. ⊤ };
+    ghost Did = { λ _ _ _ _ _. ⊤ };
 
     ghost did_nothing = { λ _. tt };
-
-    ghost did_more = { λ _ _ _ _ _ _ _ _. tt };
 
     fn reply(&mut self, line: InputLine<'_>, out: &mut Vec<u8>) -> Result<(), Stop<Infallible>> {
         if let InputLine::Text(text) = line {
             put_line(self.alloc, text, out)?;
         }
+        Ok(())
+    }
+
+    fn settle(&mut self) -> Result<(), AllocError> {
         Ok(())
     }
 

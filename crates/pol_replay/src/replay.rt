@@ -115,10 +115,14 @@ impl Replay {
 impl LineJob for Replay {
     type Refusal = Infallible;
 
-    ghost use Rattle.std.specs.Prelude.{⊤};
+    const SETTLES_EACH: bool = false;
+
+    ghost use Rattle.std.specs.Prelude.{⊤, false};
     ghost use Rattle.pol_history.specs.Looking.{History};
     ghost use Rattle.pol_core.specs.Plants.{plant_history};
     ghost use Rattle.pol_replay.specs.Replay.{replay_work};
+
+    ghost SETTLES_EACH = { false };
 
     ghost State = { History };
 
@@ -126,14 +130,16 @@ impl LineJob for Replay {
 
     ghost work = { replay_work };
 
-    ghost Did = { λ _ _ _ _. ⊤ };
+    ghost Did = { λ _ _ _ _ _. ⊤ };
 
     ghost did_nothing = { λ _. tt };
 
-    ghost did_more = { λ _ _ _ _ _ _ _ _. tt };
-
     fn reply(&mut self, line: InputLine<'_>, out: &mut Vec<u8>) -> Result<(), Stop<Infallible>> {
         answer(self.alloc, &mut self.plant, line, out)?;
+        Ok(())
+    }
+
+    fn settle(&mut self) -> Result<(), AllocError> {
         Ok(())
     }
 

@@ -44,10 +44,14 @@ impl Auditing {
 impl LineJob for Auditing {
     type Refusal = Infallible;
 
-    ghost use Rattle.std.specs.Prelude.{⊤};
+    const SETTLES_EACH: bool = false;
+
+    ghost use Rattle.std.specs.Prelude.{⊤, false};
     ghost use Rattle.pol_audit.specs.Audits.{plain_audit};
     ghost use Rattle.pol_audit.specs.Reading.{Read};
     ghost use Rattle.pol_cli.specs.Audits.{audit_work};
+
+    ghost SETTLES_EACH = { false };
 
     ghost State = { Read };
 
@@ -55,11 +59,9 @@ impl LineJob for Auditing {
 
     ghost work = { audit_work };
 
-    ghost Did = { λ _ _ _ _. ⊤ };
+    ghost Did = { λ _ _ _ _ _. ⊤ };
 
     ghost did_nothing = { λ _. tt };
-
-    ghost did_more = { λ _ _ _ _ _ _ _ _. tt };
 
     #[tactic(auto, using(crate::proofs::Auditing::blank_read, crate::proofs::Auditing::filled_read))]
     fn reply(&mut self, line: InputLine<'_>, _out: &mut Vec<u8>) -> Result<(), Stop<Infallible>> {
@@ -68,6 +70,10 @@ impl LineJob for Auditing {
             InputLine::Text(text) => self.audit.read_line(text)?,
             InputLine::TooLong => self.audit.read_too_long()?,
         }
+        Ok(())
+    }
+
+    fn settle(&mut self) -> Result<(), AllocError> {
         Ok(())
     }
 

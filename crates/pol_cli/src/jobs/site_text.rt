@@ -111,8 +111,12 @@ impl SiteText {
 impl LineJob for SiteText {
     type Refusal = JsonFault;
 
-    ghost use Rattle.std.specs.Prelude.{⊤};
+    const SETTLES_EACH: bool = false;
+
+    ghost use Rattle.std.specs.Prelude.{⊤, false};
     ghost use Rattle.pol_cli.specs.SiteTexts.{Told, site_work, lines_told};
+
+    ghost SETTLES_EACH = { false };
 
     ghost State = { Told };
 
@@ -120,11 +124,9 @@ impl LineJob for SiteText {
 
     ghost work = { site_work };
 
-    ghost Did = { λ _ _ _ _. ⊤ };
+    ghost Did = { λ _ _ _ _ _. ⊤ };
 
     ghost did_nothing = { λ _. tt };
-
-    ghost did_more = { λ _ _ _ _ _ _ _ _. tt };
 
     #[tactic(auto, using(crate::proofs::SiteTexts::after_blank, crate::proofs::SiteTexts::after_some))]
     fn reply(&mut self, line: InputLine<'_>, _out: &mut Vec<u8>) -> Result<(), Stop<JsonFault>> {
@@ -133,6 +135,10 @@ impl LineJob for SiteText {
             InputLine::Text(text) => self.lines = self.lines.after(self.alloc, text)?,
             InputLine::TooLong => self.lines = self.lines.after_long(self.alloc),
         }
+        Ok(())
+    }
+
+    fn settle(&mut self) -> Result<(), AllocError> {
         Ok(())
     }
 

@@ -5,7 +5,7 @@ use Rattle.pol_jobs.proofs.lines.next_reply.Goals as goal
 
 pub returns-in-Ok-Text-clause-next : goal.returns-in-Ok-Text-clause-next
 returns-in-Ok-Text-clause-next g c =
-    text_next g.J.LineJob.work (g.J.LineJob.Did c.args.job.now c.reply.new.self)
+    text_next g.J.LineJob.work g.J.LineJob.Did c.args.job.now c.reply.new.self
     (moment (g.J.LineJob.state c.args.job.now) c.args.lines.now (g.S.Source.left c.args.source.now))
     (moment (g.J.LineJob.state c.reply.new.self) c.next_line.follows.lender-at-none
     (g.S.Source.left c.next_line.new.source)) c.reply.result c.args.out.now.items c.reply.new.out.items
@@ -15,7 +15,7 @@ returns-in-Ok-Text-clause-next g c =
 
 pub returns-in-Ok-TooLong-clause-next : goal.returns-in-Ok-TooLong-clause-next
 returns-in-Ok-TooLong-clause-next g c =
-    long_next g.J.LineJob.work (g.J.LineJob.Did c.args.job.now c.reply-in-Ok-TooLong.new.self)
+    long_next g.J.LineJob.work g.J.LineJob.Did c.args.job.now c.reply-in-Ok-TooLong.new.self
     (moment (g.J.LineJob.state c.args.job.now) c.args.lines.now (g.S.Source.left c.args.source.now))
     (moment (g.J.LineJob.state c.reply-in-Ok-TooLong.new.self) c.next_line.follows.lender-at-none
     (g.S.Source.left c.next_line.new.source)) c.reply-in-Ok-TooLong.result c.args.out.now.items

@@ -28,26 +28,23 @@ returns-in_err-lines-clause-did_some g c =
 pub returns-in_err-end-clause-did_some : goal.returns-in_err-end-clause-did_some
 returns-in_err-end-clause-did_some g c =
     let fault = err_from_is_err_and c.from_residual-in_err-end.result c.from_residual-in_err-end.ensures.1 in
+    let did = g.J.LineJob.Did c.args.job.now in
     rw fault.1 (all_some g.J.LineJob.work _ _ _ _ _
-    (all_more _ _ _ (g.met.J.LineJob.did_more c.args.job.now c.reply_to_all.new.job c.end.new.self) _
-    c.in_ok-reply_to_all.ensures.did_all c.in_err-end.ensures.did))
+    (all_more (did c.reply_to_all.new.job) (did c.end.new.self) _ c.in_ok-reply_to_all.ensures.did_all
+    (c.in_err-end.ensures.did c.args.job.now)))
 
 pub returns-in_err-close-clause-did_some : goal.returns-in_err-close-clause-did_some
 returns-in_err-close-clause-did_some g c =
     let fault = err_from_is_err_and c.from_residual-in_err-close.result c.from_residual-in_err-close.ensures.1 in
-    let did = g.J.LineJob.Did in
+    let did = g.J.LineJob.Did c.args.job.now in
     rw fault.1 (all_some g.J.LineJob.work _ _ _ _ _
-    (all_more (did c.args.job.now c.end.new.self) _ _
-    (g.met.J.LineJob.did_more c.args.job.now c.end.new.self c.close.new.self) _
-    (all_more (did c.args.job.now c.reply_to_all.new.job) _ _
-    (g.met.J.LineJob.did_more c.args.job.now c.reply_to_all.new.job c.end.new.self) _
-    c.in_ok-reply_to_all.ensures.did_all c.in_ok-end.ensures.did) c.in_err-close.ensures.did))
+    (all_more (did c.end.new.self) (did c.close.new.self) _
+    (all_more (did c.reply_to_all.new.job) (did c.end.new.self) _ c.in_ok-reply_to_all.ensures.did_all
+    (c.in_ok-end.ensures.did c.args.job.now)) (c.in_err-close.ensures.did c.args.job.now)))
 
 pub returns-clause-did_all : goal.returns-clause-did_all
 returns-clause-did_all g c =
-    let did = g.J.LineJob.Did in
-    all_more (did c.args.job.now c.end.new.self) _ _
-    (g.met.J.LineJob.did_more c.args.job.now c.end.new.self c.close.new.self) _
-    (all_more (did c.args.job.now c.reply_to_all.new.job) _ _
-    (g.met.J.LineJob.did_more c.args.job.now c.reply_to_all.new.job c.end.new.self) _
-    c.in_ok-reply_to_all.ensures.did_all c.in_ok-end.ensures.did) c.in_ok-close.ensures.did
+    let did = g.J.LineJob.Did c.args.job.now in
+    all_more (did c.end.new.self) (did c.close.new.self) _
+    (all_more (did c.reply_to_all.new.job) (did c.end.new.self) _ c.in_ok-reply_to_all.ensures.did_all
+    (c.in_ok-end.ensures.did c.args.job.now)) (c.in_ok-close.ensures.did c.args.job.now)

@@ -1,105 +1,279 @@
-use Rattle.std.proofs.Common.{refl, ◌∙◌, subst}
-use Rattle.std.specs.Io.KnownBytes.{Appends}
+use Rattle.std.proofs.Common.{◌++◌, [], refl, ◌∙◌, ap, rules}
+use Rattle.std.specs.Prelude.{IsOk}
 use Rattle.std.proofs.lemmas.Result.{err_from_is_err_and}
 use Rattle.pol_jobs.specs.Moments.{moment}
-use Rattle.pol_jobs.specs.Written.{WritesSome}
-use Rattle.pol_jobs.proofs.Deeds.{are_served, did_all, did_before, did_stop, did_unwritten, served_none, served_on}
-use Rattle.pol_jobs.proofs.Serving.{moves_none, moves_on, served_all, stopped_read, too_much_counted, unput, unreplied}
+use Rattle.pol_jobs.proofs.Deeds.{are_served, did_all, did_before, did_part, did_stop, did_stop_part, did_unheld, due_each, due_idle, served_due, served_last, served_none, served_on, served_settled}
+use Rattle.pol_jobs.proofs.Serving.{moves_none, moves_on, served_all, served_idle, stopped_read, too_much_counted, unheld, unput, unput_before, unreplied}
 use Rattle.pol_jobs.proofs.lines.reply_to_all.Goals as goal
 
-pub loop-out-init : goal.loop-out-init
-loop-out-init g c =
+pub loop-replies-init : goal.loop-replies-init
+loop-replies-init g c =
     let first = moment (g.J.LineJob.state c.args.job.now) c.args.lines.now (g.S.Source.left c.args.source.now) in
     record {
-      served = served_none g.J.LineJob.work _ first _ (g.met.J.LineJob.did_nothing c.args.job.now) c.requires;
+      served = rw c.new-replies.ensures.items
+          (served_none g.J.LineJob.work (g.J.LineJob.Did c.args.job.now c.args.job.now) first
+          (g.K.Sink.held c.args.sink.now) (g.met.J.LineJob.did_nothing c.args.job.now) c.requires);
       moves = moves_none first c.requires;
       source_sound = refl;
       sink_sound = refl;
       empty = c.new-out.ensures.items;
+      idle = λ asks. c.new-replies.ensures.items;
+      each = λ settles. c.new-replies.ensures.items;
     }
 
-pub loop-out-preserved : goal.loop-out-preserved
-loop-out-preserved g c =
-    let invariant = c.loop-out.invariant in
-    rw c.in_ok-put_reply.ensures.same (record {
-      served = (served_on g.J.LineJob.work _ _ _ _
-          (g.met.J.LineJob.did_more c.args.job.now c.loop-out.job c.next_reply.new.job) _ _ _ _ _ c.in-Some.made _
-          invariant.served (rw c.in-Some.is at c.in_ok-made.ensures.next) (rw c.in_ok-made-2.was refl)
-          (subst (Appends (g.K.Sink.held c.loop-out.sink) (g.K.Sink.held c.put_reply.new.sink)) c.deref.ensures.value
-          c.in_ok-put_reply.ensures.text));
-      moves = (moves_on _ _ _ invariant.moves c.in_ok-made.ensures.next.moves);
+pub loop-replies-preserved : goal.loop-replies-preserved
+loop-replies-preserved g c =
+    let invariant = c.loop-replies.invariant in
+    let Did = g.J.LineJob.Did in
+    let held = g.K.Sink.held in
+    let first = moment (g.J.LineJob.state c.args.job.now) c.args.lines.now (g.S.Source.left c.args.source.now) in
+    let now = moment (g.J.LineJob.state c.loop-replies.job) c.loop-replies.lines
+    (g.S.Source.left c.loop-replies.source) in
+    let next = moment (g.J.LineJob.state c.next_reply.new.job) c.next_reply.new.lines
+    (g.S.Source.left c.next_reply.new.source) in
+    let waits = c.extend_from_slice.new.self.items in
+    let ok : IsOk c.in-Some.made = search rules in
+    let has = served_on g.J.LineJob.work Did c.args.job.now first c.loop-replies.job c.next_reply.new.job now next
+    (held c.args.sink.now) (held c.loop-replies.sink) c.loop-replies.replies.items waits c.in-Some.made
+    c.next_reply.new.out.items
+    (c.in_ok-extend_from_slice.ensures.items
+    ∙ ap (λ reply. c.loop-replies.replies.items ++ reply) c.deref.ensures.value) ok invariant.served
+    (rw c.in-Some.is at c.in_ok-made.ensures.next) in
+    let put = c.in_ok-put_due.ensures.put in
+    let each = g.J.LineJob.SETTLES_EACH in
+    rw c.in_ok-put_due.ensures.same (record {
+      served = served_due g.J.LineJob.work Did c.args.job.now first each c.next_reply.new.lines c.next_reply.new.job
+          c.put_due.new.job next (g.J.LineJob.state c.put_due.new.job) (held c.args.sink.now)
+          (held c.loop-replies.sink) (held c.put_due.new.sink) waits c.put_due.new.replies.items has
+          c.in_ok-put_due.ensures.kept put;
+      moves = rw c.in_ok-put_due.ensures.kept
+          (moves_on first now next invariant.moves c.in_ok-made.ensures.next.moves);
       source_sound = c.in_ok-made.ensures.cause.done ∙ invariant.source_sound;
-      sink_sound = c.in_ok-put_reply.ensures.cause.done ∙ invariant.sink_sound;
+      sink_sound = c.in_ok-put_due.ensures.cause.done ∙ invariant.sink_sound;
       empty = c.clear.ensures.items;
+      idle = due_idle Did each c.next_reply.new.lines c.next_reply.new.job c.put_due.new.job
+          (held c.loop-replies.sink) (held c.put_due.new.sink) waits c.put_due.new.replies.items put;
+      each = due_each Did each c.next_reply.new.lines c.next_reply.new.job c.put_due.new.job
+          (held c.loop-replies.sink) (held c.put_due.new.sink) waits c.put_due.new.replies.items put;
     })
-
-pub returns-clause-replied : goal.returns-clause-replied
-returns-clause-replied g c =
-    let invariant = c.loop-out.invariant in
-    let next = rw c.in_default.is at c.in_ok-made.ensures.next in
-    served_all g.J.LineJob.work _ _ _ _ _ _ _ c.requires (are_served g.J.LineJob.work _ _ _ _ _ invariant.served) next
-    (moves_on _ _ _ invariant.moves c.in_ok-made.ensures.next.moves)
-
-pub returns-clause-did_all : goal.returns-clause-did_all
-returns-clause-did_all g c =
-    let next = rw c.in_default.is at c.in_ok-made.ensures.next in
-    did_all g.J.LineJob.work _ _ _ _
-    (g.met.J.LineJob.did_more c.args.job.now c.loop-out.job c.next_reply.new.job) _ _ _ _ _
-    c.loop-out.invariant.served next
 
 pub returns-in_err-made-clause-leaves : goal.returns-in_err-made-clause-leaves
 returns-in_err-made-clause-leaves g c =
     let fault = err_from_is_err_and c.from_residual.result c.from_residual.ensures.1 in
-    let invariant = c.loop-out.invariant in
-    rw (fault.1, fault.2) (stopped_read g.J.LineJob.work (g.J.LineJob.Did c.args.job.now c.loop-out.job) _ _ _ _ _ _
-    c.requires (are_served g.J.LineJob.work _ _ _ _ _ invariant.served) invariant.moves c.in_err-made.ensures.open_end
-    c.in_err-made.ensures.fault)
+    let invariant = c.loop-replies.invariant in
+    let first = moment (g.J.LineJob.state c.args.job.now) c.args.lines.now (g.S.Source.left c.args.source.now) in
+    let now = moment (g.J.LineJob.state c.loop-replies.job) c.loop-replies.lines
+    (g.S.Source.left c.loop-replies.source) in
+    let err = c.in_err-made.ensures in
+    rw (fault.1, fault.2) (stopped_read g.J.LineJob.work first now (g.K.Sink.held c.args.sink.now)
+    (g.K.Sink.held c.loop-replies.sink) (g.S.Source.left c.next_reply.new.source) _ c.requires
+    (served_idle g.J.LineJob.work first now (g.K.Sink.held c.args.sink.now) (g.K.Sink.held c.loop-replies.sink)
+    (g.S.Source.left c.next_reply.new.source) c.loop-replies.replies.items _
+    (are_served g.J.LineJob.work (g.J.LineJob.Did c.args.job.now c.loop-replies.job) first now
+    (g.K.Sink.held c.args.sink.now) (g.K.Sink.held c.loop-replies.sink) c.loop-replies.replies.items invariant.served)
+    invariant.moves err.open_end err.fault (λ next. ap g.S.Source.left (err.unasked next)) invariant.idle)
+    invariant.moves err.open_end err.fault)
 
 pub returns-in_err-made-clause-too_much : goal.returns-in_err-made-clause-too_much
 returns-in_err-made-clause-too_much g c =
     let fault = err_from_is_err_and c.from_residual.result c.from_residual.ensures.1 in
-    rw (fault.1, fault.2) (too_much_counted _ _ _ _ c.requires c.loop-out.invariant.moves c.in_err-made.ensures.fault)
+    rw (fault.1, fault.2) (too_much_counted _ _ _ _ c.requires c.loop-replies.invariant.moves
+    c.in_err-made.ensures.fault)
 
 pub returns-in_err-made-clause-did_some : goal.returns-in_err-made-clause-did_some
 returns-in_err-made-clause-did_some g c =
     let fault = err_from_is_err_and c.from_residual.result c.from_residual.ensures.1 in
-    rw fault.1 (did_before g.J.LineJob.work _ _ _ _
-    (g.met.J.LineJob.did_more c.args.job.now c.loop-out.job c.next_reply.new.job) _ _ _ c.loop-out.invariant.served
-    c.in_err-made.ensures.did)
+    rw fault.1 (did_before g.J.LineJob.work g.J.LineJob.Did c.args.job.now _ c.loop-replies.job c.next_reply.new.job
+    _ _ _ _ c.loop-replies.invariant.served c.in_err-made.ensures.idle)
 
-pub returns-in_err-made-2-clause-leaves : goal.returns-in_err-made-2-clause-leaves
-returns-in_err-made-2-clause-leaves g c =
-    let fault = err_from_is_err_and c.from_residual-in_err-made-2.result c.from_residual-in_err-made-2.ensures.1 in
-    let invariant = c.loop-out.invariant in
-    rw (fault.1, fault.2) (unreplied g.J.LineJob.work _ _ _ _ _ _ _ c.in-Some.made _ c.in_err-made-2.was c.requires
-    (are_served g.J.LineJob.work _ _ _ _ _ invariant.served) (rw c.in-Some.is at c.in_ok-made.ensures.next)
+pub returns-in_err-put_before_stop-clause-leaves : goal.returns-in_err-put_before_stop-clause-leaves
+returns-in_err-put_before_stop-clause-leaves g c =
+    let fault = err_from_is_err_and c.from_residual-in_err-put_before_stop.result
+    c.from_residual-in_err-put_before_stop.ensures.1 in
+    let invariant = c.loop-replies.invariant in
+    let next = rw c.in-Some.is at c.in_ok-made.ensures.next in
+    rw (fault.1, fault.2) (unput_before g.J.LineJob.work _ g.J.LineJob.Did g.J.LineJob.SETTLES_EACH c.next_reply.new.job
+    c.put_before_stop.new.job _ _ _ _ _ _ c.loop-replies.replies.items next.next c.in-Some.made _ c.requires
+    (are_served g.J.LineJob.work _ _ _ _ _ _ invariant.served) next.replies
+    (moves_on _ _ _ invariant.moves c.in_ok-made.ensures.next.moves) c.in_err-put_before_stop.ensures.part.1)
+
+pub returns-in_err-put_before_stop-clause-did_some : goal.returns-in_err-put_before_stop-clause-did_some
+returns-in_err-put_before_stop-clause-did_some g c =
+    let fault = err_from_is_err_and c.from_residual-in_err-put_before_stop.result
+    c.from_residual-in_err-put_before_stop.ensures.1 in
+    rw fault.1 (did_stop_part g.J.LineJob.work g.J.LineJob.Did c.args.job.now _ g.J.LineJob.SETTLES_EACH c.in-Err.stop
+    c.loop-replies.job c.next_reply.new.job c.put_before_stop.new.job _ _ _ _ _ c.loop-replies.replies.items
+    c.in-Some.made _ c.in-Err.is c.loop-replies.invariant.served (rw c.in-Some.is at c.in_ok-made.ensures.next)
+    c.in_err-put_before_stop.ensures.part.0 c.in_err-put_before_stop.ensures.part.1)
+
+pub returns-in-Err-clause-leaves : goal.returns-in-Err-clause-leaves
+returns-in-Err-clause-leaves g c =
+    let invariant = c.loop-replies.invariant in
+    let next = rw c.in-Some.is at c.in_ok-made.ensures.next in
+    rw c.into.ensures (unreplied g.J.LineJob.work _ g.J.LineJob.Did g.J.LineJob.SETTLES_EACH c.next_reply.new.job
+    c.put_before_stop.new.job c.in-Err.stop _ _ _ _ _ c.loop-replies.replies.items next.next c.in-Some.made _
+    c.in-Err.is c.requires (are_served g.J.LineJob.work _ _ _ _ _ _ invariant.served) next.replies
+    (moves_on _ _ _ invariant.moves c.in_ok-made.ensures.next.moves) invariant.each
+    c.in_ok-put_before_stop.ensures.put)
+
+pub returns-in-Err-clause-did_some : goal.returns-in-Err-clause-did_some
+returns-in-Err-clause-did_some g c =
+    did_stop g.J.LineJob.work g.J.LineJob.Did c.args.job.now _ g.J.LineJob.SETTLES_EACH c.in-Err.stop c.loop-replies.job
+    c.next_reply.new.job c.put_before_stop.new.job _ _ _ _ _ c.loop-replies.replies.items c.in-Some.made _ c.in-Err.is
+    c.loop-replies.invariant.served (rw c.in-Some.is at c.in_ok-made.ensures.next)
+    c.in_ok-put_before_stop.ensures.put
+
+pub returns-in_err-extend_from_slice-clause-leaves : goal.returns-in_err-extend_from_slice-clause-leaves
+returns-in_err-extend_from_slice-clause-leaves g c =
+    let fault = err_from_is_err_and c.from_residual-in_err-extend_from_slice.result
+    c.from_residual-in_err-extend_from_slice.ensures.1 in
+    let invariant = c.loop-replies.invariant in
+    let next = rw c.in-Some.is at c.in_ok-made.ensures.next in
+    rw (fault.1, fault.2) (unheld g.J.LineJob.work _ _ _ _ _ c.loop-replies.replies.items next.next c.in-Some.made _
+    c.requires (are_served g.J.LineJob.work _ _ _ _ _ _ invariant.served) next.replies
     (moves_on _ _ _ invariant.moves c.in_ok-made.ensures.next.moves))
 
-pub returns-in_err-made-2-clause-did_some : goal.returns-in_err-made-2-clause-did_some
-returns-in_err-made-2-clause-did_some g c =
-    let fault = err_from_is_err_and c.from_residual-in_err-made-2.result c.from_residual-in_err-made-2.ensures.1 in
-    rw fault.1 (did_stop g.J.LineJob.work _ _ _ _
-    (g.met.J.LineJob.did_more c.args.job.now c.loop-out.job c.next_reply.new.job) _ _ _ _ _ c.in-Some.made _
-    c.in_err-made-2.was c.loop-out.invariant.served (rw c.in-Some.is at c.in_ok-made.ensures.next))
+pub returns-in_err-extend_from_slice-clause-did_some : goal.returns-in_err-extend_from_slice-clause-did_some
+returns-in_err-extend_from_slice-clause-did_some g c =
+    let fault = err_from_is_err_and c.from_residual-in_err-extend_from_slice.result
+    c.from_residual-in_err-extend_from_slice.ensures.1 in
+    rw fault.1 (did_unheld g.J.LineJob.work g.J.LineJob.Did c.args.job.now _ c.loop-replies.job c.next_reply.new.job
+    _ _ _ _ c.loop-replies.replies.items c.in-Some.made _ c.loop-replies.invariant.served
+    (rw c.in-Some.is at c.in_ok-made.ensures.next))
 
-pub returns-in_err-put_reply-clause-leaves : goal.returns-in_err-put_reply-clause-leaves
-returns-in_err-put_reply-clause-leaves g c =
-    let fault = err_from_is_err_and c.from_residual-in_err-put_reply.result c.from_residual-in_err-put_reply.ensures.1
-    in
-    let invariant = c.loop-out.invariant in
-    rw (fault.1, fault.2) (unput g.J.LineJob.work _ _ _ _ _ _ _ _ c.in-Some.made _ (rw c.in_ok-made-2.was refl)
-    c.requires (are_served g.J.LineJob.work _ _ _ _ _ invariant.served)
-    (rw c.in-Some.is at c.in_ok-made.ensures.next)
-    (moves_on _ _ _ invariant.moves c.in_ok-made.ensures.next.moves)
-    (subst (WritesSome (g.K.Sink.held c.loop-out.sink) (g.K.Sink.held c.put_reply.new.sink)) c.deref.ensures.value
-    c.in_err-put_reply.ensures.part))
+pub returns-in_err-put_due-clause-leaves : goal.returns-in_err-put_due-clause-leaves
+returns-in_err-put_due-clause-leaves g c =
+    let fault = err_from_is_err_and c.from_residual-in_err-put_due.result
+    c.from_residual-in_err-put_due.ensures.1 in
+    let invariant = c.loop-replies.invariant in
+    let Did = g.J.LineJob.Did in
+    let held = g.K.Sink.held in
+    let first = moment (g.J.LineJob.state c.args.job.now) c.args.lines.now (g.S.Source.left c.args.source.now) in
+    let now = moment (g.J.LineJob.state c.loop-replies.job) c.loop-replies.lines
+    (g.S.Source.left c.loop-replies.source) in
+    let next = moment (g.J.LineJob.state c.next_reply.new.job) c.next_reply.new.lines
+    (g.S.Source.left c.next_reply.new.source) in
+    let waits = c.extend_from_slice.new.self.items in
+    let ok : IsOk c.in-Some.made = search rules in
+    let has = served_on g.J.LineJob.work Did c.args.job.now first c.loop-replies.job c.next_reply.new.job now next
+    (held c.args.sink.now) (held c.loop-replies.sink) c.loop-replies.replies.items waits c.in-Some.made
+    c.next_reply.new.out.items
+    (c.in_ok-extend_from_slice.ensures.items
+    ∙ ap (λ reply. c.loop-replies.replies.items ++ reply) c.deref.ensures.value) ok invariant.served
+    (rw c.in-Some.is at c.in_ok-made.ensures.next) in
+    rw (fault.1, fault.2) (unput g.J.LineJob.work first Did g.J.LineJob.SETTLES_EACH c.next_reply.new.job
+    c.put_due.new.job _ next (held c.args.sink.now) (held c.loop-replies.sink) (held c.put_due.new.sink) waits
+    c.requires (are_served g.J.LineJob.work (Did c.args.job.now c.next_reply.new.job) first next
+    (held c.args.sink.now) (held c.loop-replies.sink) waits has)
+    (moves_on first now next invariant.moves c.in_ok-made.ensures.next.moves) c.in_err-put_due.ensures.part)
 
-pub returns-in_err-put_reply-clause-did_some : goal.returns-in_err-put_reply-clause-did_some
-returns-in_err-put_reply-clause-did_some g c =
-    let fault = err_from_is_err_and c.from_residual-in_err-put_reply.result c.from_residual-in_err-put_reply.ensures.1
-    in
-    rw fault.1 (did_unwritten g.J.LineJob.work _ _ _ _
-    (g.met.J.LineJob.did_more c.args.job.now c.loop-out.job c.next_reply.new.job) _ _ _ _ _ c.in-Some.made _
-    (rw c.in_ok-made-2.was refl) c.loop-out.invariant.served (rw c.in-Some.is at c.in_ok-made.ensures.next)
-    (subst (WritesSome (g.K.Sink.held c.loop-out.sink) (g.K.Sink.held c.put_reply.new.sink)) c.deref.ensures.value
-    c.in_err-put_reply.ensures.part))
+pub returns-in_err-put_due-clause-did_some : goal.returns-in_err-put_due-clause-did_some
+returns-in_err-put_due-clause-did_some g c =
+    let fault = err_from_is_err_and c.from_residual-in_err-put_due.result
+    c.from_residual-in_err-put_due.ensures.1 in
+    let invariant = c.loop-replies.invariant in
+    let Did = g.J.LineJob.Did in
+    let held = g.K.Sink.held in
+    let first = moment (g.J.LineJob.state c.args.job.now) c.args.lines.now (g.S.Source.left c.args.source.now) in
+    let now = moment (g.J.LineJob.state c.loop-replies.job) c.loop-replies.lines
+    (g.S.Source.left c.loop-replies.source) in
+    let next = moment (g.J.LineJob.state c.next_reply.new.job) c.next_reply.new.lines
+    (g.S.Source.left c.next_reply.new.source) in
+    let waits = c.extend_from_slice.new.self.items in
+    let ok : IsOk c.in-Some.made = search rules in
+    let has = served_on g.J.LineJob.work Did c.args.job.now first c.loop-replies.job c.next_reply.new.job now next
+    (held c.args.sink.now) (held c.loop-replies.sink) c.loop-replies.replies.items waits c.in-Some.made
+    c.next_reply.new.out.items
+    (c.in_ok-extend_from_slice.ensures.items
+    ∙ ap (λ reply. c.loop-replies.replies.items ++ reply) c.deref.ensures.value) ok invariant.served
+    (rw c.in-Some.is at c.in_ok-made.ensures.next) in
+    rw fault.1 (did_part g.J.LineJob.work Did c.args.job.now first g.J.LineJob.SETTLES_EACH c.next_reply.new.job
+    c.put_due.new.job next (held c.args.sink.now) (held c.loop-replies.sink) (held c.put_due.new.sink) waits has
+    c.in_err-put_due.ensures.part)
+
+pub returns-in_err-put_replies-clause-leaves : goal.returns-in_err-put_replies-clause-leaves
+returns-in_err-put_replies-clause-leaves g c =
+    let fault = err_from_is_err_and c.from_residual-in_err-put_replies.result
+    c.from_residual-in_err-put_replies.ensures.1 in
+    let invariant = c.loop-replies.invariant in
+    let Did = g.J.LineJob.Did in
+    let held = g.K.Sink.held in
+    let first = moment (g.J.LineJob.state c.args.job.now) c.args.lines.now (g.S.Source.left c.args.source.now) in
+    let now = moment (g.J.LineJob.state c.loop-replies.job) c.loop-replies.lines
+    (g.S.Source.left c.loop-replies.source) in
+    let next = moment (g.J.LineJob.state c.next_reply.new.job) c.next_reply.new.lines
+    (g.S.Source.left c.next_reply.new.source) in
+    let waits = c.loop-replies.replies.items in
+    let has = served_last g.J.LineJob.work Did c.args.job.now first c.loop-replies.job c.next_reply.new.job now next
+    (held c.args.sink.now) (held c.loop-replies.sink) waits c.next_reply.new.out.items invariant.served
+    (rw c.in_default.is at c.in_ok-made.ensures.next) in
+    rw (fault.1, fault.2) (unput g.J.LineJob.work first Did g.J.LineJob.SETTLES_EACH c.next_reply.new.job
+    c.put_replies.new.job _ next (held c.args.sink.now) (held c.loop-replies.sink) (held c.put_replies.new.sink) waits
+    c.requires (are_served g.J.LineJob.work (Did c.args.job.now c.next_reply.new.job) first next
+    (held c.args.sink.now) (held c.loop-replies.sink) waits has)
+    (moves_on first now next invariant.moves c.in_ok-made.ensures.next.moves) c.in_err-put_replies.ensures.part)
+
+pub returns-in_err-put_replies-clause-did_some : goal.returns-in_err-put_replies-clause-did_some
+returns-in_err-put_replies-clause-did_some g c =
+    let fault = err_from_is_err_and c.from_residual-in_err-put_replies.result
+    c.from_residual-in_err-put_replies.ensures.1 in
+    let invariant = c.loop-replies.invariant in
+    let Did = g.J.LineJob.Did in
+    let held = g.K.Sink.held in
+    let first = moment (g.J.LineJob.state c.args.job.now) c.args.lines.now (g.S.Source.left c.args.source.now) in
+    let now = moment (g.J.LineJob.state c.loop-replies.job) c.loop-replies.lines
+    (g.S.Source.left c.loop-replies.source) in
+    let next = moment (g.J.LineJob.state c.next_reply.new.job) c.next_reply.new.lines
+    (g.S.Source.left c.next_reply.new.source) in
+    let waits = c.loop-replies.replies.items in
+    let has = served_last g.J.LineJob.work Did c.args.job.now first c.loop-replies.job c.next_reply.new.job now next
+    (held c.args.sink.now) (held c.loop-replies.sink) waits c.next_reply.new.out.items invariant.served
+    (rw c.in_default.is at c.in_ok-made.ensures.next) in
+    rw fault.1 (did_part g.J.LineJob.work Did c.args.job.now first g.J.LineJob.SETTLES_EACH c.next_reply.new.job
+    c.put_replies.new.job next (held c.args.sink.now) (held c.loop-replies.sink) (held c.put_replies.new.sink) waits has
+    c.in_err-put_replies.ensures.part)
+
+pub returns-clause-replied : goal.returns-clause-replied
+returns-clause-replied g c =
+    let invariant = c.loop-replies.invariant in
+    let Did = g.J.LineJob.Did in
+    let held = g.K.Sink.held in
+    let first = moment (g.J.LineJob.state c.args.job.now) c.args.lines.now (g.S.Source.left c.args.source.now) in
+    let now = moment (g.J.LineJob.state c.loop-replies.job) c.loop-replies.lines
+    (g.S.Source.left c.loop-replies.source) in
+    let next = moment (g.J.LineJob.state c.next_reply.new.job) c.next_reply.new.lines
+    (g.S.Source.left c.next_reply.new.source) in
+    let waits = c.loop-replies.replies.items in
+    let has = served_last g.J.LineJob.work Did c.args.job.now first c.loop-replies.job c.next_reply.new.job now next
+    (held c.args.sink.now) (held c.loop-replies.sink) waits c.next_reply.new.out.items invariant.served
+    (rw c.in_default.is at c.in_ok-made.ensures.next) in
+    let state = g.J.LineJob.state c.put_replies.new.job in
+    let kept = c.in_ok-put_replies.ensures.kept in
+    let last = moment state next.lines next.left in
+    served_all g.J.LineJob.work first last (held c.args.sink.now) (held c.put_replies.new.sink) c.requires
+    (are_served g.J.LineJob.work (Did c.args.job.now c.put_replies.new.job) first last (held c.args.sink.now)
+    (held c.put_replies.new.sink) []
+    (served_settled g.J.LineJob.work Did c.args.job.now first g.J.LineJob.SETTLES_EACH c.next_reply.new.job
+    c.put_replies.new.job next state (held c.args.sink.now) (held c.loop-replies.sink) (held c.put_replies.new.sink)
+    waits has kept c.in_ok-put_replies.ensures.put))
+    (rw kept (moves_on first now next invariant.moves c.in_ok-made.ensures.next.moves))
+    (rw c.in_default.is at c.in_ok-made.ensures.next).ended
+
+pub returns-clause-did_all : goal.returns-clause-did_all
+returns-clause-did_all g c =
+    let invariant = c.loop-replies.invariant in
+    let Did = g.J.LineJob.Did in
+    let held = g.K.Sink.held in
+    let first = moment (g.J.LineJob.state c.args.job.now) c.args.lines.now (g.S.Source.left c.args.source.now) in
+    let now = moment (g.J.LineJob.state c.loop-replies.job) c.loop-replies.lines
+    (g.S.Source.left c.loop-replies.source) in
+    let next = moment (g.J.LineJob.state c.next_reply.new.job) c.next_reply.new.lines
+    (g.S.Source.left c.next_reply.new.source) in
+    let waits = c.loop-replies.replies.items in
+    let has = served_last g.J.LineJob.work Did c.args.job.now first c.loop-replies.job c.next_reply.new.job now next
+    (held c.args.sink.now) (held c.loop-replies.sink) waits c.next_reply.new.out.items invariant.served
+    (rw c.in_default.is at c.in_ok-made.ensures.next) in
+    did_all g.J.LineJob.work Did c.args.job.now first g.J.LineJob.SETTLES_EACH c.next_reply.new.job
+    c.put_replies.new.job next (held c.args.sink.now) (held c.loop-replies.sink) waits has
+    (moves_on first now next invariant.moves c.in_ok-made.ensures.next.moves)
+    (rw c.in_default.is at c.in_ok-made.ensures.next).ended c.in_ok-put_replies.ensures.put.settles
