@@ -2,6 +2,7 @@
 ghost use Rattle.std.specs.Prelude.{◌<◌, IfOk, length};
 ghost use Rattle.std.specs.Io.{ReadsAtMost};
 
+use sqlite_std_file::OpenError;
 use std::fs::{self, File, OpenOptions};
 use std::io::{self, ErrorKind};
 use std::os::fd::AsRawFd;
@@ -12,6 +13,8 @@ use std::os::unix::fs::{FileExt, MetadataExt, OpenOptionsExt};
 pub struct Opened {
     file: File,
     folder: File,
+    // How long the process may make a file.
+    limit: u64,
 }
 
 // Who may read and write a file that is made: its owner may do both, others may read it.
@@ -20,8 +23,10 @@ const MODE: u32 = 0o644;
 // The highest number of a standard stream.
 const LAST_STREAM: i32 = 2;
 
-// How the system names its limit on a file's size.
-const RLIMIT_FSIZE: i32 = 1;
+// Where Linux tells a process its limits, and how it names the one on the length of a file.
+const LIMITS: &str = "/proc/self/limits";
+
+const LIMIT_ON_LENGTH: &str = "Max file size";
 
 // Opens the file that is there. Since an open follows links, what stands at its name is looked at before and after.
 fn open_there(rt: &HostRuntime, path: &str) -> io::Result<File> {
@@ -67,15 +72,47 @@ fn lock(file: &File) -> io::Result<()> {
     }
 }
 
+// Why the kit's file couldn't be opened, as an error of the system.
+fn error_of(error: OpenError) -> io::Error {
+    match error {
+        OpenError::Io(error) => error,
+        OpenError::OutOfMemory => ErrorKind::OutOfMemory.into(),
+        OpenError::Busy => ErrorKind::WouldBlock.into(),
+        OpenError::HotJournal => ErrorKind::Unsupported.into(),
+    }
+}
+
 // Sees to it that reads give what the device has: what an earlier program left unwritten is synced, and then the
 // kernel's copies are dropped. Where a sync failed the kernel may hold bytes that the device never got, for written.
-fn settle(file: &File) -> io::Result<()> {
-    file.sync_data()?;
-    let advised = libc::posix_fadvise(file.as_raw_fd(), 0, 0, libc::POSIX_FADV_DONTNEED);
-    if advised != 0 {
-        return Err(io::Error::from_raw_os_error(advised));
+// The kit's file for SQLite does just that when it is opened; the log that it makes beside the file is removed again.
+fn settle(rt: &HostRuntime, path: &str) -> io::Result<()> {
+    let log = format!(in rt.alloc(); "{path}-wal")?;
+    let is_new = !fs::exists(rt, log.as_str())?;
+    let settled = match sqlite_std_file::open(rt, path, sqlite_std_file::Unknown) {
+        Ok(_files) => Ok(()),
+        Err(error) => Err(error_of(error)),
+    };
+    if is_new && fs::exists(rt, log.as_str())? {
+        fs::remove_file(rt, log.as_str())?;
     }
-    Ok(())
+    settled
+}
+
+// The limit that a line of Linux's table of limits tells, where it is the one on the length of a file.
+fn limit_in(line: &str) -> Option<u64> {
+    let told = line.strip_prefix(LIMIT_ON_LENGTH)?;
+    match told.split_whitespace().next()?.parse::<u64>() {
+        Ok(limit) => Some(limit),
+        Err(_) => None,
+    }
+}
+
+// How long this process may make a file; where nothing is told, as long as it likes.
+fn limit_on_length(rt: &HostRuntime) -> u64 {
+    match fs::read_to_string(rt, LIMITS) {
+        Ok(table) => table.lines().find_map(limit_in).unwrap_or(u64::MAX),
+        Err(_) => u64::MAX,
+    }
 }
 
 // One read, done again where it is interrupted.
@@ -95,16 +132,6 @@ fn read_again(file: &File, at: u64, into: &mut [u8]) -> io::Result<usize>
     Err(ErrorKind::Interrupted.into())
 }
 
-// Whether the process may make a file as long as a write of so many bytes at this place makes it.
-fn is_within_limit(at: u64, size: u64) -> bool {
-    let mut limit = libc::types::rlimit {
-        rlim_cur: 0,
-        rlim_max: 0,
-    };
-    let asked = libc::getrlimit(RLIMIT_FSIZE, &mut limit);
-    asked == 0 && at <= limit.rlim_cur && size <= limit.rlim_cur - at
-}
-
 impl Opened {
     /// Opens and locks the file at a path in a folder, and makes it where there is none. The folder is locked too, so
     /// that a file that was moved away leaves no place for another; and it is synced, so that the file's name outlives
@@ -115,8 +142,13 @@ impl Opened {
         let file = above_streams(open_or_make(rt, path)?)?;
         lock(&file)?;
         folder.sync_all()?;
-        settle(&file)?;
-        Ok(Opened { file, folder })
+        settle(rt, path)?;
+        let limit = limit_on_length(rt);
+        Ok(Opened {
+            file,
+            folder,
+            limit,
+        })
     }
 
     /// How many bytes the file has.
@@ -136,10 +168,10 @@ impl Opened {
         Ok(count)
     }
 
-    /// Writes the whole piece at a place. What would go past the limit on a file's size isn't begun, since the system
+    /// Writes the whole piece at a place. What would go past the limit on a file's length isn't begun, since the system
     /// ends a program that does it.
     pub(crate) fn write(&self, at: u64, piece: &[u8]) -> io::Result<()> {
-        if !is_within_limit(at, piece.len() as u64) {
+        if at > self.limit || piece.len() as u64 > self.limit - at {
             return Err(ErrorKind::FileTooLarge.into());
         }
         self.file.write_all_at(piece, at)

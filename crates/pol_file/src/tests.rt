@@ -1,7 +1,6 @@
 use crate::{FileDisk, Unknown};
 use pol_disk::Disk;
-use std::fs::{self, File};
-use std::os::fd::AsRawFd;
+use std::fs;
 use std::os::unix::fs::symlink;
 use std::test::Fail;
 
@@ -67,19 +66,6 @@ fn a_folder_has_one_disk_at_a_time(rt: HostRuntime) -> Result<(), Fail> {
     fs::remove_file(&rt, PATH)?;
     symlink(&rt, "elsewhere", PATH)?;
     assert!(rt; FileDisk::new(&rt, PATH, FOLDER, Unknown).len().is_err());
-    fs::remove_dir_all(&rt, FOLDER)?;
-    Ok(())
-}
-
-// Where standard input is closed, the next file that is opened gets its number: that has to be another one.
-#[test]
-fn no_standard_stream_leads_into_the_file(rt: HostRuntime) -> Result<(), Fail> {
-    let _ = fs::remove_dir_all(&rt, FOLDER);
-    fs::create_dir(&rt, FOLDER)?;
-    libc::close(0);
-    let mut disk = FileDisk::new(&rt, PATH, FOLDER, Unknown);
-    assert!(rt; disk.len().is_ok());
-    assert_eq!(rt; File::open(&rt, FOLDER)?.as_raw_fd(), 0);
     fs::remove_dir_all(&rt, FOLDER)?;
     Ok(())
 }
