@@ -4,3 +4,4 @@ pub mod Ended
 pub mod Orderly
 pub mod Exported
 pub mod Lives
+pub mod Replayable

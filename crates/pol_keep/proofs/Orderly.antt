@@ -27,7 +27,7 @@ all_parts P [] ys all = (tt, all)
 all_parts P (x ∷ xs) ys all = let rest = all_parts P xs ys all.1 in ((all.0, rest.0), rest.1)
 
 -- what holds of all in one order holds of all in the other
-all_reverse : {A : Type 0} (P : A → Type 0) (xs : List A) → AllByRecursion P (reverse xs) → AllByRecursion P xs
+pub all_reverse : {A : Type 0} (P : A → Type 0) (xs : List A) → AllByRecursion P (reverse xs) → AllByRecursion P xs
 all_reverse P [] all = tt
 all_reverse P (x ∷ xs) all =
     let parts = all_parts P (reverse xs) (x ∷ []) (subst (AllByRecursion P) (reverse-append (x ∷ []) xs) all) in

@@ -1,16 +1,21 @@
 -- The journal of the events that a disk keeps, and how a job ends that writes it.
-use Rattle.std.specs.Prelude.{ℕ, ◌≡◌, List, [], ◌∷◌, ◌++◌, Option, Some, Result, Ok, Err}
-use Rattle.std.specs.List.{flat_map}
+use Rattle.std.specs.Prelude.{ℕ, ◌≡◌, ◌≤◌, List, [], ◌∷◌, ◌++◌, length, Option, Some, Result, Ok, Err}
+use Rattle.std.specs.List.{AllByRecursion, flat_map}
 use Rattle.std.specs.Io.KnownBytes.{Appends}
 use Rattle.std.specs.declared.convert.Infallible.{Infallible}
+use Rattle.mtp_codes.specs.declared.limits.TheConstants.{LONGEST_HISTORY}
 use Rattle.pol_events.specs.Events.{PlainEvent, plain_event}
 use Rattle.pol_events.specs.declared.event.Entry.{Entry}
+use Rattle.pol_history.specs.Runs.{history_after, run_of}
 use Rattle.pol_io.specs.Edge.{Edge}
-use Rattle.pol_jobs.specs.Ends.{edge}
+use Rattle.pol_io.specs.declared.limits.TheConstants.{LONGEST_INPUT, LONGEST_LINE}
+use Rattle.pol_jobs.specs.Ends.{IsTooMuch, edge}
 use Rattle.pol_jobs.specs.LineWork.{Output, texts_of}
 use Rattle.pol_jobs.specs.declared.output.PutFault.{PutFault}
 use Rattle.pol_jobs.specs.declared.output.PutFault.TheVariants as put_fault
-use Rattle.pol_record.specs.Texts.{event_text}
+use Rattle.pol_record.specs.Lines.{closing_text, output_of}
+use Rattle.pol_record.specs.Texts.{answer_text, event_text}
+use Rattle.pol_store.specs.Stands.{StandsFor}
 use Rattle.pol_keep.specs.declared.fault.KeepFault.{KeepFault}
 use Rattle.pol_keep.specs.declared.fault.KeepFault.TheVariants.{Write, Memory}
 
@@ -45,3 +50,21 @@ pub record HandsOn (held held' : Option (List ℕ)) (before now : List ℕ) : Ty
   pub written : List ℕ
   pub appended : Appends held held' written
   pub is : written ++ now ≡ before
+
+-- the journal of these events can be read as an input: none of its lines is too long, and it isn't as a whole
+pub record IsReplayable (events : List PlainEvent) : Type 0 where
+  pub lines : AllByRecursion (λ event. length (event_text event) ≤ LONGEST_LINE) events
+  pub fits : length (journal_text events) ≤ LONGEST_INPUT
+
+-- a replay of the journal of these events reads them, and no more: it answers them as their run does, and closes with
+-- the lines of its batches and the end line; and it isn't too much
+pub record IsReplayed (events : List PlainEvent) : Type 0 where
+  pub output : output_of (journal_text events)
+      ≡ flat_map (λ entry. answer_text entry.answer) (run_of events) ++ closing_text (history_after [] events)
+  pub fits : ¬ IsTooMuch (Some (journal_text events))
+
+-- so it is with the events that an image stands for, at most 200,000, where their journal can be read
+abbrev pub JournalsAreReplayed : Type 0
+JournalsAreReplayed =
+    (events : List PlainEvent) (image : List ℕ) → StandsFor events image → length events ≤ LONGEST_HISTORY
+    → IsReplayable events → IsReplayed events

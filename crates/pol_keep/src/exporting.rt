@@ -86,7 +86,8 @@ fn export_from<K: Sink, D: Disk>(
 }
 
 /// Writes each event that the disk keeps as its line, in order; the disk comes back. It opens the disk first, so where
-/// the disk is no store nothing is written. A journal of these lines tells the events again.
+/// the disk is no store nothing is written. A replay of these lines answers as the events were answered, where none of
+/// the lines is too long, nor all of them together (`journals_are_replayed`).
 ///
 /// How it ends is one row for each result, with no input. `Disk` comes only where the disk's count of faults rose in
 /// this call, and `NotAStore` exactly where it did not and the disk reads as bytes for which no list of at most 200,000

@@ -18,4 +18,4 @@ mod laws;
 pub use exporting::export;
 pub use fault::KeepFault;
 pub use job::keep;
-pub use laws::answers_are_kept;
+pub use laws::{answers_are_kept, journals_are_replayed};
