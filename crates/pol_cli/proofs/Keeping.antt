@@ -1,5 +1,5 @@
 -- What a status tells of the job on a kept plant.
-use Rattle.std.proofs.Common.{ℕ, ◌≡◌, List, Option, refl, subst, inl, inr}
+use Rattle.std.proofs.Common.{ℕ, ◌≡◌, ◌⊎◌, List, Option, refl, subst, inl, inr}
 use Rattle.std.specs.Prelude.{Result, Ok, Err, IfErr, OnOk}
 use Rattle.std.specs.declared.convert.Infallible.{Infallible}
 use Rattle.pol_arguments.specs.declared.SerialTask.{SerialTask}
@@ -14,14 +14,14 @@ use Rattle.pol_jobs.specs.declared.fault.JobFault.TheVariants as job
 use Rattle.pol_keep.specs.Exported.{no_input}
 use Rattle.pol_keep.specs.Keeping.{Telling}
 use Rattle.pol_keep.specs.Kept.{IsUnopened, StandsForMore}
-use Rattle.pol_keep.proofs.Ended.{of_input, stands_old, stands_unanswered}
+use Rattle.pol_keep.proofs.Ended.{of_input}
 use Rattle.pol_keep.specs.declared.fault.KeepFault.{KeepFault}
 use Rattle.pol_keep.specs.declared.fault.KeepFault.TheVariants as kept
 use Rattle.pol_migration.specs.Job.{migrating}
 use Rattle.pol_replay.specs.Replay.{replayed}
 use Rattle.pol_store.specs.Stands.{StandsFor}
 use Rattle.pol_cli.specs.Audits.{audited}
-use Rattle.pol_cli.specs.Keeping.{HoldsOn, IsNotBegun, KeepsLines}
+use Rattle.pol_cli.specs.Keeping.{HoldsEvents, IsNotBegun, KeepsInput}
 use Rattle.pol_cli.specs.SiteRuns.{planted}
 use Rattle.pol_cli.specs.Statuses.{no_refusal, refused_as, status_of, status_of_kept}
 use Rattle.pol_cli.specs.Tasks.{JobEnds, PlantEnds, SerialEnds, demonstrated}
@@ -92,29 +92,33 @@ not_begun (Err (kept.NotAStore place)) none = inl (place, refl)
 
 -- ---- where there was no memory to read the words
 
+-- all isn't good then
+not_good : status.OutOfMemory ≡ status.Good → ⊥
+not_good is = cc
+
 module _ {D : Type 0} (disk : Telling D) where
-  -- the disk goes on holding the events that it held
+  -- the disk is left as it was
   pub unread_keeps : (now : D) (left held : Option (List ℕ)) →
       ((image : List ℕ) → disk.left_since now (disk.moment now) image → disk.images now image) →
-      KeepsLines disk now now left held held status.OutOfMemory
+      KeepsInput disk now now left held held status.OutOfMemory
   unread_keeps now left held only_now = record {
-    moments = λ old holds. of_input left _ (λ input. started disk.moment disk.left_since now (StandsForMore old input)
-        (λ image since. stands_old old input image (holds.stand image (only_now image since))));
-    kept = λ old holds. of_input left _ (λ input image crash. stands_unanswered old input image held
-        (holds.stand image crash));
-    kept_all = λ good. absurd (not_good good);
+    lines = record {
+      moments = λ old reads. of_input left _ (λ input. started disk.moment disk.left_since now
+          (λ image. disk.images now image ⊎ StandsForMore old input image)
+          (λ image since. inl (only_now image since)));
+      kept = λ old reads. of_input left _ (λ input image crash. inl (refl, crash));
+    };
+    all = λ good. absurd (not_good good);
   }
-    where
-      not_good : status.OutOfMemory ≡ status.Good → ⊥
-      not_good is = cc
 
-  -- and so where only holding them was asked for
+  -- and so where only holding its events was asked for
   pub unread_holds : (now : D) →
-      ((image : List ℕ) → disk.left_since now (disk.moment now) image → disk.images now image) → HoldsOn disk now now
+      ((image : List ℕ) → disk.left_since now (disk.moment now) image → disk.images now image) →
+      HoldsEvents disk now now status.OutOfMemory
   unread_holds now only_now = record {
-    moments = λ old holds. started disk.moment disk.left_since now (StandsFor old)
-        (λ image since. holds.stand image (only_now image since));
-    kept = λ old holds. holds.stand;
+    events = λ old reads. started disk.moment disk.left_since now
+        (λ image. disk.images now image ⊎ StandsFor old image) (λ image since. inl (only_now image since));
+    all = λ good. absurd (not_good good);
   }
 
 -- ---- no other job tells of the disk

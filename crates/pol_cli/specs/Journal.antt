@@ -4,6 +4,7 @@ use Rattle.pol_events.specs.Events.{PlainEntry}
 use Rattle.pol_history.specs.Looking.{History}
 use Rattle.pol_record.specs.Lines.{answers_of, history_of, output_of}
 use Rattle.pol_history.specs.Paths.{ReportsArePaths}
+use Rattle.pol_history.specs.Runs.{RunsAreLegal}
 use Rattle.pol_safety.specs.Charts.{LogsFollowCharts}
 use Rattle.pol_safety.specs.Permitted.{CommandsArePermitted}
 use Rattle.pol_safety.specs.Sound.{EntriesAreRight, HistoriesAreSound, IsRight, IsSound}
@@ -21,8 +22,10 @@ pub record JournalTheorem (bytes : List ℕ) : Type 0 where
   pub removal : (tags : List (List ℕ)) → output_of (without tags bytes) ≡ output_without tags bytes
   pub longer : length (answers_of bytes) < length (output_of bytes)
 
--- what holds of every legal history, whether an input leaves it or not; the theorem rests on it
+-- what holds of every legal history, whether an input leaves it or a kept plant has it; the theorem rests on it: whatever
+-- events come leave a legal one
 pub record Laws : Type 0 where
+  pub runs : RunsAreLegal
   pub histories : HistoriesAreSound
   pub entries : EntriesAreRight
   pub permitted : CommandsArePermitted

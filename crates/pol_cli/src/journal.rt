@@ -4,7 +4,7 @@ ghost use Rattle.pol_cli.specs.Audits.{AuditTheorem};
 ghost use Rattle.pol_cli.specs.Journal.{JournalTheorem, Laws};
 
 use pol_audit::good_verdicts_are_true;
-use pol_history::reports_are_paths;
+use pol_history::{reports_are_paths, runs_are_legal};
 use pol_removal::{removal_of_events, removal_of_lines};
 use pol_safety::{commands_are_permitted, histories_are_sound, logs_follow_charts};
 
@@ -13,6 +13,7 @@ pub fn journals_are_sound()
     ensures theorem { (bytes : List ℕ) → JournalTheorem bytes }
     ensures laws { Laws }
 {
+    runs_are_legal();
     histories_are_sound();
     removal_of_lines();
     removal_of_events();

@@ -14,7 +14,7 @@ ghost use Rattle.pol_migration.specs.Migration.{MigrationKeepsOutputs};
 ghost use Rattle.pol_store.specs.Opens.{IsNoStore};
 ghost use Rattle.pol_cli.specs.Audits.{AuditTheorem};
 ghost use Rattle.pol_cli.specs.Journal.{JournalTheorem, Laws};
-ghost use Rattle.pol_cli.specs.Keeping.{BeginsOnStores, HoldsOn, KeepsLines};
+ghost use Rattle.pol_cli.specs.Keeping.{BeginsOnStores, HoldsEvents, KeepsInput};
 ghost use Rattle.pol_cli.specs.Statuses.{IsEnd};
 ghost use Rattle.pol_cli.specs.Tasks.{AskForKept, TaskEnds};
 
@@ -53,10 +53,10 @@ pub fn top<R: Threads + Wait + Sync, S: Source, K: Sink, C: Clock + Send, G: Gat
         → sink.new ≡ sink.old }
     ensures unkept { ¬ AskForKept (texts_of words.now) → result.1 ≡ disk }
     ensures keeps { Means (texts_of words.now) Task.Keep
-        → KeepsLines (telling D.bytes D.images D.moment D.left_since D.faults) disk result.1
+        → KeepsInput (telling D.bytes D.images D.moment D.left_since D.faults) disk result.1
         (S.left source.old) (K.held sink.old) (K.held sink.new) result.0 }
     ensures holds { Means (texts_of words.now) Task.Export
-        → HoldsOn (telling D.bytes D.images D.moment D.left_since D.faults) disk result.1 }
+        → HoldsEvents (telling D.bytes D.images D.moment D.left_since D.faults) disk result.1 result.0 }
     ensures begins { AskForKept (texts_of words.now)
         → BeginsOnStores (telling D.bytes D.images D.moment D.left_since D.faults) disk result.1 result.0 }
     ensures disk_cause { result.0 ≡ Status.DiskFault → Rose (D.faults disk) (D.faults result.1) }

@@ -5,7 +5,7 @@ ghost use Rattle.pol_jobs.specs.Ends.{edge};
 ghost use Rattle.pol_keep.specs.Exported.{exported_output, no_input};
 ghost use Rattle.pol_keep.specs.Keeping.{telling};
 ghost use Rattle.pol_store.specs.Opens.{IsNoStore};
-ghost use Rattle.pol_cli.specs.Keeping.{BeginsOnStores, HoldsOn};
+ghost use Rattle.pol_cli.specs.Keeping.{BeginsOnStores, HoldsEvents};
 ghost use Rattle.pol_cli.specs.Tasks.{KeptEnds};
 
 use crate::status::{Status, status_of_kept};
@@ -16,11 +16,12 @@ use std::alloc::Global;
 /// Writes each event that the disk keeps as its line, in order; the disk comes back. The disk is opened before anything
 /// is written, so where it is no store nothing is. It waits for nobody and always returns.
 ///
-/// `DiskFault` and `NotAStore` come where they come of `keep`. What the disk holds it holds at the end too.
+/// `DiskFault` and `NotAStore` come where they come of `keep`. A crash at any moment leaves what it might have left
+/// before, or what the disk read as; where all is good, that is there at the end.
 pub fn export<K: Sink, D: Disk>(alloc: Global, sink: &mut K, disk: D) -> (Status, D)
     ensures ends { KeptEnds exported_output (D.bytes disk) no_input no_input
         (edge (K.held sink.old) (K.faults sink.old)) (edge (K.held sink.new) (K.faults sink.new)) result.0 }
-    ensures holds { HoldsOn (telling D.bytes D.images D.moment D.left_since D.faults) disk result.1 }
+    ensures holds { HoldsEvents (telling D.bytes D.images D.moment D.left_since D.faults) disk result.1 result.0 }
     ensures begins { BeginsOnStores (telling D.bytes D.images D.moment D.left_since D.faults) disk result.1 result.0 }
     ensures disk_cause { result.0 ≡ Status.DiskFault → Rose (D.faults disk) (D.faults result.1) }
     ensures no_store { (place : ℕ) → result.0 ≡ Status.NotAStore place

@@ -5,7 +5,7 @@ ghost use Rattle.pol_jobs.specs.Ends.{edge};
 ghost use Rattle.pol_keep.specs.Keeping.{telling};
 ghost use Rattle.pol_keep.specs.Kept.{kept_output};
 ghost use Rattle.pol_store.specs.Opens.{IsNoStore};
-ghost use Rattle.pol_cli.specs.Keeping.{BeginsOnStores, KeepsLines};
+ghost use Rattle.pol_cli.specs.Keeping.{BeginsOnStores, KeepsInput};
 ghost use Rattle.pol_cli.specs.Tasks.{KeptEnds};
 
 use crate::status::{Status, status_of_kept};
@@ -28,7 +28,7 @@ pub fn keep<S: Source, K: Sink, D: Disk>(
     ensures ends { KeptEnds kept_output (D.bytes disk)
         (edge (S.left source.old) (S.faults source.old)) (edge (S.left source.new) (S.faults source.new))
         (edge (K.held sink.old) (K.faults sink.old)) (edge (K.held sink.new) (K.faults sink.new)) result.0 }
-    ensures keeps { KeepsLines (telling D.bytes D.images D.moment D.left_since D.faults) disk result.1
+    ensures keeps { KeepsInput (telling D.bytes D.images D.moment D.left_since D.faults) disk result.1
         (S.left source.old) (K.held sink.old) (K.held sink.new) result.0 }
     ensures begins { BeginsOnStores (telling D.bytes D.images D.moment D.left_since D.faults) disk result.1 result.0 }
     ensures disk_cause { result.0 ≡ Status.DiskFault → Rose (D.faults disk) (D.faults result.1) }

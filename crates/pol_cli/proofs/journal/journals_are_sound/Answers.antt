@@ -7,6 +7,7 @@ returns-clause-theorem c =
 
 pub returns-clause-laws : goal.returns-clause-laws
 returns-clause-laws c = record {
+  runs = c.runs_are_legal.ensures;
   histories = c.histories_are_sound.ensures.histories;
   entries = c.histories_are_sound.ensures.entries;
   permitted = c.commands_are_permitted.ensures;

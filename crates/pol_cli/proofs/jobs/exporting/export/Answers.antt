@@ -1,5 +1,5 @@
 use Rattle.std.proofs.Common.{refl}
-use Rattle.pol_cli.proofs.Keeping.{not_begun, on_disk_fault, on_no_store}
+use Rattle.pol_cli.proofs.Keeping.{not_begun, on_disk_fault, on_good, on_no_store}
 use Rattle.pol_cli.proofs.jobs.exporting.export.Goals as goal
 
 pub returns-clause-ends : goal.returns-clause-ends
@@ -11,10 +11,11 @@ returns-clause-ends g c =
     })
 
 pub returns-clause-holds : goal.returns-clause-holds
-returns-clause-holds g c = record {
-  moments = λ old holds. c.export-done.ensures.moments holds.bytes old holds.told holds.stand;
-  kept = λ old holds. c.export-done.ensures.kept holds.bytes old holds.told holds.stand;
-}
+returns-clause-holds g c =
+    rw c.status_of_kept.ensures (record {
+      events = c.export-done.ensures.holds;
+      all = on_good _ c.export-done.result.0 c.export-done.ensures.holds_all;
+    })
 
 pub returns-clause-begins : goal.returns-clause-begins
 returns-clause-begins g c =

@@ -9,10 +9,8 @@ returns-clause-ends g c =
 pub returns-clause-keeps : goal.returns-clause-keeps
 returns-clause-keeps g c =
     rw c.status_of_kept.ensures (record {
-      moments = λ old holds. c.keep-done.ensures.moments holds.bytes old holds.told holds.stand;
-      kept = λ old holds. c.keep-done.ensures.kept holds.bytes old holds.told holds.stand;
-      kept_all = λ good old holds. on_good _ c.keep-done.result.0
-          (c.keep-done.ensures.kept_all holds.bytes old holds.told holds.stand) good;
+      lines = c.keep-done.ensures.keeps;
+      all = on_good _ c.keep-done.result.0 c.keep-done.ensures.keeps_all;
     })
 
 pub returns-clause-begins : goal.returns-clause-begins
