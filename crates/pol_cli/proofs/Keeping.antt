@@ -103,10 +103,10 @@ module _ {D : Type 0} (disk : Telling D) where
       KeepsInput disk now now left held held status.OutOfMemory
   unread_keeps now left held only_now = record {
     lines = record {
-      moments = λ old reads. of_input left _ (λ input. started disk.moment disk.left_since now
+      moments = λ old reads tells. of_input left _ (λ input. started disk.moment disk.left_since now
           (λ image. disk.images now image ⊎ StandsForMore old input image)
           (λ image since. inl (only_now image since)));
-      kept = λ old reads. of_input left _ (λ input image crash. inl (refl, crash));
+      kept = λ old reads tells. of_input left _ (λ input image crash. inl (refl, crash));
     };
     all = λ good. absurd (not_good good);
   }
@@ -116,7 +116,7 @@ module _ {D : Type 0} (disk : Telling D) where
       ((image : List ℕ) → disk.left_since now (disk.moment now) image → disk.images now image) →
       HoldsEvents disk now now status.OutOfMemory
   unread_holds now only_now = record {
-    events = λ old reads. started disk.moment disk.left_since now
+    events = λ old reads tells. started disk.moment disk.left_since now
         (λ image. disk.images now image ⊎ StandsFor old image) (λ image since. inl (only_now image since));
     all = λ good. absurd (not_good good);
   }

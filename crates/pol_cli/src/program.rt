@@ -1,6 +1,7 @@
 //! From words to a status: what the program does.
 ghost use Rattle.std.specs.Prelude.{◌≡◌, ◌≢◌, ◌⊎◌, ℕ, List, IfSome};
 ghost use Rattle.std.specs.Io.KnownBytes.{Keeps};
+ghost use Rattle.pol_disk.specs.Disks.{told_through};
 ghost use Rattle.pol_arguments.specs.Words.{Means, texts_of};
 ghost use Rattle.pol_arguments.specs.declared.LiveTask.{LiveTask};
 ghost use Rattle.pol_arguments.specs.declared.SerialTask.{SerialTask};
@@ -45,7 +46,7 @@ pub fn top<R: Threads + Wait + Sync, S: Source, K: Sink, C: Clock + Send, G: Gat
     gate: &G,
     disk: D,
 ) -> (Status, D)
-    ensures ends { (task : Task) → Means (texts_of words.now) task → TaskEnds task (D.bytes disk)
+    ensures ends { (task : Task) → Means (texts_of words.now) task → TaskEnds task (told_through (D.bytes disk) (D.bytes result.1))
         (edge (S.left source.old) (S.faults source.old)) (edge (S.left source.new) (S.faults source.new))
         (edge (K.held sink.old) (K.faults sink.old)) (edge (K.held sink.new) (K.faults sink.new)) result.0 }
     ensures unbegun { (task : LiveTask) → Means (texts_of words.now) (Task.Live task)
@@ -61,7 +62,7 @@ pub fn top<R: Threads + Wait + Sync, S: Source, K: Sink, C: Clock + Send, G: Gat
         → BeginsOnStores (telling D.bytes D.images D.moment D.left_since D.faults) disk result.1 result.0 }
     ensures disk_cause { result.0 ≡ Status.DiskFault → Rose (D.faults disk) (D.faults result.1) }
     ensures no_store { (place : ℕ) → result.0 ≡ Status.NotAStore place
-        → (D.faults result.1 ≡ D.faults disk) × IfSome (D.bytes disk) (λ all. IsNoStore all place) }
+        → (D.faults result.1 ≡ D.faults disk) × IfSome (D.bytes result.1) (λ all. IsNoStore all place) }
     ensures untouched { (place : ℕ) → result.0 ≡ Status.NotAStore place
         → (source.new ≡ source.old) × (sink.new ≡ sink.old) }
     ensures theorem { (bytes : List ℕ) → JournalTheorem bytes }

@@ -1,5 +1,6 @@
 //! The job that replays on a kept plant.
 ghost use Rattle.std.specs.Prelude.{◌≡◌, ℕ, IfSome};
+ghost use Rattle.pol_disk.specs.Disks.{told_through};
 ghost use Rattle.pol_io.specs.Causes.{Rose};
 ghost use Rattle.pol_jobs.specs.Ends.{edge};
 ghost use Rattle.pol_keep.specs.Keeping.{telling};
@@ -25,7 +26,7 @@ pub fn keep<S: Source, K: Sink, D: Disk>(
     sink: &mut K,
     disk: D,
 ) -> (Status, D)
-    ensures ends { KeptEnds kept_output (D.bytes disk)
+    ensures ends { KeptEnds kept_output (told_through (D.bytes disk) (D.bytes result.1))
         (edge (S.left source.old) (S.faults source.old)) (edge (S.left source.new) (S.faults source.new))
         (edge (K.held sink.old) (K.faults sink.old)) (edge (K.held sink.new) (K.faults sink.new)) result.0 }
     ensures keeps { KeepsInput (telling D.bytes D.images D.moment D.left_since D.faults) disk result.1
@@ -33,7 +34,7 @@ pub fn keep<S: Source, K: Sink, D: Disk>(
     ensures begins { BeginsOnStores (telling D.bytes D.images D.moment D.left_since D.faults) disk result.1 result.0 }
     ensures disk_cause { result.0 ≡ Status.DiskFault → Rose (D.faults disk) (D.faults result.1) }
     ensures no_store { (place : ℕ) → result.0 ≡ Status.NotAStore place
-        → (D.faults result.1 ≡ D.faults disk) × IfSome (D.bytes disk) (λ all. IsNoStore all place) }
+        → (D.faults result.1 ≡ D.faults disk) × IfSome (D.bytes result.1) (λ all. IsNoStore all place) }
     ensures untouched { (place : ℕ) → result.0 ≡ Status.NotAStore place
         → (source.new ≡ source.old) × (sink.new ≡ sink.old) }
 {

@@ -6,6 +6,7 @@ use Rattle.pol_arguments.specs.declared.SerialTask.TheVariants.{Demo}
 use Rattle.pol_arguments.specs.declared.Task.{Task}
 use Rattle.pol_arguments.specs.declared.Task.TheVariants.{Export, Keep, Live, Serial}
 use Rattle.pol_arguments.proofs.Meaning.{one_task}
+use Rattle.pol_disk.specs.Disks.{told_through}
 use Rattle.pol_jobs.specs.Ends.{edge}
 use Rattle.pol_keep.specs.Keeping.{telling}
 use Rattle.pol_cli.specs.Tasks.{AskForKept, TaskEnds}
@@ -19,7 +20,8 @@ not_both is = cc
 
 pub returns-in-Ok-Serial-clause-ends : goal.returns-in-Ok-Serial-clause-ends
 returns-in-Ok-Serial-clause-ends g c =
-    λ task means. subst (λ task. TaskEnds task (g.D.Disk.bytes c.args.disk)
+    λ task means. subst (λ task. TaskEnds task
+    (told_through (g.D.Disk.bytes c.args.disk) (g.D.Disk.bytes c.args.disk))
     (edge (g.S.Source.left c.args.source.now) (g.S.Source.faults c.args.source.now))
     (edge (g.S.Source.left c.serve.new.source) (g.S.Source.faults c.serve.new.source))
     (edge (g.K.Sink.held c.args.sink.now) (g.K.Sink.faults c.args.sink.now))
@@ -29,7 +31,8 @@ returns-in-Ok-Serial-clause-ends g c =
 
 pub returns-in-Ok-Live-clause-ends : goal.returns-in-Ok-Live-clause-ends
 returns-in-Ok-Live-clause-ends g c =
-    λ task means. subst (λ task. TaskEnds task (g.D.Disk.bytes c.args.disk)
+    λ task means. subst (λ task. TaskEnds task
+    (told_through (g.D.Disk.bytes c.args.disk) (g.D.Disk.bytes c.args.disk))
     (edge (g.S.Source.left c.args.source.now) (g.S.Source.faults c.args.source.now))
     (edge (g.S.Source.left c.live-status.new.source) (g.S.Source.faults c.live-status.new.source))
     (edge (g.K.Sink.held c.args.sink.now) (g.K.Sink.faults c.args.sink.now))
@@ -106,7 +109,8 @@ none_ask_not words none (inr export) = none Export export
 
 pub returns-in-Ok-Keep-clause-ends : goal.returns-in-Ok-Keep-clause-ends
 returns-in-Ok-Keep-clause-ends g c =
-    λ task means. subst (λ task. TaskEnds task (g.D.Disk.bytes c.args.disk)
+    λ task means. subst (λ task. TaskEnds task
+    (told_through (g.D.Disk.bytes c.args.disk) (g.D.Disk.bytes c.keep.result.1))
     (edge (g.S.Source.left c.args.source.now) (g.S.Source.faults c.args.source.now))
     (edge (g.S.Source.left c.keep.new.source) (g.S.Source.faults c.keep.new.source))
     (edge (g.K.Sink.held c.args.sink.now) (g.K.Sink.faults c.args.sink.now))
@@ -157,7 +161,8 @@ returns-in-Ok-Keep-clause-refused g c = λ none. absurd (none _ c.in-Ok-Keep.ens
 
 pub returns-in-Ok-Export-clause-ends : goal.returns-in-Ok-Export-clause-ends
 returns-in-Ok-Export-clause-ends g c =
-    λ task means. subst (λ task. TaskEnds task (g.D.Disk.bytes c.args.disk)
+    λ task means. subst (λ task. TaskEnds task
+    (told_through (g.D.Disk.bytes c.args.disk) (g.D.Disk.bytes c.export.result.1))
     (edge (g.S.Source.left c.args.source.now) (g.S.Source.faults c.args.source.now))
     (edge (g.S.Source.left c.args.source.now) (g.S.Source.faults c.args.source.now))
     (edge (g.K.Sink.held c.args.sink.now) (g.K.Sink.faults c.args.sink.now))
@@ -279,7 +284,7 @@ returns-clause-holds g c =
     (g.met.D.Disk.only_now c.args.disk)
 
 pub returns-clause-begins : goal.returns-clause-begins
-returns-clause-begins g c = λ asks all told none well. inr refl
+returns-clause-begins g c = λ asks all later told still none well. inr refl
 
 pub returns-in-Err-Refused-clause-keeps : goal.returns-in-Err-Refused-clause-keeps
 returns-in-Err-Refused-clause-keeps g c =

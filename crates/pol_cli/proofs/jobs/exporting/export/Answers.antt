@@ -19,8 +19,8 @@ returns-clause-holds g c =
 
 pub returns-clause-begins : goal.returns-clause-begins
 returns-clause-begins g c =
-    rw c.status_of_kept.ensures (λ all told none well. not_begun c.export-done.result.0
-    (c.export-done.ensures.unopened all told none well))
+    rw c.status_of_kept.ensures (λ all later told still none well. not_begun c.export-done.result.0
+    (c.export-done.ensures.unopened all later told still none well))
 
 pub returns-clause-disk_cause : goal.returns-clause-disk_cause
 returns-clause-disk_cause g c =

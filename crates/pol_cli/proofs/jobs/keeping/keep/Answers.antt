@@ -15,8 +15,8 @@ returns-clause-keeps g c =
 
 pub returns-clause-begins : goal.returns-clause-begins
 returns-clause-begins g c =
-    rw c.status_of_kept.ensures (λ all told none well. not_begun c.keep-done.result.0
-    (c.keep-done.ensures.unopened all told none well))
+    rw c.status_of_kept.ensures (λ all later told still none well. not_begun c.keep-done.result.0
+    (c.keep-done.ensures.unopened all later told still none well))
 
 pub returns-clause-disk_cause : goal.returns-clause-disk_cause
 returns-clause-disk_cause g c =
