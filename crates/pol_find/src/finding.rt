@@ -51,12 +51,16 @@ impl Finding {
 impl LineJob for Finding {
     type Refusal = Infallible;
 
-    const SETTLES_EACH: bool = false;
+    const SETTLES_EACH: bool = true;
 
-    ghost use Rattle.std.specs.Prelude.{⊤, false};
+    const HANDS_ON_EACH: bool = false;
+
+    ghost use Rattle.std.specs.Prelude.{⊤, false, true};
     ghost use Rattle.pol_find.specs.Finding.{Known, find_work, known_by};
 
-    ghost SETTLES_EACH = { false };
+    ghost SETTLES_EACH = { true };
+
+    ghost HANDS_ON_EACH = { false };
 
     ghost State = { Known };
 

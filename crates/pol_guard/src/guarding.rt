@@ -85,13 +85,17 @@ impl Guarding {
 impl LineJob for Guarding {
     type Refusal = JsonFault;
 
-    const SETTLES_EACH: bool = false;
+    const SETTLES_EACH: bool = true;
 
-    ghost use Rattle.std.specs.Prelude.{⊤, false};
+    const HANDS_ON_EACH: bool = false;
+
+    ghost use Rattle.std.specs.Prelude.{⊤, false, true};
     ghost use Rattle.pol_guard.specs.Guards.{known_by};
     ghost use Rattle.pol_guard.specs.Work.{Known, guard_work};
 
-    ghost SETTLES_EACH = { false };
+    ghost SETTLES_EACH = { true };
+
+    ghost HANDS_ON_EACH = { false };
 
     ghost State = { Known };
 

@@ -24,18 +24,24 @@ pub enum InputLine<'a> {
 /// A job that does something with each line of its input, and then closes its output. It may refuse its input, with a
 /// line or at its end; one that never does has `Infallible` for its reasons.
 ///
-/// The replies to several lines that stand there at once are written together, once what was done for these lines is
-/// settled.
+/// The replies to several lines that stand there at once are handed on together. Of a job that doesn't settle each line
+/// they are written together too, once what was done for these lines is settled.
 pub trait LineJob {
     /// Why a job of this kind refuses its input.
     type Refusal: Drop;
 
-    /// Whether each line is settled, and its reply handed on, before the next one is met, also where more lines stand
-    /// there already.
+    /// Whether each line is settled, and its reply written, before the next one is met, also where more lines stand there
+    /// already.
     const SETTLES_EACH: bool;
 
     /// The same, where contracts speak of it.
     ghost SETTLES_EACH: { Bool };
+
+    /// Whether the reply to each line is handed on too before the next one is met, so that nobody waits for it.
+    const HANDS_ON_EACH: bool;
+
+    /// The same, of which no contract speaks.
+    ghost HANDS_ON_EACH: { Bool };
 
     /// What a job of this kind knows between two lines.
     ghost State: { Type 0 };

@@ -68,8 +68,9 @@ fn put_replies<K: Sink, J: LineJob>(
     Ok(())
 }
 
-// Puts the replies out where it is time: the next line doesn't stand there yet, so that the source is only asked when
-// everybody has their replies; or the job settles each line; or too much waits.
+// Puts the replies out where it is time: the next line doesn't stand there yet, or the job settles each line, or too much
+// waits. They are handed on where the next line doesn't stand there, so that the source is only asked when everybody has
+// their replies, and where the job hands on each.
 fn put_due<K: Sink, J: LineJob>(
     lines: &mut Lines,
     job: &mut J,
@@ -84,12 +85,12 @@ fn put_due<K: Sink, J: LineJob>(
         (K.held sink.old) (K.held sink.new) replies.old.items) }
     ensures cause { HasCauseOf PutFault.Write (K.faults sink.old) (K.faults sink.new) result }
 {
-    let goes_on = lines.has_next() && !J::SETTLES_EACH;
-    if goes_on && replies.len() < LONGEST_GROUP {
+    let goes_on = lines.has_next();
+    if goes_on && !J::SETTLES_EACH && replies.len() < LONGEST_GROUP {
         return Ok(());
     }
     put_replies(job, sink, replies)?;
-    if goes_on {
+    if goes_on && !J::HANDS_ON_EACH {
         return Ok(());
     }
     hand_on(sink)

@@ -24,9 +24,13 @@ impl<D: Disk> LineJob for Keeping<D> {
 
     const SETTLES_EACH: bool = true;
 
+    const HANDS_ON_EACH: bool = true;
+
     ghost use Rattle.std.specs.Prelude.{true};
 
     ghost SETTLES_EACH = { true };
+
+    ghost HANDS_ON_EACH = { true };
 
     ghost use Rattle.pol_history.specs.Looking.{History};
     ghost use Rattle.pol_core.specs.Plants.{plant_history};

@@ -55,12 +55,16 @@ impl Migrating {
 impl LineJob for Migrating {
     type Refusal = Infallible;
 
-    const SETTLES_EACH: bool = false;
+    const SETTLES_EACH: bool = true;
 
-    ghost use Rattle.std.specs.Prelude.{⊤, false};
+    const HANDS_ON_EACH: bool = false;
+
+    ghost use Rattle.std.specs.Prelude.{⊤, false, true};
     ghost use Rattle.pol_migration.specs.Job.{migrating_work};
 
-    ghost SETTLES_EACH = { false };
+    ghost SETTLES_EACH = { true };
+
+    ghost HANDS_ON_EACH = { false };
 
     ghost State = { ⊤ };
 

@@ -115,14 +115,18 @@ impl Replay {
 impl LineJob for Replay {
     type Refusal = Infallible;
 
-    const SETTLES_EACH: bool = false;
+    const SETTLES_EACH: bool = true;
 
-    ghost use Rattle.std.specs.Prelude.{⊤, false};
+    const HANDS_ON_EACH: bool = false;
+
+    ghost use Rattle.std.specs.Prelude.{⊤, false, true};
     ghost use Rattle.pol_history.specs.Looking.{History};
     ghost use Rattle.pol_core.specs.Plants.{plant_history};
     ghost use Rattle.pol_replay.specs.Replay.{replay_work};
 
-    ghost SETTLES_EACH = { false };
+    ghost SETTLES_EACH = { true };
+
+    ghost HANDS_ON_EACH = { false };
 
     ghost State = { History };
 

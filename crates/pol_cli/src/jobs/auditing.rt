@@ -44,14 +44,18 @@ impl Auditing {
 impl LineJob for Auditing {
     type Refusal = Infallible;
 
-    const SETTLES_EACH: bool = false;
+    const SETTLES_EACH: bool = true;
 
-    ghost use Rattle.std.specs.Prelude.{⊤, false};
+    const HANDS_ON_EACH: bool = false;
+
+    ghost use Rattle.std.specs.Prelude.{⊤, false, true};
     ghost use Rattle.pol_audit.specs.Audits.{plain_audit};
     ghost use Rattle.pol_audit.specs.Reading.{Read};
     ghost use Rattle.pol_cli.specs.Audits.{audit_work};
 
-    ghost SETTLES_EACH = { false };
+    ghost SETTLES_EACH = { true };
+
+    ghost HANDS_ON_EACH = { false };
 
     ghost State = { Read };
 

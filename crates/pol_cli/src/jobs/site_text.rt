@@ -111,12 +111,16 @@ impl SiteText {
 impl LineJob for SiteText {
     type Refusal = JsonFault;
 
-    const SETTLES_EACH: bool = false;
+    const SETTLES_EACH: bool = true;
 
-    ghost use Rattle.std.specs.Prelude.{⊤, false};
+    const HANDS_ON_EACH: bool = false;
+
+    ghost use Rattle.std.specs.Prelude.{⊤, false, true};
     ghost use Rattle.pol_cli.specs.SiteTexts.{Told, site_work, lines_told};
 
-    ghost SETTLES_EACH = { false };
+    ghost SETTLES_EACH = { true };
+
+    ghost HANDS_ON_EACH = { false };
 
     ghost State = { Told };
 
