@@ -1,5 +1,5 @@
 -- The journal of kept events is replayed as their run.
-use Rattle.std.proofs.Common.{ℕ, suc, ◌≡◌, ◌+◌, ◌<◌, ◌≤◌, List, [], ◌∷◌, ◌++◌, length, reverse, refl, sym, ◌∙◌, ap, subst, Ok, arith, append_assoc, append-nil}
+use Rattle.std.proofs.Common.{ℕ, ◌≡◌, ◌+◌, ◌≤◌, List, [], ◌∷◌, ◌++◌, length, reverse, refl, sym, ◌∙◌, ap, subst, Ok, arith, append_assoc, append-nil}
 use Rattle.std.proofs.lemmas.List.{reverse-append}
 use Rattle.std.specs.List.{AllByRecursion, flat_map}
 use Rattle.pol_io.specs.declared.limits.TheConstants.{LONGEST_LINE}
@@ -7,14 +7,14 @@ use Rattle.mtp_codes.specs.declared.limits.TheConstants.{LONGEST_HISTORY}
 use Rattle.pol_events.specs.Events.{PlainEntry, PlainEvent}
 use Rattle.pol_events.specs.Lines.{event_of}
 use Rattle.pol_history.specs.Looking.{History}
-use Rattle.pol_history.specs.Runs.{entry_of, history_after, is_recorded, recorded, run_after, run_of}
+use Rattle.pol_history.specs.Runs.{entry_of, history_after, recorded, run_after, run_of}
 use Rattle.pol_history.proofs.Legal.{legal_after}
 use Rattle.pol_record.specs.Lines.{closing_text, output_of}
 use Rattle.pol_record.specs.Texts.{IsReadBack, answer_text, event_text}
-use Rattle.pol_retold.specs.Replayed.{IsShortEvent, ReplaysAnswer, answers_text, journal_of}
-use Rattle.pol_store.specs.Stands.{AreTextsOf, StandsFor}
+use Rattle.pol_retold.specs.Replayed.{IsShortEvent, ReplaysAnswer, journal_of}
+use Rattle.pol_store.specs.Stands.{AreTextsOf}
 use Rattle.pol_store.proofs.Histories.{recorded_is, room_recorded}
-use Rattle.pol_keep.specs.Exported.{IsReplayable, JournalsAreReplayed, event_line, journal_text}
+use Rattle.pol_keep.specs.Exported.{JournalsAreReplayed, event_line, journal_text}
 use Rattle.pol_keep.proofs.Orderly.{all_reverse}
 
 -- where there is room for all of them, the run of some events stands behind the history
