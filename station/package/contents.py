@@ -1,0 +1,88 @@
+"""What a manifest holds: the package, its services, its data assemblies, and the items at its servers."""
+import collections
+import dataclasses
+
+from package import caex, classes
+from package.told import Unreadable, shown
+
+KNOWN = ("2.15", "3.0")
+REFERENCE = "RefID"
+
+
+@dataclasses.dataclass(frozen=True)
+class Item:
+    """A variable at a server: what a driver reads and writes."""
+    server: str
+    node: str
+    namespace: str
+    access: str
+
+
+class Contents:
+    """The parts of a manifest, found by their classes wherever they stand."""
+
+    def __init__(self, data, told):
+        file = caex.file_of(data)
+        if file.version not in KNOWN:
+            told.changed("", f"CAEX {shown(file.version)} is neither {' nor '.join(KNOWN)}; it is read as they are")
+        self.tops = file.elements
+        self.elements = [each for element in self.tops for each in element.all()]
+        self.writer, self.package = file.writer, self.only_package()
+        self.services = self.of_kind(classes.SERVICE)
+        self.assemblies = [each for top in self.of_kind(classes.INSTANCES) for each in top.all() if each is not top and each.kind]
+        self.servers = {element.name: element.constant("Endpoint") for element in self.elements
+                        if element.interfaces or "Endpoint" in element.attributes}
+        self.items = collections.defaultdict(list)
+        for element in self.elements:
+            for item in element.interfaces:
+                self.items[key(item.id)].append(item_of(element, item))
+        self.referred = collections.defaultdict(list)
+        for assembly in self.assemblies:
+            self.referred[key(assembly.constant(REFERENCE))].append(assembly)
+
+    def of_kind(self, kind):
+        return [element for element in self.elements if element.kind == kind]
+
+    def only_package(self):
+        found = self.of_kind(classes.PACKAGE)
+        if len(found) != 1:
+            raise Unreadable(f"the manifest has {len(found)} elements of the class {classes.PACKAGE}, not one; "
+                             "give the package of one module")
+        return found[0]
+
+    def unread(self):
+        """The outermost elements, and those of the package, in which nothing is that is read."""
+        return [each for each in self.tops + self.package.within if not any(map(is_read, each.all()))]
+
+    def assembly_of(self, element, where, told):
+        """The data assembly to which the RefID of an element leads; None where it leads to none."""
+        text = element.constant(REFERENCE)
+        found = self.referred.get(key(text), []) if text else []
+        if len(found) > 1:
+            told.error(where, f"{len(found)} data assemblies have its RefID {shown(text)}; ask its maker for a package where one has it")
+        return found[0] if found else None
+
+    def items_of(self, assembly, told):
+        """The items of a data assembly by the names of its attributes."""
+        return {name: found for name, attribute in assembly.attributes.items() if attribute.is_reference() and attribute.value
+                and (found := self.item(assembly, name, attribute.value, told))}
+
+    def item(self, assembly, name, text, told):
+        found = self.items.get(key(text), [])
+        if len(found) != 1:
+            has = f"{len(found)} items of the server have" if found else "no item of a server has"
+            told.error(assembly.name, f"{name} refers to the ID {shown(text)}, which {has}; ask its maker for a package where one has it")
+        return found[0] if found else None
+
+
+def is_read(element):
+    return bool(element.interfaces) or element.kind in (classes.PACKAGE, classes.INSTANCES, classes.SERVICE)
+
+
+def key(text):
+    """An ID as it is compared: letters of either case, with braces or without."""
+    return text.strip().strip("{}").casefold()
+
+
+def item_of(server, item):
+    return Item(server.name, *(item.constant(name) for name in ("Identifier", "Namespace", "Access")))

@@ -1,0 +1,79 @@
+"""Procedures of a service with their parameters: as a description has them, and as the map does."""
+import re
+
+from package import classes, driven, names
+from package.limits import limits_of
+from package.told import shown
+
+MOST_PARAMETERS, LARGEST_NUMBER = 32, 65535
+TRUTH = {"true": True, "1": True, "false": False, "0": False, "": False}
+
+
+class Procedures:
+    """Reads the procedures of the services of a package."""
+
+    def __init__(self, contents, told, variables):
+        self.contents, self.told, self.variables = contents, told, variables
+
+    def read(self, element, service, shared):
+        """A procedure of the description, and of the map. `shared` are the parameters of its service."""
+        where = f"{service}/{element.name}"
+        number = self.number(element, where)
+        own, others = self.parameters_of(element, where, [])
+        params = self.parameters(where, shared + own)
+        self.told.lost(where, f"its name: pol knows it by its number {number} (the map has it)")
+        description = {"number": number, "default": self.truth(element, "IsDefault", where), "params": [each for each, _ in params],
+                       "self_completing": self.truth(element, "IsSelfCompleting", where)}
+        return description, {"name": element.name, "values": self.values(where, others),
+                             "params": {each["name"]: entry for each, entry in params}}
+
+    def number(self, element, where):
+        said = next(filter(None, map(element.constant, classes.PROCEDURE_NUMBERS)), "")
+        number = int(said) if re.fullmatch("[0-9]{1,9}", said) else 0
+        if not 1 <= number <= LARGEST_NUMBER:
+            self.told.error(where, f"its number is {shown(said)}; pol takes 1 to {LARGEST_NUMBER}: give it one in the manifest")
+        return number
+
+    def truth(self, element, name, where):
+        said = element.constant(name)
+        if said.lower() not in TRUTH:
+            self.told.changed(where, f"{name} is {shown(said)}, which is read as false")
+        return TRUTH.get(said.lower(), False)
+
+    def parameters_of(self, element, where, procedures):
+        """What stands in a service or a procedure: parameters, each with its data assembly, and what is none."""
+        params, others = [], []
+        for each in element.within:
+            assembly = self.contents.assembly_of(each, f"{where}/{each.name}", self.told)
+            if assembly is not None and assembly.kind in classes.PARAMETERS:
+                params.append((each, assembly))
+            elif each not in procedures:
+                others.append((each, assembly))
+        return params, others
+
+    def parameters(self, where, found):
+        if len(found) > MOST_PARAMETERS:
+            self.told.error(where, f"{len(found)} parameters; pol takes {MOST_PARAMETERS} of a procedure: leave out others in the manifest")
+        found = found[:MOST_PARAMETERS]
+        made = names.of_elements([each for each, _ in found], where, "parameters", self.told)
+        return [self.parameter(each, assembly, name, f"{where}/{each.name}") for (each, assembly), name in zip(found, made)]
+
+    def parameter(self, element, assembly, name, where):
+        items = self.contents.items_of(assembly, self.told)
+        if classes.SET_BY not in items:
+            self.told.error(where, f"it has no item for {classes.SET_BY}, so no driver can set it; ask its maker for a package that has it")
+        return {"name": name, "kind": assembly.kind, **limits_of(assembly, where, self.told)}, driven.entry(element.name, assembly, items)
+
+    def values(self, where, others):
+        """What a service or a procedure has beside its parameters, for the map: whose value it is `pol` doesn't know."""
+        for each, assembly in others:
+            self.told.lost(where, f"{each.kind or 'an element without class'} {shown(each.name)}{self.becomes(each, assembly)}")
+        return [{"name": each.name, "class": each.kind, "assembly": assembly.name if assembly else "",
+                 **({"variable": self.variables[assembly]} if assembly in self.variables else {})} for each, assembly in others]
+
+    def becomes(self, element, assembly):
+        if assembly in self.variables:
+            return f": that its value {self.variables[assembly]} belongs here (the map has it)"
+        if element.kind in classes.PROCEDURE_PARAMETERS + classes.SERVICE_PARAMETERS:
+            return ": its RefID leads to no data assembly of a parameter, so no recipe can set it"
+        return ""
