@@ -34,7 +34,8 @@ class Service:
 
 @dataclasses.dataclass(frozen=True)
 class Assembly:
-    """A view, or a data assembly of another kind; `facts` are the constants that the file has of it."""
+    """A view, or a data assembly of another kind; `facts` are the constants that the file has of it; a
+    table of texts by their numbers may be one."""
     name: str
     kind: str
     facts: dict = dataclasses.field(default_factory=dict)

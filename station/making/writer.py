@@ -55,7 +55,7 @@ class Writer:
         for each in self.module.assemblies:
             self.assembly(each.kind, each.name, each.facts)
         tree.indent(self.root)
-        return b'<?xml version="1.0" encoding="utf-8"?>\n' + tree.tostring(self.root)
+        return b'<?xml version="1.0" encoding="utf-8"?>\n' + tree.tostring(self.root, "utf-8")
 
     def write_header(self):
         if self.form.caex == "3.0":
@@ -114,14 +114,19 @@ class Writer:
             self.element(made, name, "MTPServiceSUCLib/ReportValue", RefID=self.assembly("AnaView", f"{before}_{name}", {}))
 
     def write_parameter(self, parent, path, parameter, before):
-        limits = {} if parameter.low is None else {"VMin": parameter.low, "VMax": parameter.high}
+        limits = {key: limit for key, limit in (("VMin", parameter.low), ("VMax", parameter.high)) if limit is not None}
         facts, defaults = ({}, limits) if parameter.is_read else (limits, {})
         reference = self.assembly(parameter.kind, f"{before}_{parameter.name}", facts, defaults)
         self.element(parent, parameter.name, f"MTPServiceSUCLib/{path}", RefID=reference)
 
 
 def attribute(parent, name, kind, value, default=None):
+    """An attribute; one whose value is a table has others in it."""
     made = tree.SubElement(parent, "Attribute", Name=name, AttributeDataType=kind)
+    if isinstance(value, dict):
+        for key, each in value.items():
+            attribute(made, key, kind, each)
+        return
     if default is not None:
         tree.SubElement(made, "DefaultValue").text = str(default)
     tree.SubElement(made, "Value").text = str(value)

@@ -55,12 +55,12 @@ class Contents:
         return [each for each in self.tops + self.package.within if not any(map(is_read, each.all()))]
 
     def assembly_of(self, element, where, told):
-        """The data assembly to which the RefID of an element leads; None where it leads to none."""
+        """The data assembly to which the RefID of an element leads; None where it leads to none, or to several."""
         text = element.constant(REFERENCE)
         found = self.referred.get(key(text), []) if text else []
         if len(found) > 1:
-            told.error(where, f"{len(found)} data assemblies have its RefID {shown(text)}; ask its maker for a package where one has it")
-        return found[0] if found else None
+            told.lost(where, f"{len(found)} data assemblies have its RefID {shown(text)}: none is taken")
+        return found[0] if len(found) == 1 else None
 
     def items_of(self, assembly, told):
         """The items of a data assembly by the names of its attributes."""
@@ -68,11 +68,11 @@ class Contents:
                 and (found := self.item(assembly, name, attribute.value, told))}
 
     def item(self, assembly, name, text, told):
+        """The item with this ID; None where no item has it, or several have."""
         found = self.items.get(key(text), [])
         if len(found) != 1:
-            has = f"{len(found)} items of the server have" if found else "no item of a server has"
-            told.error(assembly.name, f"{name} refers to the ID {shown(text)}, which {has}; ask its maker for a package where one has it")
-        return found[0] if found else None
+            told.lost(assembly.name, f"{name}: {len(found) or 'no'} items of a server have its ID {shown(text)}")
+        return found[0] if len(found) == 1 else None
 
 
 def is_read(element):

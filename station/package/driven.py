@@ -1,4 +1,5 @@
 """What a driver and a page need of a data assembly and `pol` doesn't keep: an entry of the map."""
+import math
 import re
 
 from package import classes
@@ -30,8 +31,14 @@ def unit_of(assembly):
 
 def scale_of(assembly):
     """From where to where the value is drawn."""
-    low, high = (number_of(assembly.constant(name)) for name in classes.SCALE)
-    return None if low is None or high is None else {"from": float(low), "to": float(high)}
+    low, high = (float_of(assembly.constant(name)) for name in classes.SCALE)
+    return {"from": low, "to": high} if math.isfinite(low) and math.isfinite(high) else None
+
+
+def float_of(text):
+    """A number as JSON bears it; where the text is none, NaN."""
+    number = number_of(text)
+    return math.nan if number is None else float(number)
 
 
 def texts_of(assembly):

@@ -1,11 +1,13 @@
 """A package as a plug line of `pol`, and as the map that a driver needs beside it."""
 import dataclasses
 import json
+import typing
 
 from package import names, rest
 from package.contents import Contents
+from package.manifest import manifest_of
 from package.services import Services
-from package.told import shown
+from package.told import Told, Unreadable, shown
 from package.versions import three_parts
 from package.views import variables_of
 
@@ -30,8 +32,33 @@ class Plug:
     map: dict
 
 
+class Read(typing.NamedTuple):
+    """What came of a package: its plug and the line, of use where nothing that is told is an error."""
+    plug: Plug | None
+    line: str
+    told: Told
+
+
+def read(path, asked):
+    """Reads a package. Of a file that can't be read it is told why, and nothing else."""
+    told = Told()
+    try:
+        plug = plug_of(manifest_of(path, told), asked, told)
+        return Read(plug, line_of(plug, asked, told), told)
+    except Unreadable as fault:
+        return Read(None, "", unread(path, str(fault)))
+    except OSError as fault:
+        return Read(None, "", unread(path, f"{fault.strerror}; name a file that can be read"))
+
+
+def unread(path, why):
+    told = Told()
+    told.error(str(path), why)
+    return told
+
+
 def plug_of(data, asked, told):
-    """The plug of a manifest's bytes. It is of use where nothing that is told is an error."""
+    """The plug of a manifest's bytes."""
     contents = Contents(data, told)
     variables, shown_values, by_assembly = variables_of(contents, asked.only, told)
     services, commanded = Services(contents, told, by_assembly).read()
