@@ -101,8 +101,8 @@ class Notes(unittest.TestCase):
 
 class Limits(unittest.TestCase):
     def test_as_many_as_pol_takes_and_one_more(self):
-        for module, words in [(services(33), "33 services; pol takes 1 to 32"), (services(0), "0 services"), (services(1, 17), "17 procedures; pol takes 1 to 16"),
-                              (services(1, 0), "0 procedures"), (services(1, 1, 33), "33 parameters; pol takes 32")]:
+        for module, words in [(services(33), "33 services; pol takes 32"), (services(0), "M: no service; "), (services(1, 17), "17 procedures; pol takes 16"),
+                              (services(1, 0), "s0: no procedure; "), (services(1, 1, 33), "33 parameters; pol takes 32")]:
             self.assertIn(words, "\n".join(read_module(module).of_kind("error")))
         most = [services(32), services(1, 16), services(1, 1, 32), views(64), views(65)]
         self.assertEqual(answers([read_module(module).line for module in most]), [DONE] * len(most))

@@ -1,7 +1,7 @@
 """The names of the standard (VDI/VDE/NAMUR 2658 parts 1, 3 and 4) that are looked for in a package. A class is known by the
 last part of its path, so that other groups between do no harm."""
 
-PACKAGE, INSTANCES, SERVICE, CONTROL = "ModuleTypePackage", "InstanceList", "Service", "ServiceControl"
+PACKAGE, INSTANCES, SOURCES, SERVICE, CONTROL = "ModuleTypePackage", "InstanceList", "SourceList", "Service", "ServiceControl"
 # The strategies are those of drafts.
 PROCEDURES = ("ServiceProcedure", "Procedure", "ServiceStrategy", "Strategy")
 PROCEDURE_NUMBERS = ("ProcedureId", "ProcedureID", "StrategyId", "StrategyID")

@@ -31,7 +31,7 @@ class Contents:
         self.services = self.of_kind(classes.SERVICE)
         self.assemblies = [each for top in self.of_kind(classes.INSTANCES) for each in top.all() if each is not top and each.kind]
         self.servers = {element.name: element.constant("Endpoint") for element in self.elements
-                        if element.interfaces or "Endpoint" in element.attributes}
+                        if "Endpoint" in element.attributes or element.kind.endswith("Server")}
         self.items = collections.defaultdict(list)
         for element in self.elements:
             for item in element.interfaces:
@@ -76,7 +76,7 @@ class Contents:
 
 
 def is_read(element):
-    return bool(element.interfaces) or element.kind in (classes.PACKAGE, classes.INSTANCES, classes.SERVICE)
+    return element.kind in (classes.PACKAGE, classes.INSTANCES, classes.SOURCES, classes.SERVICE)
 
 
 def key(text):

@@ -19,7 +19,7 @@ class Procedures:
         """A procedure of the description, and of the map. `shared` are the parameters of its service."""
         where = f"{service}/{element.name}"
         number = self.number(element, where)
-        own, others = self.parameters_of(element, where, [])
+        own, others = self.parameters_of(element, where, frozenset())
         params = self.parameters(where, shared + own)
         self.told.lost(where, f"its name: pol knows it by its number {number} (the map has it)")
         description = {"number": number, "default": self.truth(element, "IsDefault", where), "params": [each for each, _ in params],
@@ -52,8 +52,7 @@ class Procedures:
         return params, others
 
     def parameters(self, where, found):
-        if len(found) > MOST_PARAMETERS:
-            self.told.error(where, f"{len(found)} parameters; pol takes {MOST_PARAMETERS} of a procedure: leave out others in the manifest")
+        self.told.sized(where, "parameter", len(found), 0, MOST_PARAMETERS)
         found = found[:MOST_PARAMETERS]
         made = names.of_elements([each for each, _ in found], where, "parameters", self.told)
         return [self.parameter(each, assembly, name, f"{where}/{each.name}") for (each, assembly), name in zip(found, made)]

@@ -17,8 +17,7 @@ class Services:
     def read(self):
         """The services of the description, and those of the map by their names for `pol`."""
         found, package = self.contents.services, self.contents.package.name
-        if not 1 <= len(found) <= MOST_SERVICES:
-            self.told.error(package, f"{len(found)} services; pol takes 1 to {MOST_SERVICES} of a module: leave out others in the manifest")
+        self.told.sized(package, "service", len(found), 1, MOST_SERVICES)
         found = found[:MOST_SERVICES]
         made = [self.service(element, name) for element, name in zip(found, names.of_elements(found, package, "services", self.told))]
         return [description for description, _ in made], {description["name"]: entry for description, entry in made}
@@ -52,12 +51,11 @@ class Services:
         """The procedures of a service, their entries in the map, and what else stands in it."""
         where = element.name
         found = [each for each in element.within if each.kind in classes.PROCEDURES]
-        shared, others = self.procedures.parameters_of(element, where, found)
+        shared, others = self.procedures.parameters_of(element, where, frozenset(found))
         if shared:
             self.told.changed(where, f"its own parameters ({listed([each.name for each, _ in shared])}) stand at each of its "
                                      "procedures: pol has no others")
-        if not 1 <= len(found) <= MOST_PROCEDURES:
-            self.told.error(where, f"{len(found)} procedures; pol takes 1 to {MOST_PROCEDURES} of a service: leave out others in the manifest")
+        self.told.sized(where, "procedure", len(found), 1, MOST_PROCEDURES)
         made = [self.procedures.read(each, where, shared) for each in found[:MOST_PROCEDURES]]
         values = self.procedures.values(where, others)
         return self.numbered(where, [description for description, _ in made]), [entry for _, entry in made], values

@@ -58,5 +58,12 @@ class Told:
         """`pol` has no place for it."""
         self.notes.append(Note(LOST, where, what))
 
+    def sized(self, where, what, count, least, most):
+        """An error where there are more or fewer of something than `pol` takes."""
+        if count < least:
+            self.error(where, f"no {what}; ask its maker for a package that has one")
+        if count > most:
+            self.error(where, f"{count} {what}s; pol takes {most}: leave out the others in the manifest")
+
     def has_errors(self):
         return any(note.kind == ERROR for note in self.notes)

@@ -39,10 +39,10 @@ def chosen_of(views, only, told):
         for name in only:
             if name not in known:
                 told.error("--only", f"no view has the name {shown(name)}; the views are {listed([each.name for each, _, _ in views])}")
-        left = [view for view in views if view[0].name not in only and view[2] not in only]
+        left = [assembly.name for assembly, _, made in views if not {assembly.name, made} & set(only)]
         if left:
-            told.lost("views", f"{len(left)} that --only doesn't name: {listed([each.name for each, _, _ in left])}")
-        views = [view for view in views if view not in left]
+            told.lost("views", f"{len(left)} that --only doesn't name: {listed(left)}")
+        views = [view for view in views if {view[0].name, view[2]} & set(only)]
     if len(views) > MOST_VARIABLES:
         more = [assembly.name for assembly, _, _ in views[MOST_VARIABLES:]]
         told.lost("views", f"{len(more)} of {len(views)}: {listed(more)}; pol takes {MOST_VARIABLES}, choose them by --only")
