@@ -49,12 +49,13 @@ class ByChance(unittest.TestCase):
         seeds = list(lines)
         for begin in range(0, len(seeds), AT_ONCE):
             some = seeds[begin:begin + AT_ONCE]
-            refused = [(seed, answer) for seed, answer in zip(some, answers([lines[seed] for seed in some]), strict=True) if answer != DONE]
-            self.assertEqual(refused, [])
+            said = answers([lines[seed] for seed in some])
+            self.assertEqual([pair for pair in zip(some, said, strict=True) if pair[1] != DONE], [])
         self.written(list(lines.values())[:AT_ONCE])
         none = sum(read.plug is None for read in found.values())
-        print(f"{len(found)} packages: {none} no manifest, {len(found) - none - len(lines)} with errors, {len(lines)} plug lines .. ", end="")
-        self.assertTrue(len(found) < 100 or min(none, len(lines), len(found) - none - len(lines)) > len(found) // 20)
+        faulty = len(found) - none - len(lines)
+        print(f"{len(found)} packages: {none} no manifest, {faulty} with errors, {len(lines)} plug lines .. ", end="")
+        self.assertTrue(len(found) < 100 or min(none, faulty, len(lines)) > len(found) // 20)
 
     def written(self, lines):
         """The program writes these lines as they are."""

@@ -7,15 +7,17 @@ import sys
 import tempfile
 import unittest
 
-from checks.reading import DONE, STATION, UNPLUG, answers, mtp, pol, sample_folder
+from checks.reading import DONE, PROGRAM, STATION, UNPLUG, answers, mtp, pol, sample_folder
 
 README = (STATION / "README.md").read_text()
 # The samples that give a line, and those that don't, with their errors.
-GOOD = ["doser.mtp", "doser.aml", "doser-3.0.mtp", "doser-draft.mtp", "mixer.mtp", "mixer-2.2.mtp", "tank.mtp", "hard.mtp"]
+GOOD = ["doser.mtp", "doser.aml", "doser-3.0.mtp", "doser-draft.mtp", "mixer.mtp", "mixer-2.2.mtp", "tank.mtp",
+        "hard.mtp"]
 BAD = {"faulty.mtp": 3, "cut.aml": 1}
-WRONG_WORDS = [[], ["x.mtp"], ["x.mtp", "--tag"], ["x.mtp", "--tag", "two words"], ["x.mtp", "--tag", ""], ["x.mtp", "--tag", "x" * 33],
-               ["x.mtp", "--tag", "T", "--at", "-1"], ["x.mtp", "--tag", "T", "--at", str(2**64)], ["x.mtp", "--tag", "T", "--at", "soon"],
-               ["x.mtp", "--tag", "T", "--type", "Ü"], ["x.mtp", "y.mtp", "--tag", "T"], ["x.mtp", "--tag", "T", "--strange"]]
+WRONG_WORDS = [[], ["x.mtp"], ["x.mtp", "--tag"], ["x.mtp", "--tag", "two words"], ["x.mtp", "--tag", ""],
+               ["x.mtp", "--tag", "x" * 33], ["x.mtp", "--tag", "T", "--at", "-1"], ["x.mtp", "--tag", "T", "--at", "soon"],
+               ["x.mtp", "--tag", "T", "--at", str(2**64)], ["x.mtp", "--tag", "T", "--type", "Ü"],
+               ["x.mtp", "y.mtp", "--tag", "T"], ["x.mtp", "--tag", "T", "--strange"]]
 
 
 class Samples(unittest.TestCase):
@@ -62,22 +64,26 @@ class Samples(unittest.TestCase):
                              {path.name: path.read_bytes() for path in self.folder.iterdir()})
 
     def test_words_replace_what_the_package_tells(self):
-        status, out, err = mtp(self.folder / "doser.mtp", "--tag", "D-1", "--at", str(2**64 - 1), "--version", "7", "--type", "Dosing",
-                               "--only", "weight")
+        status, out, err = mtp(self.folder / "doser.mtp", "--tag", "D-1", "--at", str(2**64 - 1), "--version", "7",
+                               "--type", "Dosing", "--only", "weight")
         line = json.loads(out)
-        self.assertEqual((line["tag"], line["at"], line["desc"]["version"], line["desc"]["type"]), ("D-1", 2**64 - 1, "7.0.0", "Dosing"))
-        self.assertEqual(line["desc"]["variables"], [{"kind": "AnaView", "name": "weight"}])
+        description = line["desc"]
+        self.assertEqual((line["tag"], line["at"]), ("D-1", 2**64 - 1))
+        self.assertEqual((description["version"], description["type"]), ("7.0.0", "Dosing"))
+        self.assertEqual(description["variables"], [{"kind": "AnaView", "name": "weight"}])
         self.assertIn("lost: views: 1 that --only doesn't name: 'dose_by_weight_dosed'", err)
         self.assertEqual((status, answers([out.strip().replace("D-1", "T")])), (0, [DONE]))
 
     def test_no_view_or_one_that_is_not_there(self):
-        self.assertEqual(json.loads(mtp(self.folder / "tank.mtp", "--tag", "T", "--only", "")[1])["desc"]["variables"], [])
+        line = json.loads(mtp(self.folder / "tank.mtp", "--tag", "T", "--only", "")[1])
+        self.assertEqual(line["desc"]["variables"], [])
         status, out, err = mtp(self.folder / "tank.mtp", "--tag", "T", "--only", "level,mass")
         self.assertEqual((status, out), (1, ""))
         self.assertIn("error: --only: no view has the name 'mass'; the views are 'level'\n", err)
 
     def test_a_version_that_is_none(self):
-        self.assertIn("error: Tank: 'x' is no version", mtp(self.folder / "tank.mtp", "--tag", "T", "--version", "x")[2])
+        told = mtp(self.folder / "tank.mtp", "--tag", "T", "--version", "x")[2]
+        self.assertIn("error: Tank: 'x' is no version", told)
 
     def test_the_map_is_written_beside_the_line(self):
         path = self.folder / "tank.json"
@@ -87,7 +93,8 @@ class Samples(unittest.TestCase):
 
     def test_what_can_not_be_read_or_written_is_told(self):
         status, out, err = mtp(self.folder / "none.mtp", "--tag", "T")
-        self.assertEqual((status, out, err), (1, "", f"error: {self.folder}/none.mtp: No such file or directory; name a file that can be read\n"))
+        why = "No such file or directory; name a file that can be read"
+        self.assertEqual((status, out, err), (1, "", f"error: {self.folder}/none.mtp: {why}\n"))
         self.assertIn("Is a directory", mtp(self.folder, "--tag", "T")[2])
         status, out, err = mtp(self.folder / "tank.mtp", "--tag", "T", "--map", self.folder)
         self.assertEqual((status, out), (1, ""))
@@ -95,8 +102,8 @@ class Samples(unittest.TestCase):
 
     def test_an_output_that_nobody_takes(self):
         for to, why in ((">/dev/full", "No space left on device"), (">&-", "Bad file descriptor")):
-            ran = subprocess.run(f"'{sys.executable}' '{STATION / 'mtp'}' tank.mtp --tag T {to}", shell=True, cwd=self.folder,
-                                 capture_output=True, text=True)
+            line = f"'{sys.executable}' '{STATION / 'mtp'}' tank.mtp --tag T {to}"
+            ran = subprocess.run(["bash", "-c", line], cwd=self.folder, capture_output=True, text=True)
             self.assertEqual(ran.returncode, 1)
             self.assertIn(f"error: standard output: {why}", ran.stderr)
             self.assertNotIn("Traceback", ran.stderr)
@@ -108,8 +115,8 @@ class Samples(unittest.TestCase):
         with tempfile.TemporaryDirectory() as folder:
             subprocess.run([STATION / "samples", pathlib.Path(folder) / "packages"], check=True)
             for command, told in blocks:
-                line = command.replace("station/", f"{STATION}/").replace("./pol", answers.__globals__["PROGRAM"][0])
-                ran = subprocess.run(["bash", "-c", line], cwd=folder, stdout=subprocess.PIPE, stderr=subprocess.STDOUT, text=True)
+                line = f"exec 2>&1; {command}".replace("station/", f"{STATION}/").replace("./pol", PROGRAM[0])
+                ran = subprocess.run(["bash", "-c", line], cwd=folder, stdout=subprocess.PIPE, text=True)
                 self.assertEqual(ran.stdout.splitlines(), [each[6:] for each in told.splitlines()], command)
 
 

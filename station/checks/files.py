@@ -1,5 +1,6 @@
 """Files that are no package, or not one to trust: each is an error in one line that says what to do."""
 import pathlib
+import re
 import struct
 import tempfile
 import unittest
@@ -30,8 +31,13 @@ def marked(data, place, bits):
     return bytes(changed)
 
 
-def within(name, many):
-    return TEXT.replace(b"</InstanceHierarchy>", f"<{name} Name='x'>".encode() * many + f"</{name}>".encode() * many + b"</InstanceHierarchy>", 1)
+def with_more(elements):
+    """The tank's manifest with more in it."""
+    return TEXT.replace(b"</InstanceHierarchy>", elements.encode() + b"</InstanceHierarchy>", 1)
+
+
+def nested(name, many):
+    return with_more(f"<{name} Name='x'>" * many + f"</{name}>" * many)
 
 
 # What it is, its bytes, and words of what is said.
@@ -41,27 +47,33 @@ UNREADABLE = [
     ("an XML that is none", b"<html/>", "is no CAEXFile but 'html'"),
     ("a CAEX of nothing", b"<CAEXFile/>", "has 0 elements of the class ModuleTypePackage"),
     ("half a manifest", TEXT[:len(TEXT) // 2], "is no XML"),
-    ("two packages", TEXT.replace(b"</InstanceHierarchy>", b'<InternalElement RefBaseSystemUnitPath="a/ModuleTypePackage"/></InstanceHierarchy>', 1),
+    ("two packages", with_more('<InternalElement RefBaseSystemUnitPath="a/ModuleTypePackage"/>'),
      "has 2 elements of the class ModuleTypePackage"),
     ("entities", TEXT.replace(HEAD, HEAD + ENTITIES), "has a DOCTYPE"),
-    ("entities in another encoding", ("<?xml version='1.0' encoding='utf-16'?>" + ENTITIES.decode() + "<CAEXFile/>").encode("utf-16"), "has a DOCTYPE"),
-    ("a DOCTYPE of another file", TEXT.replace(HEAD, HEAD + b'<!DOCTYPE CAEXFile SYSTEM "file:///etc/passwd">\n'), "has a DOCTYPE"),
+    ("entities in another encoding", (HEAD + ENTITIES + b"<CAEXFile/>").decode().replace("utf-8", "utf-16").encode("utf-16"),
+     "has a DOCTYPE"),
+    ("a DOCTYPE of another file", TEXT.replace(HEAD, HEAD + b'<!DOCTYPE CAEXFile SYSTEM "file:///etc/passwd">\n'),
+     "has a DOCTYPE"),
     ("an entity that nobody declared", TEXT.replace(b"Tank", b"&tank;", 1), "undefined entity"),
     ("another encoding than it says", TEXT.replace(b"Tank", b"T\xe4nk", 1), "is no XML: not well-formed"),
     ("an encoding that nobody knows", TEXT.replace(b"utf-8", b"utf-2000"), "encoding can't be read"),
     ("an encoding of several bytes a letter", TEXT.replace(b"utf-8", b"shift_jis"), "encoding can't be read"),
     ("an encoding that is none of texts", TEXT.replace(b"utf-8", b"base64"), "encoding can't be read"),
-    ("elements that nest too deep", within("InternalElement", MOST_DEEP), f"nest more than {MOST_DEEP} deep"),
-    ("attributes that nest too deep", within("Attribute", 100000), f"nest more than {MOST_DEEP} deep"),
-    ("too many elements", b"<CAEXFile>" + b"<a/>" * MOST_ELEMENTS + b"</CAEXFile>", f"more than {MOST_ELEMENTS:,} XML elements"),
+    ("elements that nest too deep", nested("InternalElement", MOST_DEEP), f"nest more than {MOST_DEEP} deep"),
+    ("attributes that nest too deep", nested("Attribute", 100000), f"nest more than {MOST_DEEP} deep"),
+    ("too many elements", b"<CAEXFile>" + b"<a/>" * MOST_ELEMENTS + b"</CAEXFile>",
+     f"more than {MOST_ELEMENTS:,} XML elements"),
     ("too many bytes", b" " * (MOST_BYTES + 1), f"more than {MOST_BYTES:,} bytes"),
-    ("a zip of too many bytes", zipped({"manifest.aml": b" " * (MOST_BYTES + 1)}), f"has {MOST_BYTES + 1:,} bytes unpacked"),
+    ("a zip of too many bytes", zipped({"manifest.aml": b" " * (MOST_BYTES + 1)}),
+     f"has {MOST_BYTES + 1:,} bytes unpacked"),
     ("a zip that lies on how many", said_to_be_small(package_of(TANK)), "is damaged: Bad CRC-32"),
     ("a zip of nothing", zipped({}), "has 0 manifests"),
     ("a zip without a manifest", zipped({"doser.txt": b""}), "has 0 manifests ('doser.txt')"),
-    ("a zip with two manifests", zipped({"manifest.aml": TEXT, "other.aml": TEXT}), "has 2 manifests ('manifest.aml', 'other.aml')"),
+    ("a zip with two manifests", zipped({"manifest.aml": TEXT, "other.aml": TEXT}),
+     "has 2 manifests ('manifest.aml', 'other.aml')"),
     ("a zip with other entries", zipped({"manifest.aml": TEXT, "setup.exe": b""}), "has other entries ('setup.exe')"),
-    ("a zip that leads out by its folder", zipped({"manifest.aml": TEXT, "../a.png": b""}), "lead out of it ('../a.png')"),
+    ("a zip that leads out by its folder", zipped({"manifest.aml": TEXT, "../a.png": b""}),
+     "lead out of it ('../a.png')"),
     ("a zip that leads to a root", zipped({"/manifest.aml": TEXT}), "lead out of it"),
     ("a zip that leads to a drive", zipped({"C:\\manifest.aml": TEXT}), "lead out of it"),
     ("a zip that leads out within", zipped({"a/../../manifest.aml": TEXT}), "lead out of it"),
@@ -86,7 +98,8 @@ class Unreadable(unittest.TestCase):
                 path = pathlib.Path(folder) / "package"
                 path.write_bytes(data)
                 status, out, err = mtp(path, "--tag", "T", "--map", path.with_name("map"))
-                self.assertEqual((status, out, err.count("\n"), path.with_name("map").exists()), (1, "", 1, False), (what, err))
+                self.assertEqual((status, out, err.count("\n")), (1, "", 1), (what, err))
+                self.assertFalse(path.with_name("map").exists(), what)
                 self.assertTrue(err.startswith(f"error: {path}: ") and words in err, (what, err))
 
 
@@ -109,25 +122,28 @@ class Readable(unittest.TestCase):
         self.same(TEXT.replace(b"<Value>", b"<Value>\n ").replace(b"</Value>", b"\n</Value>"))
 
     def test_prefixes_and_namespaces(self):
-        text = TEXT.replace(b"<CAEXFile", f'<c:CAEXFile xmlns:c="{CAEX3_NAMESPACE}"'.encode()).replace(b"</CAEXFile", b"</c:CAEXFile")
-        self.same(text)
+        prefixed = TEXT.decode().replace("<CAEXFile", f'<c:CAEXFile xmlns:c="{CAEX3_NAMESPACE}"')
+        self.same(prefixed.replace("</CAEXFile", "</c:CAEXFile").encode())
         self.same(TEXT.replace(b"<CAEXFile", b'<CAEXFile xmlns="urn:another"'))
 
     def test_another_caex_is_told(self):
         self.same(TEXT.replace(b'"2.15"', b'"4.0"'), "changed: CAEX '4.0' is neither 2.15 nor 3.0")
 
     def test_ids_with_braces_and_in_other_letters(self):
-        refers = TEXT.replace(b"<Value>", b"<Value>{").replace(b"</Value>", b"}</Value>")
-        self.assertNotEqual(refers, TEXT)
-        read = read_data(refers.replace(b"{/", b"/"), version="1.0.0")
-        self.assertFalse(any("leads to no" in note for note in read.of_kind("error")), read.notes)
-        self.assertFalse(any("has no item" in note for note in read.of_kind("error")), read.notes)
+        self.same(re.sub(b"<Value>(.{8}-.{4}-.{4}-.{4}-.{12})<", lambda found: b"<Value>{" + found[1].upper() + b"}<", TEXT))
+
+    def test_ids_whatever_their_type_is_said_to_be(self):
+        """Makers may give a RefID the type of an item's ID, or an item's ID the type of a text."""
+        self.same(TEXT.replace(b'Name="RefID" AttributeDataType="xs:string"', b'Name="RefID" AttributeDataType="xs:IDREF"'))
+        self.same(TEXT.replace(b'AttributeDataType="xs:IDREF"', b'AttributeDataType="xs:string"'))
+        self.same(TEXT.replace(b' AttributeDataType="xs:IDREF"', b""))
 
     def test_what_may_lie_in_a_zip(self):
-        beside = {"manifest.aml": TEXT, "pictures/": b"", "pictures/tank.svg": b"", "[Content_Types].xml": b"", "_rels/.rels": b""}
+        container = {"[Content_Types].xml": b"", "_rels/.rels": b""}
+        beside = {"manifest.aml": TEXT, "pictures/": b"", "pictures/tank.svg": b"", **container}
         self.same(zipped(beside), "lost: the zip: what lies beside the manifest isn't read: 'pictures/tank.svg', ")
-        self.same(zipped({"tank/Manifest.AML": TEXT}), "changed: the zip: its manifest is 'tank/Manifest.AML', not manifest.aml")
-        self.same(zipped({"manifest.xml": TEXT}), "changed: the zip: its manifest is 'manifest.xml', not manifest.aml")
+        for name in ("tank/Manifest.AML", "manifest.xml"):
+            self.same(zipped({name: TEXT}), f"changed: the zip: its manifest is '{name}', not manifest.aml")
 
     def test_a_zip_that_is_only_stored(self):
         with tempfile.NamedTemporaryFile() as file:

@@ -9,11 +9,12 @@ from package.names import fitted, is_name, twice
 from package.versions import three_parts
 
 VERSIONS = [
-    ("1.2.3", "1.2.3"), ("1.2", "1.2.0"), ("1", "1.0.0"), ("v2.1", "2.1.0"), ("V2.1", "2.1.0"), (" 1.2 ", "1.2.0"), ("01.2.3", "1.2.3"),
-    ("1.2.3.4", "1.2.3+4"), ("1.2.3.4+b", "1.2.3+4.b"), ("1.0-rc.1", "1.0.0-rc.1"), ("1.0.0-01", None), ("1.0.0-0a", "1.0.0-0a"),
-    ("1.0.0+01", "1.0.0+01"), ("1.0.0+b..c", None), ("1.0.0-", None), ("1.0.0 (beta)", None), ("next", None), ("", None), ("1..2", None),
-    ("18446744073709551615.0.0", "18446744073709551615.0.0"), ("18446744073709551616.0.0", None), ("1" * 5000, None), ("１.0", None),
-    ("1.2.3-" + "a" * 58, "1.2.3-" + "a" * 58), ("1.2.3-" + "a" * 59, None), ("1.2-" + "a" * 60, None), ("1.2.3\n", "1.2.3"),
+    ("1.2.3", "1.2.3"), ("1.2", "1.2.0"), ("1", "1.0.0"), ("v2.1", "2.1.0"), ("V2.1", "2.1.0"), (" 1.2 ", "1.2.0"),
+    ("1.2.3\n", "1.2.3"), ("01.2.3", "1.2.3"), ("1.2.3.4", "1.2.3+4"), ("1.2.3.4+b", "1.2.3+4.b"),
+    ("1.0-rc.1", "1.0.0-rc.1"), ("1.0.0-01", None), ("1.0.0-0a", "1.0.0-0a"), ("1.0.0+01", "1.0.0+01"),
+    ("1.0.0+b..c", None), ("1.0.0-", None), ("1.0.0 (beta)", None), ("next", None), ("", None), ("1..2", None), ("１.0", None),
+    ("18446744073709551615.0.0", "18446744073709551615.0.0"), ("18446744073709551616.0.0", None), ("1" * 5000, None),
+    ("1.2.3-" + "a" * 58, "1.2.3-" + "a" * 58), ("1.2.3-" + "a" * 59, None), ("1.2-" + "a" * 60, None),
 ]
 LOWEST, HIGHEST = -2**63, 2**63 - 1
 # Kind, VMin, VMax, and the limits for `pol`, or None where no range is left.
@@ -44,22 +45,23 @@ RANGES = [
 ]
 
 
-def parameter_of(kind, low, high):
+def parameter_of(kind, low, high, is_read=False):
     """The parameter of a description that comes of these limits, with what was told."""
-    module = Module("M", "1.0.0", (Service("s", (Procedure("p", 1, True, parameters=(Parameter("x", kind, low, high),)),)),))
-    read = read_module(module)
+    procedure = Procedure("p", 1, is_default=True, parameters=(Parameter("x", kind, low, high, is_read),))
+    read = read_module(Module("M", "1.0.0", (Service("s", (procedure,)),)))
     return read.plug.description["services"][0]["procedures"][0]["params"][0], read
 
 
 class Names(unittest.TestCase):
     def test_a_name_stays_and_another_is_spelled(self):
-        rows = {"dose": "dose", "TI-301.b": "TI-301.b", "Heizen/Kühlen": "Heizen_Kuehlen", "Größe": "Groesse", "café": "cafe", "": "x",
-                "  ": "x", "°C": "C", "x" * 32: "x" * 32, "_": "_"}
+        rows = {"dose": "dose", "TI-301.b": "TI-301.b", "Heizen/Kühlen": "Heizen_Kuehlen", "Größe": "Groesse",
+                "café": "cafe", "": "x", "  ": "x", "°C": "C", "x" * 32: "x" * 32, "_": "_"}
         self.assertEqual({text: fitted([text])[0] for text in rows}, rows)
 
     def test_a_long_name_is_cut_and_told_from_another_with_its_beginning(self):
         long = ["Ein sehr langer Name eines Dienstes", "Ein sehr langer Name eines Dienstes, und noch einer", "y" * 33]
-        self.assertEqual(fitted(long), ["Ein_sehr_langer_Name_eines__da31", "Ein_sehr_langer_Name_eines__abc2", "y" * 27 + "_d7ba"])
+        self.assertEqual(fitted(long), ["Ein_sehr_langer_Name_eines__da31", "Ein_sehr_langer_Name_eines__abc2",
+                                        "y" * 27 + "_d7ba"])
 
     def test_a_name_keeps_its_form_before_others_are_made(self):
         self.assertEqual(fitted(["a b", "a_b"])[1], "a_b")
@@ -68,7 +70,7 @@ class Names(unittest.TestCase):
     def test_no_two_become_one(self):
         draw = random.Random(1)
         for _ in range(300):
-            texts = [f"{draw.choice(NAMES)}{draw.choice(['', '', '_', ' ', 'x'])}{draw.choice(NAMES)}" for _ in range(40)]
+            texts = [draw.choice(NAMES) + draw.choice(["", "", "_", " ", "x"]) + draw.choice(NAMES) for _ in range(40)]
             made = fitted(texts)
             self.assertTrue(all(map(is_name, made)), made)
             self.assertEqual(len(set(made)), len(set(texts)))
@@ -102,8 +104,14 @@ class Ranges(unittest.TestCase):
             self.assertEqual(seen, wanted, (kind, low, high, read.notes))
 
     def test_the_program_takes_each(self):
-        lines = [read.line for kind, low, high, wanted in RANGES if wanted for _, read in [parameter_of(kind, low, high)]]
+        lines = [parameter_of(kind, low, high)[1].line for kind, low, high, wanted in RANGES if wanted]
         self.assertEqual(answers(lines), [DONE] * len(lines))
+
+    def test_of_a_limit_that_the_module_tells_the_file_has_a_default(self):
+        for low, high, wanted in [("0", "10", (0, 10)), ("3", None, (3, 2**31 - 1)), ("0", "0", (-2**31, 2**31 - 1))]:
+            made, read = parameter_of("DIntServParam", low, high, is_read=True)
+            self.assertEqual((made["min"], made["max"]), wanted)
+            self.assertTrue(any("read from the module while it runs" in note for note in read.of_kind("lost")), read.notes)
 
     def test_what_has_no_range_says_none(self):
         for kind in ("BinServParam", "StringServParam"):
@@ -114,19 +122,23 @@ class Shown(unittest.TestCase):
     """What the map says of how a value is shown."""
 
     def entry(self, kind, facts):
-        return read_module(Module("M", "1.0.0", DOSER.services, (Assembly("v", kind, facts),))).plug.map["variables"]["v"]
+        module = Module("M", "1.0.0", DOSER.services, (Assembly("v", kind, facts),))
+        return read_module(module).plug.map["variables"]["v"]
 
     def test_units_scales_and_texts(self):
         rows = [
             ("AnaView", {"VUnit": "1088", "VSclMin": "0", "VSclMax": "5e3"},
              {"unit": {"code": "1088", "text": "kg"}, "scale": {"from": 0.0, "to": 5000.0}, "factor": 1000}),
-            ("AnaView", {"VUnit": "9999", "VSclMin": "0", "VSclMax": "1e999"}, {"unit": {"code": "9999"}, "factor": 1000}),
+            ("AnaView", {"VUnit": "9999", "VSclMin": "0", "VSclMax": "1e999"},
+             {"unit": {"code": "9999"}, "factor": 1000}),
             ("AnaMon", {"VUnit": "kg"}, {"unit": {"text": "kg"}, "factor": 1000}),
             ("DIntView", {"VState0": "off", "VState12": "fast"}, {"texts": {"0": "off", "12": "fast"}, "factor": 1}),
-            ("DIntView", {"VEnum": {"-1": "left", "1": "right", "Name": "where"}}, {"texts": {"-1": "left", "1": "right"}, "factor": 1}),
+            ("DIntView", {"VEnum": {"-1": "left", "1": "right", "Name": "where"}},
+             {"texts": {"-1": "left", "1": "right"}, "factor": 1}),
             ("BinView", {"VState0": "closed", "VState1": "open"}, {"texts": {"0": "closed", "1": "open"}}),
             ("StringView", {}, {}),
         ]
         for kind, facts, wanted in rows:
             entry = self.entry(kind, facts)
-            self.assertEqual({key: entry[key] for key in ("unit", "scale", "texts", "factor") if key in entry}, wanted, kind)
+            seen = {key: entry[key] for key in ("unit", "scale", "texts", "factor") if key in entry}
+            self.assertEqual(seen, wanted, kind)

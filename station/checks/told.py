@@ -1,5 +1,6 @@
 """What is told of packages, which limits they keep, and what the map has of them."""
 import dataclasses
+import itertools
 import unittest
 
 from checks.reading import DONE, answers, compact, read_data, read_module
@@ -21,32 +22,45 @@ HARD_NOTES = [
     ("changed", HARD.type, "is Reaktor_R-301_Mehrzweck_beh_6394"),
     ("changed", HARD.type, "the version 'V2.1' is 2.1.0"),
     ("changed", "Heizen/Kühlen", "its own parameters ('Rampe') stand at each of its procedures"),
-    ("changed", "Heizen/Kühlen", "2 procedures are the default; for pol it is the one with the number 1"),
+    ("changed", "Heizen/Kühlen", "2 procedures are the default; for pol it is number 1"),
     ("lost", "Heizen/Kühlen/Auf Temperatur", "its name: pol knows it by its number 1"),
     ("lost", "Heizen/Kühlen/Halten/Rampe", "VMax is read from the module while it runs; pol has what the file tells: 0.5"),
     ("changed", "Heizen/Kühlen/Halten/Rampe", "VMin 0.0001 lies between two thousandths: it is 1"),
     ("changed", "Heizen/Kühlen/Auf Temperatur/Solltemperatur [°C]", "VMax 180.12345 lies between two thousandths: it is 180123"),
     ("changed", "Heizen/Kühlen/Auf Temperatur/Grenze", "VMin is INF: no limit"),
-    ("changed", "Ein sehr langer Name eines Dienstes, der keinem hilft/x/Zahl", "VMax 3000000000 is beyond what pol holds: it is 2147483647"),
+    ("changed", "Ein sehr langer Name eines Dienstes, der keinem hilft/x/Zahl",
+     "VMax 3000000000 is beyond what pol holds: it is 2147483647"),
     ("lost", "AnaView", "WQC, VUnit, VSclMin, VSclMax (the map has them)"),
     ("lost", "HMISet", "the whole of it"),
 ]
 FAULTY_ERRORS = ["run/a: its number is '0'", "run/b: its number is '70000'", "Pump: 'next' is no version of three parts"]
 # A change of the doser's manifest, and what is told of it.
 CHANGES = [
-    ("a service without its control", (b"ServiceControl", b"ServiceControls"), "error: dose: its RefID leads to no ServiceControl"),
-    ("a control without an item", (b'Name="StateCur"', b'Name="State"'), "error: dose: its ServiceControl has no item for StateCur, "),
-    ("a control without the operator's", (b'Name="CommandOp"', b'Name="Command"'), "lost: dose: its ServiceControl has no item for CommandOp: "),
-    ("a parameter that can't be set", (b'Name="VExt"', b'Name="VSet"'), "error: dose/by_weight/amount: it has no item for VExt, "),
-    ("a parameter of another class", (b"ParameterElement/AnaServParam", b"X/AnaMan"), "lost: dose/by_weight: ProcedureParameter 'amount': its RefID "),
-    ("a view without its value", (b'Name="V"', b'Name="Value"'), "lost: dose_by_weight_dosed: the whole AnaView: it has no item for its value V"),
-    ("no version", (b'Name="Version"', b'Name="Edition"'), "error: Doser: no version of the module is told (its writer has '1.0.0'); give it by --version"),
-    ("a truth that is none", (b">true<", b">yes<"), "changed: dose/by_weight: IsSelfCompleting is 'yes', which is read as false"),
+    ("a service without its control", (b"ServiceControl", b"ServiceControls"),
+     "error: dose: its RefID leads to no ServiceControl"),
+    ("a control without an item", (b'Name="StateCur"', b'Name="State"'),
+     "error: dose: its ServiceControl has no item for StateCur, "),
+    ("a control without the operator's", (b'Name="CommandOp"', b'Name="Command"'),
+     "lost: dose: its ServiceControl has no item for CommandOp: "),
+    ("a parameter that can't be set", (b'Name="VExt"', b'Name="VSet"'),
+     "error: dose/by_weight/amount: it has no item for VExt, "),
+    ("a parameter of another class", (b"ParameterElement/AnaServParam", b"X/AnaMan"),
+     "lost: dose/by_weight: ProcedureParameter 'amount': its RefID "),
+    ("a view without its value", (b'Name="V"', b'Name="Value"'),
+     "lost: dose_by_weight_dosed: the whole AnaView: it has no item for its value V"),
+    ("no version", (b'Name="Version"', b'Name="Edition"'),
+     "error: Doser: no version of the module is told (its writer has '1.0.0'); give it by --version"),
+    ("a truth that is none", (b">true<", b">yes<"),
+     "changed: dose/by_weight: IsSelfCompleting is 'yes', which is read as false"),
     ("two procedures of one number", (b"<Value>2<", b"<Value>1<"), "error: dose: two procedures have the number 1"),
-    ("two views of one name", (b'Name="weight"', b'Name="dose_by_weight_dosed"'), "error: views: two views have the name 'dose_by_weight_dosed'"),
-    ("no lower limit", (b'Name="VMin"', b'Name="VLow"'), "changed: dose/by_weight/amount: no VMin in the file: no limit"),
-    ("a whole set", (b"</InstanceHierarchy>", b'<InternalElement Name="Alarms" RefBaseSystemUnitPath="A/AlarmSet"/></InstanceHierarchy>'), "lost: AlarmSet: the whole of it"),
-    ("an element without a class", (b"MTPServiceSUCLib/ReportValue", b""), "lost: dose/by_weight: an element without class 'dosed'"),
+    ("two views of one name", (b'Name="weight"', b'Name="dose_by_weight_dosed"'),
+     "error: views: two views have the name 'dose_by_weight_dosed'"),
+    ("a limit of another name", (b'Name="VMin"', b'Name="VLow"'),
+     "changed: dose/by_weight/amount: no VMin in the file: no limit"),
+    ("a whole set", (b"</InstanceHierarchy>", b'<InternalElement RefBaseSystemUnitPath="A/AlarmSet"/></InstanceHierarchy>'),
+     "lost: AlarmSet: the whole of it"),
+    ("an element without a class", (b"MTPServiceSUCLib/ReportValue", b""),
+     "lost: dose/by_weight: an element without class 'dosed'"),
 ]
 
 
@@ -89,9 +103,17 @@ class Notes(unittest.TestCase):
         self.assertTrue(any("WQC: 2 items of a server have its ID" in note for note in read.of_kind("lost")), read.notes)
 
     def test_a_note_is_one_short_line_whatever_the_names_are(self):
-        odd = dataclasses.replace(DOSER, type="a\nb\u202e\u2028" + "x" * 5000, assemblies=(Assembly("\t" * 500, "AnaMon"),))
+        odd = dataclasses.replace(DOSER, type="a\nb\u202e\u2028" + "x" * 5000)
+        odd = dataclasses.replace(odd, assemblies=(Assembly("\t" * 500, "AnaMon"),))
         for note in map(str, read_module(odd).notes):
             self.assertTrue(note.isprintable() and len(note) < 1000, note)
+
+    def test_pictures_are_told_and_a_set_that_only_points_is_not(self):
+        picture = '<InternalElement RefBaseSystemUnitPath="A/Picture"><ExternalInterface ID="p"/></InternalElement>'
+        more = f'{picture}{picture}<InternalElement RefBaseSystemUnitPath="A/ServiceSet"/></InstanceHierarchy>'
+        notes = read_data(DOSER_TEXT.replace(b"</InstanceHierarchy>", more.encode(), 1)).of_kind("lost")
+        self.assertIn("Picture: all 2 of them", notes)
+        self.assertFalse(any("ServiceSet" in note for note in notes), notes)
 
     def test_where_a_role_is_told_in_place_of_a_class(self):
         path = b' RefBaseSystemUnitPath="MTPServiceSUCLib/Service">'
@@ -101,12 +123,14 @@ class Notes(unittest.TestCase):
 
 class Limits(unittest.TestCase):
     def test_as_many_as_pol_takes_and_one_more(self):
-        for module, words in [(services(33), "33 services; pol takes 32"), (services(0), "M: no service; "), (services(1, 17), "17 procedures; pol takes 16"),
-                              (services(1, 0), "s0: no procedure; "), (services(1, 1, 33), "33 parameters; pol takes 32")]:
+        rows = [(services(33), "33 services; pol takes 32"), (services(0), "M: no service; "),
+                (services(1, 17), "17 procedures; pol takes 16"), (services(1, 0), "s0: no procedure; "),
+                (services(1, 1, 33), "33 parameters; pol takes 32")]
+        for module, words in rows:
             self.assertIn(words, "\n".join(read_module(module).of_kind("error")))
         most = [services(32), services(1, 16), services(1, 1, 32), views(64), views(65)]
         self.assertEqual(answers([read_module(module).line for module in most]), [DONE] * len(most))
-        self.assertIn("views: 1 of 65: 'v63'; pol takes 64, choose them by --only", read_module(views(65)).of_kind("lost"))
+        self.assertIn("views: 1 of 65: 'v63'; pol takes 64: choose by --only", read_module(views(65)).of_kind("lost"))
 
     def test_a_line_may_be_as_long_as_pol_takes(self):
         for more, is_error in ((0, False), (1, True)):
@@ -118,24 +142,23 @@ class Limits(unittest.TestCase):
 
 def long_description(length):
     """A description whose line has this length."""
-    def described(letters):
-        params = [{"kind": "StringServParam", "name": f"{number:02}" + "x" * letters} for number in range(32)]
-        procedures = [{"default": number == 1, "number": number, "params": params, "self_completing": True} for number in range(1, 17)]
-        return {"services": [{"name": f"s{number}", "procedures": procedures} for number in range(32)], "type": "M", "variables": [], "version": "1.0.0"}
+    def described(letters, longer):
+        """The names of parameters have this many letters, those of the first few one more."""
+        left = itertools.chain(itertools.repeat(1, longer), itertools.repeat(0))
+        return {"services": [described_service(number, letters, left) for number in range(32)], "type": "M",
+                "variables": [], "version": "1.0.0"}
 
-    def line(description):
-        return len(plugs.line_of(plugs.Plug(description, {}), plugs.Asked("T"), Told()))
-    letters = next(letters for letters in range(30, 0, -1) if line(described(letters)) <= length)
-    made, left = described(letters), length - line(described(letters))
-    made["services"] = [copied(service) for service in made["services"]]
-    for each in (param for service in made["services"] for procedure in service["procedures"] for param in procedure["params"]):
-        each["name"] += "y" * min(left, 1)
-        left -= min(left, 1)
-    return made
+    def line(*sizes):
+        return len(plugs.line_of(plugs.Plug(described(*sizes), {}), plugs.Asked("T"), Told()))
+    letters = next(letters for letters in range(30, 0, -1) if line(letters, 0) <= length)
+    return described(letters, length - line(letters, 0))
 
 
-def copied(service):
-    return {**service, "procedures": [{**procedure, "params": [dict(each) for each in procedure["params"]]} for procedure in service["procedures"]]}
+def described_service(number, letters, left):
+    def params():
+        return [{"kind": "StringServParam", "name": f"{each:02}" + "x" * (letters + next(left))} for each in range(32)]
+    procedures = [{"default": each == 1, "number": each, "params": params(), "self_completing": True} for each in range(1, 17)]
+    return {"name": f"s{number}", "procedures": procedures}
 
 
 class Map(unittest.TestCase):
@@ -159,14 +182,15 @@ class Map(unittest.TestCase):
             self.assertEqual([each["name"] for each in description["variables"]], list(entries["variables"]))
             self.assertEqual([each["name"] for each in description["services"]], list(entries["services"]))
             for service in description["services"]:
-                found = entries["services"][service["name"]]["procedures"]
-                self.assertEqual({str(each["number"]): [param["name"] for param in each["params"]] for each in service["procedures"]},
-                                 {number: list(each["params"]) for number, each in found.items()})
+                found = {number: list(each["params"]) for number, each in
+                         entries["services"][service["name"]]["procedures"].items()}
+                self.assertEqual(found, {str(each["number"]): [param["name"] for param in each["params"]]
+                                         for each in service["procedures"]})
 
     def test_it_has_each_item_with_its_server(self):
         plug = read_module(DOSER).plug
-        item = plug.map["services"]["dose"]["items"]["CommandExt"]
-        self.assertEqual(item, {"server": "Server", "node": "dose.CommandExt", "namespace": "urn:maker:Doser", "access": "3"})
+        self.assertEqual(plug.map["services"]["dose"]["items"]["CommandExt"], {
+            "server": "Server", "node": "dose.CommandExt", "namespace": "urn:maker:Doser", "access": "3"})
         self.assertEqual(plug.map["servers"], {"Server": "opc.tcp://192.168.0.10:4840"})
         amount = plug.map["services"]["dose"]["procedures"]["1"]["params"]["amount"]
         self.assertEqual((amount["items"]["VExt"]["node"], amount["factor"]), ("dose_by_weight_amount.VExt", 1000))
@@ -177,7 +201,8 @@ class Map(unittest.TestCase):
                                   "variable": "dose_by_weight_dosed"}])
 
     def test_a_view_has_one_name_whatever_is_asked_for(self):
-        whole, chosen = (read_module(HARD, only=only).plug.map["variables"] for only in (None, ("TI301 Temperatur innen", "AI069")))
+        asked = (None, ("TI301 Temperatur innen", "AI069"))
+        whole, chosen = (read_module(HARD, only=only).plug.map["variables"] for only in asked)
         self.assertEqual(list(chosen), ["TI301_Temperatur_innen_62ad", "AI069"])
         self.assertIn("TI301_Temperatur_innen_62ad", whole)
 

@@ -2,19 +2,22 @@
 from making.items import ITEMS
 from making.modules import Assembly, Module, Parameter, Procedure, Service
 
-NAMES = ["", " ", "a b", "a_b", "Ü", "Ue", "x" * 40, "Ventil/1", "a", "A", "ÄÖÜ", "温度", "n\u202en", ".", "-", "x" * 32, "x" * 33, "x" * 4000,
+NAMES = ["", " ", "a b", "a_b", "Ü", "Ue", "x" * 40, "Ventil/1", "a", "A", "ÄÖÜ", "温度", "n\u202en", ".", "-", "x" * 32,
+         "x" * 33, "x" * 4000,
          "q'\"<&>", "line\nfeed", "{brace}", "RefID", "e\u0301", "é", "𝕬", "/", "..", "\u00ad"]
-NUMBERS = ["0", "-1", "-0", "+7", "1e3", "1E-9", "NaN", "INF", "-INF", "12,5", "", "1e300", "1e-300", "1e999999999", "9223372036854775.807",
-           "9223372036854775.9", "-9223372036854775.808", "0x10", "1.0005", "0.100000001490116", "16777216.5", "2147483648", "-2147483649",
+NUMBERS = ["0", "-1", "-0", "+7", "1e3", "1E-9", "NaN", "INF", "-INF", "12,5", "", "1e300", "1e-300", "1e999999999",
+           "9223372036854775.807", "9223372036854775.9", "-9223372036854775.808", "0x10", "1.0005", "0.100000001490116",
+           "16777216.5", "2147483648", "-2147483649",
            "true", " 7 ", "1_0", "٣", ".5", "5.", ".", "9" * 70, "1000000.0005"]
-VERSIONS = ["1.0.0", "1.0", "1", "v2.3.4", "1.2.3.4", "1.2.3.4+b", "01.2.3", "1.0.0-rc.1", "1.0-rc.1", "1.0.0-01", "1.0.0-0a", "1.0.0+b..c", "1.0.0+01",
-            "x", "", "99999999999999999999.0.0", "18446744073709551615.0.0", "18446744073709551616.0.0", " 1.2 ", "1.2.3-" + "a" * 80,
+VERSIONS = ["1.0.0", "1.0", "1", "v2.3.4", "1.2.3.4", "1.2.3.4+b", "01.2.3", "1.0.0-rc.1", "1.0-rc.1", "1.0.0-01",
+            "1.0.0-0a", "1.0.0+b..c", "1.0.0+01", "x", "", "99999999999999999999.0.0", "18446744073709551615.0.0",
+            "18446744073709551616.0.0", " 1.2 ", "1.2.3-" + "a" * 80,
             "1.2.3-" + "a" * 58, "1.2.3-" + "a" * 59, "1" * 5000, "1.0.0 (beta)", "1.0.0\n", "１.0.0"]
 PROCEDURE_NUMBERS = ["0", "65536", "-1", "x", "", "²", "1.0", "9" * 5000, "01", "65535"]
 PARAMETERS = ["AnaServParam", "DIntServParam", "BinServParam", "StringServParam"]
 VIEWS = ["AnaView", "AnaMon", "DIntView", "BinView", "BinMon", "StringView"]
-FACTS = [{}, {}, {"VUnit": 1088}, {"VUnit": "kg"}, {"VUnit": "1e300"}, {"VSclMin": "0", "VSclMax": "0.01"}, {"VSclMin": "1e300", "VSclMax": "NaN"},
-         {"VSclMin": "-1e999", "VSclMax": "1e999"},
+FACTS = [{}, {}, {"VUnit": 1088}, {"VUnit": "kg"}, {"VUnit": "1e300"}, {"VSclMin": "0", "VSclMax": "0.01"},
+         {"VSclMin": "1e300", "VSclMax": "NaN"}, {"VSclMin": "-1e999", "VSclMax": "1e999"},
          {"VState0": "off", "VState7": "on"}, {"VAHLim": 7}, {"V": 5}]
 
 
@@ -51,8 +54,8 @@ class Chance:
     def procedure(self, number, procedures):
         """Only where procedures are few has one many parameters: a manifest is to be read in a moment."""
         most = self.often(self.draw.randrange(3), 31, 32, 33, one_in=40) if procedures < 8 else self.draw.randrange(2)
-        return Procedure(self.name(number), self.often(number + 1, *PROCEDURE_NUMBERS, one_in=20), self.one_in(2), self.one_in(2),
-                         tuple(self.parameter(each) for each in range(most)), tuple(f"r{each}" for each in range(self.draw.randrange(2))))
+        return Procedure(self.name(number), self.often(number + 1, *PROCEDURE_NUMBERS, one_in=20), self.one_in(2),
+                         self.one_in(2), tuple(self.parameter(each) for each in range(most)), ("r",) * self.draw.randrange(2))
 
     def parameter(self, number):
         kind = self.draw.choice(PARAMETERS)

@@ -5,8 +5,11 @@ from making.chance import NAMES, NUMBERS
 from making.writer import zipped
 
 MANIFEST = "manifest.aml"
-CLASSES = ["MTPSUCLib/ModuleTypePackage", "MTPServiceSUCLib/Service", "MTPServiceSUCLib/ServiceProcedure", "MTPSUCLib/CommunicationSet/InstanceList",
-           "A/ServiceControl", "A/AnaView", "A/AnaServParam", "", "[A]/[B/C]"]
+CLASSES = ["MTPSUCLib/ModuleTypePackage", "MTPServiceSUCLib/Service", "MTPServiceSUCLib/ServiceProcedure",
+           "MTPSUCLib/CommunicationSet/InstanceList", "A/ServiceControl", "A/AnaView", "A/AnaServParam", "", "[A]/[B/C]"]
+OTHER_WORDS = [(b"RefID", b"RefIDs"), (b"ServiceControl", b"ServiceControls"), (b"IDREF", b"string"), (b"VExt", b"VOut"),
+               (b"CAEXFile", b"File"), (b"2.15", b"1.0"), (b"true", b"yes"), (b"ModuleTypePackage", b"Module")]
+ENCODINGS = ["utf-16", "latin-1", "cp1252", "shift_jis", "utf-7", "base64", "no-such-encoding", "utf-32", "us-ascii"]
 
 
 def cut(draw, text):
@@ -23,8 +26,7 @@ def flip(draw, text):
 
 def swap_words(draw, text):
     """A word of the form is another one, at its first places."""
-    old, new = draw.choice([(b"RefID", b"RefIDs"), (b"ServiceControl", b"ServiceControls"), (b"IDREF", b"string"), (b"VExt", b"VOut"),
-                            (b"CAEXFile", b"File"), (b"2.15", b"1.0"), (b"true", b"yes"), (b"ModuleTypePackage", b"Module")])
+    old, new = draw.choice(OTHER_WORDS)
     return text.replace(old, new, draw.randrange(1, 5))
 
 
@@ -34,15 +36,15 @@ def doctype(_, text):
 
 def encoding(draw, text):
     """Written in another encoding, or said to be so."""
-    said = draw.choice(["utf-16", "latin-1", "cp1252", "shift_jis", "utf-7", "base64", "no-such-encoding", "utf-32", "us-ascii"])
-    changed = text.replace(b'encoding="utf-8"', f'encoding="{said}"'.encode(), 1)
+    changed = text.replace(b'encoding="utf-8"', f'encoding="{draw.choice(ENCODINGS)}"'.encode(), 1)
     return changed.decode().encode(draw.choice(["utf-16", "latin-1", "utf-8", "utf-32"]), errors="replace")
 
 
 def nest(draw, text):
     """An element stands very deep, or very often."""
     many = draw.choice([10, 70, 3000])
-    within = draw.choice([b"<InternalElement Name='x'>" * many + b"</InternalElement>" * many, b"<InternalElement/>" * many])
+    deep = b"<InternalElement Name='x'>" * many + b"</InternalElement>" * many
+    within = draw.choice([deep, b"<InternalElement/>" * many])
     return text.replace(b"</InstanceHierarchy>", within + b"</InstanceHierarchy>", 1)
 
 
@@ -81,8 +83,9 @@ def with_more(draw, text):
     """A zip with more beside the manifest, or with another name for it."""
     return zipped(draw.choice([
         {MANIFEST: text, "pictures/pump.png": b"", "[Content_Types].xml": b"<Types/>", "_rels/.rels": b""},
-        {MANIFEST: text, "readme": b"?"}, {MANIFEST: text, "other.aml": text}, {"../" + MANIFEST: text}, {"/etc/" + MANIFEST: text},
-        {"doser/Manifest.AML": text}, {"doser.aml": text}, {"..\\" + MANIFEST: text}, {"C:/" + MANIFEST: text}, {"a": b""}, {}]))
+        {MANIFEST: text, "readme": b"?"}, {MANIFEST: text, "other.aml": text}, {"doser/Manifest.AML": text},
+        {"doser.aml": text}, {"../" + MANIFEST: text}, {"/etc/" + MANIFEST: text}, {"..\\" + MANIFEST: text},
+        {"C:/" + MANIFEST: text}, {"a": b""}, {}]))
 
 
 def damaged(draw, text):
@@ -94,4 +97,8 @@ def damaged(draw, text):
 def packed(draw, text):
     """A manifest as a file: by itself or in a zip, which is hurt now and then."""
     how = draw.randrange(10)
-    return text if how < 4 else zipped({MANIFEST: text}) if how < 8 else with_more(draw, text) if how < 9 else damaged(draw, text)
+    if how == 0:
+        return damaged(draw, text)
+    if how == 1:
+        return with_more(draw, text)
+    return text if how < 6 else zipped({MANIFEST: text})

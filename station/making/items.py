@@ -1,21 +1,24 @@
 """The attributes of data assemblies, and the groups in which the standard and drafts of it have them."""
 
-MODE = [f"{state}{by}" for state in ("StateOff", "StateOp", "StateAut") for by in ("Op", "Aut", "Act")] + ["StateChannel"]
-SOURCE = [f"{source}{by}" for source in ("SrcInt", "SrcExt") for by in ("Op", "Aut", "Act")] + ["SrcChannel"]
+BY = ("Op", "Aut", "Act")
+MODE = [f"{state}{by}" for state in ("StateOff", "StateOp", "StateAut") for by in BY] + ["StateChannel"]
+SOURCE = [f"{source}{by}" for source in ("SrcInt", "SrcExt") for by in BY] + ["SrcChannel"]
 SET = ["WQC", "OSLevel", "VOp", "VInt", "VExt", "VReq", "VOut", "VFbk"]
-NUMBER = [*SET, "VUnit", "VSclMin", "VSclMax", "VMin", "VMax", "Sync", "ApplyEn", "ApplyOp", "ApplyInt", "ApplyExt", *MODE, *SOURCE]
+NUMBER = [*SET, "VUnit", "VSclMin", "VSclMax", "VMin", "VMax", "Sync", "ApplyEn", "ApplyOp", "ApplyInt", "ApplyExt", *MODE,
+          *SOURCE]
 VIEW = ["WQC", "V", "VUnit", "VSclMin", "VSclMax"]
 ITEMS = {
-    "ServiceControl": ["WQC", "OSLevel", "CommandOp", "CommandInt", "CommandExt", "ProcedureOp", "ProcedureInt", "ProcedureExt",
-                       "StateCur", "CommandEn", "ProcedureCur", "ProcedureReq", "PosTextID", "InteractQuestionID",
-                       "InteractAnswerID", "InteractAddInfo", *MODE, *SOURCE],
+    "ServiceControl": ["WQC", "OSLevel", "CommandOp", "CommandInt", "CommandExt", "ProcedureOp", "ProcedureInt",
+                       "ProcedureExt", "StateCur", "CommandEn", "ProcedureCur", "ProcedureReq", "PosTextID",
+                       "InteractQuestionID", "InteractAnswerID", "InteractAddInfo", *MODE, *SOURCE],
     "AnaServParam": NUMBER, "DIntServParam": NUMBER,
     "BinServParam": [*SET, "VState0", "VState1", "ApplyEn", "ApplyExt"],
     "StringServParam": [*SET, "ApplyEn", "ApplyExt"],
     "AnaView": VIEW, "DIntView": VIEW, "BinView": ["WQC", "V", "VState0", "VState1"], "StringView": ["WQC", "Text"],
     "AnaMon": [*VIEW, "VAHEn", "VAHLim", "VAHAct", "VALEn", "VALLim", "VALAct", "OSLevel"],
     "BinMon": ["WQC", "V", "VState0", "VState1", "VFlaEn", "VFlaTime", "VFlaAct", "OSLevel"],
-    "PIDCtrl": ["WQC", "PV", "SP", "MV"], "MonBinVlv": ["WQC", "Ctrl"], "LockView4": ["WQC", "Out"], "HealthStateView": ["WQC"],
+    "PIDCtrl": ["WQC", "PV", "SP", "MV"], "MonBinVlv": ["WQC", "Ctrl"], "LockView4": ["WQC", "Out"],
+    "HealthStateView": ["WQC"],
 }
 STANDARD_GROUPS = {
     "ServiceControl": "ServiceElement/", "AnaServParam": "ParameterElement/", "DIntServParam": "ParameterElement/",

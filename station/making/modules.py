@@ -6,7 +6,7 @@ KILOGRAM, CELSIUS, LITRE = 1088, 1001, 1038
 
 @dataclasses.dataclass(frozen=True)
 class Parameter:
-    """`low` and `high` may be any text; None leaves them to the server, as `is_read` does beside what the file says."""
+    """`low` and `high` may be any text; None leaves them to the server, and so does `is_read`, beside what the file says."""
     name: str
     kind: str
     low: object = None
@@ -63,15 +63,18 @@ DOSER = Module("Doser", "1.2.0", (
 
 def mixer(version):
     return Module("Mixer", version, (
-        Service("stir", (Procedure("until_told", 1, is_default=True, parameters=(Parameter("speed", "DIntServParam", 0, 1500),)),)),
+        Service("stir", (
+            Procedure("until_told", 1, is_default=True, parameters=(Parameter("speed", "DIntServParam", 0, 1500),)),)),
         Service("drain", (Procedure("all", 1, is_default=True, is_self_completing=True),))),
-        (Assembly("temp", "AnaMon", scale(CELSIUS, 0, 150)), Assembly("full", "BinView", {"VState0": "not full", "VState1": "full"}),
-         Assembly("gear", "DIntView", {"VState0": "off", "VState1": "slow", "VState2": "fast"}), Assembly("program", "StringView"),
-         Assembly("TIC001", "PIDCtrl")))
+        (Assembly("temp", "AnaMon", scale(CELSIUS, 0, 150)),
+         Assembly("full", "BinView", {"VState0": "not full", "VState1": "full"}),
+         Assembly("gear", "DIntView", {"VState0": "off", "VState1": "slow", "VState2": "fast"}),
+         Assembly("program", "StringView"), Assembly("TIC001", "PIDCtrl")))
 
 
-TANK = Module("Tank", "1.0.0", (Service("fill", (Procedure("to_level", 1, is_default=True, is_self_completing=True),)),),
-              (Assembly("level", "AnaView", scale(LITRE, 0, 2000)),))
+TANK = Module("Tank", "1.0.0", (
+    Service("fill", (Procedure("to_level", 1, is_default=True, is_self_completing=True),)),),
+    (Assembly("level", "AnaView", scale(LITRE, 0, 2000)),))
 
 # All that has no place for `pol`, or stands there in another form.
 HARD = Module("Reaktor R-301 (Mehrzweck, beheizbar, 500 l)", "V2.1", (
@@ -81,7 +84,8 @@ HARD = Module("Reaktor R-301 (Mehrzweck, beheizbar, 500 l)", "V2.1", (
             Parameter("Mit Rückfluss", "BinServParam"), Parameter("Grenze", "AnaServParam", "INF", "NaN"))),
         Procedure("Halten", 2, is_default=True)), (Parameter("Rampe", "AnaServParam", 0.0001, 0.5, is_read=True),)),
     Service("Ein sehr langer Name eines Dienstes, der keinem hilft", (
-        Procedure("x", 1, is_self_completing=True, parameters=(Parameter("Zahl", "DIntServParam", -3000000000, 3000000000),)),))),
+        Procedure("x", 1, is_self_completing=True,
+                  parameters=(Parameter("Zahl", "DIntServParam", -3000000000, 3000000000),)),))),
     (Assembly("TI301 Temperatur innen", "AnaMon"), Assembly("TI301_Temperatur_innen", "AnaView"),
      Assembly("QI_Leitfähigkeit", "AnaView", {"VSclMin": 0, "VSclMax": 0.02}),
      *(Assembly(f"AI{number:03}", "AnaView") for number in range(70))))

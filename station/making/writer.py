@@ -1,4 +1,4 @@
-"""Writes the manifest of a module in the form of the standard, from knowledge of VDI/VDE/NAMUR 2658 parts 1, 3 and 4."""
+"""Writes the manifest of a module in the form of the standard (VDI/VDE/NAMUR 2658 parts 1, 3 and 4)."""
 import dataclasses
 import io
 import itertools
@@ -31,7 +31,7 @@ DRAFT = Form("2.15", items.DRAFT_GROUPS, "ServiceStrategy", "StrategyId", "Strat
 
 
 class Writer:
-    """Writes one module: its services stand in a hierarchy of their own, their data assemblies in the package's list."""
+    """Writes one module: its services in a hierarchy of their own, their data assemblies in the package's list."""
 
     def __init__(self, module, form):
         self.module, self.form, self.count = module, form, itertools.count(1)
@@ -78,7 +78,7 @@ class Writer:
         return made
 
     def assembly(self, kind, name, facts, defaults={}):
-        """A data assembly. What isn't one of the facts is an item of the server, which may have a default. Gives its RefID."""
+        """Writes a data assembly, and gives its RefID. What is none of the facts is an item, which may have a default."""
         reference = self.id()
         path = f"MTPDataObjectSUCLib/DataAssembly/{self.form.groups.get(kind, '')}{kind}"
         made = self.element(self.instances, name, path, TagName=name, TagDescription="", RefID=reference)
@@ -98,7 +98,8 @@ class Writer:
         return made.get("ID")
 
     def write_service(self, parent, service):
-        made = self.element(parent, service.name, "MTPServiceSUCLib/Service", RefID=self.assembly("ServiceControl", service.name, {}))
+        control = self.assembly("ServiceControl", service.name, {})
+        made = self.element(parent, service.name, "MTPServiceSUCLib/Service", RefID=control)
         for each in service.parameters:
             self.write_parameter(made, "ServiceParameter/ConfigurationParameter", each, service.name)
         for procedure in service.procedures:
@@ -106,12 +107,14 @@ class Writer:
 
     def write_procedure(self, parent, procedure, before):
         made = self.element(parent, procedure.name, f"MTPServiceSUCLib/{self.form.procedure}", RefID=self.id(),
-                            IsSelfCompleting=str(procedure.is_self_completing).lower(), IsDefault=str(procedure.is_default).lower())
+                            IsSelfCompleting=str(procedure.is_self_completing).lower(),
+                            IsDefault=str(procedure.is_default).lower())
         attribute(made, self.form.number, "xs:unsignedInt", procedure.number)
         for each in procedure.parameters:
             self.write_parameter(made, self.form.parameter, each, before)
         for name in procedure.reports:
-            self.element(made, name, "MTPServiceSUCLib/ReportValue", RefID=self.assembly("AnaView", f"{before}_{name}", {}))
+            view = self.assembly("AnaView", f"{before}_{name}", {})
+            self.element(made, name, "MTPServiceSUCLib/ReportValue", RefID=view)
 
     def write_parameter(self, parent, path, parameter, before):
         limits = {key: limit for key, limit in (("VMin", parameter.low), ("VMax", parameter.high)) if limit is not None}

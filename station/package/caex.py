@@ -4,7 +4,7 @@ import dataclasses
 import typing
 from xml.parsers import expat
 
-from package.told import Unreadable
+from package.told import Unreadable, shown
 
 MOST_ELEMENTS = 1_000_000
 MOST_DEEP = 64
@@ -39,9 +39,9 @@ class Builder:
     def begin(self, name, attributes):
         self.count += 1
         if self.count > MOST_ELEMENTS:
-            raise Unreadable(f"the manifest has more than {MOST_ELEMENTS:,} XML elements; a package of a module has fewer")
+            raise Unreadable(f"the manifest has more than {MOST_ELEMENTS:,} XML elements; that of a module has fewer")
         if len(self.open) > MOST_DEEP:
-            raise Unreadable(f"the manifest's XML elements nest more than {MOST_DEEP} deep; a package of a module has fewer")
+            raise Unreadable(f"the manifest's XML elements nest more than {MOST_DEEP} deep; those of a module don't")
         node = Node(name.rpartition(" ")[2], {key: text for key, text in attributes.items() if key in READ})
         self.open[-1].within.append(node)
         self.open.append(node)
@@ -75,23 +75,19 @@ def tree_of(data):
 
 @dataclasses.dataclass(frozen=True, slots=True)
 class Attribute:
-    """An attribute of an element: its type, its value, its default, and attributes within it."""
-    type: str
+    """An attribute of an element. `is_reference` where its value is the ID of an item of a server, and no constant."""
     value: str
     default: str
+    is_reference: bool
     within: dict
 
-    def is_reference(self):
-        """Whether the value is the ID of an item of the server, and no constant."""
-        return "IDREF" in self.type
-
     def constant(self):
-        return self.default if self.is_reference() else self.value or self.default
+        return self.default if self.is_reference else self.value or self.default
 
 
 @dataclasses.dataclass(frozen=True, slots=True, eq=False)
 class Element:
-    """An InternalElement or ExternalInterface; `kind` is the last part of its class's path. Each is equal to itself alone."""
+    """An InternalElement or ExternalInterface; `kind` is the last part of its class's path. Each equals itself alone."""
     name: str
     id: str
     kind: str
@@ -106,7 +102,7 @@ class Element:
         return attribute.constant() if attribute else ""
 
     def is_reference(self, name):
-        return name in self.attributes and self.attributes[name].is_reference()
+        return name in self.attributes and self.attributes[name].is_reference
 
     def all(self):
         """This element and all in it, each before those in it."""
@@ -125,10 +121,23 @@ class File(typing.NamedTuple):
 def file_of(data):
     root = tree_of(data)
     if root.tag != "CAEXFile":
-        raise Unreadable(f"the manifest is no CAEXFile but {root.tag!r:.40}; give a module type package")
-    tops = [node for node in root.within if node.tag == "InstanceHierarchy"]
-    elements = [element_of(node) for top in tops for node in top.all("InternalElement")]
-    return File(root.attributes.get("SchemaVersion", ""), elements, writer_of(root))
+        raise Unreadable(f"the manifest is no CAEXFile but {shown(root.tag)}; give a module type package")
+    tops = [element for top in root.all("InstanceHierarchy") for element in top.all("InternalElement")]
+    reader = Reader(set(ids_of(tops)))
+    return File(root.attributes.get("SchemaVersion", ""), list(map(reader.element, tops)), writer_of(root))
+
+
+def key(text):
+    """An ID as it is compared: letters of either case, with braces or without."""
+    return text.strip().strip("{}").casefold()
+
+
+def ids_of(nodes):
+    """The IDs of all items within these nodes."""
+    for node in nodes:
+        if node.tag == "ExternalInterface" and "ID" in node.attributes:
+            yield key(node.attributes["ID"])
+        yield from ids_of(node.within)
 
 
 def writer_of(root):
@@ -138,10 +147,28 @@ def writer_of(root):
     return next(filter(None, found + [header.text_of("WriterVersion") for header in headers]), "")
 
 
-def element_of(node):
-    return Element(node.attributes.get("Name", ""), node.attributes.get("ID", ""), kind_of(node), node.text_of("Version"),
-                   attributes_of(node), [element_of(each) for each in node.all("ExternalInterface")],
-                   [element_of(each) for each in node.all("InternalElement")])
+class Reader:
+    """Makes elements of nodes. `ids` are those of the items of all servers."""
+
+    def __init__(self, ids):
+        self.ids = ids
+
+    def element(self, node):
+        interfaces, within = (list(map(self.element, node.all(tag))) for tag in ("ExternalInterface", "InternalElement"))
+        return Element(node.attributes.get("Name", ""), node.attributes.get("ID", ""), kind_of(node),
+                       node.text_of("Version"), self.attributes(node), interfaces, within)
+
+    def attributes(self, node):
+        return {each.attributes.get("Name", ""): self.attribute(each) for each in node.all("Attribute")}
+
+    def attribute(self, node):
+        value = node.text_of("Value")
+        is_reference = "IDREF" in node.attributes.get("AttributeDataType", "") or self.is_id(value)
+        return Attribute(value, node.text_of("DefaultValue"), is_reference, self.attributes(node))
+
+    def is_id(self, value):
+        """Whether a value is the ID of an item, whatever its type is said to be. A number is none."""
+        return not value.isdecimal() and key(value) in self.ids
 
 
 def kind_of(node):
@@ -149,12 +176,3 @@ def kind_of(node):
     roles = [each.attributes.get(ROLES[each.tag], "") for each in node.within if each.tag in ROLES]
     paths = [node.attributes.get("RefBaseSystemUnitPath", ""), node.attributes.get("RefBaseClassPath", ""), *roles]
     return next(filter(None, paths), "").rpartition("/")[2].strip("[] ")
-
-
-def attributes_of(node):
-    return {each.attributes.get("Name", ""): attribute_of(each) for each in node.all("Attribute")}
-
-
-def attribute_of(node):
-    return Attribute(node.attributes.get("AttributeDataType", ""), node.text_of("Value"), node.text_of("DefaultValue"),
-                     attributes_of(node))

@@ -3,6 +3,7 @@ import collections
 import dataclasses
 
 from package import caex, classes
+from package.caex import key
 from package.told import Unreadable, shown
 
 KNOWN = ("2.15", "3.0")
@@ -29,7 +30,8 @@ class Contents:
         self.elements = [each for element in self.tops for each in element.all()]
         self.writer, self.package = file.writer, self.only_package()
         self.services = self.of_kind(classes.SERVICE)
-        self.assemblies = [each for top in self.of_kind(classes.INSTANCES) for each in top.all() if each is not top and each.kind]
+        listed = [each for top in self.of_kind(classes.INSTANCES) for each in top.all() if each is not top]
+        self.assemblies = [each for each in listed if each.kind]
         self.servers = {element.name: element.constant("Endpoint") for element in self.elements
                         if "Endpoint" in element.attributes or element.kind.endswith("Server")}
         self.items = collections.defaultdict(list)
@@ -38,7 +40,7 @@ class Contents:
                 self.items[key(item.id)].append(item_of(element, item))
         self.referred = collections.defaultdict(list)
         for assembly in self.assemblies:
-            self.referred[key(assembly.constant(REFERENCE))].append(assembly)
+            self.referred[key(reference_of(assembly))].append(assembly)
 
     def of_kind(self, kind):
         return [element for element in self.elements if element.kind == kind]
@@ -56,7 +58,7 @@ class Contents:
 
     def assembly_of(self, element, where, told):
         """The data assembly to which the RefID of an element leads; None where it leads to none, or to several."""
-        text = element.constant(REFERENCE)
+        text = reference_of(element)
         found = self.referred.get(key(text), []) if text else []
         if len(found) > 1:
             told.lost(where, f"{len(found)} data assemblies have its RefID {shown(text)}: none is taken")
@@ -64,8 +66,10 @@ class Contents:
 
     def items_of(self, assembly, told):
         """The items of a data assembly by the names of its attributes."""
-        return {name: found for name, attribute in assembly.attributes.items() if attribute.is_reference() and attribute.value
-                and (found := self.item(assembly, name, attribute.value, told))}
+        referring = {name: attribute.value for name, attribute in assembly.attributes.items()
+                     if attribute.is_reference and attribute.value and name != REFERENCE}
+        items = {name: self.item(assembly, name, value, told) for name, value in referring.items()}
+        return {name: item for name, item in items.items() if item}
 
     def item(self, assembly, name, text, told):
         """The item with this ID; None where no item has it, or several have."""
@@ -76,12 +80,13 @@ class Contents:
 
 
 def is_read(element):
-    return element.kind in (classes.PACKAGE, classes.INSTANCES, classes.SOURCES, classes.SERVICE)
+    return element.kind in (*classes.SETS_READ, classes.PACKAGE, classes.INSTANCES, classes.SERVICE)
 
 
-def key(text):
-    """An ID as it is compared: letters of either case, with braces or without."""
-    return text.strip().strip("{}").casefold()
+def reference_of(element):
+    """The RefID of an element, which some types make look like the ID of an item."""
+    attribute = element.attributes.get(REFERENCE)
+    return attribute.value or attribute.default if attribute else ""
 
 
 def item_of(server, item):

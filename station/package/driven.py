@@ -10,7 +10,8 @@ def entry(name, assembly, items):
     """All that is known of a view or a parameter. What the package doesn't say stands in no key."""
     facts = {"name": name, "assembly": assembly.name, "kind": assembly.kind, "items": items_entry(items),
              "factor": FACTORS.get(classes.VIEWS.get(assembly.kind, assembly.kind)), "unit": unit_of(assembly),
-             "scale": scale_of(assembly), "texts": texts_of(assembly), "description": assembly.constant("TagDescription")}
+             "scale": scale_of(assembly), "texts": texts_of(assembly),
+             "description": assembly.constant("TagDescription")}
     return {key: fact for key, fact in facts.items() if fact not in (None, {}, "")}
 
 
@@ -52,4 +53,5 @@ def texts_in(name, attribute):
     state = re.fullmatch(classes.STATE_TEXT, name)
     if state:
         return {state[1]: attribute.constant()}
-    return {number: each.constant() for number, each in attribute.within.items() if re.fullmatch(classes.NUMBER, number)}
+    numbered = {number: each for number, each in attribute.within.items() if re.fullmatch(classes.NUMBER, number)}
+    return {number: each.constant() for number, each in numbered.items()}

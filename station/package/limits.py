@@ -1,8 +1,9 @@
 """The limits of a parameter: VMin and VMax as `pol` has them."""
 from package import ranges
+from package.classes import LIMITS
 from package.told import shown
 
-LOWER, UPPER = "VMin", "VMax"
+LOWER, UPPER = LIMITS
 
 
 def limits_of(assembly, where, told):
@@ -10,11 +11,23 @@ def limits_of(assembly, where, told):
     if assembly.kind not in ranges.BOUNDS:
         return {}
     low, high = ranges.BOUNDS[assembly.kind]
-    numbers = {name: said(assembly, name, where, told) for name in (LOWER, UPPER)}
-    made = {"min": limit(assembly, LOWER, numbers, low, where, told), "max": limit(assembly, UPPER, numbers, high, where, told)}
+    names = () if is_left_open(assembly, where, told) else LIMITS
+    numbers = {name: said(assembly, name, where, told) for name in names}
+    made = {"min": limit(assembly, LOWER, numbers, low, where, told),
+            "max": limit(assembly, UPPER, numbers, high, where, told)}
     if made["min"] > made["max"]:
         told.error(where, f"{between(assembly, numbers)}; ask its maker for a range that a recipe can set")
     return made
+
+
+def is_left_open(assembly, where, told):
+    """Whether the module tells both limits while it runs, and the file has one default for both: that is no range."""
+    low, high = (assembly.constant(name) if assembly.is_reference(name) else "" for name in LIMITS)
+    is_open = low == high != ""
+    if is_open:
+        told.lost(where, f"VMin and VMax are read from the module while it runs; the file has {shown(low)} for both: "
+                         "no limit")
+    return is_open
 
 
 def between(assembly, numbers):
@@ -29,7 +42,8 @@ def said(assembly, name, where, told):
     """The number that the file has for a limit; None where it has none."""
     text = assembly.constant(name)
     if assembly.is_reference(name):
-        told.lost(where, f"{name} is read from the module while it runs; pol has what the file tells: {text or 'no limit'}")
+        has = text or "no limit"
+        told.lost(where, f"{name} is read from the module while it runs; pol has what the file tells: {has}")
     elif not text:
         told.changed(where, f"no {name} in the file: no limit")
     if not text:
@@ -44,7 +58,7 @@ def said(assembly, name, where, told):
 
 def limit(assembly, name, numbers, bound, where, told):
     """A limit in `pol`'s numbers, never outside of what the module takes; `bound` where it has none."""
-    number = numbers[name]
+    number = numbers.get(name)
     if number is None:
         return bound
     steps, is_lower = ranges.steps_of(number, assembly.kind), name == LOWER

@@ -1,4 +1,4 @@
-"""The manifest of a package: the bytes of an .aml file, by itself or as an entry of a zip. Nothing is unpacked to a disk."""
+"""The manifest of a package: the bytes of an .aml file, by itself or in a zip. Nothing is unpacked to a disk."""
 import io
 import pathlib
 import struct
@@ -15,7 +15,8 @@ MANIFESTS = (".aml", ".xml")
 # What may lie beside the manifest and holds no part of it: pictures, papers, and what a container says of itself.
 BESIDE = (".png", ".jpg", ".jpeg", ".gif", ".bmp", ".svg", ".pdf", ".rels", "[content_types].xml")
 # All that Python's reader raises on a zip that is damaged.
-DAMAGED = (zipfile.BadZipFile, zlib.error, struct.error, EOFError, OSError, RuntimeError, ValueError, IndexError, OverflowError)
+DAMAGED = (zipfile.BadZipFile, zlib.error, struct.error, EOFError, OSError, RuntimeError, ValueError, IndexError,
+           OverflowError)
 
 
 def manifest_of(path, told):
@@ -78,6 +79,7 @@ def unpacked(package, entry):
     if entry.compress_type not in METHODS:
         raise Unreadable("the manifest is packed by a method that isn't deflate; pack it anew, or give it by itself")
     if entry.file_size > MOST_BYTES:
-        raise Unreadable(f"the manifest has {entry.file_size:,} bytes unpacked, at most {MOST_BYTES:,} are read; don't trust it")
+        raise Unreadable(f"the manifest has {entry.file_size:,} bytes unpacked, at most {MOST_BYTES:,} are read; "
+                         "don't trust it")
     with package.open(entry) as file:
         return file.read(MOST_BYTES + 1)

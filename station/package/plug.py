@@ -62,11 +62,11 @@ def plug_of(data, asked, told):
     contents = Contents(data, told)
     variables, shown_values, by_assembly = variables_of(contents, asked.only, told)
     services, commanded = Services(contents, told, by_assembly).read()
-    description = {"type": type_of(contents, asked, told), "version": version_of(contents, asked, told), "services": services,
-                   "variables": variables}
+    named = {"type": type_of(contents, asked, told), "version": version_of(contents, asked, told)}
     rest.tell_of(contents, told)
-    return Plug(description, {"name": contents.package.name, "type": description["type"], "version": description["version"],
-                              "servers": contents.servers, "services": commanded, "variables": shown_values})
+    return Plug({**named, "services": services, "variables": variables},
+                {"name": contents.package.name, **named, "servers": contents.servers, "services": commanded,
+                 "variables": shown_values})
 
 
 def type_of(contents, asked, told):
@@ -91,7 +91,9 @@ def version_of(contents, asked, told):
 
 def line_of(plug, asked, told):
     """The plug line as `pol` writes it: no spaces, the keys in byte order."""
-    line = json.dumps({"at": asked.at, "desc": plug.description, "ev": "plug", "tag": asked.tag}, separators=(",", ":"), sort_keys=True)
+    event = {"at": asked.at, "desc": plug.description, "ev": "plug", "tag": asked.tag}
+    line = json.dumps(event, separators=(",", ":"), sort_keys=True)
     if len(line) > MOST_BYTES:
-        told.error("", f"the line has {len(line):,} bytes, pol takes {MOST_BYTES:,}; ask its maker for a package with shorter names")
+        told.error("", f"the line has {len(line):,} bytes, pol takes {MOST_BYTES:,}; "
+                       "leave out procedures and parameters in the manifest")
     return line

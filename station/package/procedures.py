@@ -22,8 +22,9 @@ class Procedures:
         own, others = self.parameters_of(element, where, frozenset())
         params = self.parameters(where, shared + own)
         self.told.lost(where, f"its name: pol knows it by its number {number} (the map has it)")
-        description = {"number": number, "default": self.truth(element, "IsDefault", where), "params": [each for each, _ in params],
-                       "self_completing": self.truth(element, "IsSelfCompleting", where)}
+        description = {"number": number, "default": self.truth(element, "IsDefault", where),
+                       "self_completing": self.truth(element, "IsSelfCompleting", where),
+                       "params": [each for each, _ in params]}
         return description, {"name": element.name, "values": self.values(where, others),
                              "params": {each["name"]: entry for each, entry in params}}
 
@@ -31,7 +32,8 @@ class Procedures:
         said = next(filter(None, map(element.constant, classes.PROCEDURE_NUMBERS)), "")
         number = int(said) if re.fullmatch("[0-9]{1,9}", said) else 0
         if not 1 <= number <= LARGEST_NUMBER:
-            self.told.error(where, f"its number is {shown(said)}; pol takes 1 to {LARGEST_NUMBER}: give it one in the manifest")
+            self.told.error(where, f"its number is {shown(said)}; pol takes 1 to {LARGEST_NUMBER}: "
+                                   "give it one in the manifest")
         return number
 
     def truth(self, element, name, where):
@@ -55,20 +57,26 @@ class Procedures:
         self.told.sized(where, "parameter", len(found), 0, MOST_PARAMETERS)
         found = found[:MOST_PARAMETERS]
         made = names.of_elements([each for each, _ in found], where, "parameters", self.told)
-        return [self.parameter(each, assembly, name, f"{where}/{each.name}") for (each, assembly), name in zip(found, made)]
+        return [self.parameter(*pair, name, f"{where}/{pair[0].name}") for pair, name in zip(found, made)]
 
     def parameter(self, element, assembly, name, where):
         items = self.contents.items_of(assembly, self.told)
         if classes.SET_BY not in items:
-            self.told.error(where, f"it has no item for {classes.SET_BY}, so no driver can set it; ask its maker for a package that has it")
-        return {"name": name, "kind": assembly.kind, **limits_of(assembly, where, self.told)}, driven.entry(element.name, assembly, items)
+            self.told.error(where, f"it has no item for {classes.SET_BY}, so no driver can set it; "
+                                   "ask its maker for a package that has it")
+        description = {"name": name, "kind": assembly.kind, **limits_of(assembly, where, self.told)}
+        return description, driven.entry(element.name, assembly, items)
 
     def values(self, where, others):
-        """What a service or a procedure has beside its parameters, for the map: whose value it is `pol` doesn't know."""
+        """What a service or a procedure has beside its parameters, for the map: whose a value is `pol` doesn't know."""
         for each, assembly in others:
-            self.told.lost(where, f"{each.kind or 'an element without class'} {shown(each.name)}{self.becomes(each, assembly)}")
-        return [{"name": each.name, "class": each.kind, "assembly": assembly.name if assembly else "",
-                 **({"variable": self.variables[assembly]} if assembly in self.variables else {})} for each, assembly in others]
+            kind = each.kind or "an element without class"
+            self.told.lost(where, f"{kind} {shown(each.name)}{self.becomes(each, assembly)}")
+        return [self.value(each, assembly) for each, assembly in others]
+
+    def value(self, element, assembly):
+        variable = {"variable": self.variables[assembly]} if assembly in self.variables else {}
+        return {"name": element.name, "class": element.kind, "assembly": assembly.name if assembly else "", **variable}
 
     def becomes(self, element, assembly):
         if assembly in self.variables:

@@ -11,8 +11,8 @@ NUMBER = re.compile(r"[+-]?(?:[0-9]+\.?[0-9]*|\.[0-9]+)(?:[eE][+-]?[0-9]{1,3})?"
 MOST_LETTERS = 64
 ENDLESS = {"nan", "inf", "+inf", "-inf"}
 EXACT = decimal.Context(prec=100)
-# A REAL of 32 bits has 24 binary digits, so 0.1 may stand in a file as 0.100000001. What it can't tell apart is one number,
-# up to a hundredth of a step.
+# A REAL of 32 bits has 24 binary digits, so 0.1 may stand in a file as 0.100000001. What it can't tell apart is one
+# number, up to a hundredth of a step.
 REAL, HUNDREDTH = decimal.Decimal(2) ** -23, decimal.Decimal("0.01")
 
 

@@ -7,7 +7,8 @@ from package.told import short
 # What is no fact of a module, or has its place under another name.
 NAMED = ("RefID", "TagName", "TagDescription")
 READ = {classes.CONTROL: classes.FOLLOWED + classes.BY_HAND,
-        **dict.fromkeys(classes.PARAMETERS, (classes.SET_BY, "VMin", "VMax")), **dict.fromkeys(classes.VIEWS, classes.VALUES)}
+        **dict.fromkeys(classes.PARAMETERS, (classes.SET_BY, *classes.LIMITS)),
+        **dict.fromkeys(classes.VIEWS, classes.VALUES)}
 MOST_NAMED = 60
 
 
@@ -37,4 +38,4 @@ def tell_of_fields(kind, fields, assemblies, told):
 
 def is_in_map(name, attribute):
     """Whether the map has an attribute: as an item, as the unit or the scale, or as texts of values."""
-    return attribute.is_reference() or name in classes.SHOWN or bool(driven.texts_in(name, attribute))
+    return attribute.is_reference or name in classes.SHOWN or bool(driven.texts_in(name, attribute))

@@ -19,7 +19,7 @@ class Services:
         found, package = self.contents.services, self.contents.package.name
         self.told.sized(package, "service", len(found), 1, MOST_SERVICES)
         found = found[:MOST_SERVICES]
-        made = [self.service(element, name) for element, name in zip(found, names.of_elements(found, package, "services", self.told))]
+        made = list(map(self.service, found, names.of_elements(found, package, "services", self.told)))
         return [description for description, _ in made], {description["name"]: entry for description, entry in made}
 
     def service(self, element, name):
@@ -35,17 +35,20 @@ class Services:
         found = self.contents.assembly_of(element, element.name, self.told)
         if found is not None and found.kind == classes.CONTROL:
             return found
-        self.told.error(element.name, f"its RefID leads to no {classes.CONTROL}; ask its maker for a package where it does")
+        self.told.error(element.name, f"its RefID leads to no {classes.CONTROL}; "
+                                      "ask its maker for a package where it does")
         return element
 
     def ask_for_items(self, where, items):
         """Says what of a service control a driver, or an operator, will miss."""
-        followed, by_hand = ([name for name in wanted if name not in items] for wanted in (classes.FOLLOWED, classes.BY_HAND))
+        followed = [name for name in classes.FOLLOWED if name not in items]
+        by_hand = [name for name in classes.BY_HAND if name not in items]
+        has_none = f"its {classes.CONTROL} has no item for"
         if followed:
-            self.told.error(where, f"its {classes.CONTROL} has no item for {', '.join(followed)}, without which no driver can follow "
-                                   "it; ask its maker for a package that has them")
+            self.told.error(where, f"{has_none} {', '.join(followed)}, without which no driver can follow it; "
+                                   "ask its maker for a package that has them")
         if by_hand:
-            self.told.lost(where, f"its {classes.CONTROL} has no item for {', '.join(by_hand)}: it can't be commanded by hand")
+            self.told.lost(where, f"{has_none} {', '.join(by_hand)}: it can't be commanded by hand")
 
     def parts(self, element):
         """The procedures of a service, their entries in the map, and what else stands in it."""
@@ -53,8 +56,8 @@ class Services:
         found = [each for each in element.within if each.kind in classes.PROCEDURES]
         shared, others = self.procedures.parameters_of(element, where, frozenset(found))
         if shared:
-            self.told.changed(where, f"its own parameters ({listed([each.name for each, _ in shared])}) stand at each of its "
-                                     "procedures: pol has no others")
+            own = listed([each.name for each, _ in shared])
+            self.told.changed(where, f"its own parameters ({own}) stand at each of its procedures: pol has no others")
         self.told.sized(where, "procedure", len(found), 1, MOST_PROCEDURES)
         made = [self.procedures.read(each, where, shared) for each in found[:MOST_PROCEDURES]]
         values = self.procedures.values(where, others)
@@ -69,5 +72,5 @@ class Services:
         if not procedures or len(defaults) == 1:
             return procedures
         chosen = (defaults or numbers)[0]
-        self.told.changed(where, f"{len(defaults)} procedures are the default; for pol it is the one with the number {chosen}")
+        self.told.changed(where, f"{len(defaults)} procedures are the default; for pol it is number {chosen}")
         return [{**procedure, "default": procedure["number"] == chosen} for procedure in procedures]

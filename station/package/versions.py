@@ -5,11 +5,12 @@ MOST_BYTES = 64
 LARGEST = 2**64 - 1
 BEFORE = r"(?:0|[1-9][0-9]*|[0-9]*[A-Za-z-][0-9A-Za-z-]*)"
 BUILD = r"[0-9A-Za-z-]+"
-FORM = re.compile(rf"[vV]?([0-9]+)(?:\.([0-9]+))?(?:\.([0-9]+))?(?:\.([0-9]+))?(-{BEFORE}(?:\.{BEFORE})*)?(?:\+({BUILD}(?:\.{BUILD})*))?")
+FORM = re.compile(r"[vV]?([0-9]+)(?:\.([0-9]+))?(?:\.([0-9]+))?(?:\.([0-9]+))?"
+                  rf"(-{BEFORE}(?:\.{BEFORE})*)?(?:\+({BUILD}(?:\.{BUILD})*))?")
 
 
 def three_parts(text):
-    """A version as `pol` has it; None where none can be made. Parts that are missing are 0, a fourth becomes a build."""
+    """A version as `pol` has it; None where none can be made. A missing part is 0, a fourth becomes a build."""
     found = FORM.fullmatch(text.strip()) if len(text) <= MOST_BYTES else None
     if not found:
         return None

@@ -38,14 +38,15 @@ def chosen_of(views, only, told):
         known = {name for assembly, _, made in views for name in (assembly.name, made)}
         for name in only:
             if name not in known:
-                told.error("--only", f"no view has the name {shown(name)}; the views are {listed([each.name for each, _, _ in views])}")
+                names_there = listed([assembly.name for assembly, _, _ in views])
+                told.error("--only", f"no view has the name {shown(name)}; the views are {names_there}")
         left = [assembly.name for assembly, _, made in views if not {assembly.name, made} & set(only)]
         if left:
             told.lost("views", f"{len(left)} that --only doesn't name: {listed(left)}")
         views = [view for view in views if {view[0].name, view[2]} & set(only)]
     if len(views) > MOST_VARIABLES:
         more = [assembly.name for assembly, _, _ in views[MOST_VARIABLES:]]
-        told.lost("views", f"{len(more)} of {len(views)}: {listed(more)}; pol takes {MOST_VARIABLES}, choose them by --only")
+        told.lost("views", f"{len(more)} of {len(views)}: {listed(more)}; pol takes {MOST_VARIABLES}: choose by --only")
     return views[:MOST_VARIABLES]
 
 
@@ -53,8 +54,9 @@ def tell_of(assembly, told):
     """What a variable doesn't have of its view."""
     seen = classes.VIEWS[assembly.kind]
     if assembly.kind != seen:
-        told.lost(assembly.name, f"the limits and alarms of its {assembly.kind}: for pol it is a view of the kind {seen}")
+        told.lost(assembly.name, f"the limits and alarms of its {assembly.kind}: for pol its kind is {seen}")
     scale = driven.scale_of(assembly)
     steps = (scale["to"] - scale["from"]) * ranges.FACTORS[seen] if scale and seen in ranges.FACTORS else 0
     if 0 < steps < 1000 and seen == "AnaView":
-        told.changed(assembly.name, f"its scale from {scale['from']:g} to {scale['to']:g} has {steps:g} of pol's thousandths: few")
+        span = f"from {scale['from']:g} to {scale['to']:g}"
+        told.changed(assembly.name, f"its scale {span} has {steps:g} of pol's thousandths: few")
