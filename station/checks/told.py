@@ -16,7 +16,7 @@ HARD_NOTES = [
     ("lost", "views", "9 of 73: 'AI061', "),
     ("lost", "TI301 Temperatur innen", "the limits and alarms of its AnaMon"),
     ("changed", "views", "the name 'TI301 Temperatur innen' is TI301_Temperatur_innen_62ad"),
-    ("changed", "QI_Leitfähigkeit", "its scale from 0 to 0.02 has 20 of pol's thousandths"),
+    ("changed", "QI_Leitfähigkeit", "its scale from 0 to 0.02 has only 20 of pol's thousandths"),
     ("changed", HARD.type, "the name 'Heizen/Kühlen' is Heizen_Kuehlen"),
     ("changed", HARD.type, "is Ein_sehr_langer_Name_eines__1e8c"),
     ("changed", HARD.type, "is Reaktor_R-301_Mehrzweck_beh_6394"),

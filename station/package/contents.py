@@ -31,16 +31,11 @@ class Contents:
         self.writer, self.package = file.writer, self.only_package()
         self.services = self.of_kind(classes.SERVICE)
         listed = [each for top in self.of_kind(classes.INSTANCES) for each in top.all() if each is not top]
-        self.assemblies = [each for each in listed if each.kind]
+        self.assemblies = [each for each in dict.fromkeys(listed) if each.kind]
         self.servers = {element.name: element.constant("Endpoint") for element in self.elements
                         if "Endpoint" in element.attributes or element.kind.endswith("Server")}
-        self.items = collections.defaultdict(list)
-        for element in self.elements:
-            for item in element.interfaces:
-                self.items[key(item.id)].append(item_of(element, item))
-        self.referred = collections.defaultdict(list)
-        for assembly in self.assemblies:
-            self.referred[key(reference_of(assembly))].append(assembly)
+        self.items = grouped((item.id, item_of(server, item)) for server in self.elements for item in server.interfaces)
+        self.referred = grouped((reference_of(assembly), assembly) for assembly in self.assemblies)
 
     def of_kind(self, kind):
         return [element for element in self.elements if element.kind == kind]
@@ -79,7 +74,17 @@ class Contents:
         return found[0] if len(found) == 1 else None
 
 
+def grouped(pairs):
+    """What has one ID, for each ID; what has none is left out."""
+    groups = collections.defaultdict(list)
+    for text, each in pairs:
+        if key(text):
+            groups[key(text)].append(each)
+    return groups
+
+
 def is_read(element):
+    """Whether an element is read, or only leads to others that are."""
     return element.kind in (*classes.SETS_READ, classes.PACKAGE, classes.INSTANCES, classes.SERVICE)
 
 

@@ -1,7 +1,7 @@
 """The limits of a parameter: VMin and VMax as `pol` has them."""
 from package import ranges
 from package.classes import LIMITS
-from package.told import shown
+from package.told import short, shown
 
 LOWER, UPPER = LIMITS
 
@@ -42,7 +42,7 @@ def said(assembly, name, where, told):
     """The number that the file has for a limit; None where it has none."""
     text = assembly.constant(name)
     if assembly.is_reference(name):
-        has = text or "no limit"
+        has = short(text) or "no limit"
         told.lost(where, f"{name} is read from the module while it runs; pol has what the file tells: {has}")
     elif not text:
         told.changed(where, f"no {name} in the file: no limit")

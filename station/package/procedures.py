@@ -80,7 +80,7 @@ class Procedures:
 
     def becomes(self, element, assembly):
         if assembly in self.variables:
-            return f": that its value {self.variables[assembly]} belongs here (the map has it)"
+            return f" is the variable {self.variables[assembly]}: that it belongs here the map has"
         if element.kind in classes.PROCEDURE_PARAMETERS + classes.SERVICE_PARAMETERS:
             return ": its RefID leads to no data assembly of a parameter, so no recipe can set it"
         return ""
