@@ -5,7 +5,7 @@ import struct
 import zipfile
 import zlib
 
-from package.told import Unreadable, listed, shown
+from package.told import Unreadable, listed, short, shown
 
 MOST_BYTES = 64 << 20
 NAME = "manifest.aml"
@@ -38,7 +38,8 @@ def out_of_zip(data, told):
         with zipfile.ZipFile(io.BytesIO(data)) as package:
             return unpacked(package, manifest_entry(package.infolist(), told))
     except DAMAGED as fault:
-        raise Unreadable(f"the zip is damaged: {fault}; get the package once more") from fault
+        why = short(str(fault)) or "it ends too early"
+        raise Unreadable(f"the zip is damaged: {why}; get the package once more") from fault
 
 
 def manifest_entry(entries, told):

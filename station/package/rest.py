@@ -9,7 +9,7 @@ NAMED = ("RefID", "TagName", "TagDescription")
 READ = {classes.CONTROL: classes.FOLLOWED + classes.BY_HAND,
         **dict.fromkeys(classes.PARAMETERS, (classes.SET_BY, *classes.LIMITS)),
         **dict.fromkeys(classes.VIEWS, classes.VALUES)}
-MOST_NAMED = 60
+MOST_NAMED = 40
 
 
 def tell_of(contents, told):
