@@ -1,6 +1,7 @@
 """What is told of packages, which limits they keep, and what the map has of them."""
 import dataclasses
 import itertools
+import re
 import unittest
 
 from checks.reading import DONE, answers, compact, read_data, read_module
@@ -101,6 +102,14 @@ class Notes(unittest.TestCase):
         twice = DOSER_TEXT[at:DOSER_TEXT.index(b"</ExternalInterface>") + len(b"</ExternalInterface>")]
         read = read_data(DOSER_TEXT.replace(twice, twice + twice))
         self.assertTrue(any("WQC: 2 items of a server have its ID" in note for note in read.of_kind("lost")), read.notes)
+        items = read.plug.map["services"]["dose"]["items"]
+        self.assertTrue("StateCur" in items and "WQC" not in items)
+
+    def test_a_data_assembly_whose_id_another_has_is_not_taken(self):
+        _, amount, _, weight, *_ = re.findall(rb'Name="RefID"[^>]*>\s*<Value>([^<]*)<', DOSER_TEXT)
+        read = read_data(DOSER_TEXT.replace(weight, amount))
+        self.assertTrue(any("2 data assemblies have its RefID" in note for note in read.of_kind("lost")), read.notes)
+        self.assertEqual(read.plug.description["services"][0]["procedures"][0]["params"], [])
 
     def test_a_note_is_one_short_line_whatever_the_names_are(self):
         odd = dataclasses.replace(DOSER, type="a\nb\u202e\u2028" + "x" * 5000)
