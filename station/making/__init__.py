@@ -1,0 +1,1 @@
+"""Packages to try with: modules, and their manifests in the form of the standard."""
