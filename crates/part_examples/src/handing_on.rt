@@ -29,8 +29,8 @@ fn note(calls: &Cell<u64>, call: u64) {
 
 // What the jobs of these tests share: each replies to a line with the line itself, and finds no memory at the line `!`.
 fn echo(calls: &Cell<u64>, line: InputLine<'_>, out: &mut Vec<u8>) -> Result<(), Stop<Infallible>>
-    ensures { OnOk result (out.new.items ≡ out.old.items ++ unwrap_or (plain_line line.entry) []) }
-    ensures { IfErr result (λ stop. stop ≡ Stop.Memory) }
+    ensures echoed { OnOk result (out.new.items ≡ out.old.items ++ unwrap_or (plain_line line.entry) []) }
+    ensures cause { IfErr result (λ stop. stop ≡ Stop.Memory) }
 {
     note(calls, MET);
     if let InputLine::Text(text) = line {
