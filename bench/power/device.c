@@ -20,9 +20,9 @@
 
 #define REAL(name) ((__typeof__(&name))dlsym(RTLD_NEXT, #name))
 
-enum { PAGE = 4096, PAGES = 1 << 16 };
+enum { PAGE = 4096, PAGES = 1 << 16, MOST_FILES = 1024 };
 
-static int journal = -1;
+static char is_journal[MOST_FILES];
 static long syncs;
 static unsigned char dirty[PAGES];
 
@@ -53,10 +53,15 @@ static void load(const char *ending, void *bytes, size_t size) {
 
 __attribute__((constructor)) static void begin(void) { load(".dirty", dirty, sizeof dirty); }
 
+// The file is opened more than once, and a number that is free again is given to another.
 static int opened(int file, const char *path) {
     const char *name = strrchr(path, '/');
-    if (file >= 0 && !strcmp(name ? name + 1 : path, "pol.journal")) journal = file;
+    if (file >= 0 && file < MOST_FILES) is_journal[file] = !strcmp(name ? name + 1 : path, "pol.journal");
     return file;
+}
+
+static int of_journal(int file) {
+    return file >= 0 && file < MOST_FILES && is_journal[file];
 }
 
 #define OPENS(name)                                              \
@@ -72,7 +77,7 @@ OPENS(open64)
 
 static ssize_t written(int file, const void *bytes, size_t size, off_t at) {
     ssize_t done = REAL(pwrite64)(file, bytes, size, at);
-    if (file != journal || done <= 0) return done;
+    if (!of_journal(file) || done <= 0) return done;
     for (off_t page = at / PAGE; page <= (at + done - 1) / PAGE; page++) or_stop(page < PAGES), dirty[page] = 1;
     save(".dirty", dirty, sizeof dirty);
     return done;
@@ -81,22 +86,22 @@ ssize_t pwrite(int file, const void *bytes, size_t size, off_t at) { return writ
 ssize_t pwrite64(int file, const void *bytes, size_t size, off_t at) { return written(file, bytes, size, at); }
 
 // Carries the dirty pages to the device.
-static void carry(void) {
+static void carry(int file) {
     unsigned char bytes[PAGE];
     int device = open_beside("");
     for (off_t page = 0; page < PAGES; page++) {
-        ssize_t size = dirty[page] ? REAL(pread64)(journal, bytes, PAGE, page * PAGE) : 0;
+        ssize_t size = dirty[page] ? REAL(pread64)(file, bytes, PAGE, page * PAGE) : 0;
         or_stop(size >= 0 && REAL(pwrite64)(device, bytes, (size_t)size, page * PAGE) == size);
     }
     close(device);
 }
 
 static int synced(int file) {
-    if (file != journal) return 0;
+    if (!of_journal(file)) return 0;
     const char *failing = getenv("FAIL_SYNC");
     int fails = failing && atol(failing) == ++syncs;
     if (!failing) syncs++;
-    if (!fails) carry();
+    if (!fails) carry(file);
     memset(dirty, 0, sizeof dirty);
     save(".dirty", dirty, sizeof dirty);
     save(".syncs", &syncs, sizeof syncs);
@@ -108,7 +113,7 @@ int fsync(int file) { return synced(file); }
 
 // Drops the clean copies: reads give there what the device has, and zeros behind its end. The length stays.
 static int dropped(int file, int advice) {
-    if (file != journal || advice != POSIX_FADV_DONTNEED || getenv("KEEP_COPIES")) return 0;
+    if (!of_journal(file) || advice != POSIX_FADV_DONTNEED || getenv("KEEP_COPIES")) return 0;
     struct stat64 seen;
     or_stop(!fstat64(file, &seen));
     int device = open_beside("");

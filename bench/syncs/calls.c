@@ -15,7 +15,10 @@
 
 #define REAL(name) ((__typeof__(&name))dlsym(RTLD_NEXT, #name))
 
-static int journal = -1, calls = -1, is_full;
+enum { MOST_FILES = 1024 };
+
+static char is_journal[MOST_FILES];
+static int calls = -1, is_full;
 
 __attribute__((constructor)) static void begin(void) {
     const char *path = getenv("CALLS");
@@ -40,10 +43,15 @@ static int fails(int error) {
     return -1;
 }
 
+// The file is opened more than once, and a number that is free again is given to another.
 static int opened(int file, const char *path) {
     const char *name = strrchr(path, '/');
-    if (file >= 0 && !strcmp(name ? name + 1 : path, "pol.journal")) journal = file;
+    if (file >= 0 && file < MOST_FILES) is_journal[file] = !strcmp(name ? name + 1 : path, "pol.journal");
     return file;
+}
+
+static int of_journal(int file) {
+    return file >= 0 && file < MOST_FILES && is_journal[file];
 }
 
 #define OPENS(name)                                              \
@@ -69,15 +77,15 @@ ssize_t write(int file, const void *bytes, size_t size) {
 }
 
 static ssize_t taken(int file, void *into, size_t size, off_t at) {
-    if (file == journal) note('r');
-    if (file == journal && goes_wrong("read")) return fails(EINTR);
+    if (of_journal(file)) note('r');
+    if (of_journal(file) && goes_wrong("read")) return fails(EINTR);
     return REAL(pread64)(file, into, size, at);
 }
 ssize_t pread(int file, void *into, size_t size, off_t at) { return taken(file, into, size, at); }
 ssize_t pread64(int file, void *into, size_t size, off_t at) { return taken(file, into, size, at); }
 
 static ssize_t written(int file, const void *bytes, size_t size, off_t at) {
-    if (file != journal) return REAL(pwrite64)(file, bytes, size, at);
+    if (!of_journal(file)) return REAL(pwrite64)(file, bytes, size, at);
     note('w');
     if (goes_wrong("write")) return fails(EIO);
     if (is_full) return fails(ENOSPC);
@@ -90,14 +98,14 @@ ssize_t pwrite(int file, const void *bytes, size_t size, off_t at) { return writ
 ssize_t pwrite64(int file, const void *bytes, size_t size, off_t at) { return written(file, bytes, size, at); }
 
 static int synced(int file, int (*sync)(int)) {
-    if (file == journal) note('s');
-    return file == journal && goes_wrong("sync") ? fails(EIO) : sync(file);
+    if (of_journal(file)) note('s');
+    return of_journal(file) && goes_wrong("sync") ? fails(EIO) : sync(file);
 }
 int fdatasync(int file) { return synced(file, REAL(fdatasync)); }
 int fsync(int file) { return synced(file, REAL(fsync)); }
 
 static int advised(int file, int advice) {
-    if (file == journal && advice == POSIX_FADV_DONTNEED) note('d');
+    if (of_journal(file) && advice == POSIX_FADV_DONTNEED) note('d');
     return 0;
 }
 int posix_fadvise(int file, off_t at, off_t size, int advice) {
