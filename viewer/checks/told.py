@@ -61,7 +61,7 @@ def seal_of(checks):
 
 def sets(checks):
     """The files of each example: a history, or a journal and its output."""
-    names = ('broken', 'hostile', 'watched', 'holding')
+    names = ('broken', 'hostile', 'watched', 'holding', 'left', 'still')
     pair = {name: [checks.data(name), checks.data(name + '.answers')] for name in names}
     blend = [checks.example('blend.jsonl'), checks.data('blend.answers')]
     return {'site': [checks.data('site')], 'blend': blend, **pair}

@@ -57,6 +57,8 @@ const labels = {
   asked: ["asked by an operator", "vom Bediener verlangt"],
   operator: ["not for recipes (mode)", "nicht für Rezepte (Modus)"],
   logged: ["entry of the log", "Eintrag des Protokolls"],
+  leftRunning: ["left running: go and look", "laufend verlassen: nachsehen"],
+  leftIn: ["! {0} of {1} left in {2}", "! {0} von {1} in {2} verlassen"],
   node: ["arm or loop decided", "Zweig oder Schleife entschieden"],
   ended: ["end of the batch", "Ende der Charge"],
   noBatch: ["No batch was started.", "Keine Charge wurde gestartet."],
@@ -75,6 +77,7 @@ const labels = {
   // Alarms.
   brokenBatch: ["batch {0} broke: step {1} found its service in {2}",
     "Charge {0} brach: Schritt {1} fand seinen Dienst in {2}"],
+  leftAlarm: ["{0} of {1} was left in {2}: go and look", "{0} von {1} wurde in {2} verlassen: nachsehen"],
   closedBatch: ["batch {0} was closed as {1}", "Charge {0} endete als {1}"],
   closedAs: ["closed as {0}", "geschlossen als {0}"],
   openBatch: ["batch {0} is still running at the end", "Charge {0} läuft am Ende noch"],
@@ -204,7 +207,9 @@ const labels = {
   procedureOf: ["procedure {0} of {1}", "Prozedur {0} von {1}"],
   // Phases of a step.
   phase_on: ["runs", "läuft"], phase_ending: ["is reset", "wird zurückgesetzt"], phase_held: ["held", "gehalten"],
-  phase_done: ["ended", "zu Ende"], phase_off: ["stopped", "angehalten"],
+  phase_done: ["ended", "zu Ende"], phase_off: ["stopped", "gestoppt"],
+  phase_left: ["left running: go and look", "laufend verlassen: nachsehen"],
+  phase_rest: ["left at rest", "in Ruhe verlassen"],
   phase_broke: ["broke", "brach"], phase_: ["not begun", "nicht begonnen"],
   // Waits.
   waitFrozen: ["waits: frozen", "wartet: eingefroren"],

@@ -72,7 +72,7 @@ const paper = (() => {
     const list = chosen.alarms();
     if (!list.length) return section("reviewer", tables.calm("noAlarm"));
     return section("reviewer", cut(["entry", "what"], list.map(alarm => [words.number(alarm.at + 1),
-      make("span", {}, tables.chip(alarm.style), words.say(alarm.key, ...alarm.values))]), "reviewer"));
+      make("span", {}, ...tables.alarmTold(alarm))]), "reviewer"));
   }
   function signature() {
     const field = key => make("div", { class: "field" }, make("span", {}, words.say(key)));

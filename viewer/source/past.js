@@ -79,6 +79,12 @@ const past = (() => {
       const values = [command, event.service, event.tag, answer.rule];
       this.alarm(at, isSent ? "asked" : "refused", { tag: event.tag }, key, ...values);
     }
+    // A step was left: to be looked at where its service still runs.
+    left(at, batch, did) {
+      if (modules.isAtRest(did.state)) return;
+      const { service, tag, state } = batch.left[batch.left.length - 1];
+      this.alarm(at, "left", { batch: batch.name, tag }, "leftAlarm", service, tag, words.state(state));
+    }
     free(at, batch) {
       for (const tag of batch.tags) this.modules.get(tag)?.held(at, null);
       for (const tag of Object.values(batch.watch)) this.modules.get(tag)?.watched(at, batch.name, false);
@@ -182,6 +188,7 @@ const past = (() => {
         if (did.do === "broke") {
           all.alarm(at, "abort", { batch: batch.name }, "brokenBatch", batch.name, did.step, words.state(did.state));
         }
+        if (did.do === "left") all.left(at, batch, did);
       }
     },
     freeze(all, at, event) {

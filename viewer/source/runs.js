@@ -4,9 +4,11 @@
 const runs = (() => {
   const POINT = 1000;
   const PHASES = { start: "on", finish: "on", reset: "ending", unhold: "on", hold: "held", end: "done", stop: "off",
-    left: "off", broke: "broke" };
-  const MARKS = { chose: "node", turn: "node", leave: "node", broke: "broke", stop: "stop", left: "stop",
+    rest: "rest", left: "left", broke: "broke" };
+  const MARKS = { chose: "node", turn: "node", leave: "node", broke: "broke", stop: "stop", left: "left",
     stop_asked: "stop" };
+  // What an entry of the log did. A step that could be left because its service is at rest is none that still runs.
+  const deedOf = did => (did.do === "left" && modules.isAtRest(did.state) ? "rest" : did.do);
   const ENDS = { Completed: "full", Broken: "abort", Stopped: "stop", Abandoned: "stop" };
   // Where a batch stands in its chart: phase and runs of each step, arm of each selection, turns of each loop.
   class Standing {
@@ -15,13 +17,13 @@ const runs = (() => {
     }
     copy() { return new Standing(this.steps, this.arms, this.turns); }
     take(did) {
-      if (did.step !== undefined) this.step(did.step, did.do);
+      if (did.step !== undefined) this.step(did.step, deedOf(did));
       if (did.do === "chose") this.arms.set(did.node, did.arm);
       if (did.do === "turn") this.turns.set(did.node, (this.turns.get(did.node) ?? 0) + 1);
     }
     step(name, deed) {
       const old = this.steps.get(name) ?? { runs: 0, phase: "" };
-      const phase = old.phase === "broke" ? "broke" : PHASES[deed] ?? old.phase;
+      const isBroken = old.phase === "broke" && deed !== "left", phase = isBroken ? "broke" : PHASES[deed] ?? old.phase;
       this.steps.set(name, { runs: old.runs + (deed === "start" ? 1 : 0), phase });
     }
   }
@@ -29,7 +31,7 @@ const runs = (() => {
     constructor(at, event, known, lane) {
       Object.assign(this, { name: event.batch, recipe: event.recipe, bind: event.bind, watch: event.watch ?? {} });
       Object.assign(this, { known, lane, started: at, ended: null, outcome: null, frozen: false, slots: [], reasons: [],
-        before: [], points: [new Standing()] });
+        before: [], left: [], points: [new Standing()] });
       this.log = { at: [], did: [] };
       this.whole = lane.track("whole"); this.waits = lane.track("wait");
       this.whole.open(at, "batch", "");
@@ -54,7 +56,15 @@ const runs = (() => {
       this.log.at.push(at); this.log.did.push(did);
       if (did.do === "start") this.begin(at, did.step);
       else this.moved(at, did);
-      this.lane.note(at, Object.hasOwn(MARKS, did.do) ? MARKS[did.do] : "log");
+      const deed = deedOf(did);
+      if (deed === "left") this.leave(did);
+      this.lane.note(at, Object.hasOwn(MARKS, deed) ? MARKS[deed] : "log");
+    }
+    // A step was left with its service running: kept with that service, which its start has told.
+    leave({ step, state }) {
+      const start = this.log.did.findLast(each => each.do === "start" && each.step === step);
+      this.left.push({ step, service: start?.service ?? step, tag: start?.tag ?? "?", state });
+      this.lane.left = this.left;
     }
     begin(at, step) {
       let free = this.slots.find(track => !track.isOpen());
@@ -65,7 +75,8 @@ const runs = (() => {
     moved(at, did) {
       const slot = this.slots.find(track => track.isOpen() && track.owner === did.step);
       if (!slot) return;
-      if (["end", "stop", "left"].includes(did.do)) slot.close(at);
+      if (["end", "stop", "rest"].includes(deedOf(did))) slot.close(at);
+      else if (did.do === "left") slot.open(at, "left", slot.owner);
       else if (["finish", "reset"].includes(did.do)) slot.open(at, "move", "");
       else if (did.do === "hold") slot.open(at, "hold", slot.owner);
       else if (did.do === "unhold") slot.open(at, "run", slot.owner);
