@@ -31,7 +31,10 @@ const runs = (() => {
     constructor(at, event, known, lane) {
       Object.assign(this, { name: event.batch, recipe: event.recipe, bind: event.bind, watch: event.watch ?? {} });
       Object.assign(this, { known, lane, started: at, ended: null, outcome: null, frozen: false, slots: [], reasons: [],
-        before: [], left: [], points: [new Standing()] });
+        before: [], left: [],
+        points: [new Standing()] });
+      // When it was asked last, how many reports of its modules came since, and when something else changed for it.
+      Object.assign(this, { asked: null, heard: 0, changed: at });
       this.log = { at: [], did: [] };
       this.whole = lane.track("whole"); this.waits = lane.track("wait");
       this.whole.open(at, "batch", "");
@@ -42,14 +45,29 @@ const runs = (() => {
       if (Object.hasOwn(this.bind, role)) return this.bind[role];
       return Object.hasOwn(this.watch, role) ? this.watch[role] : undefined;
     }
+    ask(at) { this.asked = at; this.heard = 0; }
+    hear() { this.heard += 1; }
+    // May another answer be had by asking once more? Until then what it waits for is what it waited for.
+    get isToAsk() {
+      if (this.frozen && !this.holds) return false;
+      return this.heard > 0 || !this.waits.isOpen() || this.asked === null || this.changed > this.asked;
+    }
+    // Since which entry it stands where it does.
+    get since() {
+      if (this.waits.isOpen()) return this.waits.from[this.waits.length - 1];
+      return Math.max(this.started, this.asked ?? 0, this.log.at[this.log.at.length - 1] ?? 0);
+    }
     wait(at, answer) {
       const last = this.waits.length - 1, key = JSON.stringify(answer);
       if (this.waits.isOpen() && JSON.stringify(this.reasons[last]) === key) return;
       this.waits.open(at, "wait", answer.wait); this.reasons.push(answer);
     }
     goOn(at) { if (!this.frozen) this.waits.close(at); }
-    freeze(at) { this.frozen = true; this.wait(at, { wait: "Frozen" }); }
-    thaw(at) { this.frozen = false; this.waits.close(at); }
+    freeze(at, holds) {
+      this.frozen = true; this.holds = holds; this.changed = at;
+      this.wait(at, { wait: "Frozen" });
+    }
+    thaw(at) { this.frozen = false; this.changed = at; this.waits.close(at); }
     // An entry of the log: kept, and shown in the slot of its step.
     did(at, did) {
       this.goOn(at);

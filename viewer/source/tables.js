@@ -116,6 +116,17 @@ const tables = (() => {
     const items = told.slice(0, MOST_WAITS).map(each => waitItem(each, go, pick, stamps));
     holder.replaceChildren(items.length ? make("ul", {}, ...items) : calm("noWait"));
   }
-  return { make, name, jump, table, more, NUMBERS, chip, calm, batches, alarms, alarmTold, refusals, waits, BATCH_KEYS,
-    batchRow, neverRow, refusalRow };
+  function stillItem({ name: batch, at, text, since, again }, go, pick) {
+    const under = make("span", { class: "small block" }, since, again ? " · " : null,
+      again ? make("b", { class: "again" }, again) : null);
+    return make("li", {}, picked(batch, pick), jump(at, go), make("span", {}, text), under);
+  }
+  // What waits or stands still at the end.
+  function still(holder, told, go, pick) {
+    const items = told.slice(0, MOST).map(each => stillItem(each, go, pick)), left = told.length - items.length;
+    if (left) items.push(make("li", { class: "calm" }, words.say("more", words.number(left))));
+    holder.replaceChildren(make("ul", {}, ...items));
+  }
+  return { make, name, jump, table, more, NUMBERS, chip, calm, batches, alarms, alarmTold, refusals, waits, still,
+    BATCH_KEYS, batchRow, neverRow, refusalRow };
 })();

@@ -120,8 +120,8 @@ const words = (() => {
     if (!Object.hasOwn(given, key)) return key;
     return visible(key === "state" ? SAID.state(given[key]) : given[key]);
   });
-  const word = (table, key) => (Object.hasOwn(docs[table], key) ? (language && german[table][key]) || docs[table][key]
-    : null);
+  const ownOf = (table, key) => (language && german[table][key]?.[0]) || docs[table][key];
+  const word = (table, key) => (Object.hasOwn(docs[table], key) ? ownOf(table, key) : null);
   const set = isGerman => { language = isGerman ? 1 : 0; };
   return { say, many, visible, number, thousandths, value, stamp, isTime, left, lasted, event, answer, refusal, rule,
     wait, word, listed, played, set,
