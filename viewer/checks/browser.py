@@ -43,6 +43,7 @@ class Browser:
         self.session = self.send('Target.attachToTarget', targetId=target, flatten=True)['sessionId']
         for name in ('Page', 'Runtime', 'DOM', 'Network', 'Log', 'Accessibility'):
             self.send(name + '.enable')
+        self.send('Performance.enable', timeDomain='threadTicks')
 
     def send(self, method, **params):
         """Asks for something, and gives its result; whatever else is told meanwhile is kept."""
@@ -72,6 +73,11 @@ class Browser:
         if 'exceptionDetails' in result:
             raise RuntimeError(result['exceptionDetails'].get('exception', {}).get('description', '?'))
         return result['result'].get('value')
+
+    def worked(self):
+        """How long the page has had the processor since it was opened, in milliseconds."""
+        told = self.send('Performance.getMetrics')['metrics']
+        return next(each['value'] for each in told if each['name'] == 'TaskDuration') * 1000
 
     def size(self, wide, tall, dark=False):
         self.send('Emulation.setDeviceMetricsOverride', width=wide, height=tall, deviceScaleFactor=1, mobile=False)

@@ -35,8 +35,8 @@ CONTRAST = """(() => {
     return (high + 0.05) / (low + 0.05); })()"""
 # Each colour of texts with the grounds on which they stand.
 GROUNDS = {'ink': ('ground', 'lane', 'full', 'move', 'held', 'pause'), 'faint': ('ground', 'lane'), 'run-ink': ('run',),
-           'hold-ink': ('hold',), 'loud-ink': ('stop', 'abort'), 'cursor': ('ground',), 'good': ('page',),
-           'stop': ('ground',)}
+           'hold-ink': ('hold',), 'loud-ink': ('stop', 'left', 'abort'), 'cursor': ('ground',), 'good': ('page',),
+           'stop': ('ground',), 'abort': ('ground', 'lane')}
 
 
 def check(checks):

@@ -1,8 +1,13 @@
 """What stands in viewer/ itself: the docs' words as they are now, German for each, the forms of the house, and no
 source of a proof."""
+import hashlib
+import re
 import subprocess
 
 WIDE, LONG = 120, 800
+PARTS = {'rules': ('holds', 'remedy'), 'waits': ('for', 'look')}
+# It can be said of a Stop and of a Hold.
+ONE_WORD_FOR_TWO = re.compile('anh[aä]lt|angehalten|anhielt')
 
 
 def check(checks):
@@ -40,8 +45,29 @@ def long_functions(lines):
     return found
 
 
+def english_of(table, row):
+    """The English texts that a German row tells, in its order."""
+    return [row[part] for part in PARTS[table]] if table in PARTS else [row]
+
+
+def check_german(checks):
+    """Behind each German text stands the sum of the English that it tells: a change of the English alone fails here."""
+    docs, german = checks.run('docs'), checks.run('german')
+    for table, rows in german.items():
+        old = []
+        for key, (*_, sum_kept) in rows.items():
+            text = '\n'.join(english_of(table, docs[table][key]))
+            sum_now = hashlib.sha256(text.encode()).hexdigest()[:8]
+            if sum_kept != sum_now:
+                old.append('the English of %s changed: look at the German, then write %s behind it' % (key, sum_now))
+        checks.same('the German of %s is of the English as it is' % table, old, [])
+    both = checks.run('Object.values(labels).map(([, text]) => text).concat(JSON.stringify(german))')
+    checks.same('Stop and Hold have a German word each', [text for text in both if ONE_WORD_FOR_TWO.search(text)], [])
+
+
 def check_languages(checks):
     checks.page.begin(checks.url)
+    check_german(checks)
     for table in ('rules', 'waits', 'forbids', 'events', 'does'):
         lacking = checks.run('Object.keys(docs.%s).filter(key => !german.%s[key])' % (table, table))
         checks.same('German for all ' + table, lacking, [])

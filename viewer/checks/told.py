@@ -1,6 +1,7 @@
 """What the page counts and draws, compared with what the files say themselves: answers by kind, refusals by rule,
 outcomes and logs of batches. Written without a look at the page's code."""
 import json
+import os
 import subprocess
 
 import made
@@ -61,7 +62,7 @@ def seal_of(checks):
 
 def sets(checks):
     """The files of each example: a history, or a journal and its output."""
-    names = ('broken', 'hostile', 'watched', 'holding')
+    names = ('broken', 'hostile', 'watched', 'holding', 'left', 'still')
     pair = {name: [checks.data(name), checks.data(name + '.answers')] for name in names}
     blend = [checks.example('blend.jsonl'), checks.data('blend.answers')]
     return {'site': [checks.data('site')], 'blend': blend, **pair}
@@ -123,8 +124,8 @@ def check_program(checks):
     checks.same('a run of the site: the seal', seal_of(checks), 'good')
 
 
-# A frame, in milliseconds, that is still smooth.
-SMOOTH = 60
+# A frame, in milliseconds, that is still smooth; and how long the page itself may have the processor for it.
+SMOOTH, WORK = 60, 40
 MOVES = """(async () => {
     const frame = () => new Promise(requestAnimationFrame), { view } = page.state, took = [];
     const began = performance.now();
@@ -144,13 +145,18 @@ SCROLLS = """(async () => {
     return { frame: Math.round((performance.now() - began) / 60) }; })()"""
 
 
-def check_smooth(checks, name, code):
-    """One of five tries is smooth: other work on the machine may delay the frames of some."""
+def check_smooth(checks, name, code, frames):
+    """One of five tries is smooth: other work on the machine may delay the frames of some. Where it has more of it than
+    processors, the page's own work counts."""
     for _ in range(5):
+        before = checks.page.worked()
         seen = checks.run(code)
-        if seen['frame'] < SMOOTH:
+        seen['work'] = round((checks.page.worked() - before) / frames)
+        is_busy = os.getloadavg()[0] > os.cpu_count()
+        is_smooth = seen['frame'] < SMOOTH or (is_busy and seen['work'] < WORK)
+        if is_smooth:
             break
-    checks.that('%s, ms: %s' % (name, seen), seen['frame'] < SMOOTH, seen)
+    checks.that('%s, ms: %s' % (name, seen), is_smooth, seen)
 
 
 def check_long(checks):
@@ -159,6 +165,6 @@ def check_long(checks):
     compare(checks, '200,000 entries', long)
     took = checks.run('page.state.took')
     checks.that('200,000 entries open in seconds %s' % took, sum(took.values()) < 15000, took)
-    check_smooth(checks, '200,000 entries move smoothly', MOVES)
-    check_smooth(checks, 'the list of 200,000 scrolls', SCROLLS)
+    check_smooth(checks, '200,000 entries move smoothly', MOVES, 120)
+    check_smooth(checks, 'the list of 200,000 scrolls', SCROLLS, 60)
     checks.same('only seen rows exist', checks.run("document.querySelectorAll('.row').length < 40"), True)

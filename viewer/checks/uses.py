@@ -90,7 +90,7 @@ def check_chart(checks):
     at_cursor(checks, 'a press on a step goes to its start', start)
     checks.open(checks.example('blend.jsonl'), checks.data('blend.answers'))
     checks.run('page.go(7)')
-    checks.says('a start is said with its settings', 'here', 'Start goes to dose of M1', 'amount = 1500')
+    checks.says('a start is said with its settings', 'here', 'Start is asked for: dose of M1', 'amount = 1500')
 
 
 def check_choice(checks):
@@ -163,7 +163,7 @@ def check_holding_and_watching(checks):
     for entry, wanted in ((7, 'on'), (9, 'held'), (14, 'on'), (20, 'ending')):
         checks.gives('a step that is held and goes on: entry %d' % (entry + 1), phase % entry, wanted)
     checks.run('page.go(8)')
-    checks.says('a hold is said', 'here', 'Hold goes to dose of M')
+    checks.says('a hold is said', 'here', 'Hold is asked for: dose of M')
     checks.says('a freeze that holds is told', 'alarms', 'its services are to hold')
     checks.open(checks.data('watched'), checks.data('watched.answers'))
     checks.run('page.go(5)')

@@ -84,6 +84,11 @@ const chart = (() => {
       until.draw(g, x, y + 20 + body.h, style);
     } };
   }
+  // The sign of what still runs: a triangle with an exclamation mark on the edge of its step.
+  function warning(g, x, y) {
+    put(g, "path", { d: `M${x} ${y - 11}l12 21h-24z`, class: "warning" });
+    put(g, "text", { x, y: y + 8, class: "sign" }, "!");
+  }
   const phaseOf = (place, name) => place.standing?.steps.get(name);
   function step(node, place) {
     const own = phaseOf(place, node.step), under = `${node.service} @ ${node.role}`;
@@ -98,9 +103,11 @@ const chart = (() => {
       put(group, "text", { x, y: y + 35, class: "under" }, under);
       const runs = own && (own.runs > 1 ? `×${own.runs}` : own.phase === "done" ? "✓" : "");
       if (runs) put(group, "text", { x: x + wide / 2 - 6, y: y + 14, class: "runs" }, runs);
+      const left = x - wide / 2, middle = y + BOX / 2;
       if (["on", "ending", "held", "broke"].includes(own?.phase)) {
-        put(group, "path", { d: `M${x - wide / 2 - 4} ${y + BOX / 2}l-9 -6v12z`, class: "stands" });
+        put(group, "path", { d: `M${left - 4} ${middle}l-9 -6v12z`, class: "stands" });
       }
+      if (own?.phase === "left") warning(group, left - 3, middle);
     } };
   }
   const transitionOf = (condition, place, isNow) => transition(recipes.told(condition, place.said),

@@ -35,8 +35,11 @@ const choice = (() => {
       for (let at = 0; at < this.history.stamps.length; at += 1) if (this.fitsEntry(at)) found.push(at);
       return found;
     }
+    // What is of no batch and no tag is of the whole file, and so of what is chosen too.
     alarms() {
-      return this.history.alarms.filter(({ at, subject }) => this.fits(at, subject.batch ?? null, subject.tag ?? null));
+      const isOfAll = subject => !("batch" in subject || "tag" in subject);
+      return this.history.alarms.filter(({ at, subject }) => isOfAll(subject)
+        || this.fits(at, subject.batch ?? null, subject.tag ?? null));
     }
     // Rules with the entries that each refused.
     refusals() {

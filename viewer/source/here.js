@@ -96,6 +96,8 @@ const here = (() => {
   function under(batch, standing) {
     const parts = [batch.recipe, words.played(batch)];
     if (standing.isReached) parts.push(standing.isOpen ? standing.wait && words.answer(standing.wait) : batch.outcome);
+    const phaseOf = step => standing.standing?.steps.get(step)?.phase;
+    parts.push(...batch.left.filter(({ step }) => phaseOf(step) === "left").map(words.left));
     return parts.filter(each => each).join(" · ");
   }
   return { entry, batchOf, place, drawn, under, isRefused };

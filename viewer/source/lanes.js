@@ -216,7 +216,7 @@ const lanes = (() => {
     }
     // How a batch ended stands behind its end, where there is room.
     outcome(lane, x, y, tall) {
-      const { g } = this, text = lane.outcome ?? "";
+      const { g } = this, text = [lane.outcome ?? "", ...lane.left.map(words.left)].join(" · ");
       g.font = paint.colours.font; g.textAlign = "left"; g.fillStyle = paint.colours.ink;
       if (x + 10 + g.measureText(text).width < this.width) g.fillText(text, x + 8, y + tall / 2 + 1);
     }

@@ -9,7 +9,7 @@ const legend = (() => {
   const SPANS = [["unreported", "unreported"], ["held", "held"], ["watch", "watching"], ["away", "away"],
     ["wait", "waiting"], ["mode", "operator"]];
   const MARKS = [["refused", "refused"], ["asked", "asked"], ["log", "logged"], ["node", "node"],
-    ["end full", "ended"]];
+    ["left", "leftRunning"], ["end full", "ended"]];
   function sign(draw) {
     const canvas = document.createElement("canvas"), ratio = window.devicePixelRatio || 1, g = canvas.getContext("2d");
     canvas.width = WIDE * ratio; canvas.height = TALL * ratio;

@@ -7,7 +7,9 @@ const modules = (() => {
     Resuming: "move", Unholding: "move", Pausing: "pause", Paused: "pause", Holding: "hold", Held: "hold",
     Stopping: "stop", Stopped: "stop", Aborting: "abort", Aborted: "abort",
   };
+  const AT_REST = new Set(["Idle", "Completed", "Stopped", "Aborted"]);
   const nameOf = code => docs.states[code] ?? String(code);
+  const isAtRest = code => AT_REST.has(nameOf(code));
   class Service {
     constructor(name, tag) {
       this.lane = new spans.Lane("service", name); this.lane.owner = tag;
@@ -88,5 +90,5 @@ const modules = (() => {
     }
     return { type: String(type), version: String(version), services: named, kinds, parameters };
   }
-  return { Module };
+  return { Module, isAtRest };
 })();

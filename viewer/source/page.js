@@ -69,10 +69,16 @@ const page = (() => {
     by("rows").textContent = rows ? words.many("Entries", rows.length) : "";
     tables.batches(by("outcomes"), chosen, pick);
     tables.refusals(by("refused"), chosen, go, () => view.cursor);
+    still();
     state.alarms = chosen.alarms();
     look(state.alarms.findIndex(each => each.at === view.cursor), true);
     told();
     choices();
+  }
+  function still() {
+    const told = reasons.still(state.chosen);
+    by("still").hidden = told.length === 0;
+    tables.still(by("stillOf"), told, go, pick);
   }
   function said(at) {
     const { found, history } = state, [event, answer] = found.entry(at);
@@ -184,7 +190,7 @@ const page = (() => {
     const told = reasons.never(attempt, history).map(text => make("li", {}, text));
     by("waits").replaceChildren(make("ul", {}, ...told));
   }
-  // A batch is chosen by hand: its chart is shown, and the cursor goes to its end.
+  // A batch is chosen by hand: its chart is shown, and the cursor goes to its end, or to what it waits for.
   function pick(name) {
     const { history } = state, batch = history.batches.get(name), attempt = history.attempts.get(name);
     if (state.chosen.batch !== "" && state.chosen.batch !== name) { state.chosen.batch = name; again(); }
@@ -193,7 +199,7 @@ const page = (() => {
       recipe();
       return;
     }
-    go(batch ? batch.ended ?? batch.log.at[batch.log.at.length - 1] ?? batch.started : attempt?.first ?? 0);
+    go(batch ? batch.ended ?? batch.since : attempt?.first ?? 0);
   }
   // A step in the chart is pressed: the cursor goes to its start.
   function started(event) {
@@ -212,9 +218,11 @@ const page = (() => {
     else go(rows[Math.max(0, spans.below(rows, state.view.cursor))]);
   }
   function pressed(pane, x, y) {
-    const at = pane.entryAt(x), lane = pane.laneAt(y);
-    if (lane?.kind === "batch") state.batch = lane.owner ?? lane.label;
-    if (at !== null) go(at); else if (lane?.kind === "batch") pick(lane.owner ?? lane.label);
+    const at = pane.entryAt(x), lane = pane.laneAt(y), name = lane?.kind === "batch" ? lane.owner ?? lane.label : null;
+    if (at !== null) go(at); else if (name !== null) pick(name);
+    if (name === null) return;
+    state.batch = name;
+    recipe();
   }
   // The next one to look at: also where several stand at one entry.
   function loud(way) {

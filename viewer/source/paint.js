@@ -4,11 +4,11 @@
 const paint = (() => {
   const NAMES = ["ground", "lane", "ink", "faint", "rule", "cursor", "idle", "run", "run-ink", "move", "full", "pause",
     "hold",
-    "hold-ink", "stop", "abort", "loud-ink", "away", "held", "asked", "batch", "wait", "trend"];
+    "hold-ink", "stop", "left", "abort", "loud-ink", "away", "held", "asked", "batch", "wait", "trend"];
   // How high a bar of a style stands in its lane: what does most stands highest, so that it reads without colours too.
   const SHARE = { idle: 0.14, unreported: 0.1, free: 0.1, move: 0.72, full: 0.72, held: 0.8, watch: 0.3 };
   const TEETH = 5;
-  const INKS = { run: "run-ink", abort: "loud-ink", stop: "loud-ink", hold: "hold-ink" };
+  const INKS = { run: "run-ink", abort: "loud-ink", stop: "loud-ink", left: "loud-ink", hold: "hold-ink" };
   const colours = {};
   function repaint() {
     const style = getComputedStyle(document.documentElement);
@@ -74,6 +74,12 @@ const paint = (() => {
       g.strokeStyle = colours.ink;
     }
   }
+  // A sign of warning: a triangle that stands on its side, with an exclamation mark.
+  function warning(g, x, y) {
+    g.fillStyle = colours.ground; shape(g, [[x, y], [x + 9, y + 16], [x - 9, y + 16]]);
+    g.fillStyle = colours.left; shape(g, [[x, y + 2], [x + 7, y + 15], [x - 7, y + 15]]);
+    g.fillStyle = colours["loud-ink"]; g.fillRect(x - 1, y + 6, 2, 5); g.fillRect(x - 1, y + 12, 2, 2);
+  }
   function post(g, colour, x, y, wide, tall) { g.fillStyle = colour; g.fillRect(x - wide / 2, y, wide, tall); }
   // A mark at x in a lane of this height; foot is the height of what lies at the lane's foot.
   function mark(g, kind, x, y, tall, foot) {
@@ -84,6 +90,7 @@ const paint = (() => {
     }
     else if (kind === "refused") cross(g, x, y + 9);
     else if (kind === "asked") { g.fillStyle = colours.asked; shape(g, [[x - 5, y + 3], [x + 5, y + 3], [x, y + 12]]); }
+    else if (kind === "left") warning(g, Math.round(x), y);
     else if (kind === "broke") post(g, colours.abort, x, y + 1, 4, tall - 2);
     else if (kind === "stop") post(g, colours.stop, x, y + 1, 3, tall - 2);
     else if (kind.startsWith("end ")) {

@@ -32,8 +32,8 @@ const paper = (() => {
     const rows = shown.map(at => {
       const [event, answer] = found.entry(at);
       const command = `${words.command(event.CommandOp)}: ${event.service}, ${event.tag}`;
-      const sent = answer && "did" in answer ? words.say("sent") : words.answer(answer);
-      return [words.number(at + 1), words.stamp(event.at), command, sent];
+      const told = answer && "did" in answer ? words.say("permitted") : words.answer(answer);
+      return [words.number(at + 1), words.stamp(event.at), command, told];
     });
     return section("signDesk", cut(["entry", "stamp", "command", "answer"], rows, "signDesk"));
   }
@@ -52,7 +52,8 @@ const paper = (() => {
     const rows = [...own.map(each => tables.batchRow(each, history, none)),
       ...never.map(each => tables.neverRow(each, none))];
     if (!rows.length) return section("overview", tables.calm("noBatch"));
-    const running = own.filter(batch => !batch.outcome).map(batch => [batch.name, reasons.running(batch, history)]);
+    const running = reasons.still(chosen).map(({ name, text, since, again }) =>
+      [name, [[text, since, again].filter(each => each).join(" · ")]]);
     const why = [...running, ...never.map(each => [each.name, reasons.never(each, history)])];
     const told = ([name, list]) => make("p", { class: "why" }, make("b", {}, words.visible(name)),
       `: ${list.join(" ")}`);
@@ -72,7 +73,7 @@ const paper = (() => {
     const list = chosen.alarms();
     if (!list.length) return section("reviewer", tables.calm("noAlarm"));
     return section("reviewer", cut(["entry", "what"], list.map(alarm => [words.number(alarm.at + 1),
-      make("span", {}, tables.chip(alarm.style), words.say(alarm.key, ...alarm.values))]), "reviewer"));
+      make("span", {}, ...tables.alarmTold(alarm))]), "reviewer"));
   }
   function signature() {
     const field = key => make("div", { class: "field" }, make("span", {}, words.say(key)));

@@ -73,11 +73,24 @@ const past = (() => {
       return { name, recipe: String(recipe), bind: isNames(bind) ? bind : {}, lane, first: at, why: new Map() };
     }
     asked(at, event, answer) {
-      const isSent = "did" in answer, key = isSent ? "deskSent" : "rule" in answer ? "deskRefused" : "deskUnknown";
+      const isPermitted = "did" in answer, other = "rule" in answer ? "deskRefused" : "deskUnknown";
       const command = words.command(event.CommandOp);
       this.desk.push(at);
       const values = [command, event.service, event.tag, answer.rule];
-      this.alarm(at, isSent ? "asked" : "refused", { tag: event.tag }, key, ...values);
+      const key = isPermitted ? "deskPermitted" : other, style = isPermitted ? "asked" : "refused";
+      this.alarm(at, style, { tag: event.tag }, key, ...values);
+    }
+    // The batches that a module's news may let go on.
+    waiting(module) {
+      const names = module ? [module.holder, ...module.watchers] : [];
+      return names.map(name => this.batches.get(name)).filter(batch => batch !== undefined);
+    }
+    hear(module) { for (const batch of this.waiting(module)) batch.hear(); }
+    // A step was left: to be looked at where its service still runs.
+    left(at, batch, did) {
+      if (modules.isAtRest(did.state)) return;
+      const { service, tag, state } = batch.left[batch.left.length - 1];
+      this.alarm(at, "left", { batch: batch.name, tag }, "leftAlarm", service, tag, words.state(state));
     }
     free(at, batch) {
       for (const tag of batch.tags) this.modules.get(tag)?.held(at, null);
@@ -93,6 +106,7 @@ const past = (() => {
     // After the last entry: what never came to its end, and the order of what is shown.
     finish(site) {
       const end = Math.max(0, this.stamps.length - 1);
+      for (const { at, key, values } of order.odd(this.stamps)) this.alarm(at, "hold", {}, key, ...values);
       this.level();
       for (const each of site?.batches ?? []) {
         if (typeof each?.batch !== "string" || this.batches.has(each.batch) || this.attempts.has(each.batch)) continue;
@@ -152,13 +166,18 @@ const past = (() => {
     },
     unplug: (all, at, event) => all.modules.get(event.tag)?.undock(at),
     report(all, at, event) {
-      const state = all.modules.get(event.tag)?.services.get(event.service)?.report(at, event);
+      const module = all.modules.get(event.tag), state = module?.services.get(event.service)?.report(at, event);
+      all.hear(module);
       if (state === "Aborted" || state === "Stopped") {
         const style = state === "Aborted" ? "abort" : "stop";
         all.alarm(at, style, { tag: event.tag }, "abnormal", event.service, event.tag, state);
       }
     },
-    variable: (all, at, event) => all.modules.get(event.tag)?.value(at, event.name, event.value),
+    variable(all, at, event) {
+      const module = all.modules.get(event.tag);
+      module?.value(at, event.name, event.value);
+      all.hear(module);
+    },
     recipe: (all, at, event) => { all.recipes.set(event.recipe, new recipes.Recipe(event)); },
     start(all, at, event) {
       if (!isNames(event.bind) || !isNames(event.watch ?? {})) throw new TypeError("a start without its modules");
@@ -174,6 +193,7 @@ const past = (() => {
     advance(all, at, event, answer) {
       const batch = all.batches.get(event.batch);
       if (!batch) return;
+      batch.ask(at);
       if ("wait" in answer) batch.wait(at, answer);
       else if ("closed" in answer) all.shut(at, batch, answer.closed);
       else if ("did" in answer) {
@@ -182,10 +202,11 @@ const past = (() => {
         if (did.do === "broke") {
           all.alarm(at, "abort", { batch: batch.name }, "brokenBatch", batch.name, did.step, words.state(did.state));
         }
+        if (did.do === "left") all.left(at, batch, did);
       }
     },
     freeze(all, at, event) {
-      all.batches.get(event.batch)?.freeze(at);
+      all.batches.get(event.batch)?.freeze(at, event.hold === true);
       all.alarm(at, "hold", { batch: event.batch }, event.hold === true ? "frozenHolding" : "frozen", event.batch);
     },
     thaw: (all, at, event) => all.batches.get(event.batch)?.thaw(at),
@@ -222,6 +243,7 @@ const past = (() => {
     const module = all.modules.get(event.tag);
     if (!module) return;
     module.dock(at, description);
+    for (const batch of all.waiting(module)) batch.changed = at;
     const own = all.exchanges.findLast(each => each.tag === event.tag);
     if (own) {
       Object.assign(own, { ended: at, how: description ? "ended" : "cancelled", after: module.lane.more.textAt(at) });

@@ -48,10 +48,22 @@ const reasons = (() => {
     });
     return [...(told.length ? told : [words.say("noStart")]), ...atEnd(attempt.bind, history)];
   }
-  // Why a batch that still runs does so.
-  function running(batch, history) {
-    const wait = batch.outcome ? null : batch.waitAt(history.stamps.length - 1);
-    return wait ? [words.say("lastWait", words.answer(wait))] : [];
+  // Where each open batch stands once the history ends: what it waits for, or what it did last; since when; and, where
+  // asking once more may give another answer, when it was asked last. Without answers nobody knows.
+  const still = chosen => (chosen.history.assumed ? []
+    : chosen.batches().filter(batch => batch.outcome === null).map(batch => standing(batch, chosen.history)));
+  function standing(batch, history) {
+    const at = batch.since, stamp = history.stamps[at], { did } = batch.log;
+    const wait = batch.waitAt(history.stamps.length - 1), last = did[did.length - 1];
+    const done = last ? words.answer({ did: last }) : words.say("started");
+    return { name: batch.name, at, text: wait ? words.answer(wait) : words.say("lastDid", done),
+      since: words.say("since", words.number(at + 1), Number.isNaN(stamp) ? "" : ` (${words.stamp(stamp)})`),
+      again: batch.isToAsk ? again(batch) : "" };
   }
-  return { waited, never, running };
+  function again({ asked, heard }) {
+    if (asked === null) return words.say("askFirst");
+    const entry = words.number(asked + 1);
+    return heard ? words.say("askAgain", entry, words.many("Reports", heard)) : words.say("askOn", entry);
+  }
+  return { waited, never, still };
 })();

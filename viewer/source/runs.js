@@ -4,9 +4,11 @@
 const runs = (() => {
   const POINT = 1000;
   const PHASES = { start: "on", finish: "on", reset: "ending", unhold: "on", hold: "held", end: "done", stop: "off",
-    left: "off", broke: "broke" };
-  const MARKS = { chose: "node", turn: "node", leave: "node", broke: "broke", stop: "stop", left: "stop",
+    rest: "rest", left: "left", broke: "broke" };
+  const MARKS = { chose: "node", turn: "node", leave: "node", broke: "broke", stop: "stop", left: "left",
     stop_asked: "stop" };
+  // What an entry of the log did. A step that could be left because its service is at rest is none that still runs.
+  const deedOf = did => (did.do === "left" && modules.isAtRest(did.state) ? "rest" : did.do);
   const ENDS = { Completed: "full", Broken: "abort", Stopped: "stop", Abandoned: "stop" };
   // Where a batch stands in its chart: phase and runs of each step, arm of each selection, turns of each loop.
   class Standing {
@@ -15,13 +17,13 @@ const runs = (() => {
     }
     copy() { return new Standing(this.steps, this.arms, this.turns); }
     take(did) {
-      if (did.step !== undefined) this.step(did.step, did.do);
+      if (did.step !== undefined) this.step(did.step, deedOf(did));
       if (did.do === "chose") this.arms.set(did.node, did.arm);
       if (did.do === "turn") this.turns.set(did.node, (this.turns.get(did.node) ?? 0) + 1);
     }
     step(name, deed) {
       const old = this.steps.get(name) ?? { runs: 0, phase: "" };
-      const phase = old.phase === "broke" ? "broke" : PHASES[deed] ?? old.phase;
+      const isBroken = old.phase === "broke" && deed !== "left", phase = isBroken ? "broke" : PHASES[deed] ?? old.phase;
       this.steps.set(name, { runs: old.runs + (deed === "start" ? 1 : 0), phase });
     }
   }
@@ -29,7 +31,10 @@ const runs = (() => {
     constructor(at, event, known, lane) {
       Object.assign(this, { name: event.batch, recipe: event.recipe, bind: event.bind, watch: event.watch ?? {} });
       Object.assign(this, { known, lane, started: at, ended: null, outcome: null, frozen: false, slots: [], reasons: [],
-        before: [], points: [new Standing()] });
+        before: [], left: [],
+        points: [new Standing()] });
+      // When it was asked last, how many reports of its modules came since, and when something else changed for it.
+      Object.assign(this, { asked: null, heard: 0, changed: at });
       this.log = { at: [], did: [] };
       this.whole = lane.track("whole"); this.waits = lane.track("wait");
       this.whole.open(at, "batch", "");
@@ -40,21 +45,44 @@ const runs = (() => {
       if (Object.hasOwn(this.bind, role)) return this.bind[role];
       return Object.hasOwn(this.watch, role) ? this.watch[role] : undefined;
     }
+    ask(at) { this.asked = at; this.heard = 0; }
+    hear() { this.heard += 1; }
+    // May another answer be had by asking once more? Until then what it waits for is what it waited for.
+    get isToAsk() {
+      if (this.frozen && !this.holds) return false;
+      return this.heard > 0 || !this.waits.isOpen() || this.asked === null || this.changed > this.asked;
+    }
+    // Since which entry it stands where it does.
+    get since() {
+      if (this.waits.isOpen()) return this.waits.from[this.waits.length - 1];
+      return Math.max(this.started, this.asked ?? 0, this.log.at[this.log.at.length - 1] ?? 0);
+    }
     wait(at, answer) {
       const last = this.waits.length - 1, key = JSON.stringify(answer);
       if (this.waits.isOpen() && JSON.stringify(this.reasons[last]) === key) return;
       this.waits.open(at, "wait", answer.wait); this.reasons.push(answer);
     }
     goOn(at) { if (!this.frozen) this.waits.close(at); }
-    freeze(at) { this.frozen = true; this.wait(at, { wait: "Frozen" }); }
-    thaw(at) { this.frozen = false; this.waits.close(at); }
+    freeze(at, holds) {
+      this.frozen = true; this.holds = holds; this.changed = at;
+      this.wait(at, { wait: "Frozen" });
+    }
+    thaw(at) { this.frozen = false; this.changed = at; this.waits.close(at); }
     // An entry of the log: kept, and shown in the slot of its step.
     did(at, did) {
       this.goOn(at);
       this.log.at.push(at); this.log.did.push(did);
       if (did.do === "start") this.begin(at, did.step);
       else this.moved(at, did);
-      this.lane.note(at, Object.hasOwn(MARKS, did.do) ? MARKS[did.do] : "log");
+      const deed = deedOf(did);
+      if (deed === "left") this.leave(did);
+      this.lane.note(at, Object.hasOwn(MARKS, deed) ? MARKS[deed] : "log");
+    }
+    // A step was left with its service running: kept with that service, which its start has told.
+    leave({ step, state }) {
+      const start = this.log.did.findLast(each => each.do === "start" && each.step === step);
+      this.left.push({ step, service: start?.service ?? step, tag: start?.tag ?? "?", state });
+      this.lane.left = this.left;
     }
     begin(at, step) {
       let free = this.slots.find(track => !track.isOpen());
@@ -65,7 +93,8 @@ const runs = (() => {
     moved(at, did) {
       const slot = this.slots.find(track => track.isOpen() && track.owner === did.step);
       if (!slot) return;
-      if (["end", "stop", "left"].includes(did.do)) slot.close(at);
+      if (["end", "stop", "rest"].includes(deedOf(did))) slot.close(at);
+      else if (did.do === "left") slot.open(at, "left", slot.owner);
       else if (["finish", "reset"].includes(did.do)) slot.open(at, "move", "");
       else if (did.do === "hold") slot.open(at, "hold", slot.owner);
       else if (did.do === "unhold") slot.open(at, "run", slot.owner);

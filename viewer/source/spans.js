@@ -12,7 +12,7 @@ const spans = (() => {
     return low - 1;
   }
   // Styles that must not be overlooked, however narrow their span is.
-  const LOUD = new Set(["abort", "stop", "hold", "away"]);
+  const LOUD = new Set(["abort", "stop", "left", "hold", "away"]);
   // Spans one after another: the k-th goes from the entry from[k] to the entry to[k], which is no longer in it. The
   // last one may be open; its to is -1.
   class Track {
@@ -60,7 +60,7 @@ const spans = (() => {
   class Lane {
     constructor(kind, label) {
       Object.assign(this, { kind, label, more: new Track("more"), tracks: [], at: [], mark: [], owner: null,
-        outcome: null });
+        outcome: null, left: [] });
     }
     track(form) { const made = new Track(form); this.tracks.push(made); return made; }
     note(at, mark) { this.at.push(at); this.mark.push(mark); }

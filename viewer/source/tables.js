@@ -34,10 +34,11 @@ const tables = (() => {
     words.say("more", words.number(count))));
   const OUTCOMES = { Completed: "full", Broken: "abort", Stopped: "stop", Abandoned: "stop" };
   const number = text => make("td", { class: "number" }, text);
-  function row(each, pick, bind, numbers, style, outcome) {
+  const service = own => make("b", { class: "left block" }, words.left(own));
+  function row(each, pick, bind, numbers, style, outcome, left = []) {
     return make("tr", {}, make("td", { class: "first" }, picked(each.name, pick)), make("td", {}, name(each.recipe)),
       make("td", { class: "wide" }, words.visible(bind)), ...numbers.map(number),
-      make("td", { class: "outcome" }, chip(style), outcome));
+      make("td", { class: "outcome" }, chip(style), outcome, ...left.map(service)));
   }
   function batchRow(batch, history, pick) {
     const { stamps } = history, end = batch.ended ?? stamps.length - 1;
@@ -45,7 +46,7 @@ const tables = (() => {
     const numbers = [words.number(batch.started + 1), ended, words.lasted(stamps[batch.started], stamps[end])];
     const outcome = batch.outcome ?? words.say(history.assumed ? "unknown" : "running");
     const style = OUTCOMES[batch.outcome] ?? (history.assumed ? "idle" : "hold");
-    return row(batch, pick, words.played(batch), numbers, style, outcome);
+    return row(batch, pick, words.played(batch), numbers, style, outcome, batch.left);
   }
   function neverRow(attempt, pick) {
     return row(attempt, pick, words.listed(attempt.bind), ["–", "–", ""], "hold", words.say("neverStarted"));
@@ -63,8 +64,10 @@ const tables = (() => {
   function alarmRow(alarm, go, isHere) {
     return make("tr", isHere ? { "aria-current": "true", class: "here" } : {},
       make("td", { class: "where" }, jump(alarm.at, () => go(alarm))),
-      make("td", {}, chip(alarm.style), words.say(alarm.key, ...alarm.values)));
+      make("td", {}, ...alarmTold(alarm)));
   }
+  const alarmTold = ({ style, key, values }) => [chip(style),
+    make(style === "left" ? "b" : "span", { class: style === "left" ? "left" : null }, words.say(key, ...values))];
   // What a reviewer has to look at, around the one that is looked at.
   function alarms(holder, list, go, here) {
     if (!list.length) { holder.replaceChildren(calm("noAlarm")); return; }
@@ -113,6 +116,17 @@ const tables = (() => {
     const items = told.slice(0, MOST_WAITS).map(each => waitItem(each, go, pick, stamps));
     holder.replaceChildren(items.length ? make("ul", {}, ...items) : calm("noWait"));
   }
-  return { make, name, jump, table, more, NUMBERS, chip, calm, batches, alarms, refusals, waits, BATCH_KEYS, batchRow,
-    neverRow, refusalRow };
+  function stillItem({ name: batch, at, text, since, again }, go, pick) {
+    const under = make("span", { class: "small block" }, since, again ? " · " : null,
+      again ? make("b", { class: "again" }, again) : null);
+    return make("li", {}, picked(batch, pick), jump(at, go), make("span", {}, text), under);
+  }
+  // What waits or stands still at the end.
+  function still(holder, told, go, pick) {
+    const items = told.slice(0, MOST).map(each => stillItem(each, go, pick)), left = told.length - items.length;
+    if (left) items.push(make("li", { class: "calm" }, words.say("more", words.number(left))));
+    holder.replaceChildren(make("ul", {}, ...items));
+  }
+  return { make, name, jump, table, more, NUMBERS, chip, calm, batches, alarms, alarmTold, refusals, waits, still,
+    BATCH_KEYS, batchRow, neverRow, refusalRow };
 })();

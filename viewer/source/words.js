@@ -44,6 +44,8 @@ const words = (() => {
     }
     return typeof told === "string" ? `“${visible(told)}”` : visible(told);
   }
+  // A service that was left running, short.
+  const left = ({ service, tag, state }) => say("leftIn", service, tag, SAID.state(state));
   // Milliseconds since 1970, from 2001 to 5138, are shown as a time; other stamps as numbers.
   const isTime = stamp => Number(stamp) > 1e12 && Number(stamp) < 1e14;
   function stamp(told) {
@@ -118,10 +120,10 @@ const words = (() => {
     if (!Object.hasOwn(given, key)) return key;
     return visible(key === "state" ? SAID.state(given[key]) : given[key]);
   });
-  const word = (table, key) => (Object.hasOwn(docs[table], key) ? (language && german[table][key]) || docs[table][key]
-    : null);
+  const ownOf = (table, key) => (language && german[table][key]?.[0]) || docs[table][key];
+  const word = (table, key) => (Object.hasOwn(docs[table], key) ? ownOf(table, key) : null);
   const set = isGerman => { language = isGerman ? 1 : 0; };
-  return { say, many, visible, number, thousandths, value, stamp, isTime, lasted, event, answer, refusal, rule, wait,
-    word, listed, played, set,
+  return { say, many, visible, number, thousandths, value, stamp, isTime, left, lasted, event, answer, refusal, rule,
+    wait, word, listed, played, set,
     state: SAID.state, command: SAID.command, isGerman: () => language === 1 };
 })();

@@ -1,0 +1,135 @@
+"""What nobody may overlook: a service that was left running, a command that was permitted and not seen to be sent, what
+stands still at the end, and what is odd about the stamps."""
+import json
+import re
+
+# Each batch that stands still, since which entry, what it waits for, and when it was asked last.
+STILL = [['one', '34', "waits: the condition of step stir isn't true", ''],
+         ['two', '37', 'waits: K12 is in exchange', ''],
+         ['three', '46', 'waits: frozen', ''],
+         ['four', '55', "waits: the condition of step stir isn't true",
+          'asked last at entry 55, 2 reports since: ask again'],
+         ['five', '58', 'last: started', 'not asked since its start: ask']]
+LISTED = """[...document.querySelectorAll('#still li')].map(each => [...each.querySelectorAll('button'),
+    each.querySelector('span:not(.small)'), each.querySelector('b.again')].map(part => part?.textContent ?? ''))"""
+RED = 'rgb(193, 22, 35)'
+LEFT = 'heat of K11 was left in Execute: go and look'
+PAPER = "dispatchEvent(new Event('%sprint'))"
+# Colours of the steps in the chart, by their names.
+FILLS = """Object.fromEntries([...document.querySelectorAll('#chart .step')]
+    .map(each => [each.dataset.step, getComputedStyle(each.querySelector('rect')).fill]))"""
+# Words of a command that somebody saw go out; pol only asks for it or permits it.
+SEEN = re.compile(r'\b(sent|sends|goes to|gesandt|sandte|geht an)\b')
+
+
+def check(checks):
+    check_left(checks)
+    check_permitted(checks)
+    check_still(checks)
+    check_stamps(checks)
+
+
+def check_left(checks):
+    """Of two steps one was stopped, and one was left with its service running."""
+    checks.open(checks.data('left'), checks.data('left.answers'))
+    phase = "page.state.history.batches.get('red').standing(20).steps.get('%s').phase"
+    for step, wanted in (('stir', 'off'), ('heat', 'left')):
+        checks.gives('a stop that reached %s or not' % step, phase % step, wanted)
+    checks.run('page.go(20)')
+    fills = checks.run(FILLS)
+    checks.that('a step that was left has a colour of its own', fills['heat'] != fills['stir'], fills)
+    checks.gives('and a sign', "document.querySelectorAll('#chart .warning').length", 1)
+    checks.says('it is told beside the outcome', 'outcomes', 'Stopped', '! heat of K11 left in Execute')
+    checks.says('and in the chart', 'under', 'Stopped', '! heat of K11 left in Execute')
+    told = "[...document.querySelectorAll('%s b.left')].map(each => [each.textContent, getComputedStyle(each).color])"
+    checks.gives('and in red for the reviewer', told % '#alarms', [[LEFT, RED]])
+    mark = "page.state.history.batches.get('red').lane.mark.filter(each => each === 'left').length"
+    checks.gives('and marked in its lane', mark, 1)
+    checks.run(PAPER % 'before')
+    checks.says('and on paper', 'paper', LEFT, '! heat of K11 left in Execute')
+    checks.run(PAPER % 'after')
+    checks.open(checks.data('broken'), checks.data('broken.answers'))
+    checks.gives('what was left at rest is no alarm', "document.querySelectorAll('#alarms b.left').length", 0)
+
+
+def check_permitted(checks):
+    """Nobody was seen to send a command: the page says that it was permitted or asked for."""
+    checks.page.begin(checks.url)
+    labels = checks.run('labels')
+    claims = [key for key, both in labels.items() if any(map(SEEN.search, both))]
+    checks.same('no label says that a command was sent', claims, [])
+    checks.open(checks.data('broken'), checks.data('broken.answers'))
+    for alarm, table, answer in (('stir of K11 for Abort: permitted', 'Commands of operators', 'permitted'),
+                                 ('Abort von stir an K11: erlaubt', 'Befehle von Bedienern', 'erlaubt')):
+        checks.says('a command that was permitted is said to be so', 'alarms', alarm)
+        checks.run(PAPER % 'before')
+        rows = """document.querySelector('#paper [aria-label="%s"] tbody').textContent""" % table
+        checks.that('and on paper', answer in checks.run(rows), checks.run(rows))
+        checks.run(PAPER % 'after')
+        checks.press('language')
+
+
+def check_still(checks):
+    """What waits or stands still at the end of what was read stands on top, and a press goes there."""
+    files = [checks.data('still'), checks.data('still.answers')]
+    checks.open(*files)
+    checks.gives('what stands still is on top', LISTED, STILL)
+    for row, (batch, entry, _, _) in enumerate(STILL):
+        buttons = "document.querySelectorAll('#still li')[%d].querySelectorAll('button')" % row
+        for button in (0, 1):
+            checks.run('page.go(0)')
+            checks.run('%s[%d].click()' % (buttons, button))
+            checks.gives('a press on %s goes there' % batch, 'page.state.view.cursor', int(entry) - 1)
+            checks.gives('and shows its chart', "document.getElementById('which').value", batch)
+    checks.run("page.go(0); document.querySelector('#outcomes button').click()")
+    checks.gives('so does a press on its outcome', 'page.state.view.cursor', 33)
+    check_comb(checks)
+    checks.run(PAPER % 'before')
+    checks.says('and on paper', 'paper', *[text for _, _, *texts in STILL for text in texts])
+    checks.run(PAPER % 'after')
+    checks.choose('chosenBatch', 'two')
+    checks.gives('what is chosen is what stands there', LISTED, STILL[1:2])
+    checks.open(files[0])
+    checks.gives('without answers nobody knows', "document.getElementById('still').hidden", True)
+    checks.open(checks.data('left'), checks.data('left.answers'))
+    checks.gives('of closed batches none stands still', "document.getElementById('still').hidden", True)
+
+
+def check_comb(checks):
+    """A press on a batch's lane shows that batch, whatever the entry there speaks of."""
+    spot = checks.run("""(() => { const pane = page.panes.batches;
+        pane.holder.scrollIntoView({ block: 'center' });
+        const box = pane.canvas.getBoundingClientRect(), lane = pane.lanes.findIndex(each => each.label === 'one');
+        return [box.x + pane.x(50.5), box.y + pane.tops[lane] + 20]; })()""")
+    checks.page.press(*spot)
+    checks.gives('a press on a lane sets the cursor', 'page.state.view.cursor', 50)
+    checks.gives('and shows the batch of that lane', "document.getElementById('which').value", 'one')
+
+
+def stamped(checks, name, stamps):
+    """A plant's journal with other stamps: from 1 on, or as a change of them says."""
+    lines = map(json.loads, checks.example('blend.jsonl').read_text().splitlines())
+    told = [dict(line, at=stamps(k + 1)) for k, line in enumerate(lines)]
+    return checks.kept(name, ''.join(json.dumps(line) + '\n' for line in told))
+
+
+def check_stamps(checks):
+    """What is odd about the stamps stands in the reviewer's list, also where one batch alone is chosen."""
+    told = """page.state.history.alarms.filter(each => each.key.startsWith('stamps'))
+        .map(each => [each.key, each.at + 1])"""
+    first = 1795932000000
+    cases = (('counted', lambda k: k, []),
+             ('all falling', lambda k: 100 - k, [['stampsFall', 34]]),
+             ('one back', lambda k: 3 if k == 20 else k, [['stampsFall', 20]]),
+             ('one ahead', lambda k: 90 if k == 20 else k, [['stampsFall', 21]]),
+             ('swapped', lambda k: {20: 21, 21: 20}.get(k, k), [['stampsSwapped', 21]]),
+             ('one left out', lambda k: k + (k > 20), [['stampsMissing', 21]]),
+             ('ticks that repeat', lambda k: k // 2 * 3, []),
+             ('each second, then a night', lambda k: first + 1000 * k + (k > 20) * 10 ** 7, [['stampsPause', 21]]),
+             ('each second, then a minute', lambda k: first + 1000 * k + (k > 20) * 40000, []))
+    for name, stamps, wanted in cases:
+        checks.open(stamped(checks, 'stamps', stamps))
+        checks.gives('stamps: ' + name, told, wanted)
+    checks.open(stamped(checks, 'stamps', lambda k: 100 - k))
+    checks.choose('chosenBatch', 'b1')
+    checks.says('stamps that fall are told', 'alarms', 'stamps fall from entry 1 to entry 34: 99 to 66')
