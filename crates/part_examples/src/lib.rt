@@ -20,8 +20,6 @@ mod events;
 #[cfg(test)]
 mod finder;
 #[cfg(test)]
-mod handing_on;
-#[cfg(test)]
 mod output_lines;
 #[cfg(test)]
 mod policies;
