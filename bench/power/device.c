@@ -7,22 +7,17 @@
 // of them give what the device has. Where $KEEP_COPIES is set it drops none. Which pages are dirty outlives a run, in
 // $DEVICE.dirty; how many syncs it made stands in $DEVICE.syncs.
 #define _GNU_SOURCE
-#include <dlfcn.h>
 #include <errno.h>
-#include <fcntl.h>
 #include <limits.h>
-#include <stdarg.h>
 #include <stdio.h>
 #include <stdlib.h>
-#include <string.h>
 #include <sys/stat.h>
 #include <unistd.h>
 
-#define REAL(name) ((__typeof__(&name))dlsym(RTLD_NEXT, #name))
+#include "../journal.h"
 
-enum { PAGE = 4096, PAGES = 1 << 16, MOST_FILES = 1024 };
+enum { PAGE = 4096, PAGES = 1 << 16 };
 
-static char is_journal[MOST_FILES];
 static long syncs;
 static unsigned char dirty[PAGES];
 
@@ -52,28 +47,6 @@ static void load(const char *ending, void *bytes, size_t size) {
 }
 
 __attribute__((constructor)) static void begin(void) { load(".dirty", dirty, sizeof dirty); }
-
-// The file is opened more than once, and a number that is free again is given to another.
-static int opened(int file, const char *path) {
-    const char *name = strrchr(path, '/');
-    if (file >= 0 && file < MOST_FILES) is_journal[file] = !strcmp(name ? name + 1 : path, "pol.journal");
-    return file;
-}
-
-static int of_journal(int file) {
-    return file >= 0 && file < MOST_FILES && is_journal[file];
-}
-
-#define OPENS(name)                                              \
-    int name(const char *path, int flags, ...) {                 \
-        va_list more;                                            \
-        va_start(more, flags);                                   \
-        int mode = va_arg(more, int);                            \
-        va_end(more);                                            \
-        return opened(REAL(name)(path, flags, mode), path);      \
-    }
-OPENS(open)
-OPENS(open64)
 
 static ssize_t written(int file, const void *bytes, size_t size, off_t at) {
     ssize_t done = REAL(pwrite64)(file, bytes, size, at);

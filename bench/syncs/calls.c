@@ -5,19 +5,12 @@
 // kind, counted from 1, go wrong, as $FAULT says: "write" or "sync" fails with EIO, a "read" is interrupted (EINTR), a "short"
 // write takes half of its piece, and in a "full" one the rest of the piece fails with ENOSPC.
 #define _GNU_SOURCE
-#include <dlfcn.h>
 #include <errno.h>
-#include <fcntl.h>
-#include <stdarg.h>
 #include <stdlib.h>
-#include <string.h>
 #include <unistd.h>
 
-#define REAL(name) ((__typeof__(&name))dlsym(RTLD_NEXT, #name))
+#include "../journal.h"
 
-enum { MOST_FILES = 1024 };
-
-static char is_journal[MOST_FILES];
 static int calls = -1, is_full;
 
 __attribute__((constructor)) static void begin(void) {
@@ -42,28 +35,6 @@ static int fails(int error) {
     errno = error;
     return -1;
 }
-
-// The file is opened more than once, and a number that is free again is given to another.
-static int opened(int file, const char *path) {
-    const char *name = strrchr(path, '/');
-    if (file >= 0 && file < MOST_FILES) is_journal[file] = !strcmp(name ? name + 1 : path, "pol.journal");
-    return file;
-}
-
-static int of_journal(int file) {
-    return file >= 0 && file < MOST_FILES && is_journal[file];
-}
-
-#define OPENS(name)                                              \
-    int name(const char *path, int flags, ...) {                 \
-        va_list more;                                            \
-        va_start(more, flags);                                   \
-        int mode = va_arg(more, int);                            \
-        va_end(more);                                            \
-        return opened(REAL(name)(path, flags, mode), path);      \
-    }
-OPENS(open)
-OPENS(open64)
 
 ssize_t read(int file, void *into, size_t size) {
     ssize_t count = REAL(read)(file, into, size);
