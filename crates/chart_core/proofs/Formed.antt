@@ -5,11 +5,6 @@ use Rattle.chart_core.specs.Formulas.{Formula}
 use Rattle.chart_core.specs.Trees.{Tree, Arms, more_arms}
 use Rattle.chart_core.specs.Form.{is_formula_formed, is_tree_formed, are_arms_formed}
 
--- the body of the first arm is formed
-pub arm_formed : (when : Formula) (body : Tree) (others : Arms) → IsTrue (are_arms_formed (more_arms when body others))
-    → IsTrue (is_tree_formed body)
-arm_formed when body others formed = (and_parts (is_tree_formed body) _ formed).0
-
 -- and so are the arms behind it
 pub arms_formed : (when : Formula) (body : Tree) (others : Arms)
     → IsTrue (are_arms_formed (more_arms when body others)) → IsTrue (are_arms_formed others)

@@ -1,5 +1,5 @@
 -- The marks of a chart over a log.
-use Rattle.std.specs.Prelude.{ℕ, ◌≡◌, List, [], ◌∷◌, ◌++◌, Some, None, true, zero, suc, refl}
+use Rattle.std.specs.Prelude.{ℕ, ◌≡◌, List, [], ◌∷◌, ◌++◌, Some, None, true}
 use Rattle.std.proofs.Common.{sym, ◌∙◌, subst, append_assoc}
 use Rattle.std.proofs.lemmas.List.{map-append}
 use Rattle.chart_core.specs.Roles.{PlainChart}
@@ -88,11 +88,3 @@ complete_is_done chart marks log valid stands done =
 -- a complete run is a partial one
 pub complete_is_partial : (chart : PlainChart) (log : List LogEntry) → IsComplete chart log → IsPartial chart log
 complete_is_partial chart log whole = complete_partial (course_of chart) (word log) whole
-
--- one more untouched mark leaves all untouched
-pub untouched_more : (marks : List Progress) → ((place : ℕ) → marks_of marks place ≡ Untouched) → (place : ℕ)
-    → marks_of (marks ++ (Untouched ∷ [])) place ≡ Untouched
-untouched_more [] untouched zero = refl
-untouched_more [] untouched (suc place) = refl
-untouched_more (mark ∷ marks) untouched zero = untouched 0
-untouched_more (mark ∷ marks) untouched (suc place) = untouched_more marks (λ number. untouched (suc number)) place

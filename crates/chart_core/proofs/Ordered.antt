@@ -1,11 +1,9 @@
 -- The steps without their numbers, and what a log says of a step.
-use Rattle.std.proofs.Common.{◌≡◌, ℕ, ◌+◌, Bool, Option, Some, None, refl, ◌∙◌}
+use Rattle.std.proofs.Common.{◌≡◌, ℕ, ◌+◌, refl, ◌∙◌}
 use Rattle.std.specs.Prelude.{map}
-use Rattle.std.specs.Option.{option_map}
 use Rattle.std.proofs.lemmas.List.{map-append}
 use Rattle.chart_core.specs.Trees.{PlainStep, Placed, Tree, Trees, Arms, leaf, seq, par, choice, loop, no_trees, more_trees, no_arms, more_arms, size, steps, all_steps, arm_steps}
-use Rattle.chart_core.specs.Active.{Phase, or_earlier, or_idle, is_running}
-use Rattle.chart_core.specs.Order.{step_plans, all_step_plans, arm_step_plans, or_before}
+use Rattle.chart_core.specs.Order.{step_plans, all_step_plans, arm_step_plans}
 
 -- a step of a chart
 abbrev step_in : Placed → PlainStep
@@ -31,16 +29,3 @@ mutual
   arm_plans_are (more_arms when each others) number =
       map-append step_in (steps each number) (arm_steps others (number + size each))
       ∙ rw (plans_are each number, arm_plans_are others (number + size each)) refl
-
--- what a later entry says of a step, after what an earlier one said
-pub said_before : (later says : Option Phase) (before : Bool) →
-    or_before (option_map is_running (or_earlier later says)) before
-    ≡ or_before (option_map is_running later) (or_before (option_map is_running says) before)
-said_before None says before = refl
-said_before (Some phase) says before = refl
-
--- what is said of a step, and idle where nothing was
-pub said_at_last : (said : Option Phase) → or_before (option_map is_running said) (is_running (or_idle None))
-    ≡ is_running (or_idle said)
-said_at_last None = refl
-said_at_last (Some phase) = refl

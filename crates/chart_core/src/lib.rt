@@ -5,6 +5,8 @@
 //! It knows nothing of modules, plants or any text form. `Chart::valid` answers exactly the first fault of a chart.
 //! The definitions of complete and partial runs (`specs/Runs.antt`) and how far each node has come stand here for the
 //! crates that ask a word and that follow one, with the laws of valid charts.
+//!
+//! Tried in `chart_examples`.
 #![tactic(auto)]
 
 mod chart;

@@ -19,7 +19,7 @@ use Rattle.chart_cursor.specs.declared.next.CursorNext.TheVariants.{Whole}
 use Rattle.chart_cursor.proofs.Actives.{run_of, runs, runs_active}
 
 -- the steps alone
-abbrev steps_of : List Placed → List PlainStep
+abbrev pub steps_of : List Placed → List PlainStep
 steps_of placed = map (λ placed. placed.step) placed
 
 -- the first to be held of an open node, else of the steps behind it, is the first of these steps with the node's own

@@ -3,6 +3,7 @@ use Rattle.std.specs.Prelude.{ℕ, ◌≡◌, ◌≤◌, ◌+◌, zero, suc, Boo
 use Rattle.std.specs.List.{fold, list_any}
 use Rattle.std.proofs.Common.{ap, sym, ◌∙◌, arith}
 use Rattle.std.proofs.lemmas.Bool.{and_parts}
+use Rattle.mtp_codes.proofs.Options.{or_none}
 use Rattle.chart_core.specs.declared.node.Arm.{Arm}
 use Rattle.chart_core.specs.declared.progress.Progress.{Progress}
 use Rattle.chart_core.specs.declared.progress.Progress.TheVariants.{Ended, Chosen, Left}
@@ -136,7 +137,7 @@ first_next_assoc (Wait obstacle) Whole third = refl
 first_next_assoc Whole other third = refl
 
 -- one answer, and nothing behind it
-first_next_whole : (one : CursorNext) → first_next one Whole ≡ one
+pub first_next_whole : (one : CursorNext) → first_next one Whole ≡ one
 first_next_whole (Entry entry) = refl
 first_next_whole (Wait obstacle) = refl
 first_next_whole Whole = refl
@@ -156,11 +157,6 @@ or_assoc : {A : Type 0} (one other third : Option A) → option_or (option_or on
     ≡ option_or one (option_or other third)
 or_assoc None other third = refl
 or_assoc (Some first) other third = refl
-
--- one, and nothing behind it
-or_none : {A : Type 0} (one : Option A) → option_or one None ≡ one
-or_none None = refl
-or_none (Some first) = refl
 
 -- what ran before a walk, and then the first running one of the steps that it looks at
 pub running_found :

@@ -10,6 +10,8 @@
 //!
 //! What an open batch does next is defined here too (`next_by` in `specs/NextEntry.antt`), since it is said of a
 //! chart, a log and what is seen alone: the crates that look back and those that keep runs cite one text.
+//!
+//! Tried in `chart_examples`.
 #![tactic(auto)]
 
 mod both;

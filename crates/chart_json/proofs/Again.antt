@@ -11,7 +11,8 @@ use Rattle.mtp_codes.specs.declared.value.Reading.{Reading as Compared}
 use Rattle.mtp_codes.specs.declared.value.Reading.TheVariants.{Whole, Bit}
 use Rattle.mtp_codes.specs.declared.value.Setting.{Setting}
 use Rattle.mtp_codes.specs.Numbers.{is_between}
-use Rattle.mtp_json.specs.Form.{each, object_here, repeats_by}
+use Rattle.mtp_json.specs.Form.{each, object_here}
+use Rattle.mtp_codes.specs.Repeats.{repeats_by}
 use Rattle.mtp_json.specs.Leaf.{word}
 use Rattle.mtp_json.specs.Written.{is_scalar}
 use Rattle.mtp_json.proofs.Again.{whole_again, each_again, len_again, scalar_again}

@@ -15,7 +15,8 @@ use Rattle.mtp_codes.specs.Numbers.{is_between}
 use Rattle.mtp_codes.specs.Names.{is_among}
 use Rattle.mtp_json.specs.declared.fault.FaultKind.TheVariants.{OutOfRange, Repeated, Unsound}
 use Rattle.mtp_json.specs.declared.path.PathPart.TheVariants.{Key}
-use Rattle.mtp_json.specs.Form.{each, nested, nested_if_there, list, list_or_none, required, nothing_but, object_here, refused_if, repeats_by}
+use Rattle.mtp_json.specs.Form.{each, nested, nested_if_there, list, list_or_none, required, nothing_but, object_here, refused_if}
+use Rattle.mtp_codes.specs.Repeats.{repeats_by}
 use Rattle.mtp_json.specs.Leaf.{count, text_to, items_in}
 use Rattle.mtp_json.specs.ReadResult.{ReadResult, ◌>>=◌, here, under}
 use Rattle.chart_core.specs.declared.limits.TheConstants.{MOST_ROLES, LONGEST_WANTED, MOST_SETTINGS, MOST_ARMS, MOST_JOINED}

@@ -9,7 +9,8 @@ use Rattle.mtp_codes.specs.declared.value.Reading.{Reading as Compared}
 use Rattle.mtp_codes.specs.declared.value.Reading.TheVariants.{Whole, Bit}
 use Rattle.mtp_codes.specs.declared.value.Setting.{Setting}
 use Rattle.mtp_codes.specs.Numbers.{greatest_i64, is_between, least_i64}
-use Rattle.mtp_json.specs.Form.{each, required, nested, nested_if_there, list, list_or_none, object_here, nothing_but, refused_if, repeats_by}
+use Rattle.mtp_json.specs.Form.{each, required, nested, nested_if_there, list, list_or_none, object_here, nothing_but, refused_if}
+use Rattle.mtp_codes.specs.Repeats.{repeats_by}
 use Rattle.mtp_json.specs.Leaf.{count, items_in, name, scalar, text_to, truth, whole_in, word}
 use Rattle.mtp_json.specs.ReadResult.{Finding, ReadResult, ◌>>=◌, here, under}
 use Rattle.mtp_json.specs.declared.fault.FaultKind.TheVariants.{Missing, WrongKind, OutOfRange, Repeated, Unsound}

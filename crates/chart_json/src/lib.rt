@@ -4,6 +4,8 @@
 //! `specs/Written.antt`. `read_chart` gives what the form gives, the chart or the first fault in reading order with its
 //! path, and what is read is always formed; the form of what `write_chart` writes is the chart again. Whether a chart
 //! is valid is not asked here. It knows nothing of modules, plants or event lines.
+//!
+//! Tried in `chart_examples`.
 #![tactic(auto)]
 
 mod charts;

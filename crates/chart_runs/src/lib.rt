@@ -4,6 +4,8 @@
 //! It knows nothing of modules, batches or the way in which an entry came to be. Each call answers exactly the
 //! definition by cutting words: `IsPartial` and `IsComplete` of `chart_core`. An entry that is none of a run is in no
 //! run, so a list with one is neither.
+//!
+//! Tried in `chart_examples`.
 #![tactic(auto)]
 
 ghost use Rattle.std.specs.Prelude.{◌≡◌, ◌↔◌, [], length, IsTrue, IfOk};

@@ -4,6 +4,8 @@
 //! It knows nothing of JSON, of whole descriptions, of the state machine or of recipes. Its main contract:
 //! `check_value` and `check_view` answer exactly the first of 'of another kind' and 'out of range', as
 //! `specs/Fits.antt` says.
+//!
+//! Tried in `mtp_examples`.
 #![tactic(auto)]
 
 mod check;

@@ -5,3 +5,4 @@ pub mod Fields
 pub mod Codes
 pub mod Numbers
 pub mod Faults
+pub mod Repeats

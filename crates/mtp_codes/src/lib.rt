@@ -3,6 +3,8 @@
 //!
 //! It knows nothing of the state machine's edges, of permission, of descriptions or of any text form.
 //! Contracts see a `Name` and a `Short` as their bytes; a code is what the tables in `specs/Codes.antt` say.
+//!
+//! Tried in `mtp_examples`.
 #![tactic(auto)]
 
 mod command;

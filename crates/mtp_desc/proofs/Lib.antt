@@ -1,5 +1,2 @@
 pub mod Views
 pub mod Sound
-pub mod Again
-pub mod Depths
-pub mod Floats

@@ -9,13 +9,13 @@ use Rattle.mtp_assembly.specs.Kinds.{is_ordered}
 use Rattle.mtp_assembly.specs.Plain.{PlainParam, PlainVariable, plain_param, plain_variable}
 use Rattle.mtp_assembly.specs.declared.param.Param.{Param}
 use Rattle.mtp_assembly.specs.declared.variable.View.{View}
-use Rattle.mtp_json.specs.Form.{repeats_by}
+use Rattle.mtp_codes.specs.Repeats.{repeats_by}
 use Rattle.mtp_desc.specs.declared.limits.TheConstants.{MOST_SERVICES, MOST_PROCEDURES, MOST_PARAMS, MOST_VARIABLES, LONGEST_VERSION, GREATEST_PROCEDURE}
 use Rattle.mtp_desc.specs.declared.description.Description.{Description}
 use Rattle.mtp_desc.specs.declared.procedure.Procedure.{Procedure}
 use Rattle.mtp_desc.specs.declared.service.Service.{Service}
 use Rattle.mtp_desc.specs.PlainDescription.{plain_description}
-use Rattle.mtp_desc.specs.Form.{has_one_default}
+use Rattle.mtp_desc.specs.Plain.{has_one_default}
 use Rattle.mtp_desc.specs.Plain.{PlainProcedure, PlainService, PlainDescription, same_param, same_procedure, same_service, same_variable}
 use Rattle.mtp_desc.specs.PlainProcedure.{plain_procedure}
 use Rattle.mtp_desc.specs.PlainService.{plain_service}

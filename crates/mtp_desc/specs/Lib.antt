@@ -2,8 +2,5 @@ pub mod Plain
 pub mod PlainProcedure
 pub mod PlainService
 pub mod PlainDescription
-pub mod Words
 pub mod Version
-pub mod Form
-pub mod Written
 pub mod Lookup

@@ -1,5 +1,5 @@
 -- Descriptions as plain data.
-use Rattle.std.specs.Prelude.{ℕ, ◌==◌, List, Bool}
+use Rattle.std.specs.Prelude.{ℕ, ◌==◌, List, Bool, count_by}
 use Rattle.std.specs.Str.{bytes_eq}
 use Rattle.semver.specs.Parse.{Parts}
 use Rattle.mtp_assembly.specs.Plain.{PlainParam, PlainVariable}
@@ -33,6 +33,10 @@ same_param param other = bytes_eq param.name other.name
 -- two procedures of one number
 abbrev pub same_procedure : PlainProcedure → PlainProcedure → Bool
 same_procedure procedure other = procedure.number == other.number
+
+-- exactly one procedure is the default
+abbrev pub has_one_default : List PlainProcedure → Bool
+has_one_default procedures = count_by (λ procedure. procedure.is_default) procedures == 1
 
 -- two services of one name
 abbrev pub same_service : PlainService → PlainService → Bool

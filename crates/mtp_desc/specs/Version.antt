@@ -1,9 +1,8 @@
 -- What text is a version.
-use Rattle.std.specs.Prelude.{ℕ, List}
+use Rattle.std.specs.Prelude.{ℕ, List, Result}
 use Rattle.semver.specs.Parse.{Parts, version_parts}
-use Rattle.mtp_json.specs.ReadResult.{Finding}
-use Rattle.mtp_json.specs.Leaf.{parsed}
+use Rattle.semver.specs.declared.error.Error.{Error}
 
--- the version that semver reads of a text
-abbrev pub version_of : List ℕ → Finding Parts
-version_of text = parsed (version_parts text)
+-- the version that semver reads of a text, or why it is none
+abbrev pub version_of : List ℕ → Result Parts Error
+version_of text = version_parts text

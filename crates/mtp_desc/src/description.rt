@@ -6,7 +6,7 @@ ghost use Rattle.semver.specs.Identifiers.{parts_of};
 ghost use Rattle.mtp_codes.specs.Names.{is_name};
 ghost use Rattle.mtp_codes.specs.Numbers.{is_between};
 ghost use Rattle.mtp_assembly.specs.Plain.{plain_variable};
-ghost use Rattle.mtp_json.specs.Form.{repeats_by};
+ghost use Rattle.mtp_codes.specs.Repeats.{repeats_by};
 ghost use Rattle.mtp_desc.specs.Plain.{same_service, same_variable};
 ghost use Rattle.mtp_desc.specs.PlainService.{plain_service};
 ghost use Rattle.mtp_desc.specs.Version.{version_of};

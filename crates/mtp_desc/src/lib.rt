@@ -1,23 +1,17 @@
 //! Descriptions of modules (VDI/VDE/NAMUR 2658): which services, procedures, parameters and variables a module has, and
 //! the version of its type.
 //!
-//! The form in JSON is `description_of` in `specs/Form.antt`. Every `Description` meets it by its ghost fields.
-//! `read_description` gives what the form gives, the description or the first fault in reading order;
-//! `write_description` writes the whole form, and the form of what it writes is the description again.
-//! It knows nothing of recipes, of what a service reports or of how a module is bound.
+//! Every `Description` keeps by its ghost fields what the form of a description asks (`specs/Plain.antt` says it as plain
+//! data); `desc_json` reads and writes that form. This crate knows no text form, and nothing of recipes, of what a
+//! service reports or of how a module is bound.
+//!
+//! Tried in `mtp_examples`.
 #![tactic(auto)]
 
 mod description;
 mod limits;
-mod params;
 mod procedure;
-mod procedures;
-mod reading;
 mod service;
-mod services;
-mod variables;
-mod words;
-mod writing;
 
 pub use description::Description;
 pub use limits::{
@@ -25,6 +19,4 @@ pub use limits::{
     MOST_VARIABLES,
 };
 pub use procedure::Procedure;
-pub use reading::{DescriptionJson, read_description};
 pub use service::Service;
-pub use writing::write_description;

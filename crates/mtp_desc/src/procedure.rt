@@ -4,7 +4,7 @@ ghost use Rattle.std.specs.Prelude.{◌≡◌, false, find, length, map, option_
 ghost use Rattle.std.specs.Str.{bytes_eq};
 ghost use Rattle.mtp_codes.specs.Numbers.{is_between};
 ghost use Rattle.mtp_assembly.specs.Plain.{plain_param};
-ghost use Rattle.mtp_json.specs.Form.{repeats_by};
+ghost use Rattle.mtp_codes.specs.Repeats.{repeats_by};
 ghost use Rattle.mtp_desc.specs.Plain.{same_param};
 ghost use Rattle.mtp_desc.specs.declared.limits.TheConstants.{GREATEST_PROCEDURE, MOST_PARAMS};
 

@@ -3,8 +3,8 @@
 ghost use Rattle.std.specs.Prelude.{◌≡◌, ◌==◌, false, find, length, map, option_map, IsTrue};
 ghost use Rattle.mtp_codes.specs.Names.{is_name};
 ghost use Rattle.mtp_codes.specs.Numbers.{is_between};
-ghost use Rattle.mtp_json.specs.Form.{repeats_by};
-ghost use Rattle.mtp_desc.specs.Form.{has_one_default};
+ghost use Rattle.mtp_codes.specs.Repeats.{repeats_by};
+ghost use Rattle.mtp_desc.specs.Plain.{has_one_default};
 ghost use Rattle.mtp_desc.specs.Plain.{same_procedure};
 ghost use Rattle.mtp_desc.specs.PlainProcedure.{plain_procedure};
 ghost use Rattle.mtp_desc.specs.declared.limits.TheConstants.{MOST_PROCEDURES};

@@ -1,8 +1,9 @@
 //! Worked descriptions, and what is wrong with others.
 
+use desc_json::{read_description, write_description};
 use given::refusal_text;
 use mtp_codes::Name;
-use mtp_desc::{Description, read_description, write_description};
+use mtp_desc::Description;
 use mtp_json::{JsonRefusal, parse};
 use std::alloc::Global;
 use std::test::*;

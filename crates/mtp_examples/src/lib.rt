@@ -1,16 +1,7 @@
-//! Worked examples of the standard's crates and of charts: tests alone.
+//! Worked examples of names, states and permission, of parameters, of JSON forms and descriptions, and of simulated
+//! modules: tests alone.
 #![tactic(auto)]
 
-#[cfg(test)]
-mod chart_logs;
-#[cfg(test)]
-mod chart_texts;
-#[cfg(test)]
-mod charts;
-#[cfg(test)]
-mod cursors;
-#[cfg(test)]
-mod demands;
 #[cfg(test)]
 mod descriptions;
 #[cfg(test)]

@@ -1,9 +1,10 @@
 //! Worked runs of simulated modules.
 
+use desc_json::read_description;
 use given::named;
 use mtp_assembly::ServiceControl;
 use mtp_codes::{Command, Name, Value};
-use mtp_desc::{Description, read_description};
+use mtp_desc::Description;
 use mtp_json::{JsonRefusal, parse};
 use mtp_sim::{Drift, Sim, SimPlan, SimReport};
 use std::alloc::Global;

@@ -1,5 +1,5 @@
 -- How the form of an object is read: its fields in order, then its other keys, then its own rules.
-use Rattle.std.specs.Prelude.{ℕ, suc, ◌&&◌, ◌||◌, ◌==◌, List, [], ◌∷◌, Bool, true, false, Option, Some, None, Ok, Err, if◌then◌else◌, ⊤}
+use Rattle.std.specs.Prelude.{ℕ, suc, ◌&&◌, ◌==◌, List, [], ◌∷◌, Bool, true, false, Option, Some, None, Ok, Err, if◌then◌else◌, ⊤}
 use Rattle.std.specs.List.{list_any, slice_split}
 use Rattle.std.specs.Str.{bytes_eq}
 use Rattle.serde_json.specs.Data.{Data, Items, no_items, item, Members, no_members, member}
@@ -147,8 +147,3 @@ nothing_but keys value = here (only_keys keys value)
 abbrev pub refused_if : Bool → FaultKind → ReadResult ⊤
 refused_if true kind = here (Err kind)
 refused_if false kind = Ok tt
-
--- some_found item of the list is like a later one
-abbrev pub repeats_by : {A : Type 0} → (A → A → Bool) → List A → Bool
-repeats_by same [] = false
-repeats_by same (first ∷ others) = list_any (same first) others || repeats_by same others

@@ -3,7 +3,8 @@
 ghost use Rattle.std.specs.Prelude.{◌≡◌, Bool, List, map, IsTrue, OnOk, false};
 ghost use Rattle.std.specs.List.{list_any};
 ghost use Rattle.mtp_codes.specs.Names.{is_name};
-ghost use Rattle.mtp_json.specs.Form.{refused_if, repeats_by};
+ghost use Rattle.mtp_json.specs.Form.{refused_if};
+ghost use Rattle.mtp_codes.specs.Repeats.{repeats_by};
 ghost use Rattle.mtp_json.specs.ReadsAs.{ReadsAs};
 ghost use Rattle.mtp_json.specs.ReadResult.{under};
 
@@ -45,7 +46,7 @@ fn repeats_seen<T: Alike>(items: &[T::Item]) -> bool
 }
 
 /// Whether some item is like a later one.
-#[tactic(auto, using(crate::proofs::Lists::repeats_map))]
+#[tactic(auto, using(mtp_codes::proofs::Repeats::repeats_map))]
 pub fn repeats<T: Alike>(items: &[T::Item]) -> bool
     ensures { result ≡ repeats_by T.same (map T.plain items.now) }
 {

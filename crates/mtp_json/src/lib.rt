@@ -4,6 +4,8 @@
 //! first fault in reading order with its path. Every reader here has the one clause that it gives what its form gives
 //! (`specs/Gives.antt`), and every writer says which value it writes. The crates above write forms and nothing else.
 //! This crate knows nothing of descriptions, recipes, events or sites.
+//!
+//! Tried in `mtp_examples`.
 #![tactic(auto)]
 
 mod alike;

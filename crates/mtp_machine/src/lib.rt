@@ -3,6 +3,8 @@
 //!
 //! It knows nothing of modes, of who may command, of descriptions or of any text form. The edges are a profile of
 //! this project after part 4; `specs/Machine.antt` lists them, and every answer here is what those lists say.
+//!
+//! Tried in `mtp_examples`.
 #![tactic(auto)]
 
 mod edges;

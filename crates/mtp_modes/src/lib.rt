@@ -3,6 +3,8 @@
 //!
 //! It knows nothing of recipes, of operators' rights or of what a command does. Which speaker a mode lets command is
 //! this project's own table; `specs/Permission.antt` has it, and the four faults in their order.
+//!
+//! Tried in `mtp_examples`.
 #![tactic(auto)]
 
 mod permission;

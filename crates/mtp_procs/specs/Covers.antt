@@ -1,5 +1,6 @@
 -- Whether a module's description covers a role of a chart, and the first fault where it doesn't.
-use Rattle.std.specs.Prelude.{ℕ, List, Bool, true, false, not, ◌&&◌, Option, Some, None, is_some, Result, Ok, Err, find, option_map, if◌then◌else◌}
+use Rattle.std.specs.Prelude.{ℕ, List, Bool, true, false, not, ◌&&◌, Option, Some, None, is_some, Result, Ok, Err, find}
+use Rattle.std.specs.Prelude.{option_map, if◌then◌else◌}
 use Rattle.std.specs.List.{list_any}
 use Rattle.std.specs.Option.{option_or}
 use Rattle.semver.specs.EvalViews.{matches_views}

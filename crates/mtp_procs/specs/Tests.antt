@@ -1,8 +1,10 @@
 -- The tests that stand in the conditions of a chart, in chart order.
 use Rattle.std.specs.Prelude.{ℕ, List, [], ◌∷◌, ◌++◌, Option, Some, None}
 use Rattle.mtp_codes.specs.declared.value.Reading.{Reading}
-use Rattle.chart_core.specs.Formulas.{Formula, Formulas, constant, all_of, any_of, not_of, test, no_formulas, more_formulas}
-use Rattle.chart_core.specs.Trees.{Tree, Trees, Arms, leaf, seq, par, choice, loop, no_trees, more_trees, no_arms, more_arms, arm_conditions}
+use Rattle.chart_core.specs.Formulas.{Formula, Formulas, constant, all_of, any_of, not_of, test, no_formulas}
+use Rattle.chart_core.specs.Formulas.{more_formulas}
+use Rattle.chart_core.specs.Trees.{Tree, Trees, Arms, leaf, seq, par, choice, loop, no_trees, more_trees, no_arms}
+use Rattle.chart_core.specs.Trees.{more_arms, arm_conditions}
 
 -- a test: the variable that it reads, of which role, and the value that it compares with
 pub record PlainTest : Type 0 where

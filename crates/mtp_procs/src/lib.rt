@@ -3,6 +3,8 @@
 //! It knows nothing of JSON, of the state of a plant or of which module is bound. `check_step` answers exactly the
 //! first fault of a step's demand, as `specs/Demands.antt` says; `specs/Covers.antt` says which descriptions cover a
 //! role.
+//!
+//! Tried in `chart_examples`.
 #![tactic(auto)]
 
 mod check;

@@ -1,5 +1,6 @@
 -- What a simulated module reports follows the edges of the state machine.
-use Rattle.std.proofs.Common.{◌≡◌, ℕ, suc, zero, ℤ, ◌+◌, Bool, true, false, cond, not, List, [], ◌∷◌, map, Option, Some, None, IfSome, refl, ap, sym, ◌∙◌, subst, inl, inr}
+use Rattle.std.proofs.Common.{◌≡◌, ℕ, suc, zero, ℤ, ◌+◌, Bool, true, false, cond, not, List, [], ◌∷◌, map, Option, Some}
+use Rattle.std.proofs.Common.{None, IfSome, refl, ap, sym, ◌∙◌, subst, inl, inr}
 use Rattle.std.specs.Prelude.{◌&&◌, ◌||◌, nat_le, slice_get, slice_set, option_map, option_and_then, if◌then◌else◌}
 use Rattle.std.specs.List.{list_any, AllByRecursion}
 use Rattle.std.proofs.lemmas.Option.{same_Some}
@@ -8,15 +9,21 @@ use Rattle.mtp_codes.specs.Codes.{state_number, state_codes, state_of}
 use Rattle.mtp_codes.specs.declared.command.Command.{Command}
 use Rattle.mtp_codes.specs.declared.command.Command.TheVariants.{Complete}
 use Rattle.mtp_codes.specs.declared.state.State.{State}
-use Rattle.mtp_machine.specs.Machine.{every_state, every_command, own_target, command_target, is_edge, same_state, same_command}
+use Rattle.mtp_machine.specs.Machine.{every_state, every_command, own_target, command_target, is_edge, same_state}
+use Rattle.mtp_machine.specs.Machine.{same_command}
 use Rattle.mtp_machine.proofs.EveryState.{of_each_state, of_each_command}
 use Rattle.mtp_desc.specs.Plain.{PlainDescription, PlainService}
 use Rattle.mtp_sim.specs.declared.service.SimService.{SimService}
 use Rattle.mtp_sim.specs.declared.drift.SimDrift.{SimDrift}
 use Rattle.mtp_sim.specs.Sims.{first_service}
-use Rattle.mtp_sim.specs.Ticks.{is_state, is_untold, is_silent, is_executing, changes, told, moved_on, counted, service_ticked, is_reported, limit_of, ticked_service, ticked_at, ticked_at_drift, drift_here, drift_report, report_by, report_of, runs_through, value_told, variable_report}
-use Rattle.mtp_sim.specs.Commands.{sent_to, service_took, procedure_after, with_service, place_of, took_at, after_command}
-use Rattle.mtp_sim.specs.Told.{MayTell, IsNext, AreNext, FollowsEdges, StayUntold, FirstModulesFollowEdges, TicksFollowEdges, CommandsFollowEdges}
+use Rattle.mtp_sim.specs.Ticks.{is_state, is_untold, is_silent, is_executing, changes, told, moved_on, counted}
+use Rattle.mtp_sim.specs.Ticks.{service_ticked, is_reported, limit_of, ticked_service, ticked_at, ticked_at_drift}
+use Rattle.mtp_sim.specs.Ticks.{drift_here, drift_report, report_by, report_of, runs_through, value_told}
+use Rattle.mtp_sim.specs.Ticks.{variable_report}
+use Rattle.mtp_sim.specs.Commands.{sent_to, service_took, procedure_after, with_service, place_of, took_at}
+use Rattle.mtp_sim.specs.Commands.{after_command}
+use Rattle.mtp_sim.specs.Told.{MayTell, IsNext, AreNext, FollowsEdges, StayUntold, FirstModulesFollowEdges}
+use Rattle.mtp_sim.specs.Told.{TicksFollowEdges, CommandsFollowEdges}
 
 -- ---- the machine
 

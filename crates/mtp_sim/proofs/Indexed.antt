@@ -1,15 +1,17 @@
 -- The index of a module's services by their names.
-use Rattle.std.proofs.Common.{◌≡◌, ℕ, suc, zero, ◌+◌, ◌<◌, Bool, true, false, List, [], ◌∷◌, length, take, map, get_or, Some, refl, ap, sym, ◌∙◌, true≢false, arith}
+use Rattle.std.proofs.Common.{◌≡◌, ℕ, suc, zero, ◌+◌, ◌<◌, Bool, true, false, List, [], ◌∷◌, length, take, map, get_or}
+use Rattle.std.proofs.Common.{Some, refl, ap, sym, ◌∙◌, true≢false, arith}
 use Rattle.std.specs.Prelude.{◌||◌, slice_get, slice_set, position, option_map}
 use Rattle.std.specs.List.{list_any}
 use Rattle.std.specs.Str.{bytes_eq}
 use Rattle.std.proofs.Math.Seq.{take-suc}
-use Rattle.std.proofs.lemmas.Option.{same_Some, slice_get-get_or, slice_get-map, slice_get_within, get_or_from_slice_get}
+use Rattle.std.proofs.lemmas.Option.{same_Some, slice_get-get_or, slice_get-map, slice_get_within}
+use Rattle.std.proofs.lemmas.Option.{get_or_from_slice_get}
 use Rattle.std.proofs.lemmas.Slice.Eq.{bytes_eq-Decides}
 use Rattle.std.proofs.lemmas.Bool.{or_parts}
 use Rattle.indexmap.specs.IndexSet.{insert_key}
-use Rattle.mtp_json.specs.Form.{repeats_by}
-use Rattle.mtp_json.proofs.Lists.{repeats_map}
+use Rattle.mtp_codes.specs.Repeats.{repeats_by}
+use Rattle.mtp_codes.proofs.Repeats.{repeats_map}
 use Rattle.mtp_desc.proofs.Views.{position_map}
 use Rattle.mtp_desc.specs.Plain.{PlainDescription, PlainService, same_service}
 use Rattle.mtp_desc.specs.PlainService.{plain_service}

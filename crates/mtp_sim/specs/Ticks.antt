@@ -1,5 +1,7 @@
 -- One tick of a simulated module.
-use Rattle.std.specs.Prelude.{ℕ, ◌+◌, ℤ, ◌+ℤ◌, int_lt, Bool, false, not, ◌&&◌, ◌||◌, ◌-◌, nat_le, List, length, filter, sum_by, Option, Some, None, is_some, is_none, option_map, slice_get, slice_set, if◌then◌else◌}
+use Rattle.std.specs.Prelude.{ℕ, ◌+◌, ℤ, ◌+ℤ◌, int_lt, Bool, false, not, ◌&&◌, ◌||◌, ◌-◌, nat_le, List, length, filter}
+use Rattle.std.specs.Prelude.{sum_by, Option, Some, None, is_some, is_none, option_map, slice_get, slice_set}
+use Rattle.std.specs.Prelude.{if◌then◌else◌}
 use Rattle.std.specs.List.{list_any}
 use Rattle.mtp_codes.specs.Codes.{command_number}
 use Rattle.mtp_codes.specs.declared.command.Command.TheVariants.{Complete}

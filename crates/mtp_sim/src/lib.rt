@@ -4,6 +4,8 @@
 //! main contract: `tick` is the step of `specs/Ticks.antt`, and `take` that of `specs/Commands.antt`; each state that
 //! is reported is Idle at first and then one to which an edge leads, and no state is left before it was reported
 //! (`specs/Told.antt`).
+//!
+//! Tried in `mtp_examples`.
 #![tactic(auto)]
 
 mod drift;

@@ -4,7 +4,8 @@ ghost use Rattle.mtp_desc.specs.PlainDescription.{plain_description};
 ghost use Rattle.mtp_machine.specs.States.{is_execute};
 ghost use Rattle.mtp_sim.specs.Commands.{asked_procedure, procedure_after, service_took};
 ghost use Rattle.mtp_sim.specs.Sims.{first_service};
-ghost use Rattle.mtp_sim.specs.Ticks.{changes, changes_in, control_now, enabled_of, is_reported, is_untold, report_of, service_ticked, ticks_of};
+ghost use Rattle.mtp_sim.specs.Ticks.{changes, changes_in, control_now, enabled_of, is_reported, is_untold, report_of};
+ghost use Rattle.mtp_sim.specs.Ticks.{service_ticked, ticks_of};
 
 use super::report::SimReport;
 use mtp_assembly::ServiceControl;

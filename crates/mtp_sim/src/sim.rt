@@ -1,12 +1,14 @@
 //! A simulated module.
 ghost use Rattle.std.specs.Prelude.{◌≡◌, ◌+◌, IfOk, IfSome, Some, ◌≤◌, false, is_some, length, map};
+ghost use Rattle.mtp_codes.specs.Repeats.{repeats_by};
 ghost use Rattle.mtp_desc.specs.PlainDescription.{plain_description};
 ghost use Rattle.mtp_desc.specs.Plain.{same_service};
 ghost use Rattle.mtp_desc.specs.PlainService.{plain_service};
-ghost use Rattle.mtp_json.specs.Form.{repeats_by};
 ghost use Rattle.mtp_sim.specs.Commands.{after_command, place_of, took, took_at};
 ghost use Rattle.mtp_sim.specs.Sims.{first_drift, first_service, first_sim, plain_plan};
-ghost use Rattle.mtp_sim.specs.Ticks.{drift_here, drift_report, is_at_rest, is_executing, is_pending, place_after, service_here, service_report, tick_report, ticked, ticked_at, ticked_at_drift, value_told};
+ghost use Rattle.mtp_sim.specs.Ticks.{drift_here, drift_report, is_at_rest, is_executing, is_pending, place_after};
+ghost use Rattle.mtp_sim.specs.Ticks.{service_here, service_report, tick_report, ticked, ticked_at, ticked_at_drift};
+ghost use Rattle.mtp_sim.specs.Ticks.{value_told};
 ghost use Rattle.mtp_sim.specs.Told.{FollowsEdges, StayUntold};
 
 use super::drift::SimDrift;

@@ -2,8 +2,9 @@
 
 use chart_core::Chart;
 use chart_json::read_chart;
+use desc_json::read_description;
 use given::named;
-use mtp_desc::{Description, read_description};
+use mtp_desc::Description;
 use mtp_json::{JsonRefusal, parse};
 use pol_bind::{covers, held_back_by};
 use pol_events::Rule;

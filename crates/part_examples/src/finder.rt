@@ -8,9 +8,10 @@ ghost use Rattle.pol_match.specs.Bindings.{AreInOrder};
 ghost use Rattle.pol_match.specs.Candidates.{plain_candidates};
 
 use chart_core::Chart;
+use event_json::read_event;
 use given::named;
 use mtp_codes::{MOST_MODULES, Name};
-use pol_events::{Bind, Event, read_event};
+use pol_events::{Bind, Event};
 use pol_match::{Candidate, Found, find_binding};
 use std::alloc::Global;
 use std::sync::Arc;

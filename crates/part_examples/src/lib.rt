@@ -1,35 +1,16 @@
-//! Worked examples of the parts of the plant, of events, lines and sites: tests alone.
+//! Worked examples of the parts of a plant: slots and batches, which module may play a role and how one is found, and
+//! which commands an operator may send, by permission and by policy: tests alone.
 #![tactic(auto)]
 
 #[cfg(test)]
-mod arguments;
-#[cfg(test)]
 mod batch_runs;
-#[cfg(test)]
-mod boards;
 #[cfg(test)]
 mod commands;
 #[cfg(test)]
 mod covering;
 #[cfg(test)]
-mod docked;
-#[cfg(test)]
-mod event_lines;
-#[cfg(test)]
-mod events;
-#[cfg(test)]
 mod finder;
-#[cfg(test)]
-mod output_lines;
 #[cfg(test)]
 mod policies;
 #[cfg(test)]
-mod quick_lines;
-#[cfg(test)]
-mod site_texts;
-#[cfg(test)]
 mod slots;
-#[cfg(test)]
-mod streams;
-#[cfg(test)]
-mod tables;

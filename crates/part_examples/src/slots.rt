@@ -1,9 +1,10 @@
 //! A worked doser: what it tells, and its exchange.
 use chart_cursor::Sight;
+use desc_json::read_description;
 use given::named;
 use mtp_assembly::ServiceControl;
 use mtp_codes::{Mode, Origin, State, Value};
-use mtp_desc::{Description, read_description};
+use mtp_desc::Description;
 use mtp_json::{JsonRefusal, parse};
 use mtp_modes::ServiceView;
 use pol_events::Rule;

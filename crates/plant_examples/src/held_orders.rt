@@ -1,11 +1,12 @@
 //! A batch of three parallel steps is frozen, held, thawed, stopped and broken in every order of these, and advanced
 //! twice after each. Its module obeys each command at once.
 use chart_core::{LogEntry, Why};
+use event_json::read_event;
 use given::named;
 use mtp_assembly::ServiceControl;
 use mtp_codes::{Mode, Name, Origin, State};
 use pol_core::Plant;
-use pol_events::{Answer, Event, Outcome, Rule, read_event};
+use pol_events::{Answer, Event, Outcome, Rule};
 use std::alloc::AllocError;
 use std::test::*;
 

@@ -1,4 +1,4 @@
-//! Worked examples of the whole plant, of looking back over its history, of demos and of threads: tests alone.
+//! Worked examples of the whole plant, of looking back over its history, and of demos: tests alone.
 #![tactic(auto)]
 
 #[cfg(test)]
@@ -8,8 +8,4 @@ mod looking_back;
 #[cfg(test)]
 mod plant;
 #[cfg(test)]
-mod refused_threads;
-#[cfg(test)]
 mod summaries;
-#[cfg(test)]
-mod threads;

@@ -1,8 +1,9 @@
 //! A worked batch, answered event by event.
 use chart_core::LogEntry;
+use event_json::read_event;
 use given::named;
 use pol_audit::says;
-use pol_events::{Answer, Entry, read_event};
+use pol_events::{Answer, Entry};
 use std::test::*;
 
 const PLUG: &str =

@@ -1,8 +1,9 @@
 //! A plant with ample memory: a worked journal, room that is taken first, and a full history.
 use chart_core::LogEntry;
+use event_json::read_event;
 use given::named;
 use pol_core::{Docking, Plant};
-use pol_events::{Answer, Event, Rule, read_event};
+use pol_events::{Answer, Event, Rule};
 use std::test::*;
 
 const PLUG_M: &str =

@@ -1,5 +1,6 @@
 -- Whether the exchanger has something to do: it rests exactly where it is settled.
-use Rattle.std.proofs.Common.{◌≡◌, ◌<◌, ◌≤◌, ◌+◌, ℕ, Bool, true, false, not, List, [], ◌∷◌, length, Option, Some, None, refl, ap, sym, ◌∙◌, arith}
+use Rattle.std.proofs.Common.{◌≡◌, ◌<◌, ◌≤◌, ◌+◌, ℕ, Bool, true, false, not, List, [], ◌∷◌, length, Option, Some, None}
+use Rattle.std.proofs.Common.{refl, ap, sym, ◌∙◌, arith}
 use Rattle.std.specs.Prelude.{◌&&◌, ◌||◌, nat_lt, nat_le, slice_get, if◌then◌else◌}
 use Rattle.std.specs.List.{list_any}
 use Rattle.std.specs.Str.{bytes_eq}
@@ -7,6 +8,7 @@ use Rattle.std.proofs.lemmas.Bool.{and_right}
 use Rattle.std.proofs.lemmas.Map.Keys.{any_passes_from_place}
 use Rattle.std.proofs.lemmas.Option.{cond_some}
 use Rattle.mtp_codes.proofs.Names.{same_true, same_refl}
+use Rattle.mtp_codes.proofs.Lists.{none_any}
 use Rattle.pol_events.specs.Events.{PlainEvent, exchange_begin, exchange_end, exchange_cancel}
 use Rattle.pol_events.specs.declared.answer.Answer.{Answer}
 use Rattle.pol_events.specs.declared.answer.Answer.TheVariants.{Ticket, Closed, Refused}
@@ -16,7 +18,8 @@ use Rattle.pol_history.specs.Looking.{History, recipes}
 use Rattle.pol_history.specs.Modules.{Docking, absent, docked, away, docking_of, ticket_of}
 use Rattle.pol_history.specs.Runs.{IsLegal}
 use Rattle.pol_core.specs.Calls.{refusal}
-use Rattle.pol_site.specs.Following.{FollowsSite, IsAllowed, ended_with, exchanging, none_open, opened, openings, was_begun}
+use Rattle.pol_site.specs.Following.{FollowsSite, IsAllowed, ended_with, exchanging, none_open, opened, openings}
+use Rattle.pol_site.specs.Following.{was_begun}
 use Rattle.pol_site.specs.Plans.{begun_in}
 use Rattle.pol_site.specs.Rules.{has_module}
 use Rattle.pol_site.specs.Settled.{is_away, is_busy, is_settled_exchanger, waits_to_begin}
@@ -34,11 +37,6 @@ use Rattle.pol_actors.specs.declared.exchanger.Standing.{Standing}
 use Rattle.pol_actors.specs.declared.exchanger.Standing.TheVariants as standing
 use Rattle.pol_actors.proofs.Numbers.{all_at, lt_holds, lt_not}
 use Rattle.pol_actors.proofs.Exchanging.{busy_by, has_at, openings_long}
-
--- where no item passes none does
-none_any : {A : Type 0} (test : A → Bool) (xs : List A) → ((x : A) → test x ≡ false) → list_any test xs ≡ false
-none_any test [] none = refl
-none_any test (x ∷ xs) none = rw (none x) (none_any test xs none)
 
 -- a module without a ticket isn't away
 not_away : (docking : Docking) → ticket_of docking ≡ None → is_away docking ≡ false

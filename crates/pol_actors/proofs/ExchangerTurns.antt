@@ -1,11 +1,13 @@
 -- A turn of the exchanger keeps all that is kept.
-use Rattle.std.proofs.Common.{◌≡◌, ◌⊎◌, inl, inr, ◌≤◌, ◌+◌, ℕ, Bool, true, false, List, [], ◌∷◌, ◌++◌, length, Option, Some, None, refl, ap, sym, ◌∙◌, subst}
+use Rattle.std.proofs.Common.{◌≡◌, ◌⊎◌, inl, inr, ◌≤◌, ◌+◌, ℕ, Bool, true, false, List, [], ◌∷◌, ◌++◌, length, Option}
+use Rattle.std.proofs.Common.{Some, None, refl, ap, sym, ◌∙◌, subst}
 use Rattle.std.specs.Prelude.{◌&&◌, pred, option_and_then, slice_get, if◌then◌else◌}
 use Rattle.std.specs.Str.{bytes_eq}
 use Rattle.std.proofs.lemmas.List.Quantifiers.{position-Some}
 use Rattle.std.proofs.lemmas.Option.{get_or_from_slice_get, same_Some}
 use Rattle.mtp_codes.specs.Faults.{when}
 use Rattle.mtp_codes.proofs.Names.{same_true, same_refl, apart_back}
+use Rattle.mtp_codes.specs.Repeats.{repeats_by}
 use Rattle.pol_events.specs.Events.{PlainEntry, PlainEvent, plug, exchange_begin, exchange_cancel}
 use Rattle.pol_events.specs.declared.answer.Answer.{Answer}
 use Rattle.pol_events.specs.declared.answer.Answer.TheVariants.{Done, Ticket, Did, Waiting, Closed, Refused}
@@ -22,7 +24,6 @@ use Rattle.pol_site.specs.Plans.{begun_in}
 use Rattle.pol_site.specs.Rules.{same_tag}
 use Rattle.pol_site.specs.Sites.{PlainSite, PlainSiteModule, PlainSiteRecipe, PlainSiteExchange}
 use Rattle.pol_site.specs.Stories.{touches}
-use Rattle.mtp_json.specs.Form.{repeats_by}
 use Rattle.pol_actors.specs.Exchanges.{end_event, exchanger_after, know_event, plug_event}
 use Rattle.pol_actors.specs.Kept.{AreUnits, IsKept, IsUnit}
 use Rattle.pol_actors.specs.Moved.{changed_at, errand_tag, place_of_tag, put_at, unit_after, units_after}
@@ -39,7 +40,8 @@ use Rattle.pol_actors.proofs.Numbers.{set_got, set_long}
 use Rattle.pol_actors.proofs.Owners.{owned_more, position_at}
 use Rattle.pol_actors.proofs.Stages.{stage_other}
 use Rattle.pol_actors.proofs.Stamped.{IsNext, entry_at, next_kept, owner_stamped}
-use Rattle.pol_actors.proofs.Units.{moved_fresh, sends_none, touches_none, touches_refused, unit_begun, unit_cancelled, unit_ended, unit_plugged, unit_untouched}
+use Rattle.pol_actors.proofs.Units.{moved_fresh, sends_none, touches_none, touches_refused, unit_begun, unit_cancelled}
+use Rattle.pol_actors.proofs.Units.{unit_ended, unit_plugged, unit_untouched}
 
 -- ---- one module
 
@@ -157,7 +159,8 @@ module _ (site : PlainSite) (older : History) (at : ℕ) (n : ℕ) (unit : Plain
           (ap (λ tag. is_there (docking_of older tag)) (sym named) ∙ there) is
       go false apart =
           unit_untouched site older entry unit own
-          (apart_free entry unit.tag (apart_back unit.tag tag apart) (silent older (exchange_cancel 0 tag ticket) refl)) is
+          (apart_free entry unit.tag (apart_back unit.tag tag apart)
+          (silent older (exchange_cancel 0 tag ticket) refl)) is
 
   -- and one that ends
   ended : (tag : List ℕ) (ticket place : ℕ) (exchange : PlainSiteExchange) →

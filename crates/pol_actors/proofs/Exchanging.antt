@@ -1,6 +1,8 @@
 -- The exchanger: where it stands after one more entry, and what it does next.
-use Rattle.std.proofs.Common.{◌≡◌, ◌<◌, ◌≤◌, ◌+◌, ℕ, suc, zero, Bool, true, false, cond, not, List, [], ◌∷◌, length, map, Option, Some, None, refl, ap, sym, ◌∙◌, subst, arith, length-append}
-use Rattle.std.specs.Prelude.{◌&&◌, ◌||◌, ◌==◌, pred, nat_lt, is_some, option_map, option_and_then, slice_get, if◌then◌else◌}
+use Rattle.std.proofs.Common.{◌≡◌, ◌<◌, ◌≤◌, ◌+◌, ℕ, suc, zero, Bool, true, false, cond, not, List, [], ◌∷◌, length}
+use Rattle.std.proofs.Common.{map, Option, Some, None, refl, ap, sym, ◌∙◌, subst, arith, length-append}
+use Rattle.std.specs.Prelude.{◌&&◌, ◌||◌, ◌==◌, pred, nat_lt, is_some, option_map, option_and_then, slice_get}
+use Rattle.std.specs.Prelude.{if◌then◌else◌}
 use Rattle.std.specs.Option.{option_or}
 use Rattle.std.specs.Str.{bytes_eq}
 use Rattle.std.proofs.lemmas.Bool.{eqb-true}
@@ -15,7 +17,9 @@ use Rattle.mtp_desc.specs.Plain.{PlainDescription, PlainService}
 use Rattle.chart_core.specs.Trees.{PlainStep}
 use Rattle.chart_cursor.specs.Logs.{active}
 use Rattle.pol_events.specs.Bound.{given, step_on}
-use Rattle.pol_events.specs.Events.{PlainEvent, PlainEntry, plug, unplug, report, variable, recipe, start, advance, freeze, thaw, stop_batch, abandon, desk, exchange_begin, exchange_end, exchange_cancel}
+use Rattle.pol_events.specs.Events.{PlainEvent, PlainEntry, plug, unplug, report, variable, recipe, start, advance}
+use Rattle.pol_events.specs.Events.{freeze, thaw, stop_batch, abandon, desk, exchange_begin, exchange_end}
+use Rattle.pol_events.specs.Events.{exchange_cancel}
 use Rattle.pol_events.specs.Orderly.{is_orderly}
 use Rattle.pol_events.specs.Refusals.{in_exchange, service_not_at_rest, wrong_ticket}
 use Rattle.pol_events.specs.declared.answer.Answer.{Answer}
@@ -25,7 +29,8 @@ use Rattle.pol_events.specs.declared.answer.Rule.TheVariants.{ActiveStep, NotAtR
 use Rattle.pol_history.specs.Answers.{answer_of, first_rule, is_full}
 use Rattle.pol_history.specs.Batches.{chart_by, holder_of, log_by, start_by}
 use Rattle.pol_history.specs.Looking.{History, is_accepted, past, past_of_batch, recipes}
-use Rattle.pol_history.specs.Modules.{Docking, absent, docked, away, control_by, description_by, docking_by, docking_of, next_ticket, present_after, present_tags, tags_without, ticket_of}
+use Rattle.pol_history.specs.Modules.{Docking, absent, docked, away, control_by, description_by, docking_by, docking_of}
+use Rattle.pol_history.specs.Modules.{next_ticket, present_after, present_tags, tags_without, ticket_of}
 use Rattle.pol_history.specs.Rules.{active_step, module_not_at_rest, no_module, not_in_exchange, plant_full, tag_taken}
 use Rattle.pol_history.specs.Runs.{IsLegal}
 use Rattle.pol_history.proofs.Accepted.{paired, with_room}
@@ -33,7 +38,8 @@ use Rattle.pol_history.proofs.Filters.{length_filter}
 use Rattle.pol_core.specs.Calls.{refusal}
 use Rattle.pol_safety.specs.Known.{is_there}
 use Rattle.pol_site.specs.Actors.{owner_of}
-use Rattle.pol_site.specs.Following.{FollowsSite, IsAllowed, begun_with, ended_with, exchanging, none_open, opened, openings, was_begun, was_held}
+use Rattle.pol_site.specs.Following.{FollowsSite, IsAllowed, begun_with, ended_with, exchanging, none_open, opened}
+use Rattle.pol_site.specs.Following.{openings, was_begun, was_held}
 use Rattle.pol_site.specs.Plans.{begun_in}
 use Rattle.pol_site.specs.Rules.{has_module}
 use Rattle.pol_site.specs.Settled.{is_busy, is_busy_rule}
@@ -43,7 +49,9 @@ use Rattle.pol_stillness.specs.Exchanges.{open_ticket}
 use Rattle.pol_stillness.proofs.Exchanges.{open_away}
 use Rattle.pol_simulated.proofs.Places.{lt_fails}
 use Rattle.pol_simulated.proofs.Values.{place_within}
-use Rattle.pol_actors.specs.Exchanges.{begin_errand, begun_standing, ended_standing, end_event, errand_of, event_of, exchange_errand, exchanger_after, exchanging_in, is_refusal_busy, know_event, plug_event}
+use Rattle.pol_actors.specs.Exchanges.{begin_errand, begun_standing, ended_standing, end_event, errand_of, event_of}
+use Rattle.pol_actors.specs.Exchanges.{exchange_errand, exchanger_after, exchanging_in, is_refusal_busy, know_event}
+use Rattle.pol_actors.specs.Exchanges.{plug_event}
 use Rattle.pol_actors.specs.Kept.{IsExchanger, StandsAt, is_begun, progress_of, progress_with}
 use Rattle.pol_actors.specs.Stamps.{stamped}
 use Rattle.pol_actors.specs.declared.exchanger.Errand.{Errand}

@@ -8,7 +8,6 @@ use Rattle.pol_site.specs.Sites.{PlainSite, PlainSiteExchange}
 use Rattle.pol_site.specs.PlainSite.{plain_site}
 use Rattle.pol_site.specs.Views.{plain_exchange, plain_module, plain_recipe}
 use Rattle.pol_site.specs.declared.parts.SiteExchange.{SiteExchange}
-use Rattle.pol_site.specs.declared.parts.SiteModule.{SiteModule}
 use Rattle.pol_site.specs.declared.parts.SiteRecipe.{SiteRecipe}
 use Rattle.pol_site.specs.declared.site.Site.{Site}
 use Rattle.pol_simulated.proofs.Places.{lt_false}
@@ -37,11 +36,6 @@ opening_second site place count none is =
     ∙ ap (λ n. slice_get (map plug_event (map plain_module site.modules.items)) (place - n))
     (length-map site.recipes.items plain_recipe ∙ sym is)
     ∙ item_mapped plug_event (map plain_module site.modules.items) (place - count))
-
--- a module
-pub module_at : (site : Site) (place : ℕ) (found : Option SiteModule) → slice_get site.modules.items place ≡ found →
-    slice_get (plain_site site).modules place ≡ option_map plain_module found
-module_at site place found at = item_mapped plain_module site.modules.items place ∙ ap (option_map plain_module) at
 
 -- an exchange
 pub exchange_at : (site : Site) (place : ℕ) (found : Option SiteExchange) →

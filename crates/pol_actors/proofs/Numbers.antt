@@ -1,5 +1,6 @@
 -- Tests of numbers, and places of lists.
-use Rattle.std.proofs.Common.{◌≡◌, ◌⊎◌, inl, inr, ◌<◌, ◌≤◌, ◌+◌, ℕ, suc, zero, Bool, true, false, List, [], ◌∷◌, ◌++◌, length, map, Some, None, refl, ap, sym, ◌∙◌, arith}
+use Rattle.std.proofs.Common.{◌≡◌, ◌⊎◌, inl, inr, ◌<◌, ◌≤◌, ◌+◌, ℕ, suc, zero, Bool, true, false, List, [], ◌∷◌, ◌++◌}
+use Rattle.std.proofs.Common.{length, map, Some, None, refl, ap, sym, ◌∙◌, arith}
 use Rattle.std.specs.Prelude.{◌&&◌, ◌-◌, nat_lt, option_map, slice_get, slice_set}
 use Rattle.std.specs.List.{list_all}
 use Rattle.std.proofs.lemmas.Bool.Decides.{nat_tests}
@@ -18,12 +19,6 @@ pub item_within : {A : Type 0} (xs : List A) (n : ℕ) → n < length xs → (x 
 item_within [] n less = absurd (omega (arith, less))
 item_within (first ∷ others) zero less = (first, refl)
 item_within (first ∷ others) (suc n) less = item_within others n (omega (arith, less))
-
--- behind a list there is none
-pub none_behind : {A : Type 0} (xs : List A) (n : ℕ) → slice_get xs n ≡ None → length xs ≤ n
-none_behind [] n at = omega arith
-none_behind (first ∷ others) zero at = cc
-none_behind (first ∷ others) (suc n) at = let less = none_behind others n at in omega (arith, less)
 
 -- an item of two lists, one behind the other, is of the first or of the second
 pub data IsEither {A B E : Type 0} (here : A → E) (there : B → E) (front : List A) (back : List B) (place : ℕ)

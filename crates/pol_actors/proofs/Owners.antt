@@ -1,5 +1,6 @@
 -- Whose an event is, and which actor has a number.
-use Rattle.std.proofs.Common.{◌≡◌, ◌+◌, ℕ, suc, zero, Bool, true, false, cond, List, [], ◌∷◌, ◌++◌, length, map, reverse, Some, None, refl, ap, sym, ◌∙◌, arith}
+use Rattle.std.proofs.Common.{◌≡◌, ◌+◌, ℕ, suc, zero, Bool, true, false, cond, List, [], ◌∷◌, ◌++◌, length, map}
+use Rattle.std.proofs.Common.{reverse, Some, None, refl, ap, sym, ◌∙◌, arith}
 use Rattle.std.specs.Prelude.{nat_lt, option_map, position, slice_get}
 use Rattle.std.specs.List.{list_any, position_or_len, AllByRecursion}
 use Rattle.std.specs.Str.{bytes_eq}
@@ -8,11 +9,12 @@ use Rattle.std.proofs.lemmas.List.{map-append, reverse-append}
 use Rattle.std.proofs.lemmas.Option.{same_Some}
 use Rattle.std.proofs.lemmas.Bool.{or_parts}
 use Rattle.mtp_codes.proofs.Names.{same_true, same_refl}
-use Rattle.mtp_json.specs.Form.{repeats_by}
+use Rattle.mtp_codes.specs.Repeats.{repeats_by}
 use Rattle.mtp_sim.proofs.Edges.{none_at}
 use Rattle.pol_events.specs.Events.{PlainEntry}
 use Rattle.pol_history.specs.Looking.{History}
-use Rattle.pol_site.specs.Actors.{the_exchanger, a_module, a_batch, the_desk, actors, has_batch, has_tag, is_desk, is_exchanger, owner_of}
+use Rattle.pol_site.specs.Actors.{the_exchanger, a_module, a_batch, the_desk, actors, has_batch, has_tag, is_desk}
+use Rattle.pol_site.specs.Actors.{is_exchanger, owner_of}
 use Rattle.pol_site.specs.Sites.{PlainSite, PlainSiteModule, PlainSiteBatch}
 use Rattle.pol_site.specs.Rules.{same_batch, same_tag}
 use Rattle.pol_simulated.proofs.Places.{lt_true}

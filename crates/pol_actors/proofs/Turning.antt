@@ -2,7 +2,7 @@
 use Rattle.std.proofs.Common.{◌≡◌, ℕ, Bool, true, false, List, ◌∷◌, length, Option, Some, None, refl, sym, ◌∙◌, subst}
 use Rattle.std.specs.Prelude.{◌&&◌, not, option_and_then, slice_get, if◌then◌else◌}
 use Rattle.std.proofs.lemmas.Bool.{false_from_ne_true}
-use Rattle.mtp_json.specs.Form.{repeats_by}
+use Rattle.mtp_codes.specs.Repeats.{repeats_by}
 use Rattle.mtp_desc.specs.Plain.{same_service}
 use Rattle.mtp_sim.specs.declared.report.SimReport.{SimReport}
 use Rattle.mtp_sim.specs.declared.report.SimReport.TheVariants.{Service, Variable}
@@ -31,7 +31,8 @@ use Rattle.pol_stillness.proofs.KeepingUp.{firsts_up, idles_up, looks_up, ticks_
 use Rattle.pol_stillness.proofs.Rested.{settled_rest}
 use Rattle.pol_stillness.proofs.Resting.{rests_settled}
 use Rattle.pol_actors.specs.Kept.{IsMadeUp, IsUnit}
-use Rattle.pol_actors.specs.Turning.{Origin, decision_by, first_made, free_after, free_decides, made_after, made_decides, made_looked, made_or, made_ticked, origin_by, origin_of}
+use Rattle.pol_actors.specs.Turning.{Origin, decision_by, first_made, free_after, free_decides, made_after}
+use Rattle.pol_actors.specs.Turning.{made_decides, made_looked, made_or, made_ticked, origin_by, origin_of}
 use Rattle.pol_actors.specs.declared.simulation.Decision.{Decision}
 use Rattle.pol_actors.specs.declared.simulation.Decision.TheVariants.{Reports, Looks, Rests}
 use Rattle.pol_actors.specs.declared.simulation.Simulation.{Simulation}

@@ -4,20 +4,22 @@ use Rattle.std.specs.Prelude.{◌||◌, pred, is_some, option_map, slice_get, if
 use Rattle.std.specs.Str.{bytes_eq}
 use Rattle.std.proofs.lemmas.Bool.{and_from, and_right}
 use Rattle.mtp_codes.proofs.Names.{same_refl}
-use Rattle.mtp_json.specs.Form.{repeats_by}
+use Rattle.mtp_codes.specs.Repeats.{repeats_by}
 use Rattle.mtp_modes.specs.declared.view.ServiceView.{ServiceView}
 use Rattle.mtp_sim.specs.declared.report.SimReport.{SimReport}
 use Rattle.mtp_sim.specs.declared.report.SimReport.TheVariants.{Service, Variable}
 use Rattle.chart_core.specs.declared.entry.LogEntry.{LogEntry}
 use Rattle.chart_cursor.specs.Commands.{Sent, sent_by}
-use Rattle.pol_events.specs.Events.{PlainEntry, plug, report, variable, advance, exchange_begin, exchange_end, exchange_cancel}
+use Rattle.pol_events.specs.Events.{PlainEntry, plug, report, variable, advance, exchange_begin, exchange_end}
+use Rattle.pol_events.specs.Events.{exchange_cancel}
 use Rattle.pol_events.specs.declared.answer.Answer.{Answer}
 use Rattle.pol_events.specs.declared.answer.Answer.TheVariants.{Done, Did}
 use Rattle.pol_events.specs.declared.answer.Rule.{Rule}
 use Rattle.pol_history.specs.Answers.{first_rule}
 use Rattle.pol_history.specs.Commands.{sent_command}
 use Rattle.pol_history.specs.Looking.{History, is_accepted, is_accepted_of, is_module, last_of, past, subject}
-use Rattle.pol_history.specs.Modules.{description_by, docking_by, docking_of, is_moving, seen_with, reported, since_docking, view_by, view_of}
+use Rattle.pol_history.specs.Modules.{description_by, docking_by, docking_of, is_moving, seen_with, reported}
+use Rattle.pol_history.specs.Modules.{since_docking, view_by, view_of}
 use Rattle.pol_history.specs.Runs.{IsLegal, IsOrderly}
 use Rattle.pol_history.proofs.Accepted.{paired}
 use Rattle.pol_safety.specs.Known.{is_there}

@@ -1,5 +1,6 @@
 -- What the exchanger does next, and where it stands.
-use Rattle.std.specs.Prelude.{ℕ, suc, pred, ◌+◌, nat_lt, Bool, false, List, length, Option, Some, None, Result, Ok, Err, ⊤, option_map, slice_get, if◌then◌else◌}
+use Rattle.std.specs.Prelude.{ℕ, suc, pred, ◌+◌, nat_lt, Bool, false, List, length, Option, Some, None, Result, Ok, Err}
+use Rattle.std.specs.Prelude.{⊤, option_map, slice_get, if◌then◌else◌}
 use Rattle.pol_events.specs.Events.{PlainEvent, recipe, plug, exchange_begin, exchange_end, exchange_cancel}
 use Rattle.pol_events.specs.declared.answer.Answer.{Answer}
 use Rattle.pol_events.specs.declared.answer.Answer.TheVariants.{Ticket, Refused}

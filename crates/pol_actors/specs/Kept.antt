@@ -1,5 +1,6 @@
 -- What the actors of a running plant keep of its history.
-use Rattle.std.specs.Prelude.{ℕ, pred, ◌+◌, ◌≡◌, ◌<◌, ◌≤◌, Bool, true, false, List, [], length, map, reverse, Option, Some, None, is_some, slice_get}
+use Rattle.std.specs.Prelude.{ℕ, pred, ◌+◌, ◌≡◌, ◌<◌, ◌≤◌, Bool, true, false, List, [], length, map, reverse, Option}
+use Rattle.std.specs.Prelude.{Some, None, is_some, slice_get}
 use Rattle.std.specs.List.{AllByRecursion}
 use Rattle.mtp_desc.specs.Plain.{PlainDescription}
 use Rattle.mtp_sim.specs.Sims.{PlainPlan}
@@ -11,7 +12,8 @@ use Rattle.pol_history.specs.Modules.{docking_of, description_by, present_tags, 
 use Rattle.pol_history.specs.Runs.{IsLegal, IsOrderly}
 use Rattle.pol_site.specs.Actors.{owner_of}
 use Rattle.pol_site.specs.Commanded.{IsCommanded}
-use Rattle.pol_site.specs.Following.{Exchanging, FollowsSite, exchanging, last_entry_of, last_exchanging, opened, ordered}
+use Rattle.pol_site.specs.Following.{Exchanging, FollowsSite, exchanging, last_entry_of, last_exchanging, opened}
+use Rattle.pol_site.specs.Following.{ordered}
 use Rattle.pol_site.specs.Plans.{begun_in, plan_by}
 use Rattle.pol_site.specs.Sites.{PlainSite, PlainSiteModule, PlainSiteBatch}
 use Rattle.pol_site.specs.Sound.{IsSite}

@@ -1,6 +1,7 @@
 -- Events with their stamps.
 use Rattle.std.specs.Prelude.{ℕ}
-use Rattle.pol_events.specs.Events.{PlainEvent, plug, unplug, report, variable, recipe, start, advance, freeze, thaw, stop_batch, abandon, desk, exchange_begin, exchange_end, exchange_cancel}
+use Rattle.pol_events.specs.Events.{PlainEvent, plug, unplug, report, variable, recipe, start, advance, freeze, thaw}
+use Rattle.pol_events.specs.Events.{stop_batch, abandon, desk, exchange_begin, exchange_end, exchange_cancel}
 
 -- the event with this stamp
 abbrev pub stamped : ℕ → PlainEvent → PlainEvent

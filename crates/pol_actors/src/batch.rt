@@ -6,7 +6,8 @@ ghost use Rattle.pol_core.specs.Calls.{open_next, refusal};
 ghost use Rattle.pol_core.specs.Plants.{plant_history};
 ghost use Rattle.pol_site.specs.Following.{is_passing};
 ghost use Rattle.pol_site.specs.Views.{plain_batch};
-ghost use Rattle.pol_actors.specs.Batches.{advance_event, batch_event, goes_on, is_refusal_passing, stage_after, start_event};
+ghost use Rattle.pol_actors.specs.Batches.{advance_event, batch_event, goes_on, is_refusal_passing, stage_after};
+ghost use Rattle.pol_actors.specs.Batches.{start_event};
 
 use chart_core::Next;
 use pol_core::Plant;

@@ -9,7 +9,9 @@ ghost use Rattle.pol_site.specs.PlainSite.{plain_site};
 ghost use Rattle.pol_site.specs.Following.{openings};
 ghost use Rattle.pol_site.specs.Views.{plain_exchange, plain_module, plain_recipe};
 ghost use Rattle.pol_actors.specs.Moved.{errand_tag};
-ghost use Rattle.pol_actors.specs.Exchanges.{begin_errand, begun_standing, ended_standing, end_event, errand_of, event_of, exchanger_after, first_exchanger, is_refusal_busy, know_event, plug_event};
+ghost use Rattle.pol_actors.specs.Exchanges.{begin_errand, begun_standing, ended_standing, end_event, errand_of};
+ghost use Rattle.pol_actors.specs.Exchanges.{event_of, exchanger_after, first_exchanger, is_refusal_busy, know_event};
+ghost use Rattle.pol_actors.specs.Exchanges.{plug_event};
 
 use crate::items::item_at;
 use mtp_codes::Name;

@@ -4,6 +4,8 @@
 //!
 //! Each actor is a small value beside a plant that it only looks at; what it decides is defined over the site, the
 //! history and that value (`specs/`). It knows nothing of locks, threads, clocks or of who takes turns.
+//!
+//! Tried in `live_examples`.
 #![tactic(auto)]
 
 mod batch;

@@ -5,7 +5,8 @@ ghost use Rattle.mtp_sim.specs.Sims.{plain_plan};
 ghost use Rattle.pol_site.specs.PlainSite.{plain_site};
 ghost use Rattle.pol_site.specs.Views.{plain_module};
 ghost use Rattle.pol_actors.specs.Moved.{unit_after};
-ghost use Rattle.pol_actors.specs.Turning.{first_made, made_after, made_decides, made_of, next_found, origin_of, simulated};
+ghost use Rattle.pol_actors.specs.Turning.{first_made, made_after, made_decides, made_of, next_found, origin_of};
+ghost use Rattle.pol_actors.specs.Turning.{simulated};
 
 use crate::exchanger::Errand;
 use crate::items::item_at;

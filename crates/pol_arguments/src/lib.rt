@@ -2,6 +2,8 @@
 //!
 //! It knows nothing of the jobs themselves. `read_words` answers the task that the words ask for, as `clap`'s written
 //! meaning of the command reads them (`specs/Words.antt`).
+//!
+//! Tried in `io_examples`.
 #![tactic(auto)]
 
 ghost use Rattle.std.specs.Prelude.{◌≡◌, ℕ, [], None, IfOk, IfErr, MatchOption, option_and_then, option_map};

@@ -1,26 +1,25 @@
 -- Looking back over the entries of one kind alone, where the others say nothing.
-use Rattle.std.proofs.Common.{◌≡◌, ◌≤◌, ℕ, Bool, true, false, cond, List, [], ◌∷◌, length, map, Option, Some, None, refl, ap, sym, ◌∙◌, arith}
+use Rattle.std.proofs.Common.{◌≡◌, ◌≤◌, ℕ, Bool, true, false, cond, List, [], ◌∷◌, length, map, Option, Some, None}
+use Rattle.std.proofs.Common.{refl, ap, sym, ◌∙◌, arith}
 use Rattle.std.specs.Prelude.{◌&&◌, ◌||◌, filter, is_some}
 use Rattle.std.specs.List.{filter_map}
 use Rattle.std.specs.Option.{option_or}
 use Rattle.std.proofs.Math.Bool.{and-true}
 use Rattle.std.proofs.lemmas.Bool.{or_left}
 use Rattle.std.proofs.lemmas.List.{length-map, length-reverse}
-use Rattle.pol_events.specs.Events.{PlainEntry, PlainEvent, plug, unplug, report, variable, start, freeze, exchange_begin, exchange_end, exchange_cancel, plain_entry, plain_history}
+use Rattle.pol_events.specs.Events.{PlainEntry, PlainEvent, plug, unplug, report, variable, start, freeze}
+use Rattle.pol_events.specs.Events.{exchange_begin, exchange_end, exchange_cancel, plain_entry, plain_history}
 use Rattle.pol_events.specs.declared.answer.Answer.{Answer}
 use Rattle.pol_events.specs.declared.event.Entry.{Entry}
 use Rattle.pol_history.specs.Looking.{History, after_last, is_accepted, is_accepted_of, last_of, past, since}
-use Rattle.pol_history.specs.Modules.{begins_by, control_by, described, is_begin, is_moving, is_plug, reported, reported_value, value_by}
-use Rattle.pol_history.specs.Batches.{freezing, held_step, holds, is_freeze, is_start, starting, takes, taking, watches, watching}
+use Rattle.pol_history.specs.Modules.{begins_by, control_by, described, is_begin, is_moving, is_plug, reported}
+use Rattle.pol_history.specs.Modules.{reported_value, value_by}
+use Rattle.pol_history.specs.Batches.{freezing, held_step, holds, is_freeze, is_start, starting, takes, taking, watches}
+use Rattle.pol_history.specs.Batches.{watching}
 use Rattle.pol_history.proofs.Filters.{all_of, filter_kept, length_filter}
 use Rattle.pol_audit.specs.Dockings.{docking_left}
 use Rattle.pol_audit.specs.Freezes.{asked_step, asking}
 use Rattle.pol_audit.specs.Placed.{asks, freezes, is_report, is_variable, moves, moves_or_reports, moves_or_values}
-
--- what isn't there is none
-pub unsaid : {A : Type 0} (said : Option A) → is_some said ≡ false → said ≡ None
-unsaid None is = refl
-unsaid (Some value) is = absurd cc
 
 -- the last that says something is among those that may
 pub last_among : {Form : Type 0} (test : PlainEntry → Bool) (says : PlainEntry → Option Form) →

@@ -1,11 +1,11 @@
 -- The answer by the first rule that holds.
-use Rattle.std.proofs.Common.{◌≡◌, ◌<◌, false, arith, ◌∷◌, [], List, length, map, Option, Some, None, refl, ap, ◌∙◌}
+use Rattle.std.proofs.Common.{◌≡◌, ◌<◌, false, arith, ◌∷◌, [], List, length, Option, Some, None, refl, ap, ◌∙◌}
 use Rattle.std.specs.Prelude.{nat_le}
 use Rattle.std.proofs.lemmas.Bool.{false_from_ne_true, leb-true}
-use Rattle.std.proofs.lemmas.List.{length-map, length-reverse}
 use Rattle.mtp_codes.specs.Faults.{when, first_of}
 use Rattle.mtp_codes.specs.declared.limits.TheConstants.{LONGEST_HISTORY}
-use Rattle.pol_events.specs.Events.{PlainEvent, plain_entry, plain_history}
+use Rattle.pol_events.proofs.Histories.{length_history}
+use Rattle.pol_events.specs.Events.{PlainEvent, plain_history}
 use Rattle.pol_events.specs.declared.answer.Answer.{Answer}
 use Rattle.pol_events.specs.declared.answer.Answer.TheVariants.{Refused}
 use Rattle.pol_events.specs.declared.answer.Rule.{Rule}
@@ -26,10 +26,6 @@ answered_is [] answer = refl
 answered_is (Some rule ∷ rules) answer = refl
 answered_is (None ∷ rules) answer = answered_is rules answer
 
--- a history is as long as the list of its entries
-history_length : (entries : List Entry) → length (plain_history entries) ≡ length entries
-history_length entries = length-reverse (map plain_entry entries) ∙ length-map entries plain_entry
-
 -- a history that has room is not full
 not_full : (history : History) → length history < LONGEST_HISTORY → is_full history ≡ false
 not_full history room =
@@ -43,5 +39,5 @@ pub answered : (entries : List Entry) (event : PlainEvent) → length entries < 
 answered entries event room =
     ap (λ full. first_rule (when full HistoryFull ∷ rules (plain_history entries) event)
     (otherwise (plain_history entries) event))
-    (not_full (plain_history entries) (rw (history_length entries) room))
+    (not_full (plain_history entries) (rw (length_history entries) room))
     ∙ answered_is (rules (plain_history entries) event) (otherwise (plain_history entries) event)

@@ -1,28 +1,30 @@
 -- What an audit keeps, and the steps to its verdict.
-use Rattle.std.proofs.Common.{◌≡◌, ◌≤◌, ◌<◌, ◌∷◌, [], ◌++◌, ℕ, List, Bool, true, false, true≢false, Option, Some, None, Ok, Err, length, map, take, reverse, arith, ap, sym, refl, ◌∙◌, if◌then◌else◌}
+use Rattle.std.proofs.Common.{◌≡◌, ◌≤◌, ◌<◌, ◌∷◌, [], ◌++◌, ℕ, List, Bool, true, false, true≢false, Option, Some, None}
+use Rattle.std.proofs.Common.{Ok, Err, length, map, take, reverse, arith, ap, sym, refl, ◌∙◌, if◌then◌else◌}
 use Rattle.std.proofs.lemmas.Bool.{le-ltb, lt-ltb}
 use Rattle.std.proofs.lemmas.List.{length-map, length-take, take_all, take-map}
 use Rattle.std.proofs.lemmas.List.Folds.{list_all-append}
 use Rattle.std.specs.List.{AllByRecursion}
 use Rattle.std.specs.Prelude.{◌&&◌, IsTrue}
 use Rattle.std.specs.Result.{result_ok}
+use Rattle.mtp_codes.proofs.Lists.{all_reverse}
 use Rattle.pol_events.specs.Events.{PlainEntry, plain_entry, plain_event, plain_history}
 use Rattle.pol_events.specs.Orderly.{is_orderly}
 use Rattle.pol_events.specs.declared.event.Entry.{Entry}
 use Rattle.pol_events.specs.declared.answer.Answer.{Answer}
-use Rattle.pol_events.specs.declared.fault.LineFault.{LineFault}
-use Rattle.pol_entries.specs.Entries.{entry_of}
+use Rattle.event_json.specs.declared.fault.LineFault.{LineFault}
 use Rattle.pol_history.specs.Runs.{IsOrderly}
 use Rattle.pol_record.specs.declared.verdicts.Verdict.{Verdict}
 use Rattle.pol_record.specs.declared.verdicts.Verdict.TheVariants as verdict
+use Rattle.pol_entries.specs.Entries.{entry_of}
 use Rattle.pol_audit.specs.Judging.{judged}
 use Rattle.pol_audit.specs.Reading.{Read, are_orderly, read_all, verdict_after}
-use Rattle.pol_audit.specs.Verdict.{Line, by_answers, by_tail, closing_lines, entry_on, first_other, verdict_of, verdict_on}
+use Rattle.pol_audit.specs.Verdict.{Line, by_answers, by_tail, closing_lines, entry_on, first_other, verdict_of}
+use Rattle.pol_audit.specs.Verdict.{verdict_on}
 use Rattle.pol_audit.specs.declared.judging.Judged.{Judged}
 use Rattle.pol_audit.specs.declared.judging.Judged.TheVariants.{Good, Wrong}
 use Rattle.pol_audit.specs.declared.judging.TheConstants.{MOST_JUDGED}
 use Rattle.pol_audit.proofs.Found.{orderly_before}
-use Rattle.pol_audit.proofs.Orderly.{all_turned}
 use Rattle.pol_audit.proofs.Reading.{read_to_verdict}
 
 -- one more entry
@@ -67,7 +69,7 @@ fault_read line fault is = sym (ap result_ok is)
 pub orderly_front : (entries front : List Entry) → front ≡ take MOST_JUDGED entries → IsTrue (are_orderly entries) →
     IsOrderly (plain_history front)
 orderly_front entries front is all = rw is (orderly_before entries MOST_JUDGED
-    (all_turned (λ entry. is_orderly entry.event ≡ true) (map plain_entry entries) (each_orderly entries all)))
+    (all_reverse (λ entry. is_orderly entry.event ≡ true) (map plain_entry entries) (each_orderly entries all)))
 
 -- and are few
 pub front_few : (entries front : List Entry) → front ≡ take MOST_JUDGED entries → length front ≤ MOST_JUDGED

@@ -18,14 +18,6 @@ left_is past (exchange_end at tag ticket description) answer = refl
 left_is past (exchange_cancel at tag ticket) answer = refl
 left_is past _ answer = refl
 
--- what is seen of the first of two dockings that is there is the first of what is seen of the two
-seen_or : (first second : Option modules.Docking)
-    → docking_seen (unwrap_or (option_or first second) modules.absent)
-    ≡ unwrap_or (option_or (option_map docking_seen first) (option_map docking_seen second)) Absent
-seen_or None None = refl
-seen_or None (Some docking) = refl
-seen_or (Some docking) second = refl
-
 -- what is seen of the last docking, if there is one, is what the last event leaves that changes it
 last_left : (whole past : History)
     → option_map docking_seen (last_of (λ entry. modules.docking_after whole entry.event entry.answer) past)

@@ -1,17 +1,15 @@
 -- Batches that are followed, as look-ups, runs and recipes change.
-use Rattle.std.proofs.Common.{◌≡◌, ℕ, Bool, true, false, cond, List, [], ◌∷◌, ◌++◌, append-nil, Option, Some, None, refl, ap, sym, subst, ◌∙◌}
+use Rattle.std.proofs.Common.{◌≡◌, ℕ, Bool, true, false, cond, List, [], ◌∷◌, ◌++◌, append-nil, Option, Some, None}
+use Rattle.std.proofs.Common.{refl, ap, sym, subst, ◌∙◌}
 use Rattle.std.specs.List.{cons_option}
 use Rattle.std.specs.Map.{lookup}
-use Rattle.std.specs.Option.{IfSome, IsSome, option_or}
-use Rattle.std.specs.Prelude.{is_some}
+use Rattle.std.specs.Option.{IfSome}
 use Rattle.std.specs.Str.{bytes_eq}
 use Rattle.mtp_codes.proofs.Names.{same_refl, same_true}
 use Rattle.chart_core.specs.Charts.{plain_chart}
-use Rattle.chart_core.specs.Roles.{PlainChart}
 use Rattle.chart_core.specs.Standing.{AreAfter}
 use Rattle.chart_core.specs.declared.entry.LogEntry.{LogEntry}
-use Rattle.pol_events.specs.Events.{PlainEntry}
-use Rattle.pol_history.specs.Batches.{charted, chart_named}
+use Rattle.pol_history.specs.Batches.{chart_named}
 use Rattle.pol_history.specs.Looking.{History}
 use Rattle.pol_audit.specs.Followed.{AreFollowed, GoesAlong}
 use Rattle.pol_audit.specs.Listed.{is_this}
@@ -126,35 +124,3 @@ grows_by whom batch other told did kept after before its is same grows =
     ∙ ap (λ whom. before ++ cond (is_this other whom) (did ∷ []) []) its
 
 -- ---- recipes
-
--- a recipe of a name that was unknown changes no look-up of a name that was known
-pub learned : (named : List (List ℕ × Followed)) (recipes : History) (entry : PlainEntry)
-    (runs : List ℕ → List LogEntry) →
-    ((name : List ℕ) → IsSome (charted name entry.event) → chart_named name recipes ≡ None) →
-    AreFollowed named recipes runs → AreFollowed named (entry ∷ recipes) runs
-learned named recipes entry runs unknown followed batch = go (lookup (bytes_eq batch) named) (followed batch)
-  where
-    by : (name : List ℕ) (chart : PlainChart) (said : Option PlainChart) → charted name entry.event ≡ said →
-        chart_named name recipes ≡ Some chart → option_or said (chart_named name recipes) ≡ Some chart
-    by name chart None says is = is
-    by name chart (Some own) says is =
-        let nothing : chart_named name recipes ≡ None = unknown name (ap is_some says) in absurd cc
-
-    go : (found : Option Followed) →
-        IfSome found (λ followed. GoesAlong recipes followed.recipe (runs batch) followed.cursor) →
-        IfSome found (λ followed. GoesAlong (entry ∷ recipes) followed.recipe (runs batch) followed.cursor)
-    go None along = tt
-    go (Some followed) along = (
-      by followed.recipe (plain_chart followed.cursor.chart) (charted followed.recipe entry.event) refl along.0,
-      along.1,
-    )
-
--- a name that is as unknown as an equal one
-pub unknown_too : (other name : List ℕ) (chart : PlainChart) (recipes : History) → chart_named other recipes ≡ None →
-    IsSome (cond (bytes_eq other name) (Some chart) None) → chart_named name recipes ≡ None
-unknown_too other name chart recipes none is = go (bytes_eq other name) refl is
-  where
-    go : (same : Bool) → bytes_eq other name ≡ same → IsSome (cond same (Some chart) None) →
-        chart_named name recipes ≡ None
-    go true same is = subst (λ name. chart_named name recipes ≡ None) (same_true other name same) none
-    go false same is = absurd cc

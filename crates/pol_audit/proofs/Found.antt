@@ -1,10 +1,15 @@
 -- Judging a history: what is found of it, and the steps of the loop over its entries.
-use Rattle.std.proofs.Common.{◌≡◌, ◌≤◌, ◌<◌, ◌+◌, ◌∷◌, [], ◌++◌, ℕ, suc, length, map, take, drop, get_or, List, Bool, true, false, true≢false, Some, None, refl, sym, ap, ◌∙◌, subst, arith, append_assoc, reverse, take-append-drop, if◌then◌else◌}
+use Rattle.std.proofs.Common.{◌≡◌, ◌≤◌, ◌<◌, ◌+◌, ◌∷◌, [], ◌++◌, ℕ, suc, length, map, take, drop, get_or, List, Bool}
+use Rattle.std.proofs.Common.{true, false, true≢false, Some, None, refl, sym, ap, ◌∙◌, subst, arith}
+use Rattle.std.proofs.Common.{reverse, take-append-drop, if◌then◌else◌}
 use Rattle.std.proofs.lemmas.Bool.{false_from_ne_true, leb-true}
-use Rattle.std.proofs.lemmas.List.{append-nil, length-map, length-reverse, length-take-le, map-append, reverse-append, reverse-reverse}
+use Rattle.std.proofs.lemmas.List.{append-nil, length-map, length-reverse, length-take-le, map-append, reverse-append}
+use Rattle.std.proofs.lemmas.List.{reverse-reverse}
 use Rattle.std.proofs.Math.Seq.{drop-cons, take-suc}
 use Rattle.std.specs.Prelude.{nat_le}
 use Rattle.mtp_codes.specs.declared.limits.TheConstants.{LONGEST_HISTORY}
+use Rattle.mtp_codes.proofs.Lists.{reverse_next}
+use Rattle.pol_history.proofs.Legal.{earlier_orderly}
 use Rattle.pol_events.specs.Events.{PlainEntry, plain_entry, plain_event, plain_history}
 use Rattle.pol_events.specs.Orderly.{is_orderly}
 use Rattle.pol_events.specs.declared.answer.Answer.{Answer}
@@ -27,18 +32,12 @@ abbrev JudgesAfter : History → List PlainEntry → Judged → Type 0
 JudgesAfter history later Good = IsLegal (reverse later ++ history)
 JudgesAfter history later (Wrong place says) = IsFirstWrong (reverse history ++ later) place says
 
--- of entries that are turned round before others, the first one stands next to the others
-one_more : (front : List PlainEntry) (entry : PlainEntry) (rest : List PlainEntry)
-    → reverse (entry ∷ front) ++ rest ≡ reverse front ++ entry ∷ rest
-one_more front entry rest =
-    ap (λ turned. turned ++ rest) (reverse-append (entry ∷ []) front) ∙ append_assoc (reverse front) (entry ∷ []) rest
-
 -- what is found behind one more entry is found where that entry is the first of the later ones
 moved : (history : History) (entry : PlainEntry) (later : List PlainEntry) (found : Judged)
     → JudgesAfter (entry ∷ history) later found → JudgesAfter history (entry ∷ later) found
-moved history entry later Good legal = subst IsLegal (sym (one_more later entry history)) legal
+moved history entry later Good legal = subst IsLegal (sym (reverse_next later entry history)) legal
 moved history entry later (Wrong place says) wrong =
-    subst (λ entries. IsFirstWrong entries place says) (one_more history entry later) wrong
+    subst (λ entries. IsFirstWrong entries place says) (reverse_next history entry later) wrong
 
 -- a history that is no longer than what is judged is not full
 roomy : (history : History) → length history ≤ MOST_JUDGED → is_full history ≡ false
@@ -96,11 +95,6 @@ judges entries found few is = judges_all (map plain_entry entries) (rw (length-m
 
 -- ---- the loop
 
--- the earlier part of an orderly history is orderly
-suffix_orderly : (later history : History) → IsOrderly (later ++ history) → IsOrderly history
-suffix_orderly [] history orderly = orderly
-suffix_orderly (entry ∷ later) history orderly = suffix_orderly later history orderly.1
-
 -- the history of some entries is that of those from a place on, and then that of those before the place
 cut_at : (entries : List Entry) (place : ℕ)
     → plain_history entries ≡ plain_history (drop place entries) ++ plain_history (take place entries)
@@ -113,7 +107,7 @@ cut_at entries place =
 pub orderly_before : (entries : List Entry) (place : ℕ) → IsOrderly (plain_history entries)
     → IsOrderly (plain_history (take place entries))
 orderly_before entries place orderly =
-    suffix_orderly (plain_history (drop place entries)) (plain_history (take place entries))
+    earlier_orderly (plain_history (drop place entries)) (plain_history (take place entries))
     (subst IsOrderly (cut_at entries place) orderly)
 
 -- the history of the entries before a place has as many as the place says

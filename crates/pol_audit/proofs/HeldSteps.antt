@@ -1,5 +1,6 @@
 -- Steps that are to be unheld, one after another.
-use Rattle.std.proofs.Common.{◌≡◌, ◌&&◌, ◌+◌, ◌<◌, ◌∷◌, ℕ, suc, List, Bool, true, false, cond, length, drop, get_or, refl, arith}
+use Rattle.std.proofs.Common.{◌≡◌, ◌&&◌, ◌+◌, ◌<◌, ◌∷◌, ℕ, suc, List, Bool, true, false, cond, length, drop, get_or}
+use Rattle.std.proofs.Common.{refl, arith}
 use Rattle.std.proofs.Math.Seq.{drop-cons}
 use Rattle.std.specs.Borrow.{Bor}
 use Rattle.std.specs.Prelude.{filter}
@@ -13,15 +14,9 @@ use Rattle.chart_cursor.specs.OpenNodes.{first_next}
 use Rattle.chart_cursor.specs.Ready.{on_sight}
 use Rattle.chart_cursor.specs.Sights.{Sights, tag_of}
 use Rattle.chart_cursor.specs.declared.next.CursorNext.{CursorNext}
-use Rattle.chart_cursor.specs.declared.next.CursorNext.TheVariants.{Entry, Wait, Whole}
+use Rattle.chart_cursor.specs.declared.next.CursorNext.TheVariants.{Whole}
 use Rattle.pol_audit.specs.HeldSteps.{owed_next}
 use Rattle.pol_audit.specs.Starts.{is_active_step}
-
--- nothing comes behind the last step
-pub none_behind : (next : CursorNext) → first_next next Whole ≡ next
-none_behind (Entry entry) = refl
-none_behind (Wait obstacle) = refl
-none_behind Whole = refl
 
 -- what comes first of the active ones of some steps that are owed an Unhold
 abbrev pub first_owed : Sights → List LogEntry → List PlainStep → CursorNext

@@ -1,5 +1,6 @@
 -- Items under names, where one more is added.
-use Rattle.std.proofs.Common.{◌≡◌, ℕ, Bool, true, false, cond, List, [], ◌∷◌, ◌++◌, append-nil, length, map, Option, Some, None, refl, ap, sym, ◌∙◌}
+use Rattle.std.proofs.Common.{◌≡◌, ℕ, Bool, true, false, cond, List, [], ◌∷◌, ◌++◌, append-nil, length, map, Option}
+use Rattle.std.proofs.Common.{Some, None, refl, ap, sym, ◌∙◌}
 use Rattle.std.specs.Prelude.{◌&&◌, filter}
 use Rattle.std.proofs.Math.Bool.{and-false, and-true}
 use Rattle.std.specs.Borrow.{Bor}
@@ -10,7 +11,8 @@ use Rattle.std.specs.Str.{bytes_eq}
 use Rattle.std.specs.declared.vec.Vec.{Vec}
 use Rattle.std.proofs.lemmas.List.{length-map, length-reverse}
 use Rattle.pol_events.specs.Events.{PlainEntry, plain_entry}
-use Rattle.pol_events.specs.Subjects.{Subject, of_module, of_batch, of_recipe, subject, accepted_batch, accepted_tag, subject_batch, subject_tag}
+use Rattle.pol_events.specs.Subjects.{Subject, of_module, of_batch, of_recipe, subject, accepted_batch, accepted_tag}
+use Rattle.pol_events.specs.Subjects.{subject_batch, subject_tag}
 use Rattle.pol_history.specs.Looking.{is_accepted, is_accepted_of, is_accepted_of_batch, is_batch, is_module}
 use Rattle.pol_events.specs.declared.event.Entry.{Entry}
 use Rattle.mtp_codes.proofs.Names.{same_true}
@@ -120,7 +122,8 @@ pub its_batch : (batch : List ℕ) (entry : PlainEntry)
     → is_this batch (accepted_batch entry) ≡ is_accepted_of_batch batch entry
 its_batch batch entry = go (subject entry.event) (is_accepted entry.answer)
   where
-    go : (of' : Subject) (kept : Bool) → is_this batch (cond kept (subject_batch of') None) ≡ (is_batch batch of' && kept)
+    go : (of' : Subject) (kept : Bool) →
+        is_this batch (cond kept (subject_batch of') None) ≡ (is_batch batch of' && kept)
     go (of_module tag) true = refl
     go (of_module tag) false = refl
     go (of_batch other) true = sym (and-true (bytes_eq other batch))

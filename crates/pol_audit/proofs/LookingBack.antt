@@ -1,5 +1,6 @@
 -- Looking back in a history: what a chain of iterators over its entries finds, and how many it counts.
-use Rattle.std.proofs.Common.{◌≡◌, ◌<◌, ◌+◌, ℕ, suc, zero, ◌∷◌, [], ◌++◌, List, Bool, true, false, cond, filter, not, Option, Some, None, refl, sym, ap, ◌∙◌, subst, arith, map, reverse, take, if◌then◌else◌}
+use Rattle.std.proofs.Common.{◌≡◌, ◌<◌, ◌+◌, ℕ, suc, zero, ◌∷◌, [], ◌++◌, List, Bool, true, false, cond, filter, not}
+use Rattle.std.proofs.Common.{Option, Some, None, refl, sym, ap, ◌∙◌, subst, arith, map, reverse, take}
 use Rattle.std.specs.Fn.{Called}
 use Rattle.std.specs.Iterator.{AlwaysYields, Yields}
 use Rattle.std.specs.Iterator.Adapters.{rev_source, rev_steps}
@@ -13,7 +14,7 @@ use Rattle.std.proofs.lemmas.Iterator.Adapters.{YieldsList-from_rev_slice}
 use Rattle.std.proofs.lemmas.List.{map-append, reverse-append}
 use Rattle.std.specs.Borrow.{Bor}
 use denote.Param.Members.{Mut}
-use Rattle.pol_events.specs.Events.{PlainEntry, PlainEvent, plug, plain_entry, plain_history}
+use Rattle.pol_events.specs.Events.{PlainEntry, PlainEvent, plug, plain_entry}
 use Rattle.pol_events.specs.declared.event.Entry.{Entry}
 use Rattle.pol_history.specs.Looking.{History, last_of, since, after_last}
 use Rattle.pol_history.specs.Modules.{is_begin, is_plug}
@@ -33,23 +34,14 @@ viewed steps view form (_ ∷ views) from here = (
 )
 
 -- a list that is turned round has its forms turned round
-turned : {X : Type 0} (form : X → PlainEntry) (entries : List X) → map form (reverse entries) ≡ reverse (map form entries)
+turned : {X : Type 0} (form : X → PlainEntry) (entries : List X) →
+    map form (reverse entries) ≡ reverse (map form entries)
 turned form [] = refl
 turned form (entry ∷ later) =
     ap (map form) (reverse-append (entry ∷ []) later)
     ∙ map-append form (reverse later) (entry ∷ [])
     ∙ ap (λ front. front ++ form entry ∷ []) (turned form later)
     ∙ sym (reverse-append (form entry ∷ []) (map form later))
-
--- what is gone through from the end is the history
-pub entries_back : {chain : _} (entries : List Entry) → iter_rest (rev_source chain) ≡ entries
-    → YieldsList (rev_steps iter_steps_back) (λ entry. plain_entry entry.now) chain (plain_history entries)
-entries_back {chain} entries is =
-    subst (YieldsList (rev_steps iter_steps_back) (λ entry. plain_entry entry.now) chain) (turned plain_entry entries)
-    (record {
-      runs = viewed (rev_steps iter_steps_back) (λ entry. entry.now) plain_entry (reverse entries) chain
-          (YieldsList-from_rev_slice {s = chain} entries is).runs;
-    })
 
 -- and so are listed entries
 pub listed_back : {chain : _} (entries : List (Bor Entry)) → iter_rest (rev_source chain) ≡ entries
@@ -152,22 +144,6 @@ last_found {steps = steps} {calls = calls} {call = call} {from = from} {entries 
     first.0)
     (λ before below. subst (λ item. IsSomeAnd item (λ item. Called calls call (item, tt) None call))
     (run.gave.1 before) (first.1 before below)))
-
--- what an entry says that passes the test
-abbrev pub if_kept : {Form : Type 0} → (PlainEntry → Bool) → (PlainEntry → Option Form) → PlainEntry → Option Form
-if_kept test says entry = if test entry then says entry else None
-
--- what the last entry says of those that pass the test
-pub last_kept : {Form : Type 0} (test : PlainEntry → Bool) (says : PlainEntry → Option Form) (history : History)
-    → last_of (if_kept test says) history ≡ last_of says (filter test history)
-last_kept test says [] = refl
-last_kept test says (entry ∷ older) = go (test entry) (last_kept test says older)
-  where
-    go : (passes : Bool) → last_of (if_kept test says) older ≡ last_of says (filter test older)
-        → option_or (cond passes (says entry) None) (last_of (if_kept test says) older)
-        ≡ last_of says (cond passes (entry ∷ filter test older) (filter test older))
-    go true rest = ap (option_or (says entry)) rest
-    go false rest = rest
 
 -- ---- how many are counted
 

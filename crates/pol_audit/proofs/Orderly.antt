@@ -1,23 +1,24 @@
 -- The events of entry lines are as a line says them.
-use Rattle.std.proofs.Common.{◌≡◌, [], ◌∷◌, ◌++◌, ℕ, List, true, Option, Some, None, Ok, Err, rules, refl, sym, subst, codes, reverse}
-use Rattle.std.proofs.lemmas.List.{reverse-append}
+use Rattle.std.proofs.Common.{◌≡◌, [], ◌∷◌, ℕ, List, true, Option, Some, None, Ok, Err, rules, refl}
+use Rattle.std.proofs.Common.{codes, reverse}
 use Rattle.std.specs.List.{AllByRecursion}
 use Rattle.std.specs.Prelude.{IfOk, Result}
 use Rattle.std.specs.Result.{result_ok}
 use Rattle.serde_json.specs.Data.{Data}
-use Rattle.chart_core.specs.declared.fault.ChartFault.{ChartFault}
-use Rattle.chart_json.proofs.Told.{any_before, told_before, told_inside}
+use Rattle.mtp_codes.proofs.Lists.{all_reverse}
 use Rattle.mtp_json.specs.Form.{nested, nothing_but, object_here}
 use Rattle.mtp_json.specs.ReadResult.{ReadResult}
+use Rattle.chart_core.specs.declared.fault.ChartFault.{ChartFault}
+use Rattle.chart_json.proofs.Told.{any_before, told_before, told_inside}
 use Rattle.pol_events.specs.Events.{PlainEntry}
-use Rattle.pol_events.specs.Forms.{event_in}
-use Rattle.pol_events.specs.Lines.{fault_within, unless_faulty}
 use Rattle.pol_events.specs.Orderly.{is_orderly}
-use Rattle.pol_events.specs.declared.fault.LineFault.{LineFault}
-use Rattle.pol_events.proofs.Orderly.{IsOrderly, value_orderly}
+use Rattle.event_json.specs.Forms.{event_in}
+use Rattle.event_json.specs.Lines.{fault_within, unless_faulty}
+use Rattle.event_json.specs.declared.fault.LineFault.{LineFault}
+use Rattle.event_json.proofs.Orderly.{IsOrderly, value_orderly}
+use Rattle.pol_history.specs.Runs as runs
 use Rattle.pol_entries.specs.Answers.{answer_form}
 use Rattle.pol_entries.specs.Entries.{entry_form, entry_of, of_line, read_of}
-use Rattle.pol_history.specs.Runs as runs
 use Rattle.pol_audit.specs.Verdict.{Line, entry_on, entries_of, run_from}
 
 -- ---- one entry
@@ -84,19 +85,6 @@ each_orderly (line ∷ lines) = go (entry_on line) (line_orderly line) (each_ord
     go None one rest = tt
     go (Some entry) one rest = (one entry refl, rest)
 
--- what holds of all of two lists holds of all of them together
-all_both : {A : Type 0} (P : A → Type 0) (xs ys : List A) → AllByRecursion P xs → AllByRecursion P ys →
-    AllByRecursion P (xs ++ ys)
-all_both P [] ys one other = other
-all_both P (x ∷ xs) ys one other = (one.0, all_both P xs ys one.1 other)
-
--- what holds of all in one order holds of all in the other
-pub all_turned : {A : Type 0} (P : A → Type 0) (xs : List A) → AllByRecursion P xs → AllByRecursion P (reverse xs)
-all_turned P [] all = tt
-all_turned P (x ∷ xs) all =
-    subst (AllByRecursion P) (sym (reverse-append (x ∷ []) xs))
-    (all_both P (reverse xs) (x ∷ []) (all_turned P xs all.1) (all.0, tt))
-
 -- the events of a history that lines spell are orderly
 pub lines_orderly : (lines : List Line) → runs.IsOrderly (reverse (entries_of lines))
-lines_orderly lines = all_turned (λ entry. is_orderly entry.event ≡ true) (entries_of lines) (each_orderly lines)
+lines_orderly lines = all_reverse (λ entry. is_orderly entry.event ≡ true) (entries_of lines) (each_orderly lines)

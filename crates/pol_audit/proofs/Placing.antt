@@ -1,5 +1,6 @@
 -- The index of a history, with one entry more.
-use Rattle.std.proofs.Common.{◌≡◌, ℕ, Bool, true, false, cond, List, [], ◌∷◌, ◌++◌, append-nil, map, reverse, Option, Some, None, refl, ap, sym, subst, ◌∙◌, if◌then◌else◌}
+use Rattle.std.proofs.Common.{◌≡◌, ℕ, Bool, true, false, cond, List, [], ◌∷◌, ◌++◌, append-nil, map, reverse, Option}
+use Rattle.std.proofs.Common.{Some, None, refl, ap, sym, subst, ◌∙◌, if◌then◌else◌}
 use Rattle.std.specs.Prelude.{◌&&◌, filter, is_some}
 use Rattle.std.proofs.lemmas.List.Elements.{filter-append}
 use Rattle.mtp_codes.specs.Names.{is_among}
@@ -16,7 +17,8 @@ use Rattle.chart_core.specs.declared.entry.LogEntry.{LogEntry}
 use Rattle.pol_events.specs.Events.{PlainEntry, plain_entry, plain_event, plain_history}
 use Rattle.pol_events.specs.Subjects.{accepted_batch, accepted_tag}
 use Rattle.pol_events.specs.declared.event.Entry.{Entry}
-use Rattle.pol_history.specs.Looking.{History, is_accepted, is_accepted_of, is_accepted_of_batch, is_accepted_recipe, past, past_of_batch, recipes}
+use Rattle.pol_history.specs.Looking.{History, is_accepted, is_accepted_of, is_accepted_of_batch, is_accepted_recipe}
+use Rattle.pol_history.specs.Looking.{past, past_of_batch, recipes}
 use Rattle.pol_history.specs.Batches.{is_start, log_by, taken}
 use Rattle.pol_history.specs.Modules.{present_after}
 use Rattle.pol_events.specs.Orderly.{is_orderly}

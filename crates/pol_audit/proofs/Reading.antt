@@ -1,10 +1,13 @@
 -- What is kept while lines are read gives the verdict over all of them.
-use Rattle.std.proofs.Common.{◌≡◌, ◌≤◌, ◌<◌, ◌∷◌, [], ◌++◌, ℕ, suc, length, map, take, drop, List, Bool, true, false, Option, Some, None, refl, sym, ap, ◌∙◌, arith, append_assoc, append-nil, length-append, reverse, if◌then◌else◌}
+use Rattle.std.proofs.Common.{◌≡◌, ◌≤◌, ◌<◌, ◌∷◌, [], ◌++◌, ℕ, suc, length, map, take, drop, List, Bool, true, false}
+use Rattle.std.proofs.Common.{Option, Some, None, refl, sym, ap, ◌∙◌, arith, append_assoc, append-nil, length-append}
+use Rattle.std.proofs.Common.{reverse, if◌then◌else◌}
 use Rattle.std.proofs.Math.Dec.{eqb-suc-zero}
 use Rattle.std.proofs.lemmas.Bool.{le-ltb, lt-ltb, ltb-true}
 use Rattle.std.proofs.lemmas.List.{length-map, length-reverse, take-append-le}
 use Rattle.std.specs.Prelude.{nat_lt}
-use Rattle.std.specs.List.{cons_option, filter_map, fold}
+use Rattle.std.specs.List.{filter_map, fold}
+use Rattle.mtp_codes.proofs.Lists.{length_filter_map}
 use Rattle.pol_events.specs.Events.{PlainEntry}
 use Rattle.pol_history.specs.Batches.{batches}
 use Rattle.pol_history.specs.Looking.{History}
@@ -13,29 +16,21 @@ use Rattle.pol_record.specs.Texts.{batch_text, end_text}
 use Rattle.pol_record.specs.declared.verdicts.Verdict.{Verdict}
 use Rattle.pol_record.specs.declared.verdicts.Verdict.TheVariants as verdict
 use Rattle.pol_audit.specs.Judging.{judged}
-use Rattle.pol_audit.specs.Verdict.{Line, entry_on, run_from, entries_of, lines_behind, closing_lines, is_line, first_other, by_tail, by_answers, verdict_on, verdict_of}
-use Rattle.pol_audit.specs.Reading.{Read, with_behind, with_front, is_decided, with_line, after_line, read_all, verdict_after}
+use Rattle.pol_audit.specs.Verdict.{Line, entry_on, run_from, entries_of, lines_behind, closing_lines, is_line}
+use Rattle.pol_audit.specs.Verdict.{first_other, by_tail, by_answers, verdict_on, verdict_of}
+use Rattle.pol_audit.specs.Reading.{Read, with_behind, with_front, is_decided, with_line, after_line, read_all}
+use Rattle.pol_audit.specs.Reading.{verdict_after}
 use Rattle.pol_audit.specs.declared.judging.Judged.{Judged}
 use Rattle.pol_audit.specs.declared.judging.Judged.TheVariants.{Good, Wrong}
 use Rattle.pol_audit.specs.declared.judging.TheConstants.{MOST_JUDGED}
 
 -- ---- how many lines can be wanted
 
--- what is found of items is no more than they are
-few_kept : {X Y : Type 0} (f : X → Option Y) (xs : List X) → length (filter_map f xs) ≤ length xs
-few_kept f [] = omega arith
-few_kept f (x ∷ xs) = go (f x) (few_kept f xs)
-  where
-    go : (found : Option _) → length (filter_map f xs) ≤ length xs →
-        length (cons_option found (filter_map f xs)) ≤ suc (length xs)
-    go None few = omega (arith, few)
-    go (Some y) few = omega (arith, few)
-
 -- no more lines are wanted than there are entries, and one
 pub few_wanted : (history : History) → length (closing_lines history) ≤ suc (length history)
 few_wanted history =
     let end : List (List ℕ) = end_text ∷ [] in
-    let kept = few_kept newly_started history in
+    let kept = length_filter_map newly_started history in
     let turned = length-reverse (filter_map newly_started history) in
     rw (
       length-append (map (batch_text history) (batches history)) end,

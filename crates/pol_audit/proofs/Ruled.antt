@@ -1,7 +1,8 @@
 -- Rules by what is kept of a docking: not how often the module was docked.
 use Rattle.std.proofs.Common.{◌≡◌, ℕ, List, not, ◌==◌, Some, None, refl}
 use Rattle.mtp_codes.specs.Faults.{when}
-use Rattle.pol_events.specs.declared.answer.Rule.TheVariants.{NoModule, InExchange, NotInExchange, WrongTicket, TagTaken}
+use Rattle.pol_events.specs.declared.answer.Rule.TheVariants.{NoModule, InExchange, NotInExchange, WrongTicket}
+use Rattle.pol_events.specs.declared.answer.Rule.TheVariants.{TagTaken}
 use Rattle.pol_events.specs.Refusals.{in_exchange, wrong_ticket}
 use Rattle.pol_history.specs.Modules as modules
 use Rattle.pol_history.specs.Rules.{no_module, not_in_exchange, tag_taken}

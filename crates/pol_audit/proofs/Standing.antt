@@ -1,5 +1,6 @@
 -- Which steps run and which are held, where a log has one entry more.
-use Rattle.std.proofs.Common.{◌≡◌, ℕ, Bool, true, false, cond, List, [], ◌∷◌, ◌++◌, Option, Some, None, refl, ap, sym, ◌∙◌}
+use Rattle.std.proofs.Common.{◌≡◌, ℕ, Bool, true, false, cond, List, [], ◌∷◌, ◌++◌, Option, Some, None, refl, ap, sym}
+use Rattle.std.proofs.Common.{◌∙◌}
 use Rattle.std.specs.Prelude.{◌||◌, not, unwrap_or}
 use Rattle.std.specs.Option.{option_map}
 use Rattle.std.specs.Str.{bytes_eq}
@@ -7,7 +8,8 @@ use Rattle.std.specs.declared.vec.Vec.{Vec}
 use Rattle.std.proofs.lemmas.List.Folds.{list_any-append}
 use Rattle.mtp_codes.specs.Faults.{when}
 use Rattle.mtp_codes.specs.Names.{is_among}
-use Rattle.chart_core.specs.Active.{Phase, idle, is_running, last_of, or_earlier, or_idle, phase_after, phase_by, started, finished, was_reset}
+use Rattle.chart_core.specs.Active.{Phase, idle, is_running, last_of, or_earlier, or_idle, phase_after, phase_by}
+use Rattle.chart_core.specs.Active.{started, finished, was_reset}
 use Rattle.chart_core.specs.declared.entry.LogEntry.{LogEntry}
 use Rattle.chart_core.specs.declared.entry.LogEntry.TheVariants.{Start, Finish, Reset, End, Stop, Left, Hold, Unhold}
 use Rattle.chart_core.proofs.Latest.{last_pushed}

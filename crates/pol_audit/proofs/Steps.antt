@@ -1,5 +1,6 @@
 -- Active steps of a chart, and that the charts of an orderly history are valid.
-use Rattle.std.proofs.Common.{◌≡◌, ◌<◌, ℕ, suc, length, drop, get_or, Bool, true, false, cond, List, [], ◌∷◌, Option, Some, None, refl, ap, sym, ◌∙◌, subst}
+use Rattle.std.proofs.Common.{◌≡◌, ◌<◌, ℕ, suc, length, drop, get_or, Bool, true, false, cond, List, [], ◌∷◌, Option}
+use Rattle.std.proofs.Common.{Some, None, refl, ap, sym, ◌∙◌, subst}
 use Rattle.std.proofs.lemmas.Bool.{and_parts}
 use Rattle.std.specs.Str.{bytes_eq}
 use Rattle.std.specs.Borrow.{Bor}
@@ -17,7 +18,8 @@ use Rattle.chart_core.specs.declared.fault.ChartFault.{ChartFault}
 use Rattle.chart_cursor.specs.Sights.{Sights, or_role}
 use Rattle.chart_cursor.specs.Logs.{active, chart_entries, has_broken, was_stopped}
 use Rattle.chart_cursor.specs.Next.{next_after}
-use Rattle.chart_cursor.specs.NextEntry.{first_broken, first_unhold, next_by, owed, run_next, unless_whole, unfrozen_next}
+use Rattle.chart_cursor.specs.NextEntry.{first_broken, first_unhold, next_by, owed, run_next, unless_whole}
+use Rattle.chart_cursor.specs.NextEntry.{unfrozen_next}
 use Rattle.pol_events.specs.Bound.{given}
 use Rattle.pol_events.specs.Events.{PlainEvent, recipe}
 use Rattle.pol_events.specs.Orderly.{is_orderly, is_valid}

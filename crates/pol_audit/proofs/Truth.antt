@@ -1,5 +1,6 @@
 -- A good verdict is given of true histories alone.
-use Rattle.std.proofs.Common.{◌≡◌, ◌≤◌, ℕ, List, Bool, true, false, Option, Some, None, length, take, refl, sym, ap, ◌∙◌, if◌then◌else◌}
+use Rattle.std.proofs.Common.{◌≡◌, ◌≤◌, ℕ, List, Bool, true, false, Option, Some, None, length, take, refl, sym, ap}
+use Rattle.std.proofs.Common.{◌∙◌, if◌then◌else◌}
 use Rattle.std.proofs.lemmas.Bool.{ltb-false}
 use Rattle.std.proofs.lemmas.List.{take_all}
 use Rattle.std.specs.Prelude.{nat_lt}
@@ -7,7 +8,8 @@ use Rattle.pol_events.specs.Events.{PlainEntry}
 use Rattle.pol_record.specs.declared.verdicts.Verdict.TheVariants as verdict
 use Rattle.pol_audit.specs.Judging.{judged}
 use Rattle.pol_audit.specs.Truth.{GoodIsTrue, IsTrueHistory, spelled}
-use Rattle.pol_audit.specs.Verdict.{by_answers, by_tail, closing_lines, entries_of, first_other, lines_behind, verdict_of}
+use Rattle.pol_audit.specs.Verdict.{by_answers, by_tail, closing_lines, entries_of, first_other, lines_behind}
+use Rattle.pol_audit.specs.Verdict.{verdict_of}
 use Rattle.pol_audit.specs.declared.judging.Judged.{Judged}
 use Rattle.pol_audit.specs.declared.judging.Judged.TheVariants.{Good, Wrong}
 use Rattle.pol_audit.specs.declared.judging.TheConstants.{MOST_JUDGED}

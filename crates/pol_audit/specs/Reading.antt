@@ -1,5 +1,6 @@
 -- What is kept of the lines of an input while they are read.
-use Rattle.std.specs.Prelude.{suc, ◌==◌, ◌||◌, nat_lt, List, [], ◌∷◌, ◌++◌, length, Bool, Option, Some, None, if◌then◌else◌}
+use Rattle.std.specs.Prelude.{suc, ◌==◌, ◌||◌, nat_lt, List, [], ◌∷◌, ◌++◌, length, Bool, Option, Some, None}
+use Rattle.std.specs.Prelude.{if◌then◌else◌}
 use Rattle.std.specs.List.{fold, list_all}
 use Rattle.pol_events.specs.Events.{PlainEntry, plain_event}
 use Rattle.pol_events.specs.Orderly.{is_orderly}

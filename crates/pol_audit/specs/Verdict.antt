@@ -1,5 +1,6 @@
 -- The verdict over the lines of an input that aren't blank: whether they are a true history, and what follows one.
-use Rattle.std.specs.Prelude.{ℕ, suc, nat_lt, List, [], ◌∷◌, ◌++◌, length, map, reverse, take, drop, Bool, false, Option, Some, None, if◌then◌else◌}
+use Rattle.std.specs.Prelude.{ℕ, suc, nat_lt, List, [], ◌∷◌, ◌++◌, length, map, reverse, take, drop, Bool, false}
+use Rattle.std.specs.Prelude.{Option, Some, None, if◌then◌else◌}
 use Rattle.std.specs.Result.{result_ok}
 use Rattle.std.specs.Str.{bytes_eq}
 use Rattle.pol_events.specs.Events.{PlainEntry}

@@ -8,8 +8,9 @@ ghost use Rattle.pol_audit.specs.declared.judging.TheConstants.{MOST_JUDGED};
 use crate::closing::closing_lines;
 use crate::judging::{Judged, MOST_JUDGED, judge};
 use crate::tails::first_other;
+use event_json::LineRefusal;
 use pol_entries::read_entry;
-use pol_events::{Entry, LineRefusal};
+use pol_events::Entry;
 use pol_record::Verdict;
 use std::alloc::{AllocError, Global};
 
@@ -27,7 +28,8 @@ impl Audit {
     ghost use Rattle.std.specs.Prelude.{List};
     ghost use Rattle.std.specs.Option.{option_map};
     ghost use Rattle.pol_audit.specs.Audits.{plain_audit};
-    ghost use Rattle.pol_audit.specs.Reading.{after_line, is_decided, nothing_read, read_all, verdict_after, with_behind, with_front, with_line};
+    ghost use Rattle.pol_audit.specs.Reading.{after_line, is_decided, nothing_read, read_all, verdict_after};
+    ghost use Rattle.pol_audit.specs.Reading.{with_behind, with_front, with_line};
     ghost use Rattle.pol_audit.specs.Verdict.{Line, by_lines, entry_on, verdict_of};
 
     /// Nothing was read yet.

@@ -8,7 +8,9 @@ ghost use Rattle.pol_events.specs.Bound.{bound_tag, given, is_tag, plain_allocat
 ghost use Rattle.pol_events.specs.declared.answer.Rule.TheVariants.{Watched};
 ghost use Rattle.pol_history.specs.Looking.{past_of_batch, recipes};
 ghost use Rattle.pol_history.specs.Batches.{holder_of, start_by};
-ghost use Rattle.pol_history.specs.Rules.{active_step, active_step_on, already_frozen, batch_closed, batch_known, batches_full, held_back, no_batch, not_frozen, recipe_known, recipes_full, uncovered_by, uncovered_in, watched};
+ghost use Rattle.pol_history.specs.Rules.{active_step, active_step_on, already_frozen, batch_closed, batch_known};
+ghost use Rattle.pol_history.specs.Rules.{batches_full, held_back, no_batch, not_frozen, recipe_known, recipes_full};
+ghost use Rattle.pol_history.specs.Rules.{uncovered_by, uncovered_in, watched};
 ghost use Rattle.pol_audit.specs.Starts.{active_seen, watchers_in};
 
 use crate::batches::{

@@ -3,10 +3,11 @@ ghost use Rattle.std.specs.Prelude.{◌≡◌, Some, filter, length};
 ghost use Rattle.std.specs.Option.{option_map};
 ghost use Rattle.mtp_codes.specs.Names.{is_among};
 ghost use Rattle.chart_core.specs.Charts.{plain_chart};
-ghost use Rattle.pol_events.specs.Events.{plain_entry, plain_event, plain_history};
+ghost use Rattle.pol_events.specs.Events.{plain_entry, plain_history};
 ghost use Rattle.pol_events.specs.Bound.{tags_of};
 ghost use Rattle.pol_history.specs.Looking.{past_of_batch, recipes, last_of};
-ghost use Rattle.pol_history.specs.Batches.{start_by, charted, chart_named, closing, outcome_by, if_open, taken, takes, holder_of, is_start, watches};
+ghost use Rattle.pol_history.specs.Batches.{start_by, chart_named, closing, outcome_by, if_open, taken, takes};
+ghost use Rattle.pol_history.specs.Batches.{holder_of, is_start, watches};
 ghost use Rattle.pol_record.specs.Gathered.{plain_start};
 
 use crate::past::Past;

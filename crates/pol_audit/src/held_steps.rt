@@ -69,7 +69,7 @@ fn owed_next(seen: &Sights, step: &Step, log: &Log<'_>) -> CursorNext
 
 /// The entry Unhold of the first active step that is owed one and may be sent Unhold; else the obstacle of the first
 /// that is owed one; Whole where none is.
-#[tactic(auto, using(crate::proofs::HeldSteps::none_behind))]
+#[tactic(auto, using(chart_cursor::proofs::Walked::first_next_whole))]
 pub fn first_unhold(seen: &Sights, steps: &[&Step], log: &Log<'_>) -> CursorNext
     ensures { result ≡ first_unhold (plain_sights seen.now)
         (owed (plain_sights seen.now) log.now.whole.now (active_seen log.now.whole.now steps.now)) }

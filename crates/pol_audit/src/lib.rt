@@ -13,6 +13,8 @@
 //! Each rule that can refuse an event is the function of its name: in `module_rules` where a module's past decides it,
 //! in `batch_rules` where recipes, batches or holders do, in `start_rules` where it asks about the binds of a start.
 //! The order of the rules of each kind of event stands in `answers`.
+//!
+//! Tried in `plant_examples`.
 #![tactic(auto)]
 
 ghost use Rattle.pol_audit.specs.Truth.{GoodIsTrue};

@@ -2,11 +2,13 @@
 ghost use Rattle.std.specs.Prelude.{◌≡◌, map};
 ghost use Rattle.mtp_desc.specs.PlainService.{plain_service};
 ghost use Rattle.pol_events.specs.Events.{plain_history};
-ghost use Rattle.pol_events.specs.Refusals.{forbidden, in_exchange, value_misfit, no_service, no_variable, not_an_edge, not_at_rest, service_not_at_rest, wrong_ticket};
+ghost use Rattle.pol_events.specs.Refusals.{forbidden, in_exchange, value_misfit, no_service, no_variable, not_an_edge};
+ghost use Rattle.pol_events.specs.Refusals.{not_at_rest, service_not_at_rest, wrong_ticket};
 ghost use Rattle.pol_history.specs.Looking.{past};
 ghost use Rattle.pol_history.specs.Modules.{docking_by, ticket_of, description_by, control_by, view_by};
 ghost use Rattle.pol_history.specs.Batches.{holder_of};
-ghost use Rattle.pol_history.specs.Rules.{by_description, by_holder, by_view, module_not_at_rest, no_module, not_idle, not_in_exchange, not_reported, plant_full, tag_taken};
+ghost use Rattle.pol_history.specs.Rules.{by_description, by_holder, by_view, module_not_at_rest, no_module, not_idle};
+ghost use Rattle.pol_history.specs.Rules.{not_in_exchange, not_reported, plant_full, tag_taken};
 ghost use Rattle.pol_audit.specs.Holding.{held_by};
 
 use crate::batches::holder_of;

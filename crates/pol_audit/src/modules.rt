@@ -5,7 +5,9 @@ ghost use Rattle.mtp_codes.specs.declared.limits.TheConstants.{LONGEST_HISTORY};
 ghost use Rattle.mtp_desc.specs.PlainDescription.{plain_description};
 ghost use Rattle.pol_events.specs.Events.{plain_entry, plain_event, plain_history};
 ghost use Rattle.pol_history.specs.Looking.{past, last_of, is_accepted};
-ghost use Rattle.pol_history.specs.Modules.{is_plug, is_begin, is_moving, begins_by, docking_by, described, description_by, completes_by, reported, control_by, view_by, reported_value, value_by, next_ticket, tags_without, present_after};
+ghost use Rattle.pol_history.specs.Modules.{is_plug, is_begin, is_moving, begins_by, docking_by, described};
+ghost use Rattle.pol_history.specs.Modules.{description_by, completes_by, reported, control_by, view_by};
+ghost use Rattle.pol_history.specs.Modules.{reported_value, value_by, next_ticket, tags_without, present_after};
 ghost use Rattle.pol_audit.specs.Dockings.{docking_left, docking_seen};
 
 use crate::past::Past;

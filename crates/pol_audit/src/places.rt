@@ -193,7 +193,8 @@ impl Logs {
         batch: &Option<Name>,
         did: &LogEntry,
     ) -> Result<(), AllocError>
-        ensures logs { OnOk result (Grows self.old.logs.named.entries self.new.logs.named.entries batch.now true did.now) }
+        ensures logs { OnOk result (Grows self.old.logs.named.entries self.new.logs.named.entries batch.now
+            true did.now) }
         ensures runs { OnOk result (Grows self.old.runs.named.entries self.new.runs.named.entries batch.now
             (is_some (chart_entry did.now)) did.now) }
         ensures halts { OnOk result (Grows self.old.halts.named.entries self.new.halts.named.entries batch.now

@@ -1,5 +1,5 @@
 //! The rules of a start: its binds against the roles of the recipe, then its modules one after another.
-ghost use Rattle.std.specs.Prelude.{◌≡◌, [], IfOk};
+ghost use Rattle.std.specs.Prelude.{◌≡◌, IfOk};
 ghost use Rattle.mtp_codes.specs.Names.{same_name};
 ghost use Rattle.mtp_codes.specs.Faults.{first_of};
 ghost use Rattle.chart_core.specs.Charts.{plain_chart};
@@ -9,7 +9,8 @@ ghost use Rattle.pol_events.specs.Events.{plain_history};
 ghost use Rattle.pol_events.specs.Bound.{given, plain_allocation};
 ghost use Rattle.pol_history.specs.Looking.{past};
 ghost use Rattle.pol_history.specs.Modules.{description_by};
-ghost use Rattle.pol_history.specs.Rules.{busy, busy_role, module_rule, modules_unfit, not_covered, not_ready, steps_in, unready};
+ghost use Rattle.pol_history.specs.Rules.{busy, busy_role, module_rule, modules_unfit, not_covered, not_ready};
+ghost use Rattle.pol_history.specs.Rules.{steps_in, unready};
 ghost use Rattle.pol_bind.specs.Roles.{names_in};
 ghost use Rattle.pol_audit.specs.Holding.{services_in};
 

@@ -1,18 +1,23 @@
 -- The first of a list with a property, found piece by piece.
-use Rattle.std.specs.Prelude.{ℕ, ◌≡◌, List, [], ◌∷◌, ◌++◌, Bool, true, false, ◌&&◌, ◌||◌, Option, Some, None, is_some, cond, find, option_map}
+use Rattle.std.specs.Prelude.{ℕ, ◌≡◌, List, [], ◌∷◌, ◌++◌, Bool, true, false, ◌&&◌, ◌||◌, Option, Some, None, is_some}
+use Rattle.std.specs.Prelude.{cond, find, option_map}
 use Rattle.std.specs.List.{list_any}
 use Rattle.std.specs.Option.{option_or}
 use Rattle.std.proofs.Common.{refl, ap, sym, ◌∙◌}
 use Rattle.std.proofs.lemmas.Bool.{and_right}
 use Rattle.mtp_codes.specs.Names.{same_name}
 use Rattle.mtp_desc.specs.Plain.{PlainDescription}
-use Rattle.chart_core.specs.Formulas.{Formula, Formulas, constant, all_of, any_of, not_of, test, no_formulas, more_formulas}
-use Rattle.chart_core.specs.Trees.{arm_conditions, Tree, Trees, Arms, leaf, seq, par, choice, loop, no_trees, more_trees, no_arms, more_arms}
-use Rattle.mtp_procs.specs.Tests.{PlainTest, tests_of, tests_of_all, finish_tests, tests_in, tests_in_all, tests_in_arms}
+use Rattle.chart_core.specs.Formulas.{Formula, Formulas, constant, all_of, any_of, not_of, test, no_formulas}
+use Rattle.chart_core.specs.Formulas.{more_formulas}
+use Rattle.chart_core.specs.Trees.{arm_conditions, Tree, Trees, Arms, leaf, seq, par, choice, loop, no_trees}
+use Rattle.chart_core.specs.Trees.{more_trees, no_arms, more_arms}
+use Rattle.mtp_procs.specs.Tests.{PlainTest, tests_of, tests_of_all, finish_tests, tests_in, tests_in_all}
+use Rattle.mtp_procs.specs.Tests.{tests_in_arms}
 use Rattle.mtp_procs.specs.Covers.{variable_of_first, is_test_misfit, is_test_misfit_of, is_test_refused}
 use Rattle.pol_events.proofs.Lists.{found_append}
 use Rattle.pol_bind.specs.TestMisfits.{is_test_misfit_for}
-use Rattle.pol_bind.specs.Walks.{variable_in, variable_among, variable_in_finish, variable_under, variable_under_all, variable_under_arms}
+use Rattle.pol_bind.specs.Walks.{variable_in, variable_among, variable_in_finish, variable_under, variable_under_all}
+use Rattle.pol_bind.specs.Walks.{variable_under_arms}
 
 -- the first variable of a list and then of another
 variable_append :

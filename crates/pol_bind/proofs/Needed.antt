@@ -1,5 +1,6 @@
 -- A description covers a role exactly where it meets what the role needs.
-use Rattle.std.specs.Prelude.{ℕ, ◌≡◌, List, [], ◌∷◌, Bool, true, false, not, ◌&&◌, ◌||◌, Option, Some, None, is_none, is_some, cond, filter, find, map, option_map}
+use Rattle.std.specs.Prelude.{ℕ, ◌≡◌, List, [], ◌∷◌, Bool, true, false, not, ◌&&◌, ◌||◌, Option, Some, None, is_none}
+use Rattle.std.specs.Prelude.{is_some, cond, filter, find, map, option_map}
 use Rattle.std.specs.List.{list_all, list_any}
 use Rattle.std.specs.Option.{option_or}
 use Rattle.std.proofs.Common.{refl, ap, sym, ◌∙◌}
@@ -8,8 +9,11 @@ use Rattle.mtp_desc.specs.Plain.{PlainDescription}
 use Rattle.chart_core.specs.Roles.{PlainChart}
 use Rattle.chart_core.specs.Trees.{Placed, Tree, steps}
 use Rattle.mtp_codes.specs.declared.cover.CoverFault.TheVariants.{NotCovered}
+use Rattle.pol_events.proofs.Options.{not_some}
 use Rattle.mtp_procs.specs.Tests.{PlainTest, tests_in}
-use Rattle.mtp_procs.specs.Covers.{cover_fault, is_refused, is_refused_step, is_test_misfit, is_test_misfit_of, is_test_refused, name_of_first, role_fault, role_named, refused_step, refused_variable, variable_of_first}
+use Rattle.mtp_procs.specs.Covers.{cover_fault, is_refused, is_refused_step, is_test_misfit, is_test_misfit_of}
+use Rattle.mtp_procs.specs.Covers.{is_test_refused, name_of_first, role_fault, role_named, refused_step}
+use Rattle.mtp_procs.specs.Covers.{refused_variable, variable_of_first}
 use Rattle.pol_bind.specs.Needs.{PlainNeeds, are_done, are_met, fit_all, needs_of}
 use Rattle.pol_bind.specs.TestMisfits.{is_test_misfit_for}
 use Rattle.pol_bind.specs.Gathered.{plain_test, plain_tests}
@@ -102,11 +106,6 @@ refused_by_misfit role description all (test ∷ tests) within some =
         rw (both.0, seen) refl
     go later false is found = or_right (refused_here test) (list_any refused_here tests) (later found)
 
--- nothing is found where there is none
-none_where_not : {X : Type 0} (found : Option X) → is_some found ≡ false → found ≡ None
-none_where_not None none = refl
-none_where_not (Some x) none = cc
-
 -- there is none where it isn't so that there is some
 is_none_not : {X : Type 0} (found : Option X) → is_none found ≡ not (is_some found)
 is_none_not None = refl
@@ -125,7 +124,7 @@ refused_where_misfit root role description = go (list_any (is_test_misfit_for ro
         ∙ refused_by_misfit role description (tests_in root) (tests_in root) (λ variable seen. seen) is
     go false is =
         ap is_some (none_refused root role description
-        (none_where_not (variable_of_first (is_test_misfit_for role description) (tests_in root))
+        (not_some (variable_of_first (is_test_misfit_for role description) (tests_in root))
         (found_where_any (is_test_misfit_for role description) (tests_in root) ∙ is)))
 
 -- no variable of the role is refused exactly where each test of it fits

@@ -1,8 +1,10 @@
 -- The first test with a property, by a walk through the tree that doesn't count nodes.
 use Rattle.std.specs.Prelude.{ℕ, List, Bool, Option, Some, None, if◌then◌else◌}
 use Rattle.std.specs.Option.{option_or}
-use Rattle.chart_core.specs.Formulas.{Formula, Formulas, constant, all_of, any_of, not_of, test, no_formulas, more_formulas}
-use Rattle.chart_core.specs.Trees.{Tree, Trees, Arms, leaf, seq, par, choice, loop, no_trees, more_trees, no_arms, more_arms, arm_conditions}
+use Rattle.chart_core.specs.Formulas.{Formula, Formulas, constant, all_of, any_of, not_of, test, no_formulas}
+use Rattle.chart_core.specs.Formulas.{more_formulas}
+use Rattle.chart_core.specs.Trees.{Tree, Trees, Arms, leaf, seq, par, choice, loop, no_trees, more_trees, no_arms}
+use Rattle.chart_core.specs.Trees.{more_arms, arm_conditions}
 use Rattle.mtp_procs.specs.Tests.{PlainTest}
 
 -- the variable of the first test of the condition with this property

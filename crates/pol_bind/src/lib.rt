@@ -5,6 +5,8 @@
 //! is missing by that fault. `role_unbound`, `role_unknown`, `one_module_twice` and `watched_step` are the rules that
 //! binds break by themselves. None of these takes memory. Where many modules are asked for one role, `needs_of` gathers
 //! once what the role needs, by the tests that `tests_in_order` lists; `Needs::are_met` is then `covers` in short.
+//!
+//! Tried in `part_examples`.
 #![tactic(auto)]
 
 mod cover;

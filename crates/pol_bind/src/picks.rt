@@ -5,7 +5,8 @@ ghost use Rattle.chart_core.specs.Formulas.{plain_condition, formulas};
 ghost use Rattle.chart_core.specs.Trees.{arm_conditions, arms, plain_finish, plain_node, trees};
 ghost use Rattle.mtp_procs.specs.Covers.{variable_of_first};
 ghost use Rattle.mtp_procs.specs.Tests.{tests_in};
-ghost use Rattle.pol_bind.specs.Walks.{variable_among, variable_in, variable_in_finish, variable_under, variable_under_all, variable_under_arms};
+ghost use Rattle.pol_bind.specs.Walks.{variable_among, variable_in, variable_in_finish, variable_under};
+ghost use Rattle.pol_bind.specs.Walks.{variable_under_all, variable_under_arms};
 
 use chart_core::{Arm, Condition, Node};
 use mtp_codes::{Name, Reading};

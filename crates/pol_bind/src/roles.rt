@@ -3,7 +3,8 @@ ghost use Rattle.std.specs.Prelude.{◌≡◌, [], map};
 ghost use Rattle.mtp_codes.specs.Names.{is_among};
 ghost use Rattle.chart_core.specs.Trees.{plain_node, steps};
 ghost use Rattle.pol_bind.specs.Roles.{names_in, twice_from};
-ghost use Rattle.pol_events.specs.BindRules.{first_name, is_bound_before, one_module_twice, role_unbound, role_unknown, twice, unknown_role, watched_step};
+ghost use Rattle.pol_events.specs.BindRules.{first_name, is_bound_before, one_module_twice, role_unbound, role_unknown};
+ghost use Rattle.pol_events.specs.BindRules.{twice, unknown_role, watched_step};
 ghost use Rattle.pol_events.specs.Bound.{bound_tag, given, plain_allocation};
 
 use crate::steps::has_step;

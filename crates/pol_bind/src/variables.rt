@@ -4,7 +4,8 @@ ghost use Rattle.std.specs.Prelude.{◌≡◌};
 ghost use Rattle.mtp_desc.specs.PlainDescription.{plain_description};
 ghost use Rattle.mtp_desc.specs.Lookup.{variable_named};
 ghost use Rattle.chart_core.specs.Trees.{plain_node};
-ghost use Rattle.mtp_procs.specs.Covers.{can_be_compared, is_test_misfit_of, is_test_refused, is_variable_misfit, variable_of_first};
+ghost use Rattle.mtp_procs.specs.Covers.{can_be_compared, is_test_misfit_of, is_test_refused, is_variable_misfit};
+ghost use Rattle.mtp_procs.specs.Covers.{variable_of_first};
 ghost use Rattle.mtp_procs.specs.Tests.{tests_in};
 ghost use Rattle.pol_bind.specs.TestMisfits.{is_test_misfit_for};
 

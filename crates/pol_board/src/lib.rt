@@ -3,6 +3,8 @@
 //! A word says the state that a service reported last, beside a number that only rises. What a reader finds at a word
 //! is what it saw or was told of there before, or something newer: `Reader::read` never goes back. The crate knows
 //! nothing of plants, modules, threads or locks: who publishes what, and when, is said where a board is used.
+//!
+//! Tried in `io_examples`.
 #![tactic(auto)]
 
 mod board;

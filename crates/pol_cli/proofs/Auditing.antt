@@ -1,11 +1,13 @@
 -- The work of an audit, line by line, gives its output; and what follows from a good verdict.
-use Rattle.std.proofs.Common.{◌≡◌, ◌<◌, ℕ, List, [], ◌∷◌, Bool, true, false, length, map, reverse, refl, ap, sym, subst, ◌∙◌, arith, length-append, if◌then◌else◌}
+use Rattle.std.proofs.Common.{◌≡◌, ◌<◌, ℕ, List, [], ◌∷◌, Bool, true, false, length, map, refl, ap, sym, subst}
+use Rattle.std.proofs.Common.{◌∙◌, arith, length-append, if◌then◌else◌}
 use Rattle.std.proofs.lemmas.List.{length-reverse}
 use Rattle.std.specs.List.{fold, list_all}
 use Rattle.std.specs.Prelude.{filter, Some}
 use Rattle.serde_json.specs.Written.{compact_text}
+use Rattle.mtp_codes.proofs.Lists.{all_reverse}
+use Rattle.pol_history.proofs.Legal.{earlier_legal, earlier_orderly}
 use Rattle.pol_events.specs.Events.{PlainEntry}
-use Rattle.pol_events.specs.Lines.{is_blank_byte}
 use Rattle.pol_events.specs.Orderly.{is_orderly}
 use Rattle.pol_history.specs.Looking.{History}
 use Rattle.pol_history.specs.Runs.{AreOrderly, IsLegal, IsOrderly, events_of}
@@ -15,15 +17,14 @@ use Rattle.pol_record.specs.declared.verdicts.Verdict.{Verdict}
 use Rattle.pol_audit.specs.Reading.{Read, after_line, nothing_read, verdict_after}
 use Rattle.pol_audit.specs.Truth.{GoodIsTrue, spelled}
 use Rattle.pol_audit.specs.Verdict.{entries_of}
-use Rattle.pol_audit.proofs.Orderly.{all_turned}
 use Rattle.pol_audit.proofs.Reading.{read_to_verdict}
 use Rattle.pol_safety.specs.Sound.{HistoriesAreSound, EntriesAreRight}
 use Rattle.pol_removal.specs.Removal.{RemovalOfEvents}
-use Rattle.pol_site.specs.Texts.{is_filled}
 use Rattle.pol_jobs.specs.LineWork.{after_all, line_met, met, output_by, replies}
+use Rattle.event_json.specs.Lines.{is_blank_byte}
+use Rattle.site_json.specs.Texts.{is_filled}
 use Rattle.pol_cli.specs.Audits.{AuditTheorem, after_audited, audit_of, audit_work, audited}
 use Rattle.pol_retold.specs.Inputs.{lines_read}
-use Rattle.pol_cli.proofs.Journals.{legal_before, orderly_before}
 use Rattle.pol_cli.proofs.Filled.{met_filled}
 
 -- ---- one line
@@ -89,7 +90,7 @@ each_orderly (entry ∷ entries) orderly = (orderly.0, each_orderly entries orde
 -- the events of an orderly history are orderly
 events_orderly : (history : History) → IsOrderly history → AreOrderly (events_of history)
 events_orderly history orderly =
-    all_turned (λ event. is_orderly event ≡ true) (map (λ entry. entry.event) history) (each_orderly history orderly)
+    all_reverse (λ event. is_orderly event ≡ true) (map (λ entry. entry.event) history) (each_orderly history orderly)
 
 -- where the verdict is good, what holds of all legal histories of orderly events holds of the history
 pub audit_theorem : HistoriesAreSound → EntriesAreRight → RemovalOfEvents → GoodIsTrue → (bytes : List ℕ) →
@@ -98,11 +99,11 @@ audit_theorem sound right removal good bytes count is =
     let true_history = good (lines_read bytes) count is in (
       record {
         sound = λ later earlier cut. sound earlier
-            (legal_before later earlier (subst IsLegal (sym cut) true_history.legal))
-            (orderly_before later earlier (subst IsOrderly (sym cut) true_history.orderly));
+            (earlier_legal later earlier (subst IsLegal (sym cut) true_history.legal))
+            (earlier_orderly later earlier (subst IsOrderly (sym cut) true_history.orderly));
         right = λ later earlier entry cut. right earlier entry
-            (legal_before later (entry ∷ earlier) (subst IsLegal (sym cut) true_history.legal))
-            (orderly_before later (entry ∷ earlier) (subst IsOrderly (sym cut) true_history.orderly)).1;
+            (earlier_legal later (entry ∷ earlier) (subst IsLegal (sym cut) true_history.legal))
+            (earlier_orderly later (entry ∷ earlier) (subst IsOrderly (sym cut) true_history.orderly)).1;
         removal = λ tags. removal tags (events_of (spelled (lines_read bytes)))
             (events_orderly (spelled (lines_read bytes)) true_history.orderly);
       },

@@ -1,8 +1,9 @@
 -- The lines of the entries of a history, one after another, and then what closes the output.
-use Rattle.std.proofs.Common.{ℕ, zero, suc, ◌+◌, ◌≡◌, ◌<◌, List, [], ◌∷◌, ◌++◌, length, arith, get_or, sym, ap, subst, ◌∙◌, append_assoc, length-append, map, take}
-use Rattle.std.proofs.lemmas.List.{reverse-append, reverse-reverse}
+use Rattle.std.proofs.Common.{ℕ, zero, suc, ◌+◌, ◌≡◌, ◌<◌, List, [], ◌∷◌, ◌++◌, length, arith, get_or, sym, ap, subst}
+use Rattle.std.proofs.Common.{◌∙◌, append_assoc, length-append, map, take}
+use Rattle.std.proofs.lemmas.List.{reverse-reverse}
 use Rattle.std.proofs.lemmas.List.Folds.{flat_map-map}
-use Rattle.std.specs.Prelude.{Option, reverse}
+use Rattle.std.specs.Prelude.{Option}
 use Rattle.std.specs.List.{AllByRecursion, flat_map}
 use Rattle.std.specs.Io.KnownBytes.{Appends}
 use Rattle.pol_io.proofs.Known.{Appends_trans}
@@ -60,19 +61,6 @@ puts_run site held held' history is_run written read_back retold = record {
   read_back = read_back;
   told = told_well history is_run.legal read_back retold;
 }
-
--- what holds of all of two lists holds of all of the two one behind the other
-all_joined : {A : Type 0} (P : A → Type 0) (xs ys : List A) → AllByRecursion P xs → AllByRecursion P ys →
-    AllByRecursion P (xs ++ ys)
-all_joined P [] ys of_xs of_ys = of_ys
-all_joined P (x ∷ xs) ys of_xs of_ys = (of_xs.0, all_joined P xs ys of_xs.1 of_ys)
-
--- what holds of all in one order holds of all in the other
-pub all_turned : {A : Type 0} (P : A → Type 0) (xs : List A) → AllByRecursion P xs → AllByRecursion P (reverse xs)
-all_turned P [] all = tt
-all_turned P (x ∷ xs) all =
-    subst (AllByRecursion P) (sym (reverse-append (x ∷ []) xs))
-    (all_joined P (reverse xs) (x ∷ []) (all_turned P xs all.1) (all.0, tt))
 
 -- ---- their lines
 

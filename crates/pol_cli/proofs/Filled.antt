@@ -2,10 +2,10 @@
 use Rattle.std.proofs.Common.{ℕ, ◌≡◌, ◌∙◌, List, Bool, true, false, ap, refl, if◌then◌else◌}
 use Rattle.std.specs.Prelude.{◌||◌, not, Some, None}
 use Rattle.std.specs.List.{list_all}
-use Rattle.pol_events.specs.Lines.{is_blank_byte}
 use Rattle.pol_jobs.specs.LineWork.{met}
 use Rattle.pol_jobs.proofs.Meeting.{met_by_length}
-use Rattle.pol_site.specs.Texts.{is_filled, is_long}
+use Rattle.event_json.specs.Lines.{is_blank_byte}
+use Rattle.site_json.specs.Texts.{is_filled, is_long}
 use Rattle.pol_replay.specs.Meanings.{is_some_line}
 
 -- a line isn't blank as it is met where it isn't

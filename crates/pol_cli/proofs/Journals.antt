@@ -1,36 +1,26 @@
 -- The journal theorem, from the laws of all legal histories.
-use Rattle.std.proofs.Common.{◌<◌, ℕ, List, [], ◌∷◌, ◌++◌, length, sym, subst, arith, length-append}
+use Rattle.std.proofs.Common.{◌<◌, ℕ, List, [], ◌∷◌, length, sym, subst, arith, length-append}
 use Rattle.pol_io.specs.Pieces.{pieces}
 use Rattle.pol_history.specs.Looking.{History}
 use Rattle.pol_record.specs.Lines.{answers_of, closing_text, events_in, history_of, input_lines_of, output_of}
 use Rattle.pol_history.specs.Runs.{IsLegal, IsOrderly}
 use Rattle.pol_record.specs.Texts.{batches_text, end_text}
-use Rattle.pol_history.proofs.Legal.{legal_after, orderly_after}
+use Rattle.pol_history.proofs.Legal.{legal_after, orderly_after, earlier_legal, earlier_orderly}
 use Rattle.pol_safety.specs.Sound.{HistoriesAreSound, EntriesAreRight}
 use Rattle.pol_removal.proofs.Reading.{events_orderly}
 use Rattle.pol_removal.specs.Removal.{RemovalOfLines}
 use Rattle.pol_cli.specs.Journal.{Was, JournalTheorem}
 use Rattle.pol_replay.proofs.BatchLines.{some_end}
 
--- a history that was earlier is legal too
-pub legal_before : (later history : History) → IsLegal (later ++ history) → IsLegal history
-legal_before [] history legal = legal
-legal_before (entry ∷ later) history legal = legal_before later history legal.2
-
--- and its events are orderly too
-pub orderly_before : (later history : History) → IsOrderly (later ++ history) → IsOrderly history
-orderly_before [] history orderly = orderly
-orderly_before (entry ∷ later) history orderly = orderly_before later history orderly.1
-
 -- so what the history was at some time is legal
 was_legal : (bytes : List ℕ) (history : History) → Was bytes history → IsLegal history
 was_legal bytes history was =
-    legal_before was.0 history (subst IsLegal (sym was.1) (legal_after [] (events_in (input_lines_of bytes)) tt))
+    earlier_legal was.0 history (subst IsLegal (sym was.1) (legal_after [] (events_in (input_lines_of bytes)) tt))
 
 -- and orderly
 was_orderly : (bytes : List ℕ) (history : History) → Was bytes history → IsOrderly history
 was_orderly bytes history was =
-    orderly_before was.0 history (subst IsOrderly (sym was.1)
+    earlier_orderly was.0 history (subst IsOrderly (sym was.1)
     (orderly_after [] (events_in (input_lines_of bytes)) tt (events_orderly (pieces bytes))))
 
 -- the output goes on behind the answers: the end line at least

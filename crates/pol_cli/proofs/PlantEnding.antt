@@ -1,12 +1,13 @@
 -- How the job plant ended, by how its input was read and its run was written.
 use Rattle.std.proofs.Common.{ℕ, ◌≡◌, ◌∙◌, List, [], ◌∷◌, ◌++◌, refl, sym, arith}
-use Rattle.std.specs.Prelude.{Option, None, Result, Ok, Err, IfErr, ◌≢◌}
+use Rattle.std.specs.Prelude.{Option, None, Result, Ok, Err, ◌≢◌}
 use Rattle.mtp_json.specs.declared.fault.JsonFault.{JsonFault}
 use Rattle.pol_io.specs.Causes.{HasCauseOf, Rose}
 use Rattle.pol_io.specs.Edge.{Edge}
 use Rattle.pol_io.specs.Known.{Between}
 use Rattle.pol_io.proofs.Known.{Appends_none, Keeps_refl, between_weaker}
-use Rattle.pol_jobs.specs.Ends.{Ends, IsRefused, LeavesPart, Writes, WritesTaken, WritesTakenAndMore, edge, refused_input, refused_line, stopped_at_end, stopped_closing, stopped_within}
+use Rattle.pol_jobs.specs.Ends.{Ends, IsRefused, LeavesPart, Writes, WritesTaken, WritesTakenAndMore, edge}
+use Rattle.pol_jobs.specs.Ends.{refused_input, refused_line, stopped_at_end, stopped_closing, stopped_within}
 use Rattle.pol_jobs.specs.Faults.{of_output}
 use Rattle.pol_jobs.specs.LineWork.{AcceptsBehind, Output, output_by}
 use Rattle.pol_jobs.specs.declared.fault.JobFault.{JobFault}
@@ -21,7 +22,6 @@ use Rattle.pol_cli.specs.SiteTexts.{Says, none_yet, site_work}
 use Rattle.pol_cli.specs.Statuses.{refused_as, status_of}
 use Rattle.pol_cli.specs.Tasks.{PlantEnds}
 use Rattle.pol_cli.specs.declared.status.Wanted.TheVariants.{Site}
-use Rattle.pol_cli.specs.declared.status.Status.TheVariants as status
 use Rattle.pol_cli.proofs.SiteTexts.{text_told}
 
 -- no line of a site text is refused
@@ -151,15 +151,6 @@ module _ (site : PlainSite) (source source' : Edge) (says : Between (Says (Ok si
   run_broken sink sink' put_fault.Memory puts wrote =
       (broken_leaves sink sink' puts, well, wrote.other (λ same. cc))
 
-  -- or there was no memory for the run
-  pub run_unbegun : (sink : Edge) → Ends planted source source' sink sink (Err Memory)
-  run_unbegun sink = (
-    between_weaker _ (LeavesPart planted sink.bytes sink.bytes) source.bytes source'.bytes
-        (λ bytes left said. stopped_at_end (record { read = said.read; some = nothing_written sink.bytes [] })) says,
-    well,
-    refl,
-  )
-
 -- ---- its status
 
 -- what is known of the result is known of its status
@@ -176,14 +167,3 @@ plant_ends source source' sink sink' result ends writes = record {
   };
   writes = writes;
 }
-
--- where the status tells neither an end nor a fault of the sink nor want of memory, the result tells none either
-pub unbegun_by_status : (P : Type 0) (result : Result (Unit {0}) (JobFault JsonFault)) →
-    IfErr result (λ fault. fault ≢ Write → fault ≢ Memory → P) → status_of (refused_as Site) result ≢ status.Good →
-    status_of (refused_as Site) result ≢ status.WriteFault → status_of (refused_as Site) result ≢ status.OutOfMemory → P
-unbegun_by_status P (Ok done) unbegun good write memory = absurd (good refl)
-unbegun_by_status P (Err Read) unbegun good write memory = unbegun (λ is. cc) (λ is. cc)
-unbegun_by_status P (Err Write) unbegun good write memory = absurd (write refl)
-unbegun_by_status P (Err Memory) unbegun good write memory = absurd (memory refl)
-unbegun_by_status P (Err TooMuch) unbegun good write memory = unbegun (λ is. cc) (λ is. cc)
-unbegun_by_status P (Err (Refused fault)) unbegun good write memory = unbegun (λ is. cc) (λ is. cc)

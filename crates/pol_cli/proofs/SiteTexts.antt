@@ -5,19 +5,20 @@ use Rattle.std.specs.Prelude.{Some, None, Ok, Err, Option, filter, map, if◌the
 use Rattle.mtp_json.specs.ReadResult.{ReadResult, here}
 use Rattle.mtp_json.specs.declared.fault.FaultKind.TheVariants.{TooLong}
 use Rattle.mtp_json.specs.declared.fault.JsonFault.{JsonFault}
-use Rattle.pol_events.specs.Lines.{is_blank_byte}
 use Rattle.pol_io.specs.Known.{Between}
 use Rattle.pol_io.specs.Pieces.{pieces, line_of}
 use Rattle.pol_io.proofs.Known.{between_both}
 use Rattle.pol_jobs.specs.Ends.{Writes}
 use Rattle.pol_jobs.specs.LineWork.{AcceptsEnd, KnowsAfter, after_all, line_met, met, output_by}
 use Rattle.pol_jobs.proofs.Meeting.{met_by_length}
+use Rattle.event_json.specs.Lines.{is_blank_byte}
 use Rattle.pol_site.specs.Sites.{PlainSite}
-use Rattle.pol_site.specs.Texts.{is_filled, is_long, site_among, site_of, site_on}
 use Rattle.pol_site.specs.declared.site.Site.{Site}
+use Rattle.site_json.specs.Texts.{is_filled, is_long, site_among, site_of, site_on}
 use Rattle.pol_cli.specs.declared.jobs.site_text.SiteLines.{SiteLines}
 use Rattle.pol_cli.specs.declared.jobs.site_text.SiteLines.TheVariants as lines
-use Rattle.pol_cli.specs.SiteTexts.{Says, Told, lines_told, none_yet, one, more, after_line, after_filled, line_says, told, site_work}
+use Rattle.pol_cli.specs.SiteTexts.{Says, Told, lines_told, none_yet, one, more, after_line, after_filled, line_says}
+use Rattle.pol_cli.specs.SiteTexts.{told, site_work}
 use Rattle.pol_cli.proofs.Filled.{met_filled}
 
 -- ---- one line

@@ -24,8 +24,8 @@ pub record HoldsEvents {D : Type 0} (telling : Telling D) (before now : D) (stat
 abbrev pub IsNotBegun : Status → Type 0
 IsNotBegun status = ((place : ℕ) × (status ≡ NotAStore place)) ⊎ (status ≡ OutOfMemory)
 
--- where the disk read as bytes that no list of events stands for, told its bytes to the end and didn't fail, nothing was
--- begun
+-- where the disk read as bytes that no list of events stands for, told its bytes to the end and didn't fail, nothing
+-- was begun
 abbrev pub BeginsOnStores : {D : Type 0} → Telling D → D → D → Status → Type 0
 BeginsOnStores telling before now status =
     (all later : List ℕ) → telling.bytes before ≡ Some all → telling.bytes now ≡ Some later → StandsForNone all →

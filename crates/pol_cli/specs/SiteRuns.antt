@@ -18,11 +18,11 @@ use Rattle.pol_site.specs.Commanded.{IsCommanded}
 use Rattle.pol_site.specs.Following.{FollowsSite}
 use Rattle.pol_site.specs.Settled.{IsSettled}
 use Rattle.pol_site.specs.Sites.{PlainSite}
-use Rattle.pol_site.specs.Texts.{site_of}
 use Rattle.pol_jobs.specs.LineWork.{Output}
 use Rattle.pol_jobs.specs.Written.{WritesPart}
 use Rattle.pol_jobs.specs.declared.fault.JobFault.{JobFault}
 use Rattle.pol_jobs.specs.declared.fault.JobFault.TheVariants.{Write, Memory}
+use Rattle.site_json.specs.Texts.{site_of}
 use Rattle.pol_cli.specs.SiteTexts.{Says}
 
 -- ---- a run and its text

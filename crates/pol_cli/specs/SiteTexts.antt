@@ -5,9 +5,9 @@ use Rattle.mtp_json.specs.declared.fault.FaultKind.TheVariants.{Missing, Unknown
 use Rattle.mtp_json.specs.declared.fault.JsonFault.{JsonFault}
 use Rattle.pol_site.specs.PlainSite.{plain_site}
 use Rattle.pol_site.specs.Sites.{PlainSite}
-use Rattle.pol_site.specs.Texts.{site_of, site_on}
 use Rattle.pol_jobs.specs.Ends.{IsRead}
 use Rattle.pol_jobs.specs.LineWork.{Line, LineWork}
+use Rattle.site_json.specs.Texts.{site_of, site_on}
 use Rattle.pol_replay.specs.Meanings.{is_some_line}
 use Rattle.pol_cli.specs.declared.jobs.site_text.SiteLines.{SiteLines}
 use Rattle.pol_cli.specs.declared.jobs.site_text.SiteLines.TheVariants.{Nothing, Site, Fault, More}

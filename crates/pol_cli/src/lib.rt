@@ -3,6 +3,8 @@
 //! It knows nothing of how an answer is found. `serve` and `top` say two things: how the job ends (`specs/Tasks.antt`:
 //! on status 0 the output is the defined output of the input), and what holds of every input (`specs/Journal.antt`), of
 //! one that is audited well too (`specs/Audits.antt`).
+//!
+//! Tried in `pol_examples`.
 #![tactic(auto)]
 
 mod host;

@@ -46,7 +46,8 @@ pub fn top<R: Threads + Wait + Sync, S: Source, K: Sink, C: Clock + Send, G: Gat
     gate: &G,
     disk: D,
 ) -> (Status, D)
-    ensures ends { (task : Task) → Means (texts_of words.now) task → TaskEnds task (told_through (D.bytes disk) (D.bytes result.1))
+    ensures ends { (task : Task) → Means (texts_of words.now) task
+        → TaskEnds task (told_through (D.bytes disk) (D.bytes result.1))
         (edge (S.left source.old) (S.faults source.old)) (edge (S.left source.new) (S.faults source.new))
         (edge (K.held sink.old) (K.faults sink.old)) (edge (K.held sink.new) (K.faults sink.new)) result.0 }
     ensures unbegun { (task : LiveTask) → Means (texts_of words.now) (Task.Live task)

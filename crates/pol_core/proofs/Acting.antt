@@ -1,5 +1,5 @@
 -- The first active step on a module of the batch that holds it.
-use Rattle.std.proofs.Common.{◌≡◌, ℕ, List, [], Option, Some, None, refl, ap, sym, ◌∙◌, subst}
+use Rattle.std.proofs.Common.{◌≡◌, ℕ, List, Option, Some, None, refl, ap, sym, ◌∙◌, subst}
 use Rattle.std.specs.Prelude.{option_map, option_and_then}
 use Rattle.std.specs.Map.{lookup}
 use Rattle.std.specs.Str.{bytes_eq}
@@ -22,13 +22,6 @@ use Rattle.pol_core.specs.Batches.{RunKeeps, IsRun, RunsMirror}
 use Rattle.pol_core.specs.Seats.{SeatsMirror}
 use Rattle.pol_core.proofs.Unfit.{holder_same}
 
--- a module that no batch holds
-pub no_holder_acts : (history : History) (tag : List ℕ) (rows : Rows Slot) → SeatsMirror rows history →
-    tables.holder_of tag rows ≡ None → None ≡ active_step history tag
-no_holder_acts history tag rows mirror is =
-    sym (ap (option_and_then (λ batch. active_step_on (recipes history) tag batch (past_of_batch batch history)))
-    (sym (holder_same rows history tag mirror) ∙ is))
-
 -- the holder's past decides
 held_acts : (history : History) (tag batch : List ℕ) (rows : Rows Slot) → SeatsMirror rows history →
     tables.holder_of tag rows ≡ Some batch →
@@ -36,15 +29,6 @@ held_acts : (history : History) (tag batch : List ℕ) (rows : Rows Slot) → Se
 held_acts history tag batch rows mirror is =
     ap (option_and_then (λ batch. active_step_on (recipes history) tag batch (past_of_batch batch history)))
     (sym (holder_same rows history tag mirror) ∙ is)
-
--- a holder without a run
-pub no_run_acts : (history : History) (tag batch : List ℕ) (rows : Rows Slot)
-    (runs : List (List ℕ × PlainRun)) → SeatsMirror rows history → RunsMirror runs history →
-    tables.holder_of tag rows ≡ Some batch → lookup (bytes_eq batch) runs ≡ None → None ≡ active_step history tag
-no_run_acts history tag batch rows runs mirror batches is gone =
-    let none : past_of_batch batch history ≡ [] =
-    subst (λ found. IsRun batch found (past_of_batch batch history) (recipes history)) gone (batches batch) in
-    sym (held_acts history tag batch rows mirror is ∙ ap (active_step_on (recipes history) tag batch) none)
 
 -- the rule names the step
 mapped : (batch : List ℕ) (found : Option PlainStep) →

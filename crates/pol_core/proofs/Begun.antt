@@ -1,5 +1,6 @@
 -- A batch that is started: its answer, and the tables then.
-use Rattle.std.proofs.Common.{◌≡◌, ℕ, ◌+◌, suc, Bool, true, false, cond, List, [], ◌∷◌, map, length, Option, Some, None, Ok, is_some, refl, ap, sym, ◌∙◌, subst, arith, not}
+use Rattle.std.proofs.Common.{◌≡◌, ℕ, ◌+◌, suc, Bool, true, false, cond, List, [], ◌∷◌, map, length, Option, Some, None}
+use Rattle.std.proofs.Common.{Ok, is_some, refl, ap, sym, ◌∙◌, subst, arith, not}
 use Rattle.std.specs.Prelude.{IsSome, nat_le, filter}
 use Rattle.std.specs.List.{AllByRecursion, Contains, IsDistinct, list_all}
 use Rattle.std.proofs.lemmas.Bool.{and_parts, not-true}
@@ -28,7 +29,8 @@ use Rattle.pol_events.proofs.Options.{neither}
 use Rattle.pol_history.specs.Answers.{start_rules, rules, answer_of, is_full}
 use Rattle.pol_history.specs.Batches.{start_by, chart_named, is_start}
 use Rattle.pol_history.specs.Looking.{History, past_of_batch, recipes}
-use Rattle.pol_history.specs.Rules.{batch_known, batches_full, busy_module, role_unbound, role_unknown, one_module_twice, watched_step, steps_in, modules_unfit, busy}
+use Rattle.pol_history.specs.Rules.{batch_known, batches_full, busy_module, role_unbound, role_unknown}
+use Rattle.pol_history.specs.Rules.{one_module_twice, watched_step, steps_in, modules_unfit, busy}
 use Rattle.pol_history.proofs.Accepted.{paired}
 use Rattle.pol_history.proofs.Binds.{IsFitting, fitting, binds_known, given_known, tags_by_role, unknown_parts}
 use Rattle.pol_history.proofs.Holders.{started}

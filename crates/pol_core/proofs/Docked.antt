@@ -68,13 +68,3 @@ docked_is tag slot past keeps docked' =
   where
     same : (b d : ℕ) → b + 1 ≡ d + 0 → b + 1 ≡ d
     same b d is = omega (arith, is)
-
--- or away
-pub away_is : (tag : List ℕ) (slot : Slot) (past : History) (ticket : ℕ) → SlotKeeps tag slot past →
-    slot_ticket slot ≡ Some ticket → away ticket ≡ docking_by past
-away_is tag slot past ticket keeps gone = go (docking_by past) (sym keeps.ticket ∙ gone)
-  where
-    go : (docking : Docking) → ticket_of docking ≡ Some ticket → away ticket ≡ docking
-    go absent is = cc
-    go (docked count) is = cc
-    go (away other) is = let same : ticket ≡ other = cc in ap away same

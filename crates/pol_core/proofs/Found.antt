@@ -1,5 +1,5 @@
 -- What an answer of a call tells of what was found.
-use Rattle.std.proofs.Common.{◌≡◌, Option, Some, None, Result, Ok, Err, refl, ap}
+use Rattle.std.proofs.Common.{◌≡◌, Option, Some, None, Result, Err, refl, ap}
 use Rattle.std.specs.Prelude.{⊤}
 use Rattle.std.specs.Option.{option_or}
 use Rattle.std.specs.Result.{result_err}
@@ -11,21 +11,10 @@ pub err_is : {E : Type 0} (fault : Option E) (rule : E) → ◌≡◌ {A = Resul
 err_is None rule is = cc
 err_is (Some other) rule is = let same : other ≡ rule = cc in ap Some same
 
--- success tells that there is none
-pub ok_none : {E : Type 0} (fault : Option E) (done : ⊤) → ◌≡◌ {A = Result ⊤ E} (done_unless fault) (Ok done) →
-    fault ≡ None
-ok_none None done is = refl
-ok_none (Some other) done is = cc
-
 -- the fault that may be told
 pub err_of : {E : Type 0} (fault : Option E) → result_err {T = ⊤} (done_unless fault) ≡ fault
 err_of None = refl
 err_of (Some fault) = refl
-
--- it is nothing, where it is not something
-pub none_left : {A : Type 0} (found : Option A) → ((x : A) → found ≡ Some x → ⊥) → found ≡ None
-none_left None other = refl
-none_left (Some x) other = absurd (other x refl)
 
 -- the first of some rules, where there is one
 pub this_rule : {A : Type 0} (one rest : Option A) (found : A) → Some found ≡ one → Some found ≡ option_or one rest

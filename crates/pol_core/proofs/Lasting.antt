@@ -1,5 +1,6 @@
 -- An event of a batch that is refused, or after which its run goes on.
-use Rattle.std.proofs.Common.{◌≡◌, ℕ, Bool, true, false, cond, List, [], ◌∷◌, ◌++◌, Option, Some, None, is_some, refl, ap, sym, ◌∙◌, subst}
+use Rattle.std.proofs.Common.{◌≡◌, ℕ, Bool, true, false, cond, List, [], ◌∷◌, ◌++◌, Option, Some, None, is_some, refl}
+use Rattle.std.proofs.Common.{ap, sym, ◌∙◌, subst}
 use Rattle.std.specs.Prelude.{◌&&◌, ◌||◌, not, if◌then◌else◌, unwrap_or, Result, Ok, Err, OnOk, OnErr, ⊤}
 use Rattle.std.specs.Map.{lookup}
 use Rattle.std.specs.Str.{bytes_eq}
@@ -15,7 +16,8 @@ use Rattle.pol_events.specs.declared.answer.Answer.TheVariants.{Done, Did, Refus
 use Rattle.pol_events.specs.declared.answer.Rule.{Rule}
 use Rattle.pol_events.specs.declared.answer.Rule.TheVariants.{BatchClosed, AlreadyFrozen, NotFrozen}
 use Rattle.pol_history.specs.Answers.{first_rule, rules, otherwise, answer_of, is_full}
-use Rattle.pol_history.specs.Batches.{starting, start_by, closing, outcome_by, outcome_of, holds, is_frozen_by, is_holding_by, asked_by, log_by}
+use Rattle.pol_history.specs.Batches.{starting, start_by, closing, outcome_by, outcome_of, holds, is_frozen_by}
+use Rattle.pol_history.specs.Batches.{is_holding_by, asked_by, log_by}
 use Rattle.pol_history.specs.Looking.{History, of_batch, subject, is_accepted, past_of_batch, recipes, last_of}
 use Rattle.pol_history.specs.Modules.{present_tags}
 use Rattle.pol_history.specs.Refused.{ChangesNothing}
@@ -30,7 +32,8 @@ use Rattle.pol_runs.specs.Freezes.{is_frozen, is_holding, frozen_as}
 use Rattle.pol_runs.specs.Logs.{Asks, Follows}
 use Rattle.pol_runs.specs.declared.freeze.Freeze.TheVariants.{Thawed}
 use Rattle.pol_runs.specs.Runs.{PlainRun}
-use Rattle.pol_core.specs.Batches.{RunKeeps, IsRun, RunsMirror, ChangesRun, Freezes, FreezesOne, Stops, StopsOne, IsOpenRun, not_open, freed_if, AnswersBatch}
+use Rattle.pol_core.specs.Batches.{RunKeeps, IsRun, RunsMirror, ChangesRun, Freezes, FreezesOne, Stops, StopsOne}
+use Rattle.pol_core.specs.Batches.{IsOpenRun, not_open, freed_if, AnswersBatch}
 use Rattle.pol_core.specs.Seats.{SeatsMirror, IsCounted, done_or_refused}
 use Rattle.pol_core.proofs.Closing.{seats_freed}
 use Rattle.pol_core.proofs.Counting.{counted_same}

@@ -1,5 +1,6 @@
 -- What the calls that only look find in the tables is what looking back finds.
-use Rattle.std.proofs.Common.{◌≡◌, ℕ, Bool, true, false, List, [], ◌∷◌, length, Option, Some, None, is_some, is_none, refl, ap, sym, ◌∙◌}
+use Rattle.std.proofs.Common.{◌≡◌, ℕ, Bool, true, false, List, [], ◌∷◌, length, Option, Some, None, is_none, refl, ap}
+use Rattle.std.proofs.Common.{sym, ◌∙◌}
 use Rattle.std.specs.Prelude.{option_and_then, Ok, if◌then◌else◌}
 use Rattle.std.specs.Map.{lookup}
 use Rattle.std.specs.Option.{option_or}
@@ -7,19 +8,17 @@ use Rattle.std.specs.Str.{bytes_eq}
 use Rattle.mtp_codes.specs.Faults.{when, done_unless, first_of}
 use Rattle.chart_core.specs.Charts.{plain_chart}
 use Rattle.chart_core.specs.declared.next.Next.{Next}
-use Rattle.chart_core.specs.declared.next.Outcome.{Outcome}
 use Rattle.pol_events.specs.Events.{PlainEvent}
 use Rattle.pol_events.specs.declared.answer.Rule.{Rule}
-use Rattle.pol_events.specs.declared.answer.Rule.TheVariants.{BatchClosed, HistoryFull}
+use Rattle.pol_events.specs.declared.answer.Rule.TheVariants.{HistoryFull}
 use Rattle.pol_history.specs.Answers.{rules, otherwise, first_rule, answer_of, is_full}
-use Rattle.pol_history.specs.Batches.{Started, start_by, chart_by, outcome_by}
-use Rattle.pol_history.specs.Following.{next_of, next_of_started}
-use Rattle.pol_history.specs.Looking as looking
-use Rattle.pol_history.specs.Looking.{History, past_of_batch, recipes}
+use Rattle.pol_history.specs.Batches.{chart_by}
+use Rattle.pol_history.specs.Following.{next_of}
+use Rattle.pol_history.specs.Looking.{History, recipes}
 use Rattle.pol_slots.specs.declared.slot.Slot.{Slot}
 use Rattle.pol_table.specs.Rows.{Rows}
 use Rattle.pol_runs.specs.Runs.{PlainRun}
-use Rattle.pol_core.specs.Batches.{IsRun, RunsMirror, ComesNext, IsOpenRun, not_open}
+use Rattle.pol_core.specs.Batches.{RunsMirror, ComesNext, IsOpenRun}
 use Rattle.pol_core.specs.Calls.{open_next, refusal, refused_first, settings_named, settings_of}
 use Rattle.pol_core.specs.Seats.{SeatsMirror}
 use Rattle.pol_core.specs.Seen.{table_sights}
@@ -40,30 +39,6 @@ open_comes history batch rows run runs next seats batches open' comes =
     (open_outcome history batch run runs batches open')
     ∙ next_of_is history batch rows run next seats (run_keeps history batch runs run batches open'.found) comes)
 
--- a batch that isn't open has none
-pub not_open_none : (history : History) (batch : List ℕ) (rule : Rule) (runs : List (List ℕ × PlainRun)) →
-    RunsMirror runs history →
-    not_open (lookup (bytes_eq batch) runs) ≡ Some rule → None ≡ open_next history batch
-not_open_none history batch rule runs mirror is = go (lookup (bytes_eq batch) runs) (mirror batch) is
-  where
-    begins : Option Started → Option Next
-    begins found = option_and_then (next_of_started (recipes history) (past_of_batch batch history)
-        (λ tag. looking.past tag history)) found
-
-    go : (found : Option PlainRun) → IsRun batch found (past_of_batch batch history) (recipes history) →
-        not_open found ≡ Some rule → None ≡ open_next history batch
-    go None none is =
-        sym (ap (λ past. if is_none (outcome_by past) then next_of history batch else None) none
-        ∙ ap (λ past. begins (start_by past)) none)
-    go (Some run) keeps is =
-        sym (ap (λ outcome. if is_none outcome then next_of history batch else None) (sym keeps.outcome_is)
-        ∙ closed run.outcome is)
-      where
-        closed : (outcome : Option Outcome) → when (is_some outcome) BatchClosed ≡ Some rule →
-            (if is_none outcome then next_of history batch else None) ≡ None
-        closed None is = cc
-        closed (Some outcome) is = refl
-
 -- ---- the settings of a step
 
 -- a started batch has its chart's steps
@@ -75,18 +50,6 @@ run_settings history batch name run runs mirror found =
     let keeps = run_keeps history batch runs run mirror found in
     sym (ap (λ started. option_and_then (settings_named name) (chart_by (recipes history) started)) keeps.started
     ∙ ap (option_and_then (settings_named name)) keeps.charted)
-
--- a batch that isn't started has none
-pub no_run_settings : (history : History) (batch name : List ℕ) (runs : List (List ℕ × PlainRun)) →
-    RunsMirror runs history →
-    lookup (bytes_eq batch) runs ≡ None → None ≡ settings_of history batch name
-no_run_settings history batch name runs mirror none = go (lookup (bytes_eq batch) runs) (mirror batch) none
-  where
-    go : (found : Option PlainRun) → IsRun batch found (past_of_batch batch history) (recipes history) →
-        found ≡ None → None ≡ settings_of history batch name
-    go None is none =
-        sym (ap (λ past. option_and_then (settings_named name) (chart_by (recipes history) (start_by past))) is)
-    go (Some run) keeps none = cc
 
 -- ---- the rule that an event would be refused by
 

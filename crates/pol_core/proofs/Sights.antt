@@ -7,7 +7,8 @@ use Rattle.pol_events.specs.Bound.{bound_tag}
 use Rattle.pol_events.specs.declared.event.Bind.{Bind}
 use Rattle.pol_history.specs.Following.{sight_in, reading_in, service_sight, variable_sight, sights_by}
 use Rattle.pol_history.specs.Looking.{History, past}
-use Rattle.pol_history.specs.Modules.{Docking, absent, docked, away, docking_by, ticket_of, seen_with, control_by, view_by, value_by}
+use Rattle.pol_history.specs.Modules.{Docking, absent, docked, away, docking_by, ticket_of, seen_with, control_by}
+use Rattle.pol_history.specs.Modules.{view_by, value_by}
 use Rattle.pol_slots.specs.Sights.{sight_of, reading_of, slot_sight, slot_reading}
 use Rattle.pol_slots.specs.Slots.{slot_ticket, slot_description}
 use Rattle.pol_slots.specs.declared.slot.Slot.{Slot}

@@ -1,6 +1,7 @@
 -- The tables after an accepted start.
-use Rattle.std.proofs.Common.{◌≡◌, ℕ, Bool, true, false, cond, List, [], ◌∷◌, ◌++◌, Option, Some, None, is_some, refl, ap, sym, ◌∙◌, subst, inl, inr}
-use Rattle.std.specs.Prelude.{◌||◌, filter, map, Result, Ok, Err, ⊤, OnOk, OnErr, is_ok}
+use Rattle.std.proofs.Common.{◌≡◌, ℕ, Bool, true, false, cond, List, [], ◌∷◌, ◌++◌, Option, Some, None, is_some, refl}
+use Rattle.std.proofs.Common.{ap, sym, ◌∙◌, subst, inl, inr}
+use Rattle.std.specs.Prelude.{◌||◌, filter, map, Result, Ok, Err, ⊤, OnOk, OnErr}
 use Rattle.std.proofs.lemmas.Bool.{or_cases}
 use Rattle.std.proofs.lemmas.List.{append-nil}
 use Rattle.std.specs.List.{AllByRecursion, IsDistinct}
@@ -27,7 +28,7 @@ use Rattle.pol_runs.specs.Runs.{PlainRun}
 use Rattle.pol_core.specs.Batches.{RunKeeps, RunsMirror}
 use Rattle.pol_core.specs.Seats.{users_of, IsSeated, SeatsMirror}
 use Rattle.pol_core.proofs.Used.{users_with, users_started}
-use Rattle.pol_core.specs.Starting.{Begins, Holds, Watches, watched_by}
+use Rattle.pol_core.specs.Starting.{Begins, Watches, watched_by}
 use Rattle.pol_core.proofs.Stepping.{runs_changed}
 
 -- ---- all tags that were held together are there
@@ -159,15 +160,6 @@ runs_started history at batch name chart binds old new runs after fresh charted 
       holding_is = ap is_holding begins.is_new.freeze_is;
       outcome_is = begins.is_new.outcome_is;
     })) mirror
-
--- what the table answered tells that the tags are held
-pub holds_now : (tags : List (List ℕ)) (batch : List ℕ) (old new : Rows Slot) (result : Result ⊤ HoldFault) →
-    is_ok result ≡ true → result ≡ hold_answer tags old →
-    OnOk result ((tag : List ℕ) →
-    look tag new ≡ option_map (λ row. cond (is_among tags tag) (held_by batch row) row) (look tag old)) →
-    Holds tags batch old new
-holds_now tags batch old new (Ok done) ok answer held = record { free = sym answer; held = held }
-holds_now tags batch old new (Err fault) ok answer held = cc
 
 -- ---- tags that are watched together
 

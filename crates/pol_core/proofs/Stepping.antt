@@ -1,5 +1,6 @@
 -- A batch that is advanced: its answer, and what the tables keep then.
-use Rattle.std.proofs.Common.{◌≡◌, ℕ, Bool, true, false, cond, List, [], ◌∷◌, Option, Some, None, length, refl, ap, sym, ◌∙◌, subst}
+use Rattle.std.proofs.Common.{◌≡◌, ℕ, Bool, true, false, cond, List, [], ◌∷◌, Option, Some, None, length, refl, ap, sym}
+use Rattle.std.proofs.Common.{◌∙◌, subst}
 use Rattle.std.specs.Prelude.{is_some, option_and_then}
 use Rattle.std.specs.Map.{lookup}
 use Rattle.std.specs.Option.{option_or, option_map}
@@ -16,7 +17,8 @@ use Rattle.pol_events.specs.Bound.{given}
 use Rattle.pol_events.specs.Events.{PlainEntry, advance}
 use Rattle.pol_events.specs.declared.answer.Rule.TheVariants.{BatchClosed}
 use Rattle.pol_history.specs.Answers.{advanced, first_rule, answer_of, is_full}
-use Rattle.pol_history.specs.Batches.{Started, closing, outcome_by, is_frozen_by, asked_by, frozen_so, freezing_by, log_by}
+use Rattle.pol_history.specs.Batches.{Started, closing, outcome_by, is_frozen_by, asked_by, frozen_so, freezing_by}
+use Rattle.pol_history.specs.Batches.{log_by}
 use Rattle.pol_history.specs.Following.{sights_by, next_of_started, next_of}
 use Rattle.pol_history.specs.Looking.{History, of_batch, subject, is_accepted, past, past_of_batch, recipes}
 use Rattle.pol_history.specs.Rules.{no_batch, batch_closed}
@@ -31,7 +33,8 @@ use Rattle.pol_runs.specs.Logs.{Asks, Follows, asked_after, closing_in, log_afte
 use Rattle.pol_runs.specs.declared.freeze.Freeze.{Freeze}
 use Rattle.pol_runs.specs.declared.freeze.Freeze.TheVariants.{Thawed, Waiting, Holding}
 use Rattle.pol_runs.specs.Runs.{PlainRun}
-use Rattle.pol_core.specs.Batches.{RunKeeps, IsRun, RunsMirror, ComesNext, Settles, SettlesOne, IsOpenRun, AnswersBatch, freed_if}
+use Rattle.pol_core.specs.Batches.{RunKeeps, IsRun, RunsMirror, ComesNext, Settles, SettlesOne, IsOpenRun, AnswersBatch}
+use Rattle.pol_core.specs.Batches.{freed_if}
 use Rattle.pol_core.specs.Seats.{SeatsMirror, IsCounted}
 use Rattle.pol_core.specs.Seen.{table_sights}
 use Rattle.pol_core.proofs.Closing.{seats_freed}

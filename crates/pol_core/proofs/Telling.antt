@@ -1,5 +1,6 @@
 -- The table of modules after a report, and after a variable's value.
-use Rattle.std.proofs.Common.{◌≡◌, ℕ, Bool, true, false, cond, List, ◌∷◌, Option, Some, None, is_some, refl, ap, sym, ◌∙◌, subst}
+use Rattle.std.proofs.Common.{◌≡◌, ℕ, Bool, true, false, cond, List, ◌∷◌, Option, Some, None, is_some, refl, ap, sym}
+use Rattle.std.proofs.Common.{◌∙◌, subst}
 use Rattle.std.specs.Prelude.{Result, Ok, Err, ⊤, OnOk, OnErr, is_ok}
 use Rattle.std.specs.Borrow.{Bor}
 use Rattle.std.specs.Option.{option_map, option_copied}
@@ -16,7 +17,8 @@ use Rattle.pol_history.proofs.Pasts.{past_own}
 use Rattle.pol_history.proofs.Refused.{refused_nothing}
 use Rattle.pol_slots.specs.declared.slot.Slot.{Slot}
 use Rattle.pol_table.specs.Rows.{Row, Rows, look, part_of, with_part}
-use Rattle.pol_core.specs.Seats.{users_of, SlotKeeps, IsTaken, IsSeated, SeatsMirror, IsCounted, AnswersModule, done_or_refused}
+use Rattle.pol_core.specs.Seats.{users_of, SlotKeeps, IsTaken, IsSeated, SeatsMirror, IsCounted, AnswersModule}
+use Rattle.pol_core.specs.Seats.{done_or_refused}
 use Rattle.pol_core.proofs.Counting.{counted_part, counted_same}
 use Rattle.pol_core.proofs.Seating.{seat_changes, part_changes}
 

@@ -1,5 +1,6 @@
 -- All tables after an event.
-use Rattle.std.proofs.Common.{◌≡◌, ℕ, true, false, cond, List, [], ◌∷◌, ◌++◌, None, is_some, refl, ap, sym, ◌∙◌, subst, length, ◌<◌, ◌≤◌, arith}
+use Rattle.std.proofs.Common.{◌≡◌, ℕ, true, false, cond, List, [], ◌∷◌, ◌++◌, None, is_some, refl, ap, sym, ◌∙◌, subst}
+use Rattle.std.proofs.Common.{length, ◌<◌, ◌≤◌, arith}
 use Rattle.std.specs.Prelude.{◌&&◌, filter}
 use Rattle.std.proofs.lemmas.Bool.{lt-leb}
 use Rattle.std.specs.Map.{lookup}
@@ -15,7 +16,8 @@ use Rattle.pol_events.specs.declared.event.Event.{Event}
 use Rattle.pol_events.proofs.Histories.{history_pushed, length_history}
 use Rattle.pol_history.specs.Answers.{is_full, answer_of}
 use Rattle.pol_history.specs.Batches.{starting, chart_named, is_start}
-use Rattle.pol_history.specs.Looking.{History, of_module, of_batch, subject, is_batch, is_recipe, is_accepted, past_of_batch, recipes}
+use Rattle.pol_history.specs.Looking.{History, of_module, of_batch, subject, is_batch, is_recipe, is_accepted}
+use Rattle.pol_history.specs.Looking.{past_of_batch, recipes}
 use Rattle.pol_history.specs.Runs.{recorded, entry_of}
 use Rattle.pol_history.proofs.Accepted.{paired}
 use Rattle.pol_history.proofs.Pasts.{module_recipes_same}

@@ -1,9 +1,11 @@
 -- What the tables say against a start is what looking back says.
-use Rattle.std.proofs.Common.{◌≡◌, ℕ, Bool, true, false, cond, List, [], ◌∷◌, map, Option, Some, None, refl, ap, sym, ◌∙◌}
+use Rattle.std.proofs.Common.{◌≡◌, ℕ, Bool, true, false, cond, List, [], ◌∷◌, map, Option, Some, None, refl, ap, sym}
+use Rattle.std.proofs.Common.{◌∙◌}
 use Rattle.std.specs.Prelude.{filter, find, is_some, unwrap_or, option_map, option_and_then}
 use Rattle.std.specs.Option.{option_or}
 use Rattle.mtp_codes.specs.Faults.{first_of}
 use Rattle.mtp_codes.specs.Names.{same_name}
+use Rattle.mtp_codes.proofs.Options.{or_none}
 use Rattle.mtp_modes.specs.declared.view.ServiceView.{ServiceView}
 use Rattle.mtp_procs.specs.Covers.{cover_fault}
 use Rattle.chart_core.specs.Roles.{PlainChart, role_names}
@@ -17,14 +19,16 @@ use Rattle.pol_history.specs.Batches.{holder_of, watchers_of}
 use Rattle.pol_history.specs.Following.{sight_in}
 use Rattle.pol_history.specs.Looking.{History, past}
 use Rattle.pol_history.specs.Modules.{Docking, absent, docked, away, docking_by, ticket_of, description_by, view_by}
-use Rattle.pol_history.specs.Rules.{steps_in, watched_step, no_module, not_covered, not_reported, not_idle, unready, not_ready, services_of, module_rules, module_rule, modules_unfit, busy_module, busy_role, busy, one_module_twice, role_unbound, role_unknown}
-use Rattle.pol_history.proofs.Holders.{or_nothing}
+use Rattle.pol_history.specs.Rules.{steps_in, watched_step, no_module, not_covered, not_reported, not_idle, unready}
+use Rattle.pol_history.specs.Rules.{not_ready, services_of, module_rules, module_rule, modules_unfit, busy_module}
+use Rattle.pol_history.specs.Rules.{busy_role, busy, one_module_twice, role_unbound, role_unknown}
 use Rattle.pol_slots.specs.Sights.{slot_sight}
 use Rattle.pol_slots.specs.Slots.{slot_ticket, slot_description}
 use Rattle.pol_slots.specs.declared.slot.Slot.{Slot}
 use Rattle.pol_table.specs.Rows as tables
 use Rattle.pol_table.specs.Rows.{Row, Rows, look}
-use Rattle.pol_core.specs.Judging.{sight_unready, step_unready, first_unready, slot_rule, part_rule, role_rule, table_unfit, tag_busy, table_busy, bind_rule}
+use Rattle.pol_core.specs.Judging.{sight_unready, step_unready, first_unready, slot_rule, part_rule, role_rule}
+use Rattle.pol_core.specs.Judging.{table_unfit, tag_busy, table_busy, bind_rule}
 use Rattle.pol_core.specs.Seats.{Users, users_of, SlotKeeps, IsSeated, SeatsMirror}
 use Rattle.pol_core.proofs.Judging.{there_is}
 use Rattle.pol_core.proofs.Sights.{slot_sight_is}
@@ -118,7 +122,7 @@ slot_rule_same chart role tag slot past keeps = go (slot_ticket slot) refl
         (passing_is (λ step. is_some (step_unready slot tag role step)) chart.root 0)
         ∙ told_first (step_unready slot tag role) (steps_in chart)
         ∙ services_same tag role slot past (λ service. service_same tag service slot past keeps is) (steps_in chart)
-        ∙ sym (or_nothing (not_ready tag past (services_of chart role))))
+        ∙ sym (or_none (not_ready tag past (services_of chart role))))
         ∙ ap (λ description. option_or (not_covered chart role description)
         (option_or (not_ready tag past (services_of chart role)) None)) (sym keeps.description)
         ∙ sym (looked ∙ ap (λ ticket. option_or (in_exchange tag ticket) others) is)

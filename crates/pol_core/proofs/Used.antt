@@ -7,8 +7,10 @@ use Rattle.pol_events.specs.Events.{PlainEntry}
 use Rattle.pol_history.specs.Batches.{starting, closing, outcome_of}
 use Rattle.pol_history.specs.Looking.{History, of_module, of_batch, of_recipe, subject, is_accepted, past_of_batch}
 use Rattle.pol_history.specs.Refused.{ChangesNothing}
-use Rattle.pol_history.proofs.Holders.{started, holder_if, holders_after, holders_same, holders_started, recipe_holders_same}
-use Rattle.pol_history.proofs.Watchers.{watchers_if, watchers_after, watchers_same, watchers_started, recipe_watchers_same}
+use Rattle.pol_history.proofs.Holders.{started, holder_if, holders_after, holders_same, holders_started}
+use Rattle.pol_history.proofs.Holders.{recipe_holders_same}
+use Rattle.pol_history.proofs.Watchers.{watchers_if, watchers_after, watchers_same, watchers_started}
+use Rattle.pol_history.proofs.Watchers.{recipe_watchers_same}
 use Rattle.pol_core.specs.Seats.{Users, users_of}
 
 -- an event of a module changes them for no module

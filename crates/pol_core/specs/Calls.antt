@@ -1,5 +1,6 @@
 -- What the plant's calls answer that only look: each is found by looking back over the history.
-use Rattle.std.specs.Prelude.{ℕ, ⊤, Bool, List, Option, None, Result, Ok, Err, is_none, nat_le, find, option_and_then, option_map, if◌then◌else◌}
+use Rattle.std.specs.Prelude.{ℕ, ⊤, Bool, List, Option, None, Result, Ok, Err, is_none, nat_le, find, option_and_then}
+use Rattle.std.specs.Prelude.{option_map, if◌then◌else◌}
 use Rattle.std.specs.Option.{option_or}
 use Rattle.std.specs.Str.{bytes_eq}
 use Rattle.mtp_codes.specs.Faults.{when, done_unless}

@@ -1,5 +1,6 @@
 -- What the tables say against a start.
-use Rattle.std.specs.Prelude.{ℕ, not, nat_le, length, is_some, List, [], map, Option, Some, None, option_and_then, option_map, if◌then◌else◌}
+use Rattle.std.specs.Prelude.{ℕ, not, nat_le, length, is_some, List, [], map, Option, Some, None, option_and_then}
+use Rattle.std.specs.Prelude.{option_map, if◌then◌else◌}
 use Rattle.std.specs.Map.{lookup}
 use Rattle.std.specs.Option.{option_or}
 use Rattle.std.specs.Str.{bytes_eq}

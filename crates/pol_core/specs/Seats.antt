@@ -1,5 +1,6 @@
 -- What the table of modules keeps of a history: for each tag what looking back gives.
-use Rattle.std.specs.Prelude.{ℕ, ◌≡◌, ◌+◌, false, List, [], ◌∷◌, length, Option, Some, None, is_some, Result, Ok, Err, ⊤, if◌then◌else◌}
+use Rattle.std.specs.Prelude.{ℕ, ◌≡◌, ◌+◌, false, List, [], ◌∷◌, length, Option, Some, None, is_some, Result, Ok, Err}
+use Rattle.std.specs.Prelude.{⊤, if◌then◌else◌}
 use Rattle.mtp_codes.specs.Names.{is_among}
 use Rattle.mtp_codes.specs.declared.command.Command.{Command}
 use Rattle.mtp_modes.specs.declared.view.ServiceView.{ServiceView}
@@ -11,7 +12,8 @@ use Rattle.pol_events.specs.declared.answer.Rule.{Rule}
 use Rattle.pol_history.specs.Answers.{answer_of, is_full}
 use Rattle.pol_history.specs.Batches.{holder_of, watchers_of}
 use Rattle.pol_history.specs.Looking.{History, past}
-use Rattle.pol_history.specs.Modules.{present_tags, absent, docking_by, ticket_of, description_by, begins_by, dockings_by, control_by, value_by}
+use Rattle.pol_history.specs.Modules.{present_tags, absent, docking_by, ticket_of, description_by, begins_by}
+use Rattle.pol_history.specs.Modules.{dockings_by, control_by, value_by}
 use Rattle.pol_history.specs.Runs.{entry_of}
 use Rattle.pol_desk.specs.Desk.{desk_answer}
 use Rattle.pol_slots.specs.Sights.{reported_view}

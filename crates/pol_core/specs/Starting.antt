@@ -1,5 +1,6 @@
 -- What a start changes in the tables.
-use Rattle.std.specs.Prelude.{ℕ, ◌≡◌, ◌+◌, IsSome, length, true, false, List, [], ◌∷◌, ◌++◌, Some, None, if◌then◌else◌, Ok}
+use Rattle.std.specs.Prelude.{ℕ, ◌≡◌, ◌+◌, IsSome, length, true, false, List, [], ◌∷◌, ◌++◌, Some, None, if◌then◌else◌}
+use Rattle.std.specs.Prelude.{Ok}
 use Rattle.std.specs.Map.{lookup}
 use Rattle.std.specs.Option.{option_map}
 use Rattle.std.specs.Str.{bytes_eq}

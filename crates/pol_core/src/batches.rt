@@ -1,5 +1,6 @@
 //! What events of a batch are answered, and what they change in the tables.
-ghost use Rattle.std.specs.Prelude.{◌≡◌, ℕ, ◌∷◌, List, Some, IfOk, IfErr, OnOk, OnErr, ◌&&◌, ◌||◌, not, length, option_copied};
+ghost use Rattle.std.specs.Prelude.{◌≡◌, ℕ, ◌∷◌, List, Some, IfOk, IfErr, OnOk, OnErr, ◌&&◌, ◌||◌, not, length};
+ghost use Rattle.std.specs.Prelude.{option_copied};
 ghost use Rattle.std.specs.Map.{lookup};
 ghost use Rattle.std.specs.Str.{bytes_eq};
 ghost use Rattle.mtp_codes.specs.Faults.{done_unless, when};
@@ -15,7 +16,8 @@ ghost use Rattle.pol_runs.specs.Freezes.{is_frozen, is_holding};
 ghost use Rattle.pol_runs.specs.Logs.{closing_in};
 ghost use Rattle.pol_runs.specs.declared.freeze.Freeze.TheVariants.{Thawed};
 ghost use Rattle.pol_runs.specs.Runs.{PlainRun};
-ghost use Rattle.pol_core.specs.Batches.{BatchAnswers, ChangesRun, ComesNext, FreezesOne, IsOpenRun, RunsMirror, SettlesOne, StopsOne, freed_if, not_open};
+ghost use Rattle.pol_core.specs.Batches.{BatchAnswers, ChangesRun, ComesNext, FreezesOne, IsOpenRun, RunsMirror};
+ghost use Rattle.pol_core.specs.Batches.{SettlesOne, StopsOne, freed_if, not_open};
 ghost use Rattle.pol_core.specs.Calls.{open_next, settings_of};
 ghost use Rattle.pol_core.specs.Seats.{SeatsMirror, done_or_refused};
 ghost use Rattle.pol_core.specs.Seen.{table_sights};

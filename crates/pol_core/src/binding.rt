@@ -8,7 +8,8 @@ ghost use Rattle.pol_bind.specs.Roles.{names_in};
 ghost use Rattle.pol_events.specs.Bound.{bound_tag, given, plain_allocation};
 ghost use Rattle.pol_events.specs.Refusals.{cover_rule};
 ghost use Rattle.pol_slots.specs.Slots.{slot_description};
-ghost use Rattle.pol_core.specs.Judging.{sight_unready, step_unready, first_unready, slot_rule, role_rule, table_unfit, tag_busy, table_busy, bind_rule};
+ghost use Rattle.pol_core.specs.Judging.{sight_unready, step_unready, first_unready, slot_rule, role_rule, table_unfit};
+ghost use Rattle.pol_core.specs.Judging.{tag_busy, table_busy, bind_rule};
 
 use chart_core::{Chart, Node, Role, Step, StepTest, find_step};
 use chart_cursor::Sight;

@@ -1,5 +1,6 @@
 //! Modules that are exchanged.
-ghost use Rattle.std.specs.Prelude.{◌≡◌, ℕ, List, map, Some, None, IsSome, IfOk, OnOk, OnErr, option_map, option_and_then};
+ghost use Rattle.std.specs.Prelude.{◌≡◌, ℕ, List, map, Some, None, IsSome, IfOk, OnOk, OnErr, option_map};
+ghost use Rattle.std.specs.Prelude.{option_and_then};
 ghost use Rattle.mtp_codes.specs.Faults.{first_of, done_unless};
 ghost use Rattle.mtp_desc.specs.PlainDescription.{plain_description};
 ghost use Rattle.mtp_procs.specs.Covers.{cover_fault, missing_by};
@@ -15,7 +16,8 @@ ghost use Rattle.pol_slots.specs.declared.slot.Slot.{Slot as slot_type};
 ghost use Rattle.pol_table.specs.Rows.{holder_of, part_of, watchers_of};
 ghost use Rattle.pol_runs.specs.Logs.{Follows};
 ghost use Rattle.pol_core.specs.Batches.{ModuleAnswersBeside, RunsMirror};
-ghost use Rattle.pol_core.specs.Exchanges.{HaveBegunFew, IsDockedAt, SendsAway, DocksAgain, StaysAway, lacks, ticket_rule};
+ghost use Rattle.pol_core.specs.Exchanges.{HaveBegunFew, IsDockedAt, SendsAway, DocksAgain, StaysAway, lacks};
+ghost use Rattle.pol_core.specs.Exchanges.{ticket_rule};
 ghost use Rattle.pol_core.specs.Seats.{IsCounted, ModuleAnswers, SeatsMirror};
 
 use crate::modules::done_or_refused;
@@ -75,7 +77,8 @@ fn send_away(modules: &mut Table<Slot>, tag: Name) -> u32
 /// A module is taken away to be exchanged; the answer is its ticket.
 pub fn exchange_begin(modules: &mut Table<Slot>, runs: &IndexMap<Name, Run>, tag: Name) -> Answer
     requires few { HaveBegunFew modules.old }
-    ensures answered { ModuleAnswersBeside runs.now.entries (λ at. exchange_begin at tag) modules.old result modules.new }
+    ensures answered { ModuleAnswersBeside runs.now.entries (λ at. exchange_begin at tag) modules.old result
+        modules.new }
 {
     if let Some(rule) = begin_rule(modules, runs, tag) {
         return Answer::Refused(rule);

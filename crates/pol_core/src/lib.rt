@@ -3,6 +3,8 @@
 //! Contracts see a `Plant` as its entries and the number of further entries that it takes without memory
 //! (`specs/Plants.antt`). `Plant::apply` answers what `pol_history` defines, and appends the event with its answer; it
 //! never searches the history. It knows nothing of lines, texts, threads or clocks.
+//!
+//! Tried in `plant_examples`.
 #![tactic(auto)]
 
 mod answering;

@@ -7,7 +7,8 @@ ghost use Rattle.pol_history.specs.Looking.{History};
 ghost use Rattle.pol_history.specs.Modules.{absent, description_of, docking_of, present_tags, view_of};
 ghost use Rattle.pol_core.specs.Calls.{module_sight, plain_docking};
 ghost use Rattle.pol_core.specs.Exchanges.{HaveBegunFew};
-ghost use Rattle.pol_core.specs.Seats.{IsCounted, ModuleAnswers, SeatsMirror, asked_answer, done_or_refused, slot_asked};
+ghost use Rattle.pol_core.specs.Seats.{IsCounted, ModuleAnswers, SeatsMirror, asked_answer, done_or_refused};
+ghost use Rattle.pol_core.specs.Seats.{slot_asked};
 ghost use Rattle.pol_table.specs.ByteOrder.{in_byte_order};
 
 use crate::docking::Docking;

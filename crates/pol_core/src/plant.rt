@@ -1,5 +1,7 @@
 //! The plant, seen as its entries and the room for more.
-ghost use Rattle.std.specs.Prelude.{◌≡◌, ◌≢◌, ℕ, ◌<◌, ◌≤◌, ◌+◌, ◌++◌, ◌∷◌, [], drop, length, map, option_copied, slice_get, Some, IfNone, IfSome, IfOk, IfErr, IsOk, IsTrue, OnOk, OnErr, vec_len, vec_capacity};
+ghost use Rattle.std.specs.Prelude.{◌≡◌, ◌≢◌, ℕ, ◌<◌, ◌≤◌, ◌+◌, ◌++◌, ◌∷◌, [], drop, length, map, option_copied};
+ghost use Rattle.std.specs.Prelude.{slice_get, Some, IfNone, IfSome, IfOk, IfErr, IsOk, IsTrue, OnOk, OnErr, vec_len};
+ghost use Rattle.std.specs.Prelude.{vec_capacity};
 ghost use Rattle.mtp_desc.specs.PlainDescription.{plain_description};
 ghost use Rattle.pol_events.specs.Events.{plain_entry, plain_event, plain_history, exchange_begin, start};
 ghost use Rattle.pol_events.specs.Orderly.{is_orderly};

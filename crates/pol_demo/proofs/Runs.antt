@@ -1,12 +1,14 @@
 -- Batches of a demo journal that are run one after another.
-use Rattle.std.proofs.Common.{ℕ, zero, suc, ◌+◌, ◌*◌, ◌%◌, ◌≡◌, List, [], ◌∷◌, ◌++◌, append-nil, true, refl, sym, ap, ◌∙◌, arith}
+use Rattle.std.proofs.Common.{ℕ, zero, suc, ◌+◌, ◌*◌, ◌%◌, ◌≡◌, List, [], ◌∷◌, ◌++◌, append-nil, true, refl, sym, ap}
+use Rattle.std.proofs.Common.{◌∙◌, arith}
 use Rattle.std.proofs.lemmas.Grind.{flat_map-append}
 use Rattle.std.specs.List.{flat_map, range_with_len}
 use Rattle.pol_events.specs.Events.{recipe}
 use Rattle.pol_events.specs.Orderly.{is_orderly}
 use Rattle.pol_history.specs.Runs.{history_after}
 use Rattle.pol_demo.specs.declared.journal.TheConstants.{MODULES, VALUES}
-use Rattle.pol_demo.specs.Journal.{Happening, batch_on, batch_run, batch_runs, batches_of, busy, demo_events, docked, dosed, each, happenings, idle, known, measured, started}
+use Rattle.pol_demo.specs.Journal.{Happening, batch_on, batch_run, batch_runs, batches_of, busy, demo_events, docked}
+use Rattle.pol_demo.specs.Journal.{dosed, each, happenings, idle, known, measured, started}
 use Rattle.pol_demo.specs.Doser.{dosing}
 use Rattle.pol_demo.specs.Names.{batch_of, tag_of}
 use Rattle.pol_demo.specs.Telling.{Told, line_told, lines_told}

@@ -4,9 +4,9 @@ use Rattle.std.specs.List.{count_by}
 use Rattle.serde_json.specs.Data.{Data, object, member, no_members}
 use Rattle.serde_json.specs.Written.{compact_text}
 use Rattle.chart_core.specs.declared.next.Outcome.TheVariants.{Completed}
-use Rattle.pol_events.specs.Written.{whole}
 use Rattle.pol_events.specs.declared.answer.Answer.{Answer}
 use Rattle.pol_events.specs.declared.answer.Answer.TheVariants.{Closed, Refused}
+use Rattle.event_json.specs.Written.{whole}
 use Rattle.pol_history.specs.Looking.{History}
 use Rattle.pol_history.specs.Runs.{history_after}
 use Rattle.pol_demo.specs.Journal.{demo_events}

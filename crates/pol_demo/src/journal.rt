@@ -4,7 +4,8 @@ ghost use Rattle.mtp_desc.specs.PlainDescription.{plain_description};
 ghost use Rattle.pol_events.specs.Events.{plain_history};
 ghost use Rattle.pol_history.specs.Runs.{history_after};
 ghost use Rattle.pol_demo.specs.Doser.{doser};
-ghost use Rattle.pol_demo.specs.Journal.{advanced, batch_run, batch_runs, batches_of, busy, demo_events, docked, dosed, each, idle, known, leveled, measured, reported, started};
+ghost use Rattle.pol_demo.specs.Journal.{advanced, batch_run, batch_runs, batches_of, busy, demo_events, docked, dosed};
+ghost use Rattle.pol_demo.specs.Journal.{each, idle, known, leveled, measured, reported, started};
 ghost use Rattle.pol_demo.specs.Telling.{line_told, lines_told, told_by};
 ghost use Rattle.pol_demo.specs.Values.{drawn};
 

@@ -3,6 +3,8 @@
 //! Eight modules are docked, and up to 120 batches run on them, one after another, with 1,000 values each. It knows
 //! nothing of lines that are read, of words or of sinks. Its main contract is that of `demo_line`: the line is the
 //! summary of what `pol_history` answers to the journal (`specs/Journal.antt`, `specs/Summary.antt`).
+//!
+//! Tried in `plant_examples`.
 #![tactic(auto)]
 
 mod doser;

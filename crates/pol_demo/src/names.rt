@@ -1,5 +1,5 @@
 //! Names in a demo journal.
-ghost use Rattle.std.specs.Prelude.{◌≡◌, ◌+◌, ◌≤◌, length, IfOk, IsTrue};
+ghost use Rattle.std.specs.Prelude.{◌≡◌, length, IfOk, IsTrue};
 ghost use Rattle.mtp_codes.specs.Names.{is_name};
 ghost use Rattle.pol_demo.specs.Names.{numbered_name};
 

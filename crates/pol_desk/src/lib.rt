@@ -2,6 +2,8 @@
 //!
 //! It knows nothing of plants, batches or what a module then does with the command. `desk` answers exactly the first
 //! fault of the command by the service's last report, as `specs/Desk.antt` says.
+//!
+//! Tried in `part_examples`.
 #![tactic(auto)]
 
 mod asking;

@@ -1,5 +1,5 @@
 -- One call more on a disk: what it undoes, and what a crash may leave after it.
-use Rattle.std.proofs.Common.{◌≡◌, inl, inr, ⊎_elim, ℕ, ◌+◌, ◌-◌, ◌≤◌, min, List, [], ◌∷◌, ◌++◌, length, take, drop, map, reverse, refl, sym, ◌∙◌, ap, subst, arith, append_assoc, length-drop, take-append-drop}
+use Rattle.std.proofs.Common.{◌≡◌, inl, inr, ⊎_elim, ℕ, ◌+◌, ◌-◌, ◌≤◌, min, List, [], ◌∷◌, ◌++◌, length, take, drop, map, reverse, refl, sym, ◌∙◌, ap, subst, arith, append_assoc, append-nil, length-drop, take-append-drop}
 use Rattle.std.proofs.lemmas.Bool.{cases_lt}
 use Rattle.std.proofs.lemmas.List.{map-append, reverse-append, take_all, drop-drop}
 use Rattle.pol_disk.specs.declared.memory.Call.{Call}
@@ -22,10 +22,6 @@ empty : (l : List ℕ) → length l ≡ 0 → l ≡ []
 empty [] none = refl
 empty (x ∷ xs) none = absurd (omega (arith, none))
 
-nothing_behind : (l : List ℕ) → l ++ [] ≡ l
-nothing_behind [] = refl
-nothing_behind (x ∷ xs) = ap (λ (l : List ℕ). x ∷ l) (nothing_behind xs)
-
 -- what stands in a range, and all behind it
 over_back : (at size : ℕ) (bytes : List ℕ) → at ≤ length bytes →
     over at size bytes ++ drop (at + size) bytes ≡ drop at bytes
@@ -39,11 +35,10 @@ over_back at size bytes le = ⊎_elim
     let count : min size (length bytes - at) ≡ length bytes - at = omega (arith, past) in
     let none : length (drop (at + size) bytes) ≡ 0 = omega (arith, length-drop (at + size) bytes, past) in
     ap (λ (n : ℕ). take n (drop at bytes) ++ drop (at + size) bytes) count
-    ∙ ap (λ (l : List ℕ). l
-    ++ drop (at + size) bytes)
+    ∙ ap (λ (l : List ℕ). l ++ drop (at + size) bytes)
     (take_all (length bytes - at) (drop at bytes) (omega (arith, length-drop at bytes)))
     ∙ ap (λ (l : List ℕ). drop at bytes ++ l) (empty (drop (at + size) bytes) none)
-    ∙ nothing_behind (drop at bytes))
+    ∙ append-nil (drop at bytes))
     (cases_lt size (length bytes - at))
 
 -- what stands in a range, put back, gives the same bytes
@@ -59,7 +54,8 @@ pub undone-spliced : (at : ℕ) (piece bytes : List ℕ) → at ≤ length bytes
     undone (spliced at piece bytes) (wrote at (length piece) (over at (length piece) bytes)) ≡ bytes
 undone-spliced at piece bytes le =
     let over_is : List ℕ = over at (length piece) bytes in
-    ap (λ (l : List ℕ). l ++ over_is ++ drop (at + length piece) (spliced at piece bytes)) (take-spliced at piece bytes le)
+    ap (λ (l : List ℕ). l ++ over_is ++ drop (at + length piece) (spliced at piece bytes))
+    (take-spliced at piece bytes le)
     ∙ ap (λ (l : List ℕ). take at bytes ++ over_is ++ l) (drop-spliced at piece bytes le)
     ∙ undone_same at (length piece) bytes le
 

@@ -2,7 +2,7 @@
 use Rattle.std.proofs.Common.{◌≡◌, ◌⊎◌, inl, inr, ⊎_elim, ℕ, ◌+◌, ◌-◌, ◌<◌, ◌≤◌, min, false, List, [], ◌∷◌, length, take, drop, get_or, refl, sym, ◌∙◌, ap, arith, length-drop}
 use Rattle.std.proofs.lemmas.Bool.{cases_lt, or_parts}
 use Rattle.std.proofs.lemmas.Bool.Decides.{nat_tests}
-use Rattle.std.proofs.lemmas.List.{same_lists, get_or_default, take_all, drop_all, take-take, length-take, get_or-take, get_or-drop, drop-drop}
+use Rattle.std.proofs.lemmas.List.{take_all, drop_all, take-take, length-take, get_or-take, get_or-drop, drop-drop}
 use Rattle.pol_disk.specs.Disks.{Torn, Holds, spliced}
 use Rattle.pol_disk.specs.Remains.{Range, MayRemain, is_within, is_written, reach}
 use Rattle.pol_disk.proofs.Splices.{length-spliced, take-spliced, drop-spliced, get-before, get-behind, get-inside}
@@ -48,8 +48,8 @@ remains_written kept ranges at piece bytes new remains le holds =
     }
 
 -- with a range more, what may remain may remain
-pub remains_more : (kept : List ℕ) (ranges : List Range) (range : Range) (image : List ℕ) → MayRemain kept ranges image →
-    MayRemain kept (range ∷ ranges) image
+pub remains_more : (kept : List ℕ) (ranges : List Range) (range : Range) (image : List ℕ) →
+    MayRemain kept ranges image → MayRemain kept (range ∷ ranges) image
 remains_more kept ranges range image remains = record {
   no_shorter = remains.no_shorter;
   no_longer = omega (arith, remains.no_longer);
@@ -173,14 +173,6 @@ module _ (kept : List ℕ) (ranges : List Range) (range : Range) (image : List �
   pub before_write : Before
   before_write = ⊎_elim (λ within. put_back within) (λ past. untouched past) (cases_lt range.at (length kept))
 
--- after a sync nothing else remains
-pub remains_only : (kept image : List ℕ) → MayRemain kept [] image → image ≡ kept
-remains_only kept image remains =
-    same_lists image kept (omega (arith, remains.no_shorter, remains.no_longer))
-    (λ place d inside. get_or_default image place d 0 inside
-    ∙ remains.stays place (omega (arith, inside, remains.no_longer)) refl
-    ∙ sym (get_or_default kept place d 0 (omega (arith, inside, remains.no_longer))))
-
--- and the bytes themselves do
+-- the bytes themselves remain after a sync
 pub remains_synced : (bytes : List ℕ) → MayRemain bytes [] bytes
 remains_synced bytes = record { no_shorter = omega arith; no_longer = omega arith; stays = λ place old unwritten. refl }

@@ -64,15 +64,6 @@ module _ (at : ℕ) (piece bytes : List ℕ) (le : at ≤ length bytes) where
       ∙ get_or-append_right (take at bytes) (piece ++ drop (at + length piece) bytes) at place 0 front_len from
       ∙ get_or-append piece (drop (at + length piece) bytes) 0 (place - at) (omega (arith, from, to))
 
-  -- a whole write is one that may be torn
-  pub torn_whole : Torn at (length piece) bytes (spliced at piece bytes)
-  torn_whole = record {
-    before = take-spliced;
-    after = drop-spliced;
-    no_shorter = omega (arith, length-spliced);
-    no_longer = omega (arith, length-spliced);
-  }
-
 -- nothing was written
 pub torn_same : (at size : ℕ) (bytes : List ℕ) → Torn at size bytes bytes
 torn_same at size bytes = record { before = refl; after = refl; no_shorter = omega arith; no_longer = omega arith }

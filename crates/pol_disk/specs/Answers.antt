@@ -3,8 +3,8 @@ use Rattle.std.specs.Prelude.{ℕ, ◌-◌, min, ◌==◌, Bool, true, if◌then
 use Rattle.pol_disk.specs.Disks.{Elapses, spliced}
 use Rattle.pol_disk.specs.Records.{Deed, IsLeft, LeftSince, synced, wrote}
 
--- a call with its answer: so long was the file; these bytes were read from a place on; the whole piece was written there; a
--- write of the piece failed, and may have been made in part; a sync succeeded
+-- a call with its answer: so long was the file; these bytes were read from a place on; the whole piece was written
+-- there; a write of the piece failed, and may have been made in part; a sync succeeded
 pub data FileCall : Type 0 where
   measured : (size : ℕ) → FileCall
   read : (at : ℕ) (bytes : List ℕ) → FileCall
@@ -12,8 +12,8 @@ pub data FileCall : Type 0 where
   tried : (at : ℕ) (piece : List ℕ) → FileCall
   brought : FileCall
 
--- what is told of a file: the bytes that reads give, the calls that changed what a crash may leave, the newest first, and
--- whether each answer was the one of a disk
+-- what is told of a file: the bytes that reads give, the calls that changed what a crash may leave, the newest first,
+-- and whether each answer was the one of a disk
 pub record Told : Type 0 where
   pub bytes : List ℕ
   pub deeds : List Deed
@@ -47,8 +47,8 @@ stand_at at bytes all = bytes_eq (take (length bytes) (drop at all)) bytes
 abbrev pub over : ℕ → ℕ → List ℕ → List ℕ
 over at size bytes = take (min size (length bytes - at)) (drop at bytes)
 
--- what is told after one call more of a file that answered as a disk does so far: of a write that failed reads tell nothing,
--- and a crash may leave it
+-- what is told after one call more of a file that answered as a disk does so far: of a write that failed reads tell
+-- nothing, and a crash may leave it
 abbrev pub after_call : FileCall → Told → Told
 after_call (measured size) told = record told { is_true = size == length told.bytes }
 after_call (read at bytes) told = record told { is_true = stand_at at bytes told.bytes }

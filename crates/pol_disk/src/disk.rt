@@ -8,8 +8,8 @@ ghost use Rattle.pol_disk.specs.Disks.{BothTell, Elapses, Follows, Holds, IsImag
 use pol_io::Failed;
 
 /// A disk: bytes that are read and written at any place, and that outlive a crash once they are synced. A call fails
-/// only where the count of faults rose in it. Where a length or a read was other than the bytes that were told, the disk
-/// tells no bytes any more; so what it tells after a call is what the call answered by.
+/// only where the count of faults rose in it. Where a length or a read was other than the bytes that were told, the
+/// disk tells no bytes any more; so what it tells after a call is what the call answered by.
 pub trait Disk {
     /// The bytes that reads give, where the disk tells them. One of which a sync failed needn't.
     ghost bytes: { Self → Option (List ℕ) };
@@ -62,9 +62,9 @@ pub trait Disk {
             (left_since self.old) (left_since self.new) (images self.new) }
         ensures cause { HasCause (faults self.old) (faults self.new) result };
 
-    /// After it a crash leaves what reads give, and nothing else. After `Failed` a disk may tell nothing more until it is
-    /// opened anew: a kernel may take for written what never came to the device, so that reads give it, and no later sync
-    /// brings it there.
+    /// After it a crash leaves what reads give, and nothing else. After `Failed` a disk may tell nothing more until it
+    /// is opened anew: a kernel may take for written what never came to the device, so that reads give it, and no
+    /// later sync brings it there.
     fn sync(&mut self) -> Result<(), Failed>
         ensures durable { OnOk result (IfSome (bytes self.old) (λ all. Only all (images self.new))) }
         ensures bytes { OnOk result (bytes self.new ≡ bytes self.old) }

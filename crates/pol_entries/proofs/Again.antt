@@ -1,17 +1,11 @@
 -- What is written of an answer is found again under the keys of its object.
-use Rattle.std.proofs.Common.{◌≡◌, ◌≤◌, ◌&&◌, ◌∷◌, [], ℕ, length, map, List, Bool, true, false, Some, refl, ap, ◌∙◌, arith, codes}
+use Rattle.std.proofs.Common.{◌≡◌, ◌≤◌, ◌&&◌, ◌∷◌, [], ℕ, length, map, List, Bool, true, false, Some, refl, ap, ◌∙◌}
+use Rattle.std.proofs.Common.{arith, codes}
 use Rattle.std.proofs.lemmas.Bool.{and_parts, le-leb, leb-true}
 use Rattle.std.specs.List.{list_all}
 use Rattle.std.specs.Prelude.{nat_le, unwrap_or}
 use Rattle.serde_json.specs.Data.{number as number_data, string, unsigned}
 use Rattle.serde_json.specs.View.{items_of}
-use Rattle.chart_core.specs.declared.entry.LogEntry.{LogEntry}
-use Rattle.chart_core.specs.declared.entry.LogEntry.TheVariants as entry
-use Rattle.chart_core.specs.declared.next.Outcome.{Outcome}
-use Rattle.chart_core.specs.declared.next.Outcome.TheVariants.{Completed, Broken, Stopped, Abandoned}
-use Rattle.chart_core.specs.declared.why.Why.{Why}
-use Rattle.chart_core.specs.declared.why.Why.TheVariants as why
-use Rattle.chart_core.specs.declared.limits.TheConstants.{MOST_READS}
 use Rattle.mtp_codes.specs.Codes.{command_codes, command_number, command_of, state_codes, state_number, state_of}
 use Rattle.mtp_codes.specs.Names.{is_name}
 use Rattle.mtp_codes.specs.Numbers.{greatest_u32, greatest_u64, is_between}
@@ -25,18 +19,35 @@ use Rattle.mtp_codes.specs.declared.value.Reading.{Reading}
 use Rattle.mtp_codes.specs.declared.value.Reading.TheVariants.{Whole, Bit}
 use Rattle.mtp_json.specs.Leaf.{count, name}
 use Rattle.mtp_json.proofs.Again.{len_again, whole_again}
-use Rattle.pol_events.specs.RuleTable.{rule_row}
+use Rattle.mtp_json.specs.Leaf.{meaning_of}
+use Rattle.chart_core.specs.declared.entry.LogEntry.{LogEntry}
+use Rattle.chart_core.specs.declared.entry.LogEntry.TheVariants as entry
+use Rattle.chart_core.specs.declared.next.Outcome.{Outcome}
+use Rattle.chart_core.specs.declared.next.Outcome.TheVariants.{Completed, Broken, Stopped, Abandoned}
+use Rattle.chart_core.specs.declared.why.Why.{Why}
+use Rattle.chart_core.specs.declared.why.Why.TheVariants as why
+use Rattle.chart_core.specs.declared.limits.TheConstants.{MOST_READS}
 use Rattle.pol_events.specs.declared.answer.Rule.{Rule}
-use Rattle.pol_events.specs.declared.answer.Rule.TheVariants.{TagTaken, NoModule, PlantFull, Held, InExchange, NotInExchange, WrongTicket, NoService, NotAnEdge, NoVariable, WrongKind, RecipeKnown, NoRecipe, BatchKnown, NoBatch, BatchClosed, RoleUnbound, RoleUnknown, OneModuleTwice, WrongType, WrongVersion, NotCovered, NotReported, NotIdle, Busy, BatchesFull, NotAtRest, ActiveStep, HeldBack, ModeForbids, StateForbids, NotEnabled, OutOfRange, NotFrozen, AlreadyFrozen, SelfCompletes, RecipesFull, HistoryFull, Watched, WatchedStep}
+use Rattle.pol_events.specs.declared.answer.Rule.TheVariants.{TagTaken, NoModule, PlantFull, Held, InExchange}
+use Rattle.pol_events.specs.declared.answer.Rule.TheVariants.{NotInExchange, WrongTicket, NoService, NotAnEdge}
+use Rattle.pol_events.specs.declared.answer.Rule.TheVariants.{NoVariable, WrongKind, RecipeKnown, NoRecipe, BatchKnown}
+use Rattle.pol_events.specs.declared.answer.Rule.TheVariants.{NoBatch, BatchClosed, RoleUnbound, RoleUnknown}
+use Rattle.pol_events.specs.declared.answer.Rule.TheVariants.{OneModuleTwice, WrongType, WrongVersion, NotCovered}
+use Rattle.pol_events.specs.declared.answer.Rule.TheVariants.{NotReported, NotIdle, Busy, BatchesFull, NotAtRest}
+use Rattle.pol_events.specs.declared.answer.Rule.TheVariants.{ActiveStep, HeldBack, ModeForbids, StateForbids}
+use Rattle.pol_events.specs.declared.answer.Rule.TheVariants.{NotEnabled, OutOfRange, NotFrozen, AlreadyFrozen}
+use Rattle.pol_events.specs.declared.answer.Rule.TheVariants.{SelfCompletes, RecipesFull, HistoryFull, Watched}
+use Rattle.pol_events.specs.declared.answer.Rule.TheVariants.{WatchedStep}
+use Rattle.event_json.specs.RuleTable.{rule_row}
+use Rattle.event_json.specs.FieldRanges.{are_in_range, is_reading_in_range}
 use Rattle.pol_record.specs.Objects.{fields_data, reading_data}
 use Rattle.pol_record.specs.Rows.{entry_row, forbid_name, obstacle_row}
 use Rattle.pol_record.specs.Texts.{entry_data, obstacle_fields, refusal_fields}
+use Rattle.pol_record.specs.Ranges.{is_start_in_range}
 use Rattle.pol_entries.specs.Answers.{closed_fields, has}
 use Rattle.pol_entries.specs.Candidates.{entry_named, obstacle_named, outcome_named, rule_numbered}
-use Rattle.pol_entries.specs.Found.{each_reading, few_readings, forbid_words, found_or, lookup_in, number_at, reading_of, text_at, up_to}
-use Rattle.pol_events.specs.FieldRanges.{are_in_range, is_reading_in_range}
-use Rattle.pol_record.specs.Ranges.{is_start_in_range}
-use Rattle.mtp_json.specs.Leaf.{meaning_of}
+use Rattle.pol_entries.specs.Found.{each_reading, few_readings, forbid_words, found_or, lookup_in, number_at}
+use Rattle.pol_entries.specs.Found.{reading_of, text_at, up_to}
 
 -- ---- single values
 

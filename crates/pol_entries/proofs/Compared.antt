@@ -1,5 +1,6 @@
 -- What a value is, compared part by part: the steps of the loops, and what is told where all parts are the same.
-use Rattle.std.proofs.Common.{◌≡◌, ◌<◌, ◌≤◌, ◌∷◌, [], ◌++◌, ◌==◌, ◌^◌, ℕ, ℤ, pos, negsuc, suc, length, map, List, Bool, true, false, Some, None, refl, sym, ap, ◌∙◌, arith, if◌then◌else◌}
+use Rattle.std.proofs.Common.{◌≡◌, ◌<◌, ◌≤◌, ◌∷◌, [], ◌++◌, ◌==◌, ◌^◌, ℕ, ℤ, pos, negsuc, suc, length, map, List, Bool}
+use Rattle.std.proofs.Common.{true, false, Some, None, refl, sym, ap, ◌∙◌, arith, if◌then◌else◌}
 use Rattle.std.proofs.lemmas.Bool.{and_parts, eqb-true, le-leb}
 use Rattle.std.proofs.lemmas.Bool.Decides.{Decides-eqb, Decides-int_eq, nat_tests}
 use Rattle.std.proofs.lemmas.List.{append-nil}
@@ -7,7 +8,8 @@ use Rattle.std.proofs.lemmas.Slice.Eq.{bytes_eq-Decides}
 use Rattle.std.specs.Ordering.{int_eq}
 use Rattle.std.specs.Prelude.{nat_le, nat_lt}
 use Rattle.std.specs.Str.{bytes_eq}
-use Rattle.serde_json.specs.Data.{Data, null, boolean, number as number_data, unsigned, negative, float, string, array, object, Items, no_items, item, Members, no_members, member}
+use Rattle.serde_json.specs.Data.{Data, null, boolean, number as number_data, unsigned, negative, float, string, array}
+use Rattle.serde_json.specs.Data.{object, Items, no_items, item, Members, no_members, member}
 use Rattle.serde_json.specs.Events.{items_len}
 use Rattle.serde_json.specs.Find.{of_integer}
 use Rattle.serde_json.specs.View.{items_of, items_view}
@@ -17,10 +19,11 @@ use Rattle.mtp_codes.specs.declared.value.Reading.{Reading}
 use Rattle.mtp_codes.specs.declared.value.Reading.TheVariants.{Whole, Bit}
 use Rattle.mtp_codes.proofs.Names.{same_refl}
 use Rattle.chart_core.specs.declared.limits.TheConstants.{MOST_READS}
-use Rattle.pol_events.specs.Fields.{PlainField, PlainFieldValue, plain_field, in_order, number, readings, text}
-use Rattle.pol_events.specs.declared.fields.Field.{Field}
+use Rattle.event_json.specs.Fields.{PlainField, PlainFieldValue, plain_field, in_order, number, readings, text}
+use Rattle.event_json.specs.declared.fields.Field.{Field}
 use Rattle.pol_record.specs.Objects.{fields_data, members_in, reading_data, value_data}
-use Rattle.pol_entries.specs.Compared.{are_fields, are_readings, is_field, is_object, is_reading, is_there, is_value, is_whole, same_bit}
+use Rattle.pol_entries.specs.Compared.{are_fields, are_readings, is_field, is_object, is_reading, is_there, is_value}
+use Rattle.pol_entries.specs.Compared.{is_whole, same_bit}
 use Rattle.pol_entries.specs.Found.{each_reading, few_readings}
 
 -- ---- goals of loops

@@ -1,7 +1,6 @@
 -- The entry of a line, by the event in it.
 use Rattle.std.proofs.Common.{◌≡◌, ℕ, List, Option, Some, None, Ok, Err, Result, refl, sym, ap, ◌∙◌, codes}
 use Rattle.serde_json.specs.Data.{Data}
-use Rattle.chart_core.specs.declared.fault.ChartFault.{ChartFault}
 use Rattle.mtp_json.specs.Form.{nested, nothing_but, object_here}
 use Rattle.mtp_json.specs.ReadsAs.{ReadsUnder}
 use Rattle.mtp_json.specs.ReadResult.{ReadResult, under}
@@ -9,14 +8,15 @@ use Rattle.mtp_json.specs.declared.fault.JsonFault.{JsonFault}
 use Rattle.mtp_json.specs.declared.fault.JsonRefusal.{JsonRefusal}
 use Rattle.mtp_json.specs.declared.fault.JsonRefusal.TheVariants.{Fault, Memory}
 use Rattle.mtp_json.specs.declared.path.PathPart.TheVariants.{Key}
+use Rattle.chart_core.specs.declared.fault.ChartFault.{ChartFault}
 use Rattle.pol_events.specs.Events.{PlainEvent, plain_event}
-use Rattle.pol_events.specs.declared.fault.LineFault.TheVariants.{Json, Chart, TooLong}
 use Rattle.pol_events.specs.declared.answer.Answer.{Answer}
+use Rattle.pol_events.specs.declared.event.Event.{Event}
+use Rattle.event_json.specs.declared.fault.LineFault.TheVariants.{Json, Chart, TooLong}
+use Rattle.event_json.specs.Forms.{event_in}
+use Rattle.event_json.specs.Lines.{fault_within, of_line, unless_faulty}
 use Rattle.pol_entries.specs.Answers.{answer_form}
 use Rattle.pol_entries.specs.Entries.{ReadsAs, Sound, entry_form}
-use Rattle.pol_events.specs.Forms.{event_in}
-use Rattle.pol_events.specs.Lines.{fault_within, of_line, unless_faulty}
-use Rattle.pol_events.specs.declared.event.Event.{Event}
 
 -- ---- what a line says, by what was read of it
 

@@ -1,27 +1,31 @@
 -- An answer that a value says is the one whose object the value is, and each answer that a program holds is said by its
 -- object.
-use Rattle.std.proofs.Common.{◌≡◌, [], ℕ, List, Bool, true, false, Option, Some, None, Result, Ok, Err, refl, sym, ap, ◌∙◌, codes, if◌then◌else◌}
+use Rattle.std.proofs.Common.{◌≡◌, [], ℕ, List, Bool, true, false, Option, Some, None, Result, Ok, Err, refl, sym, ap}
+use Rattle.std.proofs.Common.{◌∙◌, codes, if◌then◌else◌}
 use Rattle.std.proofs.lemmas.Slice.Eq.{bytes_eq-Decides}
 use Rattle.std.specs.Prelude.{option_and_then, option_map}
 use Rattle.std.specs.Str.{bytes_eq}
-use Rattle.serde_json.specs.Data.{Data, null, boolean, number as number_data, string, array, object, Members, no_members, member}
+use Rattle.serde_json.specs.Data.{Data, null, boolean, number as number_data, string, array, object, Members}
+use Rattle.serde_json.specs.Data.{no_members, member}
 use Rattle.serde_json.specs.Find.{as_bool}
-use Rattle.chart_core.specs.declared.entry.LogEntry.{LogEntry}
-use Rattle.pol_events.specs.Fields.{PlainField}
-use Rattle.pol_events.specs.declared.answer.Answer.{Answer}
-use Rattle.pol_events.specs.declared.answer.Answer.TheVariants.{Done, Ticket, Did, Waiting, Closed, Refused}
-use Rattle.pol_record.specs.Objects.{fields_data}
-use Rattle.pol_record.specs.Texts.{answer_data, entry_fields, obstacle_fields, refusal_fields, under_key}
 use Rattle.mtp_json.specs.ReadsAs.{ReadsAs}
 use Rattle.mtp_json.specs.ReadResult.{here}
 use Rattle.mtp_json.specs.declared.fault.FaultKind.TheVariants.{Unsound}
 use Rattle.mtp_json.specs.declared.fault.JsonRefusal.{JsonRefusal}
 use Rattle.mtp_json.specs.declared.fault.JsonRefusal.TheVariants.{Fault, Memory}
-use Rattle.pol_entries.specs.Answers.{IsNoAnswer, ReadsAnswer, answer_form, or_unsound, alone, alone_in, answer_in, checked, closed_fields, done_in, entry_in, has, obstacle_in, outcome_in, rule_in, ticket_fields, ticket_in}
+use Rattle.chart_core.specs.declared.entry.LogEntry.{LogEntry}
+use Rattle.pol_events.specs.declared.answer.Answer.{Answer}
+use Rattle.pol_events.specs.declared.answer.Answer.TheVariants.{Done, Ticket, Did, Waiting, Closed, Refused}
+use Rattle.event_json.specs.Fields.{PlainField}
+use Rattle.pol_record.specs.Objects.{fields_data}
+use Rattle.pol_record.specs.Texts.{answer_data, entry_fields, obstacle_fields, refusal_fields, under_key}
+use Rattle.pol_record.specs.Ranges.{is_in_range}
+use Rattle.pol_entries.specs.Answers.{IsNoAnswer, ReadsAnswer, answer_form, or_unsound, alone, alone_in, answer_in}
+use Rattle.pol_entries.specs.Answers.{checked, closed_fields, done_in, entry_in, has, obstacle_in, outcome_in, rule_in}
+use Rattle.pol_entries.specs.Answers.{ticket_fields, ticket_in}
 use Rattle.pol_entries.specs.Compared.{is_object, is_there, same_bit}
 use Rattle.pol_entries.specs.Candidates.{entry_named, obstacle_named, outcome_named, rule_numbered}
 use Rattle.pol_entries.specs.Found.{lookup_in, number_at, text_at}
-use Rattle.pol_record.specs.Ranges.{is_in_range}
 use Rattle.pol_entries.proofs.Again.{entry_again, number_again, obstacle_again, outcome_again, rule_again}
 use Rattle.pol_entries.proofs.Compared.{object_is, object_same}
 

@@ -1,24 +1,25 @@
 -- The answer that an object says: the one whose written form it is.
-use Rattle.std.specs.Prelude.{◌≡◌, ◌≢◌, ℕ, List, [], ◌∷◌, codes, true, Bool, Option, Some, None, option_and_then, option_map, Result, Ok, Err, is_some, if◌then◌else◌}
+use Rattle.std.specs.Prelude.{◌≡◌, ◌≢◌, ℕ, List, [], ◌∷◌, codes, true, Bool, Option, Some, None, option_and_then}
+use Rattle.std.specs.Prelude.{option_map, Result, Ok, Err, is_some, if◌then◌else◌}
+use Rattle.std.specs.Str.{bytes_eq}
 use Rattle.serde_json.specs.Data.{Data, Members, no_members, member}
 use Rattle.serde_json.specs.Find.{as_bool, as_object, get}
-use Rattle.std.specs.Str.{bytes_eq}
-use Rattle.chart_core.specs.declared.entry.LogEntry.{LogEntry}
-use Rattle.chart_core.specs.declared.next.Outcome.{Outcome}
-use Rattle.chart_core.specs.declared.why.Why.{Why}
 use Rattle.mtp_json.specs.ReadResult.{Finding, ReadResult, here}
 use Rattle.mtp_json.specs.declared.fault.FaultKind.TheVariants.{Unsound}
 use Rattle.mtp_json.specs.declared.fault.JsonRefusal.{JsonRefusal}
 use Rattle.mtp_json.specs.declared.fault.JsonRefusal.TheVariants.{Fault, Memory}
-use Rattle.pol_events.specs.Fields.{PlainField, number_field, text_field}
+use Rattle.chart_core.specs.declared.entry.LogEntry.{LogEntry}
+use Rattle.chart_core.specs.declared.next.Outcome.{Outcome}
+use Rattle.chart_core.specs.declared.why.Why.{Why}
 use Rattle.pol_events.specs.declared.answer.Answer.{Answer}
 use Rattle.pol_events.specs.declared.answer.Answer.TheVariants.{Done, Ticket, Did, Waiting, Closed, Refused}
 use Rattle.pol_events.specs.declared.answer.Rule.{Rule}
+use Rattle.event_json.specs.Fields.{PlainField, number_field, text_field}
 use Rattle.pol_record.specs.Texts.{answer_data, entry_fields, obstacle_fields, outcome_name, refusal_fields}
+use Rattle.pol_record.specs.Ranges.{is_in_range}
 use Rattle.pol_entries.specs.Candidates.{entry_named, obstacle_named, outcome_named, rule_numbered}
 use Rattle.pol_entries.specs.Compared.{is_object, is_there, same_bit}
 use Rattle.pol_entries.specs.Found.{lookup_in, number_at, text_at}
-use Rattle.pol_record.specs.Ranges.{is_in_range}
 
 -- what an object may tell, if the object is the one of its fields
 abbrev pub checked : {A : Type 0} → (A → List PlainField) → Data → Option A → Option A

@@ -1,16 +1,25 @@
 -- What may be told, by a name or a number: each kind of answer with what stands under its keys.
 use Rattle.std.specs.Prelude.{ℕ, List, [], ◌∷◌, map, codes, Option}
+use Rattle.mtp_codes.specs.Codes.{named_by}
+use Rattle.mtp_json.specs.Leaf.{meaning_of}
 use Rattle.chart_core.specs.declared.entry.LogEntry.{LogEntry}
 use Rattle.chart_core.specs.declared.entry.LogEntry.TheVariants as entry
 use Rattle.chart_core.specs.declared.next.Outcome.{Outcome}
 use Rattle.chart_core.specs.declared.next.Outcome.TheVariants.{Completed, Broken, Stopped, Abandoned}
 use Rattle.chart_core.specs.declared.why.Why.{Why}
 use Rattle.chart_core.specs.declared.why.Why.TheVariants as why
-use Rattle.mtp_codes.specs.Codes.{named_by}
-use Rattle.mtp_json.specs.Leaf.{meaning_of}
-use Rattle.pol_events.specs.RuleTable.{rule_row}
 use Rattle.pol_events.specs.declared.answer.Rule.{Rule}
-use Rattle.pol_events.specs.declared.answer.Rule.TheVariants.{TagTaken, NoModule, PlantFull, Held, InExchange, NotInExchange, WrongTicket, NoService, NotAnEdge, NoVariable, WrongKind, RecipeKnown, NoRecipe, BatchKnown, NoBatch, BatchClosed, RoleUnbound, RoleUnknown, OneModuleTwice, WrongType, WrongVersion, NotCovered, NotReported, NotIdle, Busy, BatchesFull, NotAtRest, ActiveStep, HeldBack, ModeForbids, StateForbids, NotEnabled, OutOfRange, NotFrozen, AlreadyFrozen, SelfCompletes, RecipesFull, HistoryFull, Watched, WatchedStep}
+use Rattle.pol_events.specs.declared.answer.Rule.TheVariants.{TagTaken, NoModule, PlantFull, Held, InExchange}
+use Rattle.pol_events.specs.declared.answer.Rule.TheVariants.{NotInExchange, WrongTicket, NoService, NotAnEdge}
+use Rattle.pol_events.specs.declared.answer.Rule.TheVariants.{NoVariable, WrongKind, RecipeKnown, NoRecipe, BatchKnown}
+use Rattle.pol_events.specs.declared.answer.Rule.TheVariants.{NoBatch, BatchClosed, RoleUnbound, RoleUnknown}
+use Rattle.pol_events.specs.declared.answer.Rule.TheVariants.{OneModuleTwice, WrongType, WrongVersion, NotCovered}
+use Rattle.pol_events.specs.declared.answer.Rule.TheVariants.{NotReported, NotIdle, Busy, BatchesFull, NotAtRest}
+use Rattle.pol_events.specs.declared.answer.Rule.TheVariants.{ActiveStep, HeldBack, ModeForbids, StateForbids}
+use Rattle.pol_events.specs.declared.answer.Rule.TheVariants.{NotEnabled, OutOfRange, NotFrozen, AlreadyFrozen}
+use Rattle.pol_events.specs.declared.answer.Rule.TheVariants.{SelfCompletes, RecipesFull, HistoryFull, Watched}
+use Rattle.pol_events.specs.declared.answer.Rule.TheVariants.{WatchedStep}
+use Rattle.event_json.specs.RuleTable.{rule_row}
 use Rattle.pol_record.specs.Rows.{entry_row, obstacle_row}
 use Rattle.pol_record.specs.Texts.{outcome_name}
 use Rattle.pol_entries.specs.Found.{Lookup}

@@ -1,12 +1,13 @@
 -- That a value is the object of some fields.
-use Rattle.std.specs.Prelude.{ℕ, ◌==◌, ◌&&◌, ℤ, pos, negsuc, List, [], ◌∷◌, Bool, true, false, Option, Some, None, option_and_then}
+use Rattle.std.specs.Prelude.{ℕ, ◌==◌, ◌&&◌, ℤ, pos, negsuc, List, [], ◌∷◌, Bool, true, false, Option, Some, None}
+use Rattle.std.specs.Prelude.{option_and_then}
 use Rattle.std.specs.Ordering.{int_eq}
 use Rattle.std.specs.Str.{bytes_eq}
 use Rattle.serde_json.specs.Data.{Data, Items, no_items, item, Members, no_members, member}
 use Rattle.serde_json.specs.Find.{as_array, as_bool, as_i64, as_number, as_object, as_str, as_u64}
 use Rattle.mtp_codes.specs.declared.value.Reading.{Reading}
 use Rattle.mtp_codes.specs.declared.value.Reading.TheVariants.{Whole, Bit}
-use Rattle.pol_events.specs.Fields.{PlainField, PlainFieldValue, in_order, number, readings, text}
+use Rattle.event_json.specs.Fields.{PlainField, PlainFieldValue, in_order, number, readings, text}
 
 -- something is there that passes the test
 abbrev pub is_there : {A : Type 0} → (A → Bool) → Option A → Bool

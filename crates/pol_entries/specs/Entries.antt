@@ -1,18 +1,18 @@
 -- The entry of a history that a line says: an object of an answer and an event.
 use Rattle.std.specs.Prelude.{◌≡◌, ℕ, List, codes, Some, None, Result, Ok, Err}
 use Rattle.serde_json.specs.Data.{Data}
-use Rattle.chart_core.specs.declared.fault.ChartFault.{ChartFault}
 use Rattle.mtp_json.specs.Form.{nested, nothing_but, object_here}
 use Rattle.mtp_json.specs.ReadsAs.{IsFaultOrMemory as FailsJson}
 use Rattle.mtp_json.specs.Parse.{json_of}
 use Rattle.mtp_json.specs.ReadResult.{ReadResult, ◌>>=◌, here}
 use Rattle.mtp_json.specs.declared.fault.JsonRefusal.{JsonRefusal}
+use Rattle.chart_core.specs.declared.fault.ChartFault.{ChartFault}
 use Rattle.pol_events.specs.Events.{PlainEntry, PlainEvent, plain_entry}
-use Rattle.pol_events.specs.Forms.{event_in}
-use Rattle.pol_events.specs.Lines.{TellsAs, fault_within, of_read}
 use Rattle.pol_events.specs.declared.event.Entry.{Entry}
-use Rattle.pol_events.specs.declared.fault.LineFault.{LineFault}
-use Rattle.pol_events.specs.declared.fault.LineRefusal.{LineRefusal}
+use Rattle.event_json.specs.Forms.{event_in}
+use Rattle.event_json.specs.Lines.{TellsAs, fault_within, of_read}
+use Rattle.event_json.specs.declared.fault.LineFault.{LineFault}
+use Rattle.event_json.specs.declared.fault.LineRefusal.{LineRefusal}
 use Rattle.pol_entries.specs.Answers.{answer_form}
 
 -- the object of an entry

@@ -4,9 +4,9 @@ use Rattle.std.specs.Ordering.{int_eq}
 use Rattle.std.specs.Str.{bytes_eq}
 use Rattle.mtp_codes.specs.declared.value.Reading.{Reading}
 use Rattle.mtp_codes.specs.declared.value.Reading.TheVariants.{Whole, Bit}
-use Rattle.pol_events.specs.Fields.{PlainField, PlainFieldValue, number, readings, text}
 use Rattle.pol_events.specs.declared.answer.Answer.{Answer}
 use Rattle.pol_events.specs.declared.answer.Answer.TheVariants.{Done, Ticket, Did, Waiting, Closed, Refused}
+use Rattle.event_json.specs.Fields.{PlainField, PlainFieldValue, number, readings, text}
 use Rattle.pol_record.specs.Texts.{entry_fields, obstacle_fields, outcome_name, refusal_fields}
 use Rattle.pol_entries.specs.Compared.{same_bit}
 

@@ -2,14 +2,16 @@
 ghost use Rattle.std.specs.Prelude.{◌≡◌, codes, option_and_then, option_map};
 ghost use Rattle.serde_json.specs.View.{view};
 ghost use Rattle.mtp_json.specs.ReadsAs.{ReadsAs};
-ghost use Rattle.pol_entries.specs.Answers.{ReadsAnswer, alone, answer_form, answer_in, done_in, entry_in, has, obstacle_in, or_unsound, outcome_in, rule_in, ticket_in};
+ghost use Rattle.pol_entries.specs.Answers.{ReadsAnswer, alone, answer_form, answer_in, done_in, entry_in, has};
+ghost use Rattle.pol_entries.specs.Answers.{obstacle_in, outcome_in, rule_in, ticket_in};
 
 use crate::candidates::{entry_named, obstacle_named, outcome_named, rule_numbered};
 use crate::comparing::is_object;
 use crate::found::{number_at, text_at};
 use chart_core::{LogEntry, Outcome, Why};
+use event_json::Fields;
 use mtp_json::{FaultKind, FromJson, JsonRefusal, here};
-use pol_events::{Answer, Fields, Rule};
+use pol_events::{Answer, Rule};
 use pol_record::{entry_fields, obstacle_fields, outcome_name, refusal_fields};
 use serde_json::Value;
 use std::alloc::Global;

@@ -1,11 +1,12 @@
 //! Whether a value is the object of some fields.
 ghost use Rattle.std.specs.Prelude.{◌≡◌, map};
 ghost use Rattle.serde_json.specs.View.{items_view, members_view, view};
-ghost use Rattle.pol_events.specs.Fields.{plain_field, fields_of, number, text, plain_field_value};
-ghost use Rattle.pol_entries.specs.Compared.{are_fields, are_readings, is_field, is_object, is_reading, is_value, is_whole};
+ghost use Rattle.event_json.specs.Fields.{plain_field, fields_of, number, text, plain_field_value};
+ghost use Rattle.pol_entries.specs.Compared.{are_fields, are_readings, is_field, is_object, is_reading, is_value};
+ghost use Rattle.pol_entries.specs.Compared.{is_whole};
 
+use event_json::{Field, FieldValue, Fields};
 use mtp_codes::Reading;
-use pol_events::{Field, FieldValue, Fields};
 use serde_json::{Map, Value};
 
 fn is_whole(value: &Value, number: i64) -> bool

@@ -1,21 +1,21 @@
 //! Reading the lines of a history.
-ghost use Rattle.std.specs.Prelude.{◌≡◌, IfOk, IsTrue, codes};
+ghost use Rattle.std.specs.Prelude.{IfOk, IsTrue, codes};
 ghost use Rattle.serde_json.specs.View.{view};
 ghost use Rattle.mtp_json.specs.Form.{nested};
-ghost use Rattle.mtp_json.specs.ReadsAs.{ReadsAs as GivesJson};
 ghost use Rattle.pol_events.specs.Events.{plain_entry, plain_event};
-ghost use Rattle.pol_events.specs.Forms.{event_in};
 ghost use Rattle.pol_events.specs.Orderly.{is_orderly};
+ghost use Rattle.event_json.specs.Forms.{event_in};
 ghost use Rattle.pol_entries.specs.Entries.{ReadsAs, Tells, entry_form, entry_of, read_of};
 
 use crate::answers::AnswerJson;
 use chart_core::ChartFault;
+use event_json::{LineFault, LineRefusal, event_from};
 use mtp_json::{JsonRefusal, form_at, nothing_but, object_here, parse, under, value_at};
-use pol_events::{Answer, Entry, Event, LineFault, LineRefusal, event_from};
+use pol_events::{Answer, Entry, Event};
 use serde_json::Value;
 use std::alloc::Global;
 
-#[tactic(auto, using(pol_events::proofs::Versions::line_parts, crate::proofs::Lines::line_chart, crate::proofs::Lines::line_json, crate::proofs::Lines::line_short))]
+#[tactic(auto, using(event_json::proofs::Versions::line_parts, crate::proofs::Lines::line_chart, crate::proofs::Lines::line_json, crate::proofs::Lines::line_short))]
 fn event_here(alloc: Global, value: &Value) -> Result<Result<Event, ChartFault>, JsonRefusal>
     ensures gives { ReadsAs plain_event (λ event. event) result (event_in (view value.now)) }
     ensures orderly { IfOk result (λ asked. IfOk asked (λ event. IsTrue (is_orderly (plain_event event)))) }

@@ -4,7 +4,8 @@ ghost use Rattle.mtp_codes.specs.Numbers.{greatest_i64, least_i64};
 ghost use Rattle.mtp_codes.specs.declared.value.Reading.TheVariants.{Whole};
 ghost use Rattle.mtp_json.specs.Leaf.{whole};
 ghost use Rattle.serde_json.specs.View.{items_view, view};
-ghost use Rattle.pol_entries.specs.Found.{command_at, few_readings, forbid_at, found_or, half_at, name_at, number_at, reading_of, readings_at, state_at, text_at};
+ghost use Rattle.pol_entries.specs.Found.{command_at, few_readings, forbid_at, found_or, half_at, name_at, number_at};
+ghost use Rattle.pol_entries.specs.Found.{reading_of, readings_at, state_at, text_at};
 
 use chart_core::{MOST_READS, Readings};
 use mtp_codes::{Command, Forbid, Name, Reading, State};

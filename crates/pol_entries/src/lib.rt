@@ -3,6 +3,8 @@
 //! What `pol_record` writes is read back as the same value, and nothing else is: the number or the name in an object
 //! tells of which kind the answer is, its fields are read by their keys, and the object has to be the one that the
 //! answer is written as. This crate knows nothing of what an event should be answered.
+//!
+//! Tried in `pol_examples`.
 #![tactic(auto)]
 
 mod answers;

@@ -1,11 +1,12 @@
 //! Whether two answers are the same.
 ghost use Rattle.std.specs.Prelude.{◌≡◌, map};
 ghost use Rattle.std.specs.Bool.{Decides};
-ghost use Rattle.pol_events.specs.Fields.{plain_field, fields_of, plain_field_value};
+ghost use Rattle.event_json.specs.Fields.{plain_field, fields_of, plain_field_value};
 ghost use Rattle.pol_entries.specs.Same.{same_answer, same_field, same_fields, same_reading, same_readings, same_value};
 
+use event_json::{Field, FieldValue, Fields};
 use mtp_codes::Reading;
-use pol_events::{Answer, Field, FieldValue, Fields};
+use pol_events::Answer;
 use pol_record::{entry_fields, obstacle_fields, outcome_name, refusal_fields};
 
 fn same_reading(reading: Reading, other: Reading) -> bool

@@ -3,12 +3,4 @@ pub mod Lists
 pub mod Played
 pub mod Rising
 pub mod Given
-pub mod Members
-pub mod Orderly
-pub mod Named
-pub mod Entries
-pub mod Again
-pub mod Depths
-pub mod Places
 pub mod Histories
-pub mod Versions

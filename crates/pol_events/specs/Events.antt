@@ -10,7 +10,9 @@ use Rattle.chart_core.specs.Charts.{plain_chart}
 use Rattle.pol_events.specs.declared.answer.Answer.{Answer}
 use Rattle.pol_events.specs.Bound.{PlainAllocation}
 use Rattle.pol_events.specs.declared.event.Event.{Event}
-use Rattle.pol_events.specs.declared.event.Event.TheVariants.{Plug, Unplug, Report, Variable, Recipe, Start, Advance, Freeze, Thaw, StopBatch, Abandon, Desk, ExchangeBegin, ExchangeEnd, ExchangeCancel}
+use Rattle.pol_events.specs.declared.event.Event.TheVariants.{Plug, Unplug, Report, Variable, Recipe, Start, Advance}
+use Rattle.pol_events.specs.declared.event.Event.TheVariants.{Freeze, Thaw, StopBatch, Abandon, Desk, ExchangeBegin}
+use Rattle.pol_events.specs.declared.event.Event.TheVariants.{ExchangeEnd, ExchangeCancel}
 use Rattle.pol_events.specs.declared.event.Entry.{Entry}
 
 -- an event, with names as their bytes

@@ -1,5 +1,6 @@
 -- Rules that a module by itself decides: its description, what it told last, and the ticket under which it is away.
-use Rattle.std.specs.Prelude.{ℕ, Bool, not, ◌||◌, ◌==◌, List, [], ◌∷◌, map, Option, is_none, option_and_then, option_map}
+use Rattle.std.specs.Prelude.{ℕ, Bool, not, ◌||◌, ◌==◌, List, [], ◌∷◌, map, Option, is_none, option_and_then}
+use Rattle.std.specs.Prelude.{option_map}
 use Rattle.mtp_codes.specs.Faults.{when, first_of}
 use Rattle.mtp_codes.specs.declared.cover.CoverFault.{CoverFault}
 use Rattle.mtp_codes.specs.declared.cover.CoverFault.TheVariants as cover
@@ -20,7 +21,10 @@ use Rattle.mtp_modes.specs.declared.view.ServiceView.{ServiceView}
 use Rattle.mtp_desc.specs.Plain.{PlainService, PlainDescription}
 use Rattle.mtp_desc.specs.Lookup.{service_named, variable_named}
 use Rattle.pol_events.specs.declared.answer.Rule.{Rule}
-use Rattle.pol_events.specs.declared.answer.Rule.TheVariants.{NoService, NotAnEdge, NoVariable, WrongKind, OutOfRange, WrongType, WrongVersion, NotCovered, ModeForbids, SelfCompletes, StateForbids, NotEnabled, NotAtRest, InExchange, WrongTicket}
+use Rattle.pol_events.specs.declared.answer.Rule.TheVariants.{NoService, NotAnEdge, NoVariable, WrongKind, OutOfRange}
+use Rattle.pol_events.specs.declared.answer.Rule.TheVariants.{WrongType, WrongVersion, NotCovered, ModeForbids}
+use Rattle.pol_events.specs.declared.answer.Rule.TheVariants.{SelfCompletes, StateForbids, NotEnabled, NotAtRest}
+use Rattle.pol_events.specs.declared.answer.Rule.TheVariants.{InExchange, WrongTicket}
 
 -- the module's description lacks the service
 abbrev pub no_service : List ℕ → PlainDescription → Option Rule

@@ -1,7 +1,9 @@
 -- Whom an event is of.
 use Rattle.std.specs.Prelude.{ℕ, List, Option, None, Some, if◌then◌else◌}
 use Rattle.pol_events.specs.Accepted.{is_accepted}
-use Rattle.pol_events.specs.Events.{PlainEntry, PlainEvent, plug, unplug, report, variable, recipe, start, advance, freeze, thaw, stop_batch, abandon, desk, exchange_begin, exchange_end, exchange_cancel}
+use Rattle.pol_events.specs.Events.{PlainEntry, PlainEvent, plug, unplug, report, variable, recipe, start, advance}
+use Rattle.pol_events.specs.Events.{freeze, thaw, stop_batch, abandon, desk, exchange_begin, exchange_end}
+use Rattle.pol_events.specs.Events.{exchange_cancel}
 use Rattle.pol_events.specs.declared.subject.Subject.{Subject as Told}
 use Rattle.pol_events.specs.declared.subject.Subject.TheVariants.{Module, Batch, Recipe}
 

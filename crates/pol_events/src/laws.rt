@@ -1,16 +1,7 @@
-//! Laws of what lines say.
-ghost use Rattle.std.specs.Prelude.{◌≡◌, ℕ, List, Ok, true};
-ghost use Rattle.pol_events.specs.Events.{PlainEvent};
-ghost use Rattle.pol_events.specs.Lines.{event_of};
+//! A law of orderly starts.
+ghost use Rattle.std.specs.Prelude.{◌≡◌, true};
 ghost use Rattle.pol_events.specs.Bound.{PlainAllocation, given};
-ghost use Rattle.pol_events.specs.Orderly.{is_allocation, is_orderly, roles_once};
-
-/// What a line says is orderly: a recipe's chart is valid, and a start holds at most 64 modules and watches at most 64,
-/// each role once.
-#[tactic(auto, using(crate::proofs::Orderly::line_orderly))]
-pub fn lines_are_orderly()
-    ensures { (line : List ℕ) (event : PlainEvent) → event_of line ≡ Ok event → is_orderly event ≡ true }
-{}
+ghost use Rattle.pol_events.specs.Orderly.{is_allocation, roles_once};
 
 /// No role of an orderly start stands twice, held or watched.
 #[tactic(auto, using(crate::proofs::Given::given_once))]

@@ -3,8 +3,9 @@ ghost use Rattle.std.specs.Prelude.{IfOk};
 ghost use Rattle.pol_events.specs.Events.{plain_history};
 ghost use Rattle.pol_history.specs.Runs.{IsOrderly};
 
+use event_json::{LineRefusal, read_event};
 use pol_audit::says;
-use pol_events::{Answer, Entry, Event, LineRefusal, Rule, read_event};
+use pol_events::{Answer, Entry, Event, Rule};
 use pol_record::{answer_line, batch_line, end_line, fault_line};
 use std::alloc::{AllocError, Global};
 

@@ -3,6 +3,8 @@
 //! A docked part can be used; one that is away can only come back or be replaced, and either needs the ticket
 //! under which it left. A wrong ticket hands everything back. The crate knows nothing of modules, of descriptions
 //! or of what happens elsewhere between the two moments.
+//!
+//! Tried in `io_examples`.
 #![tactic(auto)]
 
 mod away;

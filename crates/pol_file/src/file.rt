@@ -36,9 +36,9 @@ enum Stage {
 }
 
 /// A regular file, opened and locked at the first call, and made where there is none. No link is followed at its name.
-/// Each error counts as a fault, and so does a lock that another holds, on the file or on its folder. Once a sync failed
-/// each call fails. What it tells of its bytes and images it tells by its calls with their answers, from what the file
-/// held at first, which `S` stands for; once an answer was no disk's it tells no bytes any more.
+/// Each error counts as a fault, and so does a lock that another holds, on the file or on its folder. Once a sync
+/// failed each call fails. What it tells of its bytes and images it tells by its calls with their answers, from what
+/// the file held at first, which `S` stands for; once an answer was no disk's it tells no bytes any more.
 #[derive(Drop)]
 pub struct FileDisk<'a, S: Start> {
     rt: &'a HostRuntime,

@@ -1,12 +1,14 @@
 -- Rows that fit at most 64 places have the least assignment, or some of them are too many for their places.
-use Rattle.std.proofs.Common.{◌≡◌, ◌⊎◌, ℕ, zero, suc, ◌*◌, ◌%◌, ◌^◌, ◌<◌, ◌≤◌, true, false, Option, Some, None, List, [], ◌∷◌, ◌++◌, length, map, refl, arith, sym, ◌∙◌, ap, subst, ⊎_elim, inl, inr}
+use Rattle.std.proofs.Common.{◌≡◌, ◌⊎◌, ℕ, zero, suc, ◌*◌, ◌%◌, ◌^◌, ◌<◌, ◌≤◌, true, false, Option, Some, None, List}
+use Rattle.std.proofs.Common.{[], ◌∷◌, ◌++◌, length, map, refl, arith, sym, ◌∙◌, ap, subst, ⊎_elim, inl, inr}
 use Rattle.std.specs.Prelude.{bit_or, slice_index, slice_set}
 use Rattle.std.proofs.lemmas.Bool.{cases_Bool, cases_eq}
 use Rattle.std.proofs.lemmas.List.{length-map}
 use Rattle.std.proofs.lemmas.Nat.{or_lt}
 use Rattle.std.proofs.Math.ListN.{length-set}
 use Rattle.pol_match.specs.Places.{is_in, IsFirstBeyond, IsWithin}
-use Rattle.pol_match.specs.Seats.{fits, holder_at, AreInside, IsClosed, IsHeldWithin, IsSeated, IsSeating, IsStuck, IsVacated, Sits}
+use Rattle.pol_match.specs.Seats.{fits, holder_at, AreInside, IsClosed, IsHeldWithin, IsSeated, IsSeating, IsStuck}
+use Rattle.pol_match.specs.Seats.{IsVacated, Sits}
 use Rattle.pol_match.specs.Assignments.{AreSeated, HaveNone, IsCrowded, IsLeastAssignment, IsUnseated, other_than}
 use Rattle.pol_match.proofs.Chains.{HasMore, may_be_vacated, more_here, more_only, more_within, seated}
 use Rattle.pol_match.proofs.Counting.{unseen, unseen_less}

@@ -1,5 +1,6 @@
 -- Binds in byte order of their roles say the same as in another order.
-use Rattle.std.proofs.Common.{◌≡◌, ℕ, Bool, true, false, not, cond, Option, Some, None, List, [], ◌∷◌, refl, sym, ◌∙◌, ap, subst, inl, inr, ◌⊎◌, Ordering, Less, Equal, Greater}
+use Rattle.std.proofs.Common.{◌≡◌, ℕ, Bool, true, false, not, cond, Option, Some, None, List, [], ◌∷◌, refl, sym, ◌∙◌}
+use Rattle.std.proofs.Common.{ap, subst, inl, inr, ◌⊎◌, Ordering, Less, Equal, Greater}
 use Rattle.std.specs.Prelude.{find, option_map}
 use Rattle.std.specs.Cmp.Lexicographic.{slice_cmp}
 use Rattle.std.specs.List.{Contains, list_all}
@@ -10,7 +11,7 @@ use Rattle.std.proofs.lemmas.Cmp.{nat_list_eq_equiv}
 use Rattle.std.proofs.lemmas.Map.Lookups.{exact_bytes}
 use Rattle.mtp_codes.proofs.Names.{same_true, same_refl}
 use Rattle.chart_core.proofs.Lawful.{member_cases}
-use Rattle.pol_events.specs.Binds.{by_role, with_bind}
+use Rattle.pol_events.specs.ByRole.{by_role, with_bind}
 use Rattle.pol_events.specs.Bound.{bound_tag}
 use Rattle.pol_events.specs.Orderly.{roles_once}
 use Rattle.pol_events.specs.declared.event.Bind.{Bind}

@@ -1,5 +1,6 @@
 -- The candidates after a history: they are free, in order, and few.
-use Rattle.std.proofs.Common.{◌≡◌, ◌<◌, ◌≤◌, ℕ, suc, Bool, true, false, cond, not, ◌&&◌, Option, Some, None, List, [], ◌∷◌, map, length, refl, sym, ◌∙◌, ap, subst, arith}
+use Rattle.std.proofs.Common.{◌≡◌, ◌<◌, ◌≤◌, ℕ, Bool, true, false, cond, not, ◌&&◌, Option, Some, None, List, []}
+use Rattle.std.proofs.Common.{◌∷◌, map, length, refl, sym, ◌∙◌, ap, subst, arith}
 use Rattle.std.specs.Prelude.{filter, filter_map, is_none, is_some, nat_le, option_map}
 use Rattle.std.specs.List.{Contains, cons_option}
 use Rattle.std.specs.List.Sorted.{IsStrictlySortedBy}
@@ -7,15 +8,18 @@ use Rattle.std.specs.Str.{bytes_eq}
 use Rattle.std.proofs.lemmas.Bool.{leb-false}
 use Rattle.std.proofs.lemmas.List.Kept.{IsStrictlySortedBy-filter}
 use Rattle.mtp_codes.specs.declared.limits.TheConstants.{MOST_MODULES}
+use Rattle.mtp_codes.proofs.Lists.{length_filter_map}
 use Rattle.mtp_desc.specs.Plain.{PlainDescription}
 use Rattle.mtp_machine.specs.States.{is_idle}
 use Rattle.mtp_modes.specs.declared.view.ServiceView.{ServiceView}
-use Rattle.pol_events.specs.Events.{PlainEvent, abandon, advance, desk, exchange_begin, exchange_cancel, exchange_end, freeze, plug, recipe, report, start, stop_batch, thaw, unplug, variable}
+use Rattle.pol_events.specs.Events.{PlainEvent, abandon, advance, desk, exchange_begin, exchange_cancel, exchange_end}
+use Rattle.pol_events.specs.Events.{freeze, plug, recipe, report, start, stop_batch, thaw, unplug, variable}
 use Rattle.pol_events.proofs.Lists.{member_kept}
 use Rattle.pol_history.specs.Answers.{answer_of}
 use Rattle.pol_history.specs.Batches.{holder_of}
 use Rattle.pol_history.specs.Looking.{History, is_accepted}
-use Rattle.pol_history.specs.Modules.{Docking, absent, docked, away, description_of, docking_of, present_after, present_tags, tags_without, view_of}
+use Rattle.pol_history.specs.Modules.{Docking, absent, docked, away, description_of, docking_of, present_after}
+use Rattle.pol_history.specs.Modules.{present_tags, tags_without, view_of}
 use Rattle.pol_history.specs.Runs.{IsLegal}
 use Rattle.pol_history.proofs.Accepted.{accepted_none}
 use Rattle.pol_history.proofs.Binds.{when_none}
@@ -164,21 +168,11 @@ present_few (entry ∷ history) legal =
     go (exchange_end at tag ticket description) event_is kept accepted few = few
     go (exchange_cancel at tag ticket) event_is kept accepted few = few
 
--- what is made of some of a list's members is no more than they are
-made_length : {X Y : Type 0} (make : X → Option Y) (xs : List X) → length (filter_map make xs) ≤ length xs
-made_length make [] = omega arith
-made_length {X} {Y} make (x ∷ xs) = go (make x) (made_length make xs)
-  where
-    go : (made : Option Y) → length (filter_map make xs) ≤ length xs →
-        length (cons_option made (filter_map make xs)) ≤ suc (length xs)
-    go None few = omega arith
-    go (Some y) few = omega arith
-
 -- the candidates of a legal history are at most as many
 pub candidates_few : (history : History) → IsLegal history → length (candidates_of history) ≤ MOST_MODULES
 candidates_few history legal = omega (
   arith,
-  made_length (candidate_of history) (in_byte_order (present_tags history)),
+  length_filter_map (candidate_of history) (in_byte_order (present_tags history)),
   order_length (present_tags history),
   present_few history legal,
 )

@@ -8,7 +8,9 @@ use Rattle.std.proofs.lemmas.Bool.{and_parts}
 use Rattle.mtp_codes.proofs.Names.{same_true, same_refl}
 use Rattle.chart_core.specs.Roles.{PlainChart, is_chart_form}
 use Rattle.chart_core.proofs.Lawful.{member_cases}
-use Rattle.pol_events.specs.Events.{PlainEntry, PlainEvent, abandon, advance, desk, exchange_begin, exchange_cancel, exchange_end, freeze, plug, recipe, report, start, stop_batch, thaw, unplug, variable}
+use Rattle.pol_events.specs.Events.{PlainEntry, PlainEvent, abandon, advance, desk, exchange_begin, exchange_cancel}
+use Rattle.pol_events.specs.Events.{exchange_end, freeze, plug, recipe, report, start, stop_batch, thaw, unplug}
+use Rattle.pol_events.specs.Events.{variable}
 use Rattle.pol_events.specs.Orderly.{is_orderly, is_valid}
 use Rattle.pol_events.proofs.Lists.{no_member}
 use Rattle.pol_history.specs.Answers.{answer_of}

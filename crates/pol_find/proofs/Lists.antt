@@ -1,19 +1,13 @@
 -- Members of lists.
-use Rattle.std.proofs.Common.{◌≡◌, Bool, true, false, cond, Option, Some, None, List, [], ◌∷◌, map, refl, ◌∙◌, ap, inl, inr}
+use Rattle.std.proofs.Common.{◌≡◌, Bool, true, false, cond, Option, Some, None, List, [], ◌∷◌, map, refl, ◌∙◌, ap, inl}
+use Rattle.std.proofs.Common.{inr}
 use Rattle.std.specs.Prelude.{filter_map, find}
-use Rattle.std.specs.List.{AllByRecursion, Contains, cons_option, list_any}
+use Rattle.std.specs.List.{Contains, cons_option, list_any}
 use Rattle.std.specs.Option.{option_or}
 use Rattle.std.proofs.lemmas.List.Folds.{Any-from_list_any}
 use Rattle.mtp_codes.specs.Faults.{first_of}
 use Rattle.chart_core.proofs.Lawful.{member_cases}
 use Rattle.pol_events.proofs.Lists.{member_first, member_later, no_member}
-
--- what holds of each member holds of all
-pub all_members : {X : Type 0} (P : X → Type 0) (xs : List X) → ((x : X) → Contains xs x → P x) →
-    AllByRecursion P xs
-all_members P [] each = tt
-all_members P (x ∷ xs) each =
-    (each x (member_first x xs), all_members P xs (λ y inside. each y (member_later x y xs inside)))
 
 -- a list that no member passes has nothing to be found
 pub none_passes : {X : Type 0} (test : X → Bool) (xs : List X) → ((x : X) → Contains xs x → test x ≡ false) →

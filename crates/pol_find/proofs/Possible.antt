@@ -1,5 +1,6 @@
 -- Of each recipe something can be told: its least binding to the candidates, or a shortage.
-use Rattle.std.proofs.Common.{◌≡◌, ◌<◌, ◌≤◌, ◌+◌, ◌*◌, ◌^◌, ℕ, zero, suc, Bool, true, false, if◌then◌else◌, List, [], ◌∷◌, ◌++◌, map, length, refl, ◌∙◌, ap, arith, ⊎_elim, inl, inr, length-append}
+use Rattle.std.proofs.Common.{◌≡◌, ◌<◌, ◌≤◌, ◌+◌, ◌*◌, ◌^◌, ℕ, zero, suc, Bool, true, false, if◌then◌else◌, List, []}
+use Rattle.std.proofs.Common.{◌∷◌, ◌++◌, map, length, refl, ◌∙◌, ap, arith, ⊎_elim, inl, inr, length-append}
 use Rattle.std.specs.Prelude.{slice_index}
 use Rattle.std.proofs.Math.Nat.{pow-suc}
 use Rattle.std.proofs.Math.Pow.{pow_mono}
@@ -7,11 +8,10 @@ use Rattle.std.proofs.lemmas.List.{length-map}
 use Rattle.serde_json.specs.Data.{Data}
 use Rattle.serde_json.specs.Written.{compact_text}
 use Rattle.chart_core.specs.Roles.{PlainChart, role_names}
-use Rattle.pol_events.specs.Binds.{by_role}
+use Rattle.pol_events.specs.ByRole.{by_role}
 use Rattle.pol_events.specs.Bound.{tags_of}
 use Rattle.pol_events.specs.declared.event.Bind.{Bind}
 use Rattle.pol_history.specs.Looking.{History}
-use Rattle.pol_record.specs.Texts.{line_text}
 use Rattle.pol_match.specs.Bindings.{AreInOrder, tags_in}
 use Rattle.pol_match.specs.Fits.{PlainCandidate, fits_role, is_reached, row_for, rows_for, those_at, those_with}
 use Rattle.pol_match.specs.Places.{has_all, set_of}
@@ -19,6 +19,7 @@ use Rattle.pol_match.specs.Seats.{fits}
 use Rattle.pol_match.proofs.BoundTags.{least_binding, no_binding, nobody, tag_of}
 use Rattle.pol_match.proofs.Bridges.{fits_there, tags_at}
 use Rattle.pol_match.proofs.Shortages.{shortage, those_few}
+use Rattle.pol_record.specs.Texts.{line_text}
 use Rattle.pol_find.specs.Candidates.{candidates_of}
 use Rattle.pol_find.specs.Found.{AreFound, IsFound, Tells, TellsEach}
 use Rattle.pol_find.specs.Lines.{bad_object, bad_text, bind_text, short_text}

@@ -5,11 +5,13 @@ use Rattle.mtp_codes.specs.Numbers.{greatest_u64}
 use Rattle.pol_io.specs.Pieces.{pieces, line_of}
 use Rattle.pol_history.specs.Looking.{History}
 use Rattle.pol_history.specs.Runs.{entry_of, recorded, history_after}
-use Rattle.pol_record.specs.Lines.{LineMeaning, a_fault, an_event, as_input_line, events_in, history_of, input_line_of, meaning_of, nothing}
+use Rattle.pol_record.specs.Lines.{LineMeaning, a_fault, an_event, as_input_line, events_in, history_of, input_line_of}
+use Rattle.pol_record.specs.Lines.{meaning_of, nothing}
 use Rattle.pol_jobs.specs.LineWork.{after_all, line_met, output_by, replies}
 use Rattle.pol_replay.proofs.Spoken.{met_means}
 use Rattle.pol_find.specs.Found.{IsFound}
-use Rattle.pol_find.specs.Finding.{Known, after_saying, bad_lines, find_work, found, is_at_fault, nothing_known, one_more}
+use Rattle.pol_find.specs.Finding.{Known, after_saying, bad_lines, find_work, found, is_at_fault, nothing_known}
+use Rattle.pol_find.specs.Finding.{one_more}
 
 -- a finder replies nothing to any line
 no_replies : (known : Known) (parts : List (List ℕ)) → replies find_work known parts ≡ []

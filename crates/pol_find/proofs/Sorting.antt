@@ -3,7 +3,7 @@ use Rattle.std.proofs.Common.{◌≡◌, ◌<◌, ℕ, List, [], ◌∷◌, ◌+
 use Rattle.std.specs.Cmp.Lexicographic.{slice_cmp}
 use Rattle.std.specs.Ordering.{nat_cmp}
 use Rattle.std.proofs.Math.Seq.{drop-cons}
-use Rattle.pol_events.specs.Binds.{by_role, with_bind}
+use Rattle.pol_events.specs.ByRole.{by_role, with_bind}
 use Rattle.pol_events.specs.declared.event.Bind.{Bind}
 
 -- binds in order, with each of these at its place, the last one first

@@ -1,9 +1,9 @@
 -- A start with a printed binding is done.
 use Rattle.std.proofs.Common.{◌∙◌, [], subst, sym}
 use Rattle.pol_events.specs.declared.answer.Answer.TheVariants.{Done}
+use Rattle.pol_events.specs.ByRole.{by_role}
 use Rattle.pol_history.specs.Answers.{rules, start_rules}
 use Rattle.pol_history.proofs.Accepted.{NoneHolds, otherwise_it_is, with_room}
-use Rattle.pol_events.specs.Binds.{by_role}
 use Rattle.pol_find.specs.Starts.{BindingsStart, start_with}
 use Rattle.pol_find.proofs.Listed.{is_listed}
 use Rattle.pol_find.proofs.Unrefused.{listed, none_refuses}

@@ -1,5 +1,6 @@
 -- No rule refuses a start with a binding to the candidates.
-use Rattle.std.proofs.Common.{◌≡◌, ◌≢◌, ◌<◌, ◌≤◌, ℕ, suc, Bool, true, false, not, ◌&&◌, ◌||◌, Option, Some, None, List, [], ◌∷◌, map, filter, length, refl, sym, ◌∙◌, ap, subst, arith, append-nil}
+use Rattle.std.proofs.Common.{◌≡◌, ◌≢◌, ◌<◌, ◌≤◌, ℕ, suc, Bool, true, false, not, ◌&&◌, ◌||◌, Option, Some, None, List}
+use Rattle.std.proofs.Common.{[], ◌∷◌, map, filter, length, refl, sym, ◌∙◌, ap, subst, arith, append-nil}
 use Rattle.std.specs.Prelude.{filter_map, is_none, is_some, nat_le, option_map}
 use Rattle.std.specs.List.{AllPairs, Contains, cons_option, list_all, list_any}
 use Rattle.std.specs.Option.{option_or}
@@ -13,13 +14,13 @@ use Rattle.mtp_codes.specs.Numbers.{is_between}
 use Rattle.mtp_codes.specs.declared.cover.CoverFault.{CoverFault}
 use Rattle.mtp_codes.specs.declared.limits.TheConstants.{MOST_BATCHES, MOST_BINDS}
 use Rattle.mtp_codes.proofs.Names.{same_true}
-use Rattle.chart_core.specs.Form.{are_distinct}
-use Rattle.chart_core.specs.Form.{is_tree_formed}
+use Rattle.chart_core.specs.Form.{are_distinct, is_tree_formed}
 use Rattle.chart_core.specs.Roles.{PlainChart, are_roles_formed, is_chart_form, role_names}
 use Rattle.chart_core.specs.declared.limits.TheConstants.{LONGEST_WANTED, MOST_ROLES}
 use Rattle.mtp_procs.specs.Covers.{cover_fault}
-use Rattle.pol_events.specs.BindRules.{first_name, has_step, is_bound_before, one_module_twice, role_unbound, role_unknown, twice, watched_step}
-use Rattle.pol_events.specs.Binds.{by_role}
+use Rattle.pol_events.specs.BindRules.{first_name, has_step, is_bound_before, one_module_twice, role_unbound}
+use Rattle.pol_events.specs.BindRules.{role_unknown, twice, watched_step}
+use Rattle.pol_events.specs.ByRole.{by_role}
 use Rattle.pol_events.specs.Bound.{PlainAllocation, bound_tag, given}
 use Rattle.pol_events.specs.Orderly.{is_allocation, roles_once}
 use Rattle.pol_events.specs.Refusals.{cover_rule, in_exchange}
@@ -31,7 +32,8 @@ use Rattle.pol_history.specs.Answers.{start_rules}
 use Rattle.pol_history.specs.Batches.{is_start, start_of}
 use Rattle.pol_history.specs.Looking.{History, past}
 use Rattle.pol_history.specs.Modules.{ticket_of}
-use Rattle.pol_history.specs.Rules.{batch_known, busy, busy_module, busy_role, module_rule, modules_unfit, no_module, not_covered, not_idle, not_reported, services_of, steps_in, unready}
+use Rattle.pol_history.specs.Rules.{batch_known, busy, busy_module, busy_role, module_rule, modules_unfit, no_module}
+use Rattle.pol_history.specs.Rules.{not_covered, not_idle, not_reported, services_of, steps_in, unready}
 use Rattle.pol_history.proofs.Accepted.{NoneHolds}
 use Rattle.pol_history.proofs.Binds.{all_member, tags_by_role}
 use Rattle.pol_match.specs.Bindings.{IsBinding, is_bound_well}

@@ -1,8 +1,9 @@
 -- How much of a finder's output was written.
-use Rattle.std.proofs.Common.{◌<◌, ℕ, List, [], ◌∷◌, ◌++◌, length, refl, sym, ◌∙◌, ap, arith, append_assoc, append-nil, length-append}
+use Rattle.std.proofs.Common.{◌<◌, ℕ, List, [], ◌∷◌, ◌++◌, length, refl, sym, ◌∙◌, ap, arith, append_assoc, append-nil}
+use Rattle.std.proofs.Common.{length-append}
 use Rattle.std.specs.Prelude.{Option}
 use Rattle.std.specs.Io.KnownBytes.{Appends}
-use Rattle.pol_io.proofs.Known.{Appends_none, Appends_trans, Keeps_refl}
+use Rattle.pol_io.proofs.Known.{Appends_trans}
 use Rattle.pol_jobs.specs.Written.{Closes, ClosesPart}
 use Rattle.pol_jobs.proofs.Written.{none_written}
 use Rattle.pol_match.specs.Fits.{PlainCandidate}
@@ -87,11 +88,6 @@ pub record ToldSoFar (candidates : List PlainCandidate) (recipes rest : List Pla
   pub up_to : (text : List ℕ) → TellsEach candidates rest text → TellsEach candidates recipes (written ++ text)
 
 module _ (candidates : List PlainCandidate) (recipes : List PlainRecipe) where
-  -- at first nothing is written
-  pub told_none : (held : Option (List ℕ)) → ToldSoFar candidates recipes recipes held held
-  told_none held =
-      record { written = []; appended = Appends_none held held (Keeps_refl held); up_to = λ text tells. tells }
-
   -- one more recipe is told
   pub told_next : (held between held' : Option (List ℕ)) (recipe : PlainRecipe) (rest : List PlainRecipe) →
       ToldSoFar candidates recipes (recipe ∷ rest) held between → Closes (Tells candidates recipe) between held' →

@@ -1,5 +1,6 @@
 -- The modules that could be bound after a history.
-use Rattle.std.specs.Prelude.{ℕ, Bool, true, false, ◌&&◌, List, map, filter, filter_map, Option, None, is_none, if◌then◌else◌}
+use Rattle.std.specs.Prelude.{ℕ, Bool, true, false, ◌&&◌, List, map, filter, filter_map, Option, None, is_none}
+use Rattle.std.specs.Prelude.{if◌then◌else◌}
 use Rattle.std.specs.Option.{option_map}
 use Rattle.mtp_desc.specs.Plain.{PlainDescription}
 use Rattle.mtp_machine.specs.States.{is_idle}

@@ -4,7 +4,8 @@ use Rattle.std.specs.declared.convert.Infallible.{Infallible}
 use Rattle.mtp_codes.specs.Numbers.{greatest_u64}
 use Rattle.pol_history.specs.Looking.{History}
 use Rattle.pol_history.specs.Runs.{entry_of, recorded}
-use Rattle.pol_record.specs.Lines.{InputLine, LineMeaning, a_fault, an_event, blank, faulty, happening, history_of, input_lines_of, nothing}
+use Rattle.pol_record.specs.Lines.{InputLine, LineMeaning, a_fault, an_event, blank, faulty, happening, history_of}
+use Rattle.pol_record.specs.Lines.{input_lines_of, nothing}
 use Rattle.pol_jobs.specs.LineWork.{LineWork, Output}
 use Rattle.pol_replay.specs.Meanings.{meaning_met}
 use Rattle.pol_core.specs.Plants.{plant_history}

@@ -1,7 +1,7 @@
 -- What a finder writes after a history: of each recipe the least binding or a shortage, and how many lines were at
 -- fault.
 use Rattle.std.specs.Prelude.{ℕ, ◌≡◌, ◌⊎◌, List, [], ◌∷◌, ◌++◌}
-use Rattle.pol_events.specs.Binds.{by_role}
+use Rattle.pol_events.specs.ByRole.{by_role}
 use Rattle.pol_events.specs.declared.event.Bind.{Bind}
 use Rattle.pol_history.specs.Looking.{History}
 use Rattle.pol_history.specs.Runs.{IsLegal}

@@ -2,8 +2,8 @@
 use Rattle.std.specs.Prelude.{ℕ, List, map, true, codes}
 use Rattle.serde_json.specs.Data.{Data, array, boolean, number, object, string, unsigned, member, no_members}
 use Rattle.serde_json.specs.View.{items_of}
-use Rattle.pol_events.specs.Written.{written_binds}
 use Rattle.pol_events.specs.declared.event.Bind.{Bind}
+use Rattle.event_json.specs.Written.{written_binds}
 use Rattle.pol_record.specs.Texts.{line_text}
 
 -- names as a list of texts

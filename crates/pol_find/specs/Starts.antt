@@ -2,7 +2,7 @@
 use Rattle.std.specs.Prelude.{ℕ, ◌≡◌, ◌<◌, List, [], length, filter, true, false, None}
 use Rattle.std.specs.List.{Contains}
 use Rattle.mtp_codes.specs.declared.limits.TheConstants.{MOST_BATCHES}
-use Rattle.pol_events.specs.Binds.{by_role}
+use Rattle.pol_events.specs.ByRole.{by_role}
 use Rattle.pol_events.specs.Events.{PlainEvent, start}
 use Rattle.pol_events.specs.Orderly.{is_orderly}
 use Rattle.pol_events.specs.declared.answer.Answer.TheVariants.{Done}

@@ -5,6 +5,8 @@
 //! looked up in the history (`specs/Candidates.antt`). It knows nothing of how a binding is found, which is
 //! `pol_match`'s. Its laws are that a start with a printed binding is done (`bindings_start`), and that there is always
 //! something to be written (`always_found`).
+//!
+//! Tried in `pol_examples`.
 #![tactic(auto)]
 
 ghost use Rattle.pol_find.specs.Found.{AreFound};

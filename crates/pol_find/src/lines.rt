@@ -1,10 +1,11 @@
 //! The lines of a finder, each a JSON object in compact text and a line feed.
-ghost use Rattle.std.specs.Prelude.{◌≡◌, ◌∷◌, ◌++◌, [], IfOk, OnOk};
+ghost use Rattle.std.specs.Prelude.{◌≡◌, ◌∷◌, ◌++◌, IfOk, OnOk};
 ghost use Rattle.json.specs.Token as token;
-ghost use Rattle.pol_events.specs.Binds.{by_role, with_bind};
-ghost use Rattle.pol_events.specs.Written.{written_binds};
+ghost use Rattle.pol_events.specs.ByRole.{by_role, with_bind};
+ghost use Rattle.event_json.specs.Written.{written_binds};
 ghost use Rattle.pol_record.specs.Objects.{data_tokens};
-ghost use Rattle.pol_find.specs.Lines.{bad_object, bad_text, bind_object, bind_text, names_data, short_object, short_text};
+ghost use Rattle.pol_find.specs.Lines.{bad_object, bad_text, bind_object, bind_text, names_data, short_object};
+ghost use Rattle.pol_find.specs.Lines.{short_text};
 
 use json::Writer;
 use mtp_codes::Name;

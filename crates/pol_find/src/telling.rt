@@ -1,5 +1,5 @@
 //! What ends the output: the line of each recipe in their order, and the last line.
-ghost use Rattle.std.specs.Prelude.{◌≡◌, ◌≤◌, length, filter_map, map, IfOk, OnOk, OnErr};
+ghost use Rattle.std.specs.Prelude.{◌≤◌, length, filter_map, map, IfOk, OnOk, OnErr};
 ghost use Rattle.mtp_codes.specs.declared.limits.TheConstants.{MOST_MODULES};
 ghost use Rattle.pol_io.specs.Causes.{HasCauseOf};
 ghost use Rattle.pol_jobs.specs.Written.{Closes, ClosesPart};

@@ -2,19 +2,21 @@
 use Rattle.std.proofs.Common.{◌≡◌, ℕ, List, true, false, Option, Some, None, Ok, Err, refl, sym, ap, ◌∙◌, rules}
 use Rattle.std.specs.Prelude.{IfOk, codes}
 use Rattle.serde_json.specs.Data.{Data}
-use Rattle.chart_core.specs.declared.fault.ChartFault.{ChartFault}
-use Rattle.chart_json.proofs.Told.{any_before}
 use Rattle.mtp_json.specs.Form.{object_here, required}
 use Rattle.mtp_json.specs.Leaf.{word}
 use Rattle.mtp_json.specs.Parse.{json_of}
 use Rattle.mtp_json.specs.ReadResult.{ReadResult, ◌>>=◌, here}
+use Rattle.chart_core.specs.declared.fault.ChartFault.{ChartFault}
+use Rattle.chart_json.proofs.Told.{any_before}
 use Rattle.pol_events.specs.Events.{PlainEvent}
-use Rattle.pol_events.specs.Forms.{desk_in, event_by, event_in}
-use Rattle.pol_events.specs.Guarded.{PlainGuarded, guarded_by, guarded_in, guarded_of, is_desk, of_guarded}
-use Rattle.pol_events.specs.Lines.{event_of, fault_within, of_line, read_of, unless_faulty}
-use Rattle.pol_events.specs.Words.{kind_words}
-use Rattle.pol_events.specs.declared.kind.EventKind.{EventKind}
-use Rattle.pol_events.specs.declared.kind.EventKind.TheVariants.{Plug, Unplug, Report, Variable, Recipe, Start, Advance, Freeze, Thaw, Stop, Abandon, Desk, ExchangeBegin, ExchangeEnd, ExchangeCancel}
+use Rattle.event_json.specs.Forms.{desk_in, event_by, event_in}
+use Rattle.event_json.specs.Guarded.{PlainGuarded, guarded_by, guarded_in, guarded_of, is_desk, of_guarded}
+use Rattle.event_json.specs.Lines.{event_of, fault_within, of_line, read_of, unless_faulty}
+use Rattle.event_json.specs.Words.{kind_words}
+use Rattle.event_json.specs.declared.kind.EventKind.{EventKind}
+use Rattle.event_json.specs.declared.kind.EventKind.TheVariants.{Plug, Unplug, Report, Variable, Recipe, Start, Advance}
+use Rattle.event_json.specs.declared.kind.EventKind.TheVariants.{Freeze, Thaw, Stop, Abandon, Desk, ExchangeBegin}
+use Rattle.event_json.specs.declared.kind.EventKind.TheVariants.{ExchangeEnd, ExchangeCancel}
 
 -- an event of nobody
 abbrev of_nobody : PlainEvent → PlainGuarded

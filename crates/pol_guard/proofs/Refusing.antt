@@ -1,5 +1,6 @@
 -- Which inputs are refused: those whose policy has a fault.
-use Rattle.std.proofs.Common.{◌≡◌, ℕ, List, [], ◌∷◌, ◌++◌, Option, Some, None, Ok, Err, map, cond, refl, ap, ◌∙◌, append-nil}
+use Rattle.std.proofs.Common.{◌≡◌, ℕ, List, [], ◌∷◌, ◌++◌, Option, Some, None, Ok, Err, map, cond, refl, ap, ◌∙◌}
+use Rattle.std.proofs.Common.{append-nil}
 use Rattle.std.specs.Prelude.{IsTrue, filter}
 use Rattle.std.specs.Io.KnownBytes.{Appends, Keeps}
 use Rattle.std.proofs.lemmas.List.{map-append}
@@ -11,7 +12,8 @@ use Rattle.pol_jobs.specs.Ends.{IsRefused, refused_line, refused_input, RefusesL
 use Rattle.pol_jobs.specs.LineWork.{Line, line_met}
 use Rattle.pol_policy.specs.Policies.{PlainPolicy}
 use Rattle.pol_replay.specs.Meanings.{is_some_line}
-use Rattle.pol_guard.specs.Guarded.{IsNoPolicy, behind_first, guarded, journal_of, policy_among, policy_of, replies_by, some_lines}
+use Rattle.pol_guard.specs.Guarded.{IsNoPolicy, behind_first, guarded, journal_of, policy_among, policy_of, replies_by}
+use Rattle.pol_guard.specs.Guarded.{some_lines}
 use Rattle.pol_guard.specs.Laws.{RefusalsAreFaults}
 
 -- where nothing was appended, all is as it was

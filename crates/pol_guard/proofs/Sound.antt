@@ -1,30 +1,32 @@
 -- What holds of a journal under a policy, from the laws of verdicts and of legal histories.
-use Rattle.std.proofs.Common.{◌≡◌, ◌⊎◌, inl, inr, ℕ, Bool, true, false, cond, List, [], ◌∷◌, Option, Some, None, Result, Ok, Err, refl, sym, ap, subst, ◌∙◌}
+use Rattle.std.proofs.Common.{◌≡◌, ◌⊎◌, inl, inr, ℕ, Bool, true, false, cond, List, [], ◌∷◌, Option, Some, None, Result}
+use Rattle.std.proofs.Common.{Ok, Err, refl, sym, ap, subst, ◌∙◌}
 use Rattle.std.specs.Prelude.{is_some}
 use Rattle.std.specs.List.{Contains}
 use Rattle.std.specs.Option.{option_map}
 use Rattle.mtp_codes.specs.declared.command.Command.{Command}
-use Rattle.chart_core.proofs.Lawful.{member_cases}
-use Rattle.pol_events.specs.Events.{PlainEntry, PlainEvent, desk}
-use Rattle.pol_events.specs.Guarded.{PlainGuarded, guarded_of}
-use Rattle.pol_events.specs.Orderly.{is_orderly}
-use Rattle.pol_events.specs.declared.fault.LineFault.{LineFault}
-use Rattle.pol_events.proofs.Lists.{member_first, member_later, no_member}
-use Rattle.pol_events.proofs.Named.{line_said}
-use Rattle.pol_history.specs.Looking.{History}
-use Rattle.pol_history.specs.Runs.{AreOrderly, entry_of, history_after, is_recorded, recorded}
-use Rattle.pol_history.proofs.Legal.{legal_after, orderly_after}
 use Rattle.pol_jobs.specs.LineWork.{Line}
+use Rattle.chart_core.proofs.Lawful.{member_cases}
 use Rattle.pol_policy.specs.Allowing.{Judges, Request, request_of}
 use Rattle.pol_policy.specs.Deciding.{verdict_of}
 use Rattle.pol_policy.specs.Laws.{VerdictsAreJudged}
 use Rattle.pol_policy.specs.Policies.{PlainPolicy}
 use Rattle.pol_policy.specs.declared.verdict.Verdict.{Verdict}
 use Rattle.pol_policy.specs.declared.verdict.Verdict.TheVariants.{Allowed, Denied}
+use Rattle.pol_events.specs.Events.{PlainEntry, PlainEvent, desk}
+use Rattle.pol_events.specs.Orderly.{is_orderly}
+use Rattle.pol_events.proofs.Lists.{member_first, member_later, no_member}
+use Rattle.event_json.specs.Guarded.{PlainGuarded, guarded_of}
+use Rattle.event_json.specs.declared.fault.LineFault.{LineFault}
+use Rattle.event_json.proofs.Named.{line_said}
+use Rattle.pol_history.specs.Looking.{History}
+use Rattle.pol_history.specs.Runs.{AreOrderly, entry_of, history_after, is_recorded, recorded}
+use Rattle.pol_history.proofs.Legal.{legal_after, orderly_after}
 use Rattle.pol_removal.specs.Removal.{RemovalOfEvents}
 use Rattle.pol_guard.specs.Guarded.{admitted_in, admitted_under, guarded_lines, history_under, journal_of}
 use Rattle.pol_guard.specs.Laws.{GuardTheorem, IsAllowed, IsDenied, IsGuarded}
-use Rattle.pol_guard.specs.Lines.{GuardedLine, faulty, denied, admitted, asked_by, by_verdict, guarded_line, guarded_saying}
+use Rattle.pol_guard.specs.Lines.{GuardedLine, faulty, denied, admitted, asked_by, by_verdict, guarded_line}
+use Rattle.pol_guard.specs.Lines.{guarded_saying}
 
 -- ---- one line
 

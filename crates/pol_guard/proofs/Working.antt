@@ -1,5 +1,6 @@
 -- The work of a guard, line by line, gives its output.
-use Rattle.std.proofs.Common.{◌≡◌, ℕ, Bool, true, false, List, [], ◌∷◌, ◌++◌, Ok, Err, map, refl, ap, ◌∙◌, if◌then◌else◌}
+use Rattle.std.proofs.Common.{◌≡◌, ℕ, Bool, true, false, List, [], ◌∷◌, ◌++◌, Ok, Err, map, refl, ap, ◌∙◌}
+use Rattle.std.proofs.Common.{if◌then◌else◌}
 use Rattle.std.specs.Prelude.{filter, IsTrue}
 use Rattle.std.specs.List.{fold}
 use Rattle.mtp_json.specs.ReadResult.{ReadResult}
@@ -14,9 +15,12 @@ use Rattle.pol_record.specs.Lines.{closing_text}
 use Rattle.pol_record.specs.Texts.{answer_text, fault_text}
 use Rattle.pol_replay.specs.Meanings.{is_some_line}
 use Rattle.pol_guard.specs.Denials.{denial_text}
-use Rattle.pol_guard.specs.Guarded.{IsNoPolicy, admitted_in, behind_first, guarded, guarded_history, guarded_lines, history_by, policy_among, policy_of, policy_said, replies_by, some_lines, texts_with}
+use Rattle.pol_guard.specs.Guarded.{IsNoPolicy, admitted_in, behind_first, guarded, guarded_history, guarded_lines}
+use Rattle.pol_guard.specs.Guarded.{history_by, policy_among, policy_of, policy_said, replies_by, some_lines}
+use Rattle.pol_guard.specs.Guarded.{texts_with}
 use Rattle.pol_guard.specs.Lines.{GuardedLine, faulty, denied, admitted, guarded_line}
-use Rattle.pol_guard.specs.Work.{Known, waiting, begun, RefusesSome, after_some, guard_work, history_in, history_with, reply_some, said_in, text_after}
+use Rattle.pol_guard.specs.Work.{Known, waiting, begun, RefusesSome, after_some, guard_work, history_in, history_with}
+use Rattle.pol_guard.specs.Work.{reply_some, said_in, text_after}
 
 -- ---- blank lines do nothing
 

@@ -3,15 +3,15 @@ use Rattle.std.specs.Prelude.{ℕ, ◌≡◌, List, map, Option, Some, Ok, Err}
 use Rattle.std.specs.Io.KnownBytes.{Keeps}
 use Rattle.std.specs.List.{Contains}
 use Rattle.mtp_codes.specs.declared.command.Command.{Command}
-use Rattle.mtp_json.specs.declared.fault.JsonFault.{JsonFault}
-use Rattle.pol_events.specs.Events.{PlainEntry, PlainEvent, desk}
-use Rattle.pol_events.specs.Guarded.{guarded_of}
-use Rattle.pol_history.specs.Runs.{IsLegal, IsOrderly, run_of}
 use Rattle.pol_jobs.specs.Ends.{IsRefused}
 use Rattle.pol_jobs.specs.LineWork.{AcceptsAll, Line}
+use Rattle.mtp_json.specs.declared.fault.JsonFault.{JsonFault}
 use Rattle.pol_policy.specs.Allowing.{Allows, Judges, Request}
 use Rattle.pol_policy.specs.Policies.{PlainPolicy}
 use Rattle.pol_policy.specs.declared.verdict.Verdict.TheVariants.{Denied}
+use Rattle.pol_events.specs.Events.{PlainEntry, PlainEvent, desk}
+use Rattle.event_json.specs.Guarded.{guarded_of}
+use Rattle.pol_history.specs.Runs.{IsLegal, IsOrderly, run_of}
 use Rattle.pol_removal.specs.Removal.{entries_without}
 use Rattle.pol_guard.specs.Guarded.{admitted_under, guarded, history_under, journal_of, policy_of}
 use Rattle.pol_guard.specs.Lines.{asked_by, guarded_line, denied}

@@ -1,16 +1,16 @@
 -- What comes of a line of a journal under a policy.
 use Rattle.std.specs.Prelude.{ℕ, List, Option, Some, None, Result, Ok, Err}
 use Rattle.std.specs.Option.{option_map}
-use Rattle.pol_events.specs.Events.{PlainEvent, desk}
-use Rattle.pol_events.specs.Guarded.{PlainGuarded, guarded_of}
-use Rattle.pol_events.specs.declared.fault.LineFault.{LineFault}
-use Rattle.pol_events.specs.declared.fault.LineFault.TheVariants.{TooLong}
 use Rattle.pol_jobs.specs.LineWork.{Line}
 use Rattle.pol_policy.specs.Allowing.{Request, request_of}
 use Rattle.pol_policy.specs.Deciding.{verdict_of}
 use Rattle.pol_policy.specs.Policies.{PlainPolicy}
 use Rattle.pol_policy.specs.declared.verdict.Verdict.{Verdict}
 use Rattle.pol_policy.specs.declared.verdict.Verdict.TheVariants.{Allowed, Denied}
+use Rattle.pol_events.specs.Events.{PlainEvent, desk}
+use Rattle.event_json.specs.Guarded.{PlainGuarded, guarded_of}
+use Rattle.event_json.specs.declared.fault.LineFault.{LineFault}
+use Rattle.event_json.specs.declared.fault.LineFault.TheVariants.{TooLong}
 
 -- what an event asks of a policy: a command of the desk asks that this person may send it, and no other event asks
 -- anything

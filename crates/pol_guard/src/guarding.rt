@@ -1,5 +1,5 @@
 //! A journal under a policy, line by line.
-ghost use Rattle.std.specs.Prelude.{◌≡◌, ◌++◌, [], IfOk, IfErr, Ok, Err, OnOk};
+ghost use Rattle.std.specs.Prelude.{◌≡◌, [], IfOk, IfErr, Ok, Err};
 ghost use Rattle.pol_jobs.specs.Faults.{RefusedFor};
 ghost use Rattle.pol_jobs.specs.InputLines.{plain_line};
 ghost use Rattle.pol_policy.specs.PlainPolicy.{plain_policy};
@@ -9,9 +9,9 @@ ghost use Rattle.pol_guard.specs.Guards.{known_by};
 ghost use Rattle.pol_guard.specs.Work.{waiting};
 
 use crate::replying::reply_to;
+use event_json::is_blank;
 use mtp_json::{FaultKind, JsonFault, JsonRefusal, Path};
 use pol_core::Plant;
-use pol_events::is_blank;
 use pol_io::Sink;
 use pol_jobs::{InputLine, LineJob, PutFault, Stop};
 use pol_policy::{Policy, read_policy};

@@ -8,6 +8,8 @@
 //! each denial is right (`specs/Laws.antt`).
 //!
 //! It knows nothing of how a policy judges, or of how a plant finds an answer.
+//!
+//! Tried in `pol_examples`.
 #![tactic(auto)]
 
 mod denials;

@@ -1,10 +1,11 @@
 //! Reading the lines of a journal under a policy, fast where a line has no command of the desk.
 ghost use Rattle.std.specs.Prelude.{◌≡◌, Ok, IfOk, IfSome, IsTrue};
 ghost use Rattle.pol_events.specs.Events.{plain_event};
-ghost use Rattle.pol_events.specs.Guarded.{TellsGuarded, guarded_of, is_desk, plain_guarded};
 ghost use Rattle.pol_events.specs.Orderly.{is_orderly};
+ghost use Rattle.event_json.specs.Guarded.{TellsGuarded, guarded_of, is_desk, plain_guarded};
 
-use pol_events::{Event, Guarded, LineRefusal, read_guarded};
+use event_json::{Guarded, LineRefusal, read_guarded};
+use pol_events::Event;
 use pol_lines::read_quick;
 use std::alloc::Global;
 

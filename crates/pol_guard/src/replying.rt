@@ -1,20 +1,21 @@
 //! The reply to a line of a journal under a policy.
 ghost use Rattle.std.specs.Prelude.{◌≡◌, ◌++◌, IsTrue, Ok, OnOk, Some};
 ghost use Rattle.std.specs.Option.{option_map};
-ghost use Rattle.pol_core.specs.Plants.{plant_history};
-ghost use Rattle.pol_events.specs.Events.{plain_event};
-ghost use Rattle.pol_events.specs.Guarded.{plain_guarded};
-ghost use Rattle.pol_events.specs.Orderly.{is_orderly};
 ghost use Rattle.pol_jobs.specs.InputLines.{plain_line};
 ghost use Rattle.pol_policy.specs.Deciding.{verdict_of};
 ghost use Rattle.pol_policy.specs.PlainPolicy.{plain_policy};
+ghost use Rattle.pol_events.specs.Events.{plain_event};
+ghost use Rattle.pol_events.specs.Orderly.{is_orderly};
+ghost use Rattle.event_json.specs.Guarded.{plain_guarded};
+ghost use Rattle.pol_core.specs.Plants.{plant_history};
 ghost use Rattle.pol_guard.specs.Lines.{asked_by, guarded_line, guarded_saying};
 ghost use Rattle.pol_guard.specs.Work.{history_with, text_after};
 
 use crate::denials::put_denial_line;
 use crate::reading::read_line;
+use event_json::{Guarded, LineFault, LineRefusal};
 use pol_core::Plant;
-use pol_events::{Event, Guarded, LineFault, LineRefusal};
+use pol_events::Event;
 use pol_jobs::InputLine;
 use pol_policy::{Policy, Verdict};
 use pol_record::put_fault_line;

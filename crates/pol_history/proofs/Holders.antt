@@ -1,15 +1,18 @@
 -- Who holds a module after one more entry.
-use Rattle.std.proofs.Common.{◌≡◌, ℕ, Bool, true, false, cond, List, [], ◌∷◌, Option, Some, None, is_none, refl, ap, sym, ◌∙◌, subst}
+use Rattle.std.proofs.Common.{◌≡◌, ℕ, Bool, true, false, cond, List, [], ◌∷◌, Option, Some, None, is_none, refl, ap}
+use Rattle.std.proofs.Common.{sym, ◌∙◌, subst}
 use Rattle.std.specs.Prelude.{if◌then◌else◌}
 use Rattle.std.specs.Option.{option_or, option_eq}
 use Rattle.std.specs.Str.{bytes_eq}
 use Rattle.mtp_codes.specs.Names.{is_among}
 use Rattle.mtp_codes.proofs.Names.{same_true, same_refl, apart_back}
+use Rattle.mtp_codes.proofs.Options.{or_none}
 use Rattle.chart_core.specs.declared.next.Outcome.{Outcome}
 use Rattle.pol_events.specs.Events.{PlainEvent, PlainEntry, start}
 use Rattle.pol_events.specs.Bound.{PlainAllocation, tags_of}
 use Rattle.pol_events.specs.declared.answer.Answer.TheVariants.{Done}
-use Rattle.pol_history.specs.Looking.{History, of_module, of_batch, of_recipe, subject, is_accepted, past_of_batch, last_of}
+use Rattle.pol_history.specs.Looking.{History, of_module, of_batch, of_recipe, subject, is_accepted, past_of_batch}
+use Rattle.pol_history.specs.Looking.{last_of}
 use Rattle.pol_history.specs.Batches.{starting, taking, takes, closing, outcome_by, outcome_of, if_open, holder_of}
 use Rattle.pol_history.proofs.Accepted.{paired}
 use Rattle.pol_history.proofs.Pasts.{batch_past_own, batch_past_apart, batch_past_same, recipe_batch_past_same}
@@ -77,11 +80,6 @@ abbrev pub holder_if : Option Outcome → List ℕ → Option (List ℕ) → Opt
 holder_if None batch holder = holder
 holder_if (Some outcome) batch holder = if option_eq bytes_eq holder (Some batch) then None else holder
 
--- or else nothing
-pub or_nothing : {A : Type 0} (found : Option A) → option_or found None ≡ found
-or_nothing None = refl
-or_nothing (Some x) = refl
-
 -- the batch itself, where it was open: it is freed where it is closed now
 own_freed : (closes : Option Outcome) (batch : List ℕ) →
     cond (is_none closes) (Some batch) None ≡ holder_if closes batch (Some batch)
@@ -112,7 +110,7 @@ open_after history entry batch is accepted open' (Some other) = go (bytes_eq bat
     own =
         ap (λ past. cond (is_none (outcome_by past)) (Some batch) None) (batch_past_own history entry batch is accepted)
         ∙ ap (λ found. cond (is_none (option_or (closing entry.answer) found)) (Some batch) None) open'
-        ∙ ap (λ found. cond (is_none found) (Some batch) None) (or_nothing (closing entry.answer))
+        ∙ ap (λ found. cond (is_none found) (Some batch) None) (or_none (closing entry.answer))
         ∙ own_freed (closing entry.answer) batch
         ∙ ap (λ found. holder_if (closing entry.answer) batch (cond (is_none found) (Some batch) None)) (sym open')
 

@@ -1,9 +1,10 @@
 -- The history that a run leaves is legal, and its events are among those that came.
-use Rattle.std.proofs.Common.{◌≡◌, Bool, true, false, cond, List, [], ◌∷◌, refl}
+use Rattle.std.proofs.Common.{◌≡◌, Bool, true, false, cond, List, [], ◌∷◌, ◌++◌, refl}
 use Rattle.pol_events.specs.Events.{PlainEvent}
 use Rattle.pol_events.specs.Orderly.{is_orderly}
 use Rattle.pol_history.specs.Looking.{History}
-use Rattle.pol_history.specs.Runs.{entry_of, is_recorded, recorded, history_after, IsLegal, AreOrderly, IsOrderly, RunsAreLegal}
+use Rattle.pol_history.specs.Runs.{entry_of, is_recorded, recorded, history_after, IsLegal, AreOrderly, IsOrderly}
+use Rattle.pol_history.specs.Runs.{RunsAreLegal}
 
 -- a legal history with one more event is legal
 legal_recorded : (history : History) (event : PlainEvent) → IsLegal history
@@ -42,3 +43,13 @@ orderly_after history (event ∷ events) orderly all =
 -- so the history of each run is legal
 pub runs_legal : RunsAreLegal
 runs_legal events = (legal_after [] events tt, λ all. orderly_after [] events tt all)
+
+-- the earlier part of a legal history is legal
+pub earlier_legal : (later history : History) → IsLegal (later ++ history) → IsLegal history
+earlier_legal [] history legal = legal
+earlier_legal (entry ∷ later) history legal = earlier_legal later history legal.2
+
+-- and the earlier part of an orderly one is orderly
+pub earlier_orderly : (later history : History) → IsOrderly (later ++ history) → IsOrderly history
+earlier_orderly [] history orderly = orderly
+earlier_orderly (entry ∷ later) history orderly = earlier_orderly later history orderly.1

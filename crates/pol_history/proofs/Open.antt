@@ -1,5 +1,6 @@
 -- Open batches, from one entry of a history to the next.
-use Rattle.std.proofs.Common.{◌≡◌, ℕ, Bool, true, false, cond, List, ◌∷◌, refl, ap, sym, ◌∙◌, Option, Some, None, is_none}
+use Rattle.std.proofs.Common.{◌≡◌, ℕ, Bool, true, false, cond, List, ◌∷◌, refl, ap, sym, ◌∙◌, Option, Some, None}
+use Rattle.std.proofs.Common.{is_none}
 use Rattle.std.specs.Prelude.{if◌then◌else◌}
 use Rattle.std.specs.Option.{option_or}
 use Rattle.chart_core.specs.declared.next.Outcome.{Outcome}

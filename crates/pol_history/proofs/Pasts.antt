@@ -7,7 +7,8 @@ use Rattle.mtp_codes.proofs.Names.{same_refl}
 use Rattle.chart_core.specs.declared.entry.LogEntry.{LogEntry}
 use Rattle.pol_events.specs.Events.{PlainEvent, PlainEntry}
 use Rattle.pol_events.specs.declared.answer.Answer.TheVariants.{Did}
-use Rattle.pol_history.specs.Looking.{History, of_module, of_batch, of_recipe, subject, is_module, is_batch, is_recipe, is_accepted, past, past_of_batch, recipes}
+use Rattle.pol_history.specs.Looking.{History, of_module, of_batch, of_recipe, subject, is_module, is_batch, is_recipe}
+use Rattle.pol_history.specs.Looking.{is_accepted, past, past_of_batch, recipes}
 use Rattle.pol_history.specs.Batches.{taken, log_by}
 use Rattle.pol_history.proofs.Accepted.{paired}
 
@@ -81,13 +82,6 @@ batch_recipes_same history entry batch is =
     ap (λ of. cond (is_recipe of && is_accepted entry.answer) (entry ∷ recipes history) (recipes history)) is
 
 -- ---- a recipe
-
--- a recipe changes the past of no module
-pub recipe_past_same : (history : History) (entry : PlainEntry) (name tag : List ℕ) →
-    subject entry.event ≡ of_recipe name →
-    past tag (entry ∷ history) ≡ past tag history
-recipe_past_same history entry name tag is =
-    ap (λ of. cond (is_module tag of && is_accepted entry.answer) (entry ∷ past tag history) (past tag history)) is
 
 -- nor that of a batch
 pub recipe_batch_past_same : (history : History) (entry : PlainEntry) (name batch : List ℕ) →

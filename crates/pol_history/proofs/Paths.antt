@@ -1,5 +1,6 @@
 -- The reported states of a service are a path.
-use Rattle.std.proofs.Common.{◌≡◌, ℕ, Bool, true, false, cond, not, List, [], ◌∷◌, refl, ap, Option, Some, None, sym, ◌∙◌, subst, reverse, ◌++◌}
+use Rattle.std.proofs.Common.{◌≡◌, ℕ, Bool, true, false, cond, not, List, [], ◌∷◌, refl, ap, Option, Some, None, sym}
+use Rattle.std.proofs.Common.{◌∙◌, subst, reverse, ◌++◌}
 use Rattle.std.specs.Prelude.{◌&&◌, unwrap_or}
 use Rattle.std.specs.Option.{option_or}
 use Rattle.std.specs.Str.{bytes_eq}
@@ -10,11 +11,15 @@ use Rattle.mtp_codes.specs.Faults.{when}
 use Rattle.mtp_codes.proofs.Names.{same_true}
 use Rattle.mtp_machine.specs.Machine.{is_path}
 use Rattle.mtp_assembly.specs.declared.control.ServiceControl.{ServiceControl}
-use Rattle.pol_events.specs.Events.{PlainEvent, plug, unplug, report, variable, recipe, start, advance, freeze, thaw, stop_batch, abandon, desk, exchange_begin, exchange_end, exchange_cancel, PlainEntry}
+use Rattle.pol_events.specs.Events.{PlainEvent, plug, unplug, report, variable, recipe, start, advance, freeze, thaw}
+use Rattle.pol_events.specs.Events.{stop_batch, abandon, desk, exchange_begin, exchange_end, exchange_cancel}
+use Rattle.pol_events.specs.Events.{PlainEntry}
 use Rattle.pol_events.specs.declared.answer.Rule.TheVariants.{NotAnEdge}
 use Rattle.pol_events.specs.Refusals.{may_follow, not_an_edge, in_exchange}
-use Rattle.pol_history.specs.Looking.{History, subject, is_module, is_accepted, is_accepted_of, past, last_of, after_last}
-use Rattle.pol_history.specs.Modules.{Docking, absent, docked, away, docking_after, docking_by, is_docking, is_moving, ticket_of, reported, after_docking, since_docking, states_in, control_by}
+use Rattle.pol_history.specs.Looking.{History, subject, is_module, is_accepted, is_accepted_of, past, last_of}
+use Rattle.pol_history.specs.Looking.{after_last}
+use Rattle.pol_history.specs.Modules.{Docking, absent, docked, away, docking_after, docking_by, is_docking, is_moving}
+use Rattle.pol_history.specs.Modules.{ticket_of, reported, after_docking, since_docking, states_in, control_by}
 use Rattle.pol_history.specs.Rules.{no_module}
 use Rattle.pol_history.specs.Answers.{answer_of, rules}
 use Rattle.pol_history.specs.Runs.{entry_of, IsLegal}

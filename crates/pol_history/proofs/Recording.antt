@@ -1,5 +1,6 @@
 -- Where the history has room, every answer is recorded: no rule of an event's kind says that the history is full.
-use Rattle.std.proofs.Common.{◌≡◌, ℕ, Bool, true, false, not, List, [], ◌∷◌, map, Option, Some, None, is_none, refl, ap, ◌∙◌}
+use Rattle.std.proofs.Common.{◌≡◌, ℕ, Bool, true, false, not, List, [], ◌∷◌, map, Option, Some, None, is_none, refl, ap}
+use Rattle.std.proofs.Common.{◌∙◌}
 use Rattle.std.specs.Prelude.{◌||◌, ◌&&◌, is_some, find, option_map, option_and_then, if◌then◌else◌}
 use Rattle.std.specs.Option.{option_or}
 use Rattle.mtp_codes.specs.Faults.{when, first_of}
@@ -26,19 +27,30 @@ use Rattle.chart_core.specs.declared.entry.LogEntry.TheVariants.{StopAsked}
 use Rattle.chart_core.specs.declared.next.Next.{Next}
 use Rattle.chart_core.specs.declared.next.Next.TheVariants as next
 use Rattle.chart_cursor.specs.Logs.{active, has_broken, was_stopped}
-use Rattle.pol_events.specs.Events.{PlainEvent, plug, unplug, report, variable, recipe, start, advance, freeze, thaw, stop_batch, abandon, desk, exchange_begin, exchange_end, exchange_cancel}
-use Rattle.pol_events.specs.Refusals.{no_service, not_an_edge, may_follow, no_variable, value_misfit, value_rule, forbid_rule, forbidden, in_exchange, wrong_ticket, cover_rule, service_not_at_rest}
+use Rattle.pol_events.specs.Events.{PlainEvent, plug, unplug, report, variable, recipe, start, advance, freeze, thaw}
+use Rattle.pol_events.specs.Events.{stop_batch, abandon, desk, exchange_begin, exchange_end, exchange_cancel}
+use Rattle.pol_events.specs.Refusals.{no_service, not_an_edge, may_follow, no_variable, value_misfit, value_rule}
+use Rattle.pol_events.specs.Refusals.{forbid_rule, forbidden, in_exchange, wrong_ticket, cover_rule}
+use Rattle.pol_events.specs.Refusals.{service_not_at_rest}
 use Rattle.pol_events.specs.Bound.{PlainAllocation, bound_tag, bound_role, given, step_on}
 use Rattle.pol_events.specs.BindRules.{first_name}
 use Rattle.pol_events.specs.declared.answer.Answer.{Answer}
 use Rattle.pol_events.specs.declared.answer.Answer.TheVariants.{Done, Did, Refused}
 use Rattle.pol_events.specs.declared.answer.Rule.{Rule}
-use Rattle.pol_events.specs.declared.answer.Rule.TheVariants.{PlantFull, InExchange, WrongTicket, NoService, NotAnEdge, NoVariable, RecipeKnown, BatchKnown, NoBatch, BatchClosed, RoleUnbound, RoleUnknown, OneModuleTwice, NotIdle, BatchesFull, NotAtRest, ActiveStep, HeldBack, NotFrozen, AlreadyFrozen, RecipesFull, Watched, WatchedStep}
+use Rattle.pol_events.specs.declared.answer.Rule.TheVariants.{PlantFull, InExchange, WrongTicket, NoService, NotAnEdge}
+use Rattle.pol_events.specs.declared.answer.Rule.TheVariants.{NoVariable, RecipeKnown, BatchKnown, NoBatch, BatchClosed}
+use Rattle.pol_events.specs.declared.answer.Rule.TheVariants.{RoleUnbound, RoleUnknown, OneModuleTwice, NotIdle}
+use Rattle.pol_events.specs.declared.answer.Rule.TheVariants.{BatchesFull, NotAtRest, ActiveStep, HeldBack, NotFrozen}
+use Rattle.pol_events.specs.declared.answer.Rule.TheVariants.{AlreadyFrozen, RecipesFull, Watched, WatchedStep}
 use Rattle.pol_events.specs.declared.event.Bind.{Bind}
 use Rattle.pol_history.specs.Looking.{History, past, past_of_batch, recipes}
-use Rattle.pol_history.specs.Modules.{Docking, absent, docked, away, docking_by, ticket_of, description_by, control_by, view_by}
+use Rattle.pol_history.specs.Modules.{Docking, absent, docked, away, docking_by, ticket_of, description_by, control_by}
+use Rattle.pol_history.specs.Modules.{view_by}
 use Rattle.pol_history.specs.Batches.{start_by, chart_named, chart_by, log_by, holder_of, watchers_of}
-use Rattle.pol_history.specs.Rules.{tag_taken, no_module, not_in_exchange, not_reported, not_idle, module_not_at_rest, not_covered, services_of, unready, not_ready, module_rule, is_bound_before, twice, one_module_twice, busy_module, busy_role, active_step, uncovered_in, held_back, watched, unknown_role, has_step, steps_in}
+use Rattle.pol_history.specs.Rules.{tag_taken, no_module, not_in_exchange, not_reported, not_idle, module_not_at_rest}
+use Rattle.pol_history.specs.Rules.{not_covered, services_of, unready, not_ready, module_rule, is_bound_before, twice}
+use Rattle.pol_history.specs.Rules.{one_module_twice, busy_module, busy_role, active_step, uncovered_in, held_back}
+use Rattle.pol_history.specs.Rules.{watched, unknown_role, has_step, steps_in}
 use Rattle.pol_history.specs.Answers.{start_rules, rules, advanced, otherwise, first_rule, is_full, answer_of}
 use Rattle.pol_history.specs.Runs.{is_recorded}
 use Rattle.pol_history.proofs.Accepted.{with_room}

@@ -1,14 +1,17 @@
 -- A refused event changes nothing that is looked back at.
-use Rattle.std.proofs.Common.{◌≡◌, ℕ, false, cond, List, ◌∷◌, reverse, Option, Some, None, is_some, is_none, refl, ap, ◌∙◌}
+use Rattle.std.proofs.Common.{◌≡◌, ℕ, false, cond, List, ◌∷◌, reverse, Option, Some, None, is_some, is_none, refl, ap}
+use Rattle.std.proofs.Common.{◌∙◌}
 use Rattle.std.specs.Prelude.{filter, filter_map}
 use Rattle.std.specs.List.{cons_option}
 use Rattle.std.specs.Option.{option_or}
 use Rattle.std.proofs.lemmas.Bool.{and_right}
 use Rattle.std.proofs.Math.Path.{fun_ext}
 use Rattle.pol_events.specs.Events.{PlainEvent, PlainEntry, plug, unplug}
-use Rattle.pol_history.specs.Looking.{History, subject, is_module, is_batch, is_recipe, is_accepted, past, past_of_batch, recipes, last_of}
+use Rattle.pol_history.specs.Looking.{History, subject, is_module, is_batch, is_recipe, is_accepted, past}
+use Rattle.pol_history.specs.Looking.{past_of_batch, recipes, last_of}
 use Rattle.pol_history.specs.Modules.{present_after, present_tags}
-use Rattle.pol_history.specs.Batches.{starting, started_batch, taking, takes, watching, watches, outcome_by, if_open, is_open, is_start}
+use Rattle.pol_history.specs.Batches.{starting, started_batch, taking, takes, watching, watches, outcome_by, if_open}
+use Rattle.pol_history.specs.Batches.{is_open, is_start}
 use Rattle.pol_history.specs.Refused.{RefusedChangesNothing}
 
 -- a refused event docks nothing and takes nothing away

@@ -1,5 +1,6 @@
 -- Who watches a module after one more entry.
-use Rattle.std.proofs.Common.{◌≡◌, ℕ, Bool, true, false, not, cond, List, [], ◌∷◌, ◌++◌, reverse, Option, Some, None, is_none, refl, ap, sym, ◌∙◌, subst, ◌⊎◌}
+use Rattle.std.proofs.Common.{◌≡◌, ℕ, Bool, true, false, not, cond, List, [], ◌∷◌, ◌++◌, reverse, Option, Some, None}
+use Rattle.std.proofs.Common.{is_none, refl, ap, sym, ◌∙◌, subst, ◌⊎◌}
 use Rattle.std.specs.Prelude.{◌&&◌, filter, filter_map, if◌then◌else◌}
 use Rattle.std.specs.List.{Contains, cons_option}
 use Rattle.std.specs.Option.{option_or}
@@ -15,8 +16,10 @@ use Rattle.pol_events.specs.Events.{PlainEvent, PlainEntry, start}
 use Rattle.pol_events.specs.Bound.{PlainAllocation, tags_of}
 use Rattle.pol_events.specs.declared.event.Bind.{Bind}
 use Rattle.pol_events.proofs.Lists.{member_first, member_later, member_kept, kept_member, member_among, image_member}
-use Rattle.pol_history.specs.Looking.{History, of_module, of_batch, of_recipe, subject, is_accepted, is_batch, is_accepted_of_batch, past_of_batch}
-use Rattle.pol_history.specs.Batches.{Started, starting, start_by, start_of, watching, watches, closing, outcome_by, outcome_of, is_open, watchers_of}
+use Rattle.pol_history.specs.Looking.{History, of_module, of_batch, of_recipe, subject, is_accepted, is_batch}
+use Rattle.pol_history.specs.Looking.{is_accepted_of_batch, past_of_batch}
+use Rattle.pol_history.specs.Batches.{Started, starting, start_by, start_of, watching, watches, closing, outcome_by}
+use Rattle.pol_history.specs.Batches.{outcome_of, is_open, watchers_of}
 use Rattle.pol_history.proofs.Filters.{filter_both, filter_reverse}
 use Rattle.pol_history.proofs.Holders.{started, module_no_start, recipe_no_start}
 use Rattle.pol_history.proofs.Pasts.{batch_past_own, batch_past_apart, batch_past_same, recipe_batch_past_same}

@@ -1,5 +1,6 @@
 -- The rules of each kind of event in their order, and the answer.
-use Rattle.std.specs.Prelude.{ℕ, Bool, ◌||◌, nat_le, List, [], ◌∷◌, length, Option, Some, None, if◌then◌else◌, option_and_then}
+use Rattle.std.specs.Prelude.{ℕ, Bool, ◌||◌, nat_le, List, [], ◌∷◌, length, Option, Some, None, if◌then◌else◌}
+use Rattle.std.specs.Prelude.{option_and_then}
 use Rattle.mtp_codes.specs.Faults.{when}
 use Rattle.mtp_codes.specs.declared.limits.TheConstants.{LONGEST_HISTORY}
 use Rattle.chart_core.specs.Roles.{PlainChart, role_names}
@@ -8,7 +9,8 @@ use Rattle.chart_core.specs.declared.next.Next.TheVariants as next
 use Rattle.chart_core.specs.declared.next.Next.{Next}
 use Rattle.chart_core.specs.declared.next.Outcome.TheVariants.{Abandoned}
 use Rattle.chart_cursor.specs.Logs.{has_broken, was_stopped}
-use Rattle.pol_events.specs.Events.{PlainEvent, plug, unplug, report, variable, recipe, start, advance, freeze, thaw, stop_batch, abandon, desk, exchange_begin, exchange_end, exchange_cancel}
+use Rattle.pol_events.specs.Events.{PlainEvent, plug, unplug, report, variable, recipe, start, advance, freeze, thaw}
+use Rattle.pol_events.specs.Events.{stop_batch, abandon, desk, exchange_begin, exchange_end, exchange_cancel}
 use Rattle.pol_events.specs.declared.answer.Rule.{Rule}
 use Rattle.pol_events.specs.declared.answer.Rule.TheVariants.{Held, HistoryFull}
 use Rattle.pol_events.specs.declared.answer.Answer.{Answer}
@@ -19,7 +21,11 @@ use Rattle.pol_history.specs.Looking.{History, past, past_of_batch, recipes}
 use Rattle.pol_history.specs.Modules.{docking_by, ticket_of, description_by, control_by, view_by, next_ticket}
 use Rattle.pol_history.specs.Batches.{start_by, chart_named, log_by, holder_of}
 use Rattle.pol_history.specs.Following.{next_of}
-use Rattle.pol_history.specs.Rules.{tag_taken, no_module, not_in_exchange, plant_full, module_not_at_rest, not_reported, recipe_known, recipes_full, no_recipe, batch_known, no_batch, batch_closed, already_frozen, not_frozen, batches_full, role_unbound, role_unknown, one_module_twice, watched_step, steps_in, modules_unfit, busy, watched, active_step, held_back}
+use Rattle.pol_history.specs.Rules.{tag_taken, no_module, not_in_exchange, plant_full, module_not_at_rest, not_reported}
+use Rattle.pol_history.specs.Rules.{recipe_known, recipes_full, no_recipe, batch_known, no_batch, batch_closed}
+use Rattle.pol_history.specs.Rules.{already_frozen, not_frozen, batches_full, role_unbound, role_unknown}
+use Rattle.pol_history.specs.Rules.{one_module_twice, watched_step, steps_in, modules_unfit, busy, watched, active_step}
+use Rattle.pol_history.specs.Rules.{held_back}
 
 -- the rules of a start, by the chart of its recipe
 abbrev pub start_rules : History → List ℕ → PlainAllocation → Option PlainChart → List (Option Rule)

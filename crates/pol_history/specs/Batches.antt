@@ -1,5 +1,6 @@
 -- Looking back at a batch: each value is found in the batch's past, its chart among the recipes.
-use Rattle.std.specs.Prelude.{ℕ, Bool, true, false, ◌&&◌, List, [], filter, filter_map, Option, Some, None, is_some, is_none, unwrap_or, reverse, option_and_then, if◌then◌else◌}
+use Rattle.std.specs.Prelude.{ℕ, Bool, true, false, ◌&&◌, List, [], filter, filter_map, Option, Some, None, is_some}
+use Rattle.std.specs.Prelude.{is_none, unwrap_or, reverse, option_and_then, if◌then◌else◌}
 use Rattle.std.specs.Str.{bytes_eq}
 use Rattle.mtp_codes.specs.Names.{is_among}
 use Rattle.chart_core.specs.Roles.{PlainChart}

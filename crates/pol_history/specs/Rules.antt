@@ -1,7 +1,9 @@
 -- The rules that can refuse an event.
-use Rattle.std.specs.Prelude.{ℕ, Bool, not, ◌&&◌, ◌||◌, nat_le, List, [], ◌∷◌, length, map, filter, Option, Some, None, is_some, is_none, option_and_then, option_map}
+use Rattle.std.specs.Prelude.{ℕ, Bool, not, ◌&&◌, ◌||◌, nat_le, List, [], ◌∷◌, length, map, filter, Option, Some, None}
+use Rattle.std.specs.Prelude.{is_some, is_none, option_and_then, option_map}
 use Rattle.std.specs.Option.{option_or}
-pub use Rattle.std.specs.Option.{option_and_then as by_description, option_and_then as by_view, option_and_then as by_holder}
+pub use Rattle.std.specs.Option.{option_and_then as by_description, option_and_then as by_view}
+pub use Rattle.std.specs.Option.{option_and_then as by_holder}
 use Rattle.mtp_codes.specs.Names.{same_name}
 use Rattle.mtp_codes.specs.Faults.{when, first_of}
 use Rattle.mtp_codes.specs.declared.limits.TheConstants.{MOST_BATCHES, MOST_MODULES, MOST_RECIPES}
@@ -12,15 +14,21 @@ use Rattle.chart_core.specs.Roles.{PlainChart}
 use Rattle.chart_core.specs.Trees.{PlainStep, steps}
 use Rattle.mtp_procs.specs.Covers.{cover_fault, missing_by}
 use Rattle.chart_cursor.specs.Logs.{active}
-pub use Rattle.pol_events.specs.BindRules.{role_unbound, unknown_role, role_unknown, is_bound_before, twice, one_module_twice, has_step, watched_step}
+pub use Rattle.pol_events.specs.BindRules.{role_unbound, unknown_role, role_unknown, is_bound_before, twice}
+pub use Rattle.pol_events.specs.BindRules.{one_module_twice, has_step, watched_step}
 use Rattle.pol_events.specs.Refusals.{cover_rule, in_exchange, not_at_rest}
 use Rattle.pol_events.specs.declared.answer.Rule.{Rule}
-use Rattle.pol_events.specs.declared.answer.Rule.TheVariants.{TagTaken, NoModule, PlantFull, NotInExchange, RecipeKnown, NoRecipe, BatchKnown, NoBatch, BatchClosed, NotReported, NotIdle, Busy, BatchesFull, ActiveStep, HeldBack, NotFrozen, AlreadyFrozen, RecipesFull, Watched}
+use Rattle.pol_events.specs.declared.answer.Rule.TheVariants.{TagTaken, NoModule, PlantFull, NotInExchange, RecipeKnown}
+use Rattle.pol_events.specs.declared.answer.Rule.TheVariants.{NoRecipe, BatchKnown, NoBatch, BatchClosed, NotReported}
+use Rattle.pol_events.specs.declared.answer.Rule.TheVariants.{NotIdle, Busy, BatchesFull, ActiveStep, HeldBack}
+use Rattle.pol_events.specs.declared.answer.Rule.TheVariants.{NotFrozen, AlreadyFrozen, RecipesFull, Watched}
 use Rattle.pol_events.specs.declared.event.Bind.{Bind}
 use Rattle.pol_events.specs.Bound.{bound_tag, bound_role, given, step_on}
 use Rattle.pol_history.specs.Looking.{History, past, past_of_batch, recipes}
-use Rattle.pol_history.specs.Modules.{Docking, absent, docked, away, docking_by, description_by, control_by, view_by, present_tags, ticket_of}
-use Rattle.pol_history.specs.Batches.{Started, start_by, chart_named, chart_by, outcome_by, is_frozen_by, is_holding_by, log_by, holder_of, is_start, watchers_of}
+use Rattle.pol_history.specs.Modules.{Docking, absent, docked, away, docking_by, description_by, control_by, view_by}
+use Rattle.pol_history.specs.Modules.{present_tags, ticket_of}
+use Rattle.pol_history.specs.Batches.{Started, start_by, chart_named, chart_by, outcome_by, is_frozen_by, is_holding_by}
+use Rattle.pol_history.specs.Batches.{log_by, holder_of, is_start, watchers_of}
 
 -- ---- whether a tag is docked
 

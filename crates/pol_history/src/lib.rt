@@ -3,6 +3,8 @@
 //!
 //! It knows nothing of tables or of how an answer is found: `pol_audit` and `pol_core` are held against it. What
 //! follows from the definitions stands above it, in `pol_safety` and `pol_removal`.
+//!
+//! Laws alone: no test tries them.
 #![tactic(auto)]
 
 ghost use Rattle.pol_history.specs.Paths.{ReportsArePaths};

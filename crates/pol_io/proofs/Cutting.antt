@@ -1,5 +1,5 @@
 -- Lines cut from the front of a text.
-use Rattle.std.proofs.Common.{ℕ, ◌+◌, ◌<◌, ◌≡◌, List, [], ◌∷◌, ◌++◌, length, take, drop, Bool, true, false, IsTrue, Option, None, Some, append_assoc, length-append, append-nil, inl, inr, arith, ap, ◌∙◌, sym, refl}
+use Rattle.std.proofs.Common.{ℕ, ◌+◌, ◌<◌, ◌≡◌, List, [], ◌∷◌, ◌++◌, take, drop, Bool, true, false, IsTrue, Option, None, Some, append_assoc, length-append, inl, arith, ap, ◌∙◌, sym}
 use Rattle.std.specs.Io.KnownBytes.{Keeps, prepend_known}
 use Rattle.pol_io.specs.Known.{Between, joined}
 use Rattle.pol_io.specs.Pieces.{has_no_feed}
@@ -36,22 +36,6 @@ cuts_at_feed_known false None ahead waiting line place same at kept = tt
 cuts_at_feed_known false (Some text) None waiting line place same at kept = absurd kept
 cuts_at_feed_known false (Some text) (Some rest) waiting line place same at kept =
     rw same (cuts_at_feed false waiting place text rest at (sym kept))
-
--- a last line without a line feed
-pub cuts_at_end : (known : Option (List ℕ)) (waiting rest : List ℕ) → Keeps known (Some waiting)
-    → IsTrue (has_no_feed waiting) → 0 < length waiting
-    → rest ≡ [] → Between (Cuts true waiting) known (Some rest)
-cuts_at_end None waiting rest kept no_feed some end = tt
-cuts_at_end (Some text) waiting rest kept no_feed some end =
-    record { no_feed = no_feed; cut = inr (refl, sym kept, end, some) }
-
--- all that waits is passed over, and it is long
-pub passes_waiting : (most : ℕ) (ended : Bool) (waiting : List ℕ) (left : Option (List ℕ)) → ended ≡ false
-    → IsTrue (has_no_feed waiting) → most < length waiting → Between (PassesLong most) (joined ended waiting left) left
-passes_waiting most true waiting left unended no_feed long = absurd (cc)
-passes_waiting most false waiting None unended no_feed long = tt
-passes_waiting most false waiting (Some rest) unended no_feed long =
-    record { part = waiting; no_feed = no_feed; cut = refl; long = long }
 
 -- more bytes wait, where none did before
 pub nothing_waited : (before now : Bool) (none more : List ℕ) (known ahead : Option (List ℕ))
@@ -110,33 +94,3 @@ long_goes_on most (Some text) None ahead waiting no_feed long kept = absurd long
 long_goes_on most (Some text) (Some left) None waiting no_feed long kept = absurd kept
 long_goes_on most (Some text) (Some left) (Some rest) waiting no_feed long kept =
     longer most waiting no_feed text rest (rw (← kept) at long)
-
--- a long line up to the end of input
-pub long_at_end : (most : ℕ) (ended : Bool) (known ahead : Option (List ℕ)) (none waiting rest : List ℕ) → ended ≡ false
-    → none ≡ [] → waiting ≡ none → rest ≡ [] → Between (PassesLong most) known ahead
-    → Keeps (joined ended none ahead) (Some waiting)
-    → Between (CutsLong most true) known (Some rest)
-long_at_end most true known ahead none waiting rest unended empty same end long kept = absurd (cc)
-long_at_end most false None ahead none waiting rest unended empty same end long kept = tt
-long_at_end most false (Some text) None none waiting rest unended empty same end long kept = absurd long
-long_at_end most false (Some text) (Some left) none waiting rest unended empty same end long kept =
-    let nothing : left ≡ [] = ap (λ front. front ++ left) (sym empty) ∙ (sym kept ∙ (same ∙ empty)) in
-    record {
-      line = long.part;
-      cuts = record {
-        no_feed = long.no_feed;
-        cut = inr (
-          refl,
-          long.cut ∙ (ap (λ behind. long.part ++ behind) nothing ∙ append-nil long.part),
-          end,
-          let size = long.long in omega (arith, size),
-        );
-      };
-      long = long.long;
-    }
-
--- nothing is ahead and nothing is left
-pub nothing_ahead : (known : Option (List ℕ)) (waiting rest : List ℕ) → Keeps known (Some waiting) → waiting ≡ []
-    → rest ≡ [] → Between (λ text left. (text ≡ []) × (left ≡ [])) known (Some rest)
-nothing_ahead None waiting rest kept none end = tt
-nothing_ahead (Some text) waiting rest kept none end = (sym kept ∙ none, end)

@@ -1,7 +1,7 @@
 -- Known bytes before and after: facts that are kept, weakened, put together and followed through several calls.
 use Rattle.std.proofs.Common.{ℕ, ◌+◌, ◌≡◌, List, [], ◌++◌, length, length-append, Bool, true, false, None, Some, Option, append_assoc, append-nil, arith, ap, ◌∙◌, sym, refl}
 use Rattle.pol_io.specs.Known.{Between, Counts, joined}
-use Rattle.std.specs.Io.KnownBytes.{Appends, Consumes, Keeps, IsAtEnd}
+use Rattle.std.specs.Io.KnownBytes.{Appends, Consumes, Keeps}
 
 -- what P says is enough for Q
 pub between_weaker : (Strong Weak : List ℕ → List ℕ → Type 0) (old new : Option (List ℕ))
@@ -62,15 +62,6 @@ Appends_none None new kept = tt
 Appends_none (Some text) None kept = absurd kept
 Appends_none (Some text) (Some rest) kept = kept ∙ sym (append-nil text)
 
--- bytes that are consumed twice
-pub Consumes_trans : (old middle new : Option (List ℕ)) (more others : List ℕ) → Consumes old middle more
-    → Consumes middle new others → Consumes old new (more ++ others)
-Consumes_trans None middle new more others first later = tt
-Consumes_trans (Some text) None new more others first later = absurd first
-Consumes_trans (Some text) (Some between) None more others first later = absurd later
-Consumes_trans (Some text) (Some between) (Some rest) more others first later =
-    rw (first, later) (sym (append_assoc more others rest))
-
 -- what was consumed waits behind what waited
 pub joined_consumed : (ended : Bool) (old new : Option (List ℕ)) (waited more : List ℕ) → ended ≡ false
     → Consumes old new more → Keeps (joined ended waited old) (joined ended (waited ++ more) new)
@@ -78,15 +69,6 @@ joined_consumed true old new waited more unended took = absurd (cc)
 joined_consumed false None new waited more unended took = tt
 joined_consumed false (Some text) None waited more unended took = absurd took
 joined_consumed false (Some text) (Some rest) waited more unended took = rw took (append_assoc waited more rest)
-
--- at the end all that is ahead waits
-pub joined_at_end : (ended : Bool) (left after : Option (List ℕ)) (waiting : List ℕ) → Keeps left after → IsAtEnd after
-    → Keeps (joined ended waiting left) (Some waiting)
-joined_at_end true left after waiting kept end = refl
-joined_at_end false None after waiting kept end = tt
-joined_at_end false (Some text) None waiting kept end = absurd kept
-joined_at_end false (Some text) (Some rest) waiting kept end =
-    sym (ap (λ behind. waiting ++ behind) (sym kept ∙ end) ∙ append-nil waiting)
 
 -- counts of what was taken
 pub counts_taken : (old new : Option (List ℕ)) (more : List ℕ) (taken size : ℕ) → length more ≡ size

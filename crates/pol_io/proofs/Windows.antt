@@ -1,6 +1,5 @@
 -- How much waits in a window.
-use Rattle.std.proofs.Common.{◌-◌, ◌<◌, ◌≡◌, [], length, true, false, length-take, length-drop, arith}
-use Rattle.std.proofs.lemmas.Bool.{false_from_ne_true}
+use Rattle.std.proofs.Common.{◌-◌, ◌<◌, ◌≡◌, [], length, true, length-take, length-drop, arith}
 use Rattle.pol_io.specs.declared.window.Window.{Window}
 use Rattle.pol_io.specs.Window.{waiting, given}
 use Rattle.pol_io.proofs.Ranges.{range_none}
@@ -16,8 +15,3 @@ given_is window = rw (length_waiting window) (omega arith)
 -- at the end all was given
 pub waiting_ended : (window : Window) → window.ended ≡ true → waiting window ≡ []
 waiting_ended window ended = range_none window.buffer.items window.start window.end (window.spent ended)
-
--- where bytes wait the end wasn't seen
-pub still_open : (window : Window) → 0 < length (waiting window) → window.ended ≡ false
-still_open window some = false_from_ne_true window.ended (λ ended. let none = window.spent ended in let size =
-    length_waiting window in omega (arith, none, size, some))

@@ -6,6 +6,8 @@
 //!
 //! It knows nothing of what a line says. Its main contract is that of `Lines::next_line`: each answer is the first line
 //! of the bytes that are ahead, and each fault has its cause. What a line is stands in `specs/Pieces.antt`.
+//!
+//! Tried in `io_examples`.
 #![tactic(auto)]
 
 mod clock;

@@ -14,12 +14,12 @@ use Rattle.pol_io.specs.declared.lines.IoFault.TheVariants as io_fault
 use Rattle.pol_io.proofs.FirstLines.{done_all, done_next, done_whole, pieces_next}
 use Rattle.pol_io.proofs.Known.{Appends_trans, Keeps_refl, between_both, between_trans, between_weaker, counts_kept, counts_trans}
 use Rattle.pol_io.proofs.Pieces.{pieces_append, pieces_joined, whole_append}
-use Rattle.pol_jobs.specs.Ends.{IsRead, IsTooMuch, LeavesPart, stopped_within, stopped_at_end, stopped_closing, Takes, Writes, IsRefused, refused_line, refused_input, WritesTaken, WritesTakenAndMore, WritesTakenPart}
+use Rattle.pol_jobs.specs.Ends.{IsRead, IsTooMuch, LeavesPart, stopped_within, stopped_at_end, stopped_closing, Takes, IsRefused, refused_line, refused_input, WritesTaken, WritesTakenAndMore, WritesTakenPart}
 use Rattle.pol_jobs.specs.Faults.{RefusedFor, of_lines, of_output, of_stop}
-use Rattle.pol_jobs.specs.LineWork.{Line, LineWork, Output, Accepts, AcceptsBehind, AcceptsEnd, AcceptsLines, KnowsAfter, line_met, met, replies, after_all, output_by}
+use Rattle.pol_jobs.specs.LineWork.{Line, LineWork, Output, Accepts, AcceptsBehind, AcceptsLines, line_met, met, replies, after_all, output_by}
 use Rattle.pol_jobs.specs.Moments.{moment, Moment, Moves, IsFresh, IsServed, Leaves, Replied, Replies, Served}
 use Rattle.pol_jobs.specs.Settling.{Deeds, PutsBefore, PutsPart}
-use Rattle.pol_jobs.specs.Written.{Closes, ClosesPart, WritesSome}
+use Rattle.pol_jobs.specs.Written.{ClosesPart, WritesSome}
 use Rattle.pol_jobs.specs.declared.fault.JobFault.TheVariants.{TooMuch}
 use Rattle.pol_jobs.specs.declared.output.PutFault.{PutFault}
 use Rattle.pol_jobs.specs.declared.output.PutFault.TheVariants as put_fault
@@ -216,37 +216,6 @@ module _ {State Reason : Type 0} (work : LineWork State Reason) (start : State) 
       (accepted_behind (output_by work start) [] (pieces done) piece accepted
       (λ reason. subst (λ done. ¬ work.Refuses (known done) (line_met piece) reason) (sym (pieces_joined done))
       (here reason)))
-
-  -- the reply to one more line
-  pub reply_next : (done piece : List ℕ) (state : State) (line : List ℕ) →
-      pieces (done ++ piece) ≡ pieces done ++ piece ∷ [] →
-      state ≡ known done → line ≡ line_of piece → replied done ++ work.reply state (met line) ≡ replied (done ++ piece)
-  reply_next done piece state line are state_is line_is =
-      ap (λ text. replied done ++ text) (ap (λ state. work.reply state (met line)) state_is
-      ∙ ap (λ line. work.reply (known done) (met line)) line_is)
-      ∙ sym (replied_next done piece are)
-
-  -- the closing text follows the replies
-  pub ended_well : (held between held' begin left : Option (List ℕ)) (state : State) →
-      Between (Replied work start state held between) begin left → AcceptsEnd work state →
-      Closes (work.Closing state) between held' → Between (Writes (output_by work start) held held') begin left
-  ended_well held between held' begin left state all accepted closes =
-      between_weaker (Replied work start state held between) (Writes (output_by work start) held held') begin left
-      (λ bytes rest done. record {
-        read = done.read;
-        accepted = (done.accepted, subst (AcceptsEnd work) done.state_is accepted);
-        closing = closes.text;
-        may = rw done.state_is at closes.may;
-        written = Appends_trans held between held' (replied bytes) closes.text done.written closes.appended;
-      }) all
-
-  -- what the job knows then
-  pub known_after : (held between begin left : Option (List ℕ)) (state closed : State) →
-      Between (Replied work start state held between) begin left → closed ≡ state →
-      Between (KnowsAfter work start closed) begin left
-  known_after held between begin left state closed all kept =
-      between_weaker (Replied work start state held between) (KnowsAfter work start closed) begin left
-      (λ bytes rest done. kept ∙ done.state_is) all
 
   -- or a part of it
   end_broken : (held between held' begin left : Option (List ℕ)) (state : State) →

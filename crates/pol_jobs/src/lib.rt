@@ -2,6 +2,8 @@
 //!
 //! It knows nothing of plants, nor of statuses. Its main contract is that of `work`: how such a job ends
 //! (`specs/Ends.antt`), one row for each result.
+//!
+//! Tried in `io_examples`.
 #![tactic(auto)]
 
 mod fault;

@@ -1,5 +1,6 @@
 -- How the job on a kept plant ended.
-use Rattle.std.proofs.Common.{ℕ, ◌≡◌, ◌≢◌, ◌⊎◌, ◌≤◌, inl, inr, ⊎_elim, Bool, false, List, [], Option, Some, None, refl, sym, subst, arith, append-nil}
+use Rattle.std.proofs.Common.{ℕ, ◌≡◌, ◌≢◌, ◌⊎◌, ◌≤◌, inl, inr, ⊎_elim, Bool, false, List, [], Option, Some, None, refl}
+use Rattle.std.proofs.Common.{sym, subst, arith, append-nil}
 use Rattle.std.specs.Prelude.{IfErr, IfSome, OnErr, OnOk, Result, Ok, Err}
 use Rattle.std.specs.declared.convert.Infallible.{Infallible}
 use Rattle.pol_core.specs.Plants.{plant_history}
@@ -26,7 +27,8 @@ use Rattle.pol_store.proofs.Histories.{legal_few, length-events}
 use Rattle.pol_store.proofs.Opened.{left_images, short_stands}
 use Rattle.pol_store.proofs.Texts.{one_history}
 use Rattle.pol_keep.specs.Keeping.{IsKept, Telling, Tells}
-use Rattle.pol_keep.specs.Kept.{IsFaultOf, IsUnopened, KeepEnds, Keeps, StandsForAnswered, StandsForMore, answers_with, events_with, job_result}
+use Rattle.pol_keep.specs.Kept.{IsFaultOf, IsUnopened, KeepEnds, Keeps, StandsForAnswered, StandsForMore, answers_with}
+use Rattle.pol_keep.specs.Kept.{events_with, job_result}
 use Rattle.pol_keep.specs.Leaving.{ReadsAs}
 use Rattle.pol_keep.specs.declared.fault.KeepFault.{KeepFault}
 use Rattle.pol_keep.specs.declared.fault.KeepFault.TheVariants.{Read, Write, Memory, TooMuch, Disk, NotAStore}
@@ -163,9 +165,9 @@ module _ {D : Type 0} (disk : Telling D) (first : D) (old : List PlainEvent) (re
           (λ image one. inr (subst (λ (events : List PlainEvent). StandsForMore events input image) same one)))
 
       -- what each image at the end stands for
-      pub going_kept : (held held' : Option (List ℕ)) → IfSome input (λ input. (image : List ℕ) → disk.images last image →
-          StandsForAnswered events input held held' image) → IfSome input (λ input. (image : List ℕ) →
-          disk.images last image → ((held' ≡ held) × disk.images first image)
+      pub going_kept : (held held' : Option (List ℕ)) → IfSome input (λ input. (image : List ℕ) →
+          disk.images last image → StandsForAnswered events input held held' image) →
+          IfSome input (λ input. (image : List ℕ) → disk.images last image → ((held' ≡ held) × disk.images first image)
           ⊎ StandsForAnswered old input held held' image)
       going_kept held held' went = of_some input went (λ input went image now.
           inr (subst (λ (events : List PlainEvent). StandsForAnswered events input held held' image) same

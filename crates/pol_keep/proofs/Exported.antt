@@ -1,5 +1,6 @@
 -- The journal of a kept plant, line by line, and how the job ends that writes it.
-use Rattle.std.proofs.Common.{ℕ, ◌≡◌, ◌<◌, List, [], ◌∷◌, ◌++◌, length, map, Option, refl, sym, ap, subst, ◌∙◌, arith, append_assoc, append-nil, length-append}
+use Rattle.std.proofs.Common.{ℕ, ◌≡◌, ◌<◌, List, [], ◌∷◌, ◌++◌, length, map, Option, refl, sym, ap, subst, ◌∙◌, arith}
+use Rattle.std.proofs.Common.{append_assoc, append-nil, length-append}
 use Rattle.std.proofs.lemmas.List.{map-append, reverse-append, reverse-reverse}
 use Rattle.std.proofs.lemmas.List.Folds.{flat_map-map}
 use Rattle.std.specs.Prelude.{IfErr, OnErr, OnOk, Result, Ok, Err, reverse, ◌≢◌}
@@ -17,7 +18,8 @@ use Rattle.pol_replay.specs.BatchLines.{WritesUpTo}
 use Rattle.pol_replay.proofs.BatchLines.{up_to_end, up_to_next}
 use Rattle.pol_record.specs.Texts.{event_text}
 use Rattle.pol_history.specs.Runs.{events_of}
-use Rattle.pol_keep.specs.Exported.{HandsOn, entry_lines, event_line, exported_output, journal_text, no_input, put_result}
+use Rattle.pol_keep.specs.Exported.{HandsOn, entry_lines, event_line, exported_output, journal_text, no_input}
+use Rattle.pol_keep.specs.Exported.{put_result}
 use Rattle.pol_keep.specs.Kept.{job_result}
 use Rattle.pol_keep.specs.declared.fault.KeepFault.TheVariants.{Disk, NotAStore}
 

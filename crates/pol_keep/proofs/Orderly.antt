@@ -1,21 +1,23 @@
 -- The entries of an orderly history, one by one, and the run of its events and of those of more lines.
-use Rattle.std.proofs.Common.{ℕ, zero, suc, ◌≡◌, ◌<◌, List, [], ◌∷◌, ◌++◌, length, Bool, true, false, cond, Result, Ok, Err, arith, get_or, refl, sym, ◌∙◌, ap, subst, map}
+use Rattle.std.proofs.Common.{ℕ, zero, suc, ◌≡◌, ◌<◌, List, [], ◌∷◌, ◌++◌, length, Bool, true, false, cond, Result, Ok}
+use Rattle.std.proofs.Common.{Err, arith, get_or, refl, sym, ◌∙◌, ap, subst, map}
 use Rattle.std.proofs.lemmas.List.{reverse-append}
 use Rattle.std.specs.Prelude.{reverse, nat_lt}
 use Rattle.std.specs.List.{AllByRecursion, list_all}
+use Rattle.pol_io.specs.Pieces.{line_of}
+use Rattle.pol_io.specs.declared.limits.TheConstants.{LONGEST_LINE}
 use Rattle.pol_events.specs.Events.{PlainEvent, plain_entry, plain_history}
-use Rattle.pol_events.specs.Lines.{event_of, is_blank_byte}
 use Rattle.pol_events.specs.Orderly.{is_orderly}
 use Rattle.pol_events.specs.declared.event.Entry.{Entry}
-use Rattle.pol_events.specs.declared.fault.LineFault.{LineFault}
-use Rattle.pol_events.specs.declared.fault.LineFault.TheVariants.{TooLong}
-use Rattle.pol_events.proofs.Orderly.{line_orderly}
+use Rattle.event_json.specs.Lines.{event_of, is_blank_byte}
+use Rattle.event_json.specs.declared.fault.LineFault.{LineFault}
+use Rattle.event_json.specs.declared.fault.LineFault.TheVariants.{TooLong}
+use Rattle.event_json.proofs.Orderly.{line_orderly}
 use Rattle.pol_history.specs.Looking.{History}
 use Rattle.pol_history.specs.Runs.{AreOrderly, IsLegal, IsOrderly, events_of, history_after}
 use Rattle.pol_history.proofs.Legal.{legal_after, orderly_after}
-use Rattle.pol_io.specs.Pieces.{line_of}
-use Rattle.pol_io.specs.declared.limits.TheConstants.{LONGEST_LINE}
-use Rattle.pol_record.specs.Lines.{LineMeaning, a_fault, an_event, as_input_line, events_in, input_line_of, meaning_from, meaning_of, nothing}
+use Rattle.pol_record.specs.Lines.{LineMeaning, a_fault, an_event, as_input_line, events_in, input_line_of}
+use Rattle.pol_record.specs.Lines.{meaning_from, meaning_of, nothing}
 use Rattle.pol_record.proofs.Appending.{history_after_append}
 use Rattle.pol_store.proofs.Histories.{runs_legal}
 use Rattle.pol_keep.specs.Kept.{run_with}
@@ -71,7 +73,8 @@ lines_orderly : (lines : List (List ℕ)) → AreOrderly (events_in (map input_l
 lines_orderly [] = tt
 lines_orderly (line ∷ lines) = go (meaning_of (line_of line)) refl (lines_orderly lines)
   where
-    go : (meaning : LineMeaning) → meaning_of (line_of line) ≡ meaning → AreOrderly (events_in (map input_line_of lines))
+    go : (meaning : LineMeaning) → meaning_of (line_of line) ≡ meaning →
+        AreOrderly (events_in (map input_line_of lines))
         → AreOrderly (events_in (as_input_line line meaning ∷ map input_line_of lines))
     go nothing says rest = rest
     go (a_fault fault) says rest = rest

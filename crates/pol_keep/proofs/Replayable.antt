@@ -1,11 +1,12 @@
 -- The journal of kept events is replayed as their run.
-use Rattle.std.proofs.Common.{ℕ, ◌≡◌, ◌+◌, ◌≤◌, List, [], ◌∷◌, ◌++◌, length, reverse, refl, sym, ◌∙◌, ap, subst, Ok, arith, append_assoc, append-nil}
+use Rattle.std.proofs.Common.{ℕ, ◌≡◌, ◌+◌, ◌≤◌, List, [], ◌∷◌, ◌++◌, length, reverse, refl, sym, ◌∙◌, ap, subst, Ok}
+use Rattle.std.proofs.Common.{arith, append_assoc, append-nil}
 use Rattle.std.proofs.lemmas.List.{reverse-append}
 use Rattle.std.specs.List.{AllByRecursion, flat_map}
-use Rattle.pol_io.specs.declared.limits.TheConstants.{LONGEST_LINE}
 use Rattle.mtp_codes.specs.declared.limits.TheConstants.{LONGEST_HISTORY}
+use Rattle.pol_io.specs.declared.limits.TheConstants.{LONGEST_LINE}
 use Rattle.pol_events.specs.Events.{PlainEntry, PlainEvent}
-use Rattle.pol_events.specs.Lines.{event_of}
+use Rattle.event_json.specs.Lines.{event_of}
 use Rattle.pol_history.specs.Looking.{History}
 use Rattle.pol_history.specs.Runs.{entry_of, history_after, recorded, run_after, run_of}
 use Rattle.pol_history.proofs.Legal.{legal_after}
@@ -29,7 +30,8 @@ run_behind history (event ∷ events) few =
     ≡ reverse (entry ∷ history) ++ run_after (entry ∷ history) events =
     run_behind (entry ∷ history) events (omega (arith, few)) in
     ap (λ (later : History). reverse (history_after later events)) is ∙ rest
-    ∙ ap (λ (first : List PlainEntry). first ++ run_after (entry ∷ history) events) (reverse-append (entry ∷ []) history)
+    ∙ ap (λ (first : List PlainEntry). first ++ run_after (entry ∷ history) events)
+    (reverse-append (entry ∷ []) history)
     ∙ append_assoc (reverse history) (entry ∷ []) (run_after (entry ∷ history) events)
     ∙ ap (λ (later : History). reverse history ++ entry ∷ run_after later events) (sym is)
 

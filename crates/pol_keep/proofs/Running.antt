@@ -1,5 +1,6 @@
 -- What a kept plant writes and keeps, by the lines that it met.
-use Rattle.std.proofs.Common.{ℕ, ◌≡◌, ◌⊎◌, inl, inr, ⊎_elim, List, [], ◌∷◌, ◌++◌, map, Bool, true, false, Option, Some, None, refl, sym, ◌∙◌, ap, ap₂, subst, append_assoc, append-nil}
+use Rattle.std.proofs.Common.{ℕ, ◌≡◌, ◌⊎◌, inl, inr, ⊎_elim, List, [], ◌∷◌, ◌++◌, map, Bool, true, false, Option, Some}
+use Rattle.std.proofs.Common.{None, refl, sym, ◌∙◌, ap, ap₂, subst, append_assoc, append-nil}
 use Rattle.std.specs.Prelude.{IfSome, if◌then◌else◌}
 use Rattle.std.proofs.lemmas.List.{map-append}
 use Rattle.pol_core.specs.Plants.{plant_history}
@@ -23,7 +24,8 @@ use Rattle.pol_store.specs.Keeping.{StoreState}
 use Rattle.pol_store.specs.Stands.{StandsFor}
 use Rattle.pol_store.proofs.Histories.{events-cons, recorded_is}
 use Rattle.pol_keep.specs.Keeping.{GoesOn, IsKept, StandsForSome, Telling, after_lines}
-use Rattle.pol_keep.specs.Kept.{StandsForAnswered, StandsForMore, answers_with, events_with, kept_events, kept_output, run_with}
+use Rattle.pol_keep.specs.Kept.{StandsForAnswered, StandsForMore, answers_with, events_with, kept_events, kept_output}
+use Rattle.pol_keep.specs.Kept.{run_with}
 
 -- ---- the run of the old and the new events
 

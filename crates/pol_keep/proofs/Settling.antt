@@ -1,5 +1,6 @@
 -- The calls of a store that keeps a plant, one at a time.
-use Rattle.std.proofs.Common.{◌≡◌, inl, inr, ℕ, ◌+◌, ◌≤◌, Bool, true, false, List, [], ◌∷◌, ◌++◌, Option, Some, None, refl, sym, ◌∙◌, ap, subst, append_assoc, append-nil, length-append}
+use Rattle.std.proofs.Common.{◌≡◌, inl, inr, ℕ, ◌+◌, ◌≤◌, Bool, true, false, List, [], ◌∷◌, ◌++◌, Option, Some, None}
+use Rattle.std.proofs.Common.{refl, sym, ◌∙◌, ap, subst, append_assoc, append-nil, length-append}
 use Rattle.std.specs.Prelude.{if◌then◌else◌}
 use Rattle.pol_core.specs.Plants.{plant_history}
 use Rattle.pol_disk.specs.Disks.{LeavesOnly, ToldOn}
@@ -71,7 +72,8 @@ module _ {D : Type 0} (before now : StoreState D) where
           are =
               ap events_of (history ∙ recorded_is (plant_history before.plant) event is)
               ∙ events-cons (entry_of (plant_history before.plant) event) (plant_history before.plant)
-              ∙ ap (λ (events : List PlainEvent). events ++ event ∷ []) parts.are ∙ append_assoc kept group (event ∷ []);
+              ∙ ap (λ (events : List PlainEvent). events ++ event ∷ []) parts.are
+              ∙ append_assoc kept group (event ∷ []);
           many =
               length-append group (event ∷ []) ∙ ap (λ (n : ℕ). n + 1) parts.many ∙ sym (counted true is);
         },

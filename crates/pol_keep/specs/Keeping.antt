@@ -44,8 +44,8 @@ abbrev pub after_lines : History → List Line → History
 after_lines history [] = history
 after_lines history (line ∷ lines) = after_lines (replay_work.after history line) lines
 
--- One line more was met, without a call of the disk: a store that was open is open still; and where the line was replied
--- to, this is its history, and it keeps what it kept, so that the events that are new wait.
+-- One line more was met, without a call of the disk: a store that was open is open still; and where the line was
+-- replied to, this is its history, and it keeps what it kept, so that the events that are new wait.
 pub record Admits {D : Type 0} (before now : StoreState D) (after : History) (whole : Bool) : Type 0 where
   pub uncalled : now.disk ≡ before.disk
   pub opened : before.closed ≡ false → now.closed ≡ false
@@ -60,7 +60,8 @@ pub record StandsForSome (history : History) (settled waiting : List Line) (imag
   pub are : waiting ≡ first ++ behind
   pub stands : StandsFor (events_of (after_lines history (settled ++ first))) image
 
--- the store is open still, it has met these lines, and it keeps the events of the settled ones: those of the others wait
+-- the store is open still, it has met these lines, and it keeps the events of the settled ones: those of the others
+-- wait
 pub record HasMet {D : Type 0} (disk : Telling D) (first now : StoreState D) (settled waiting : List Line)
     : Type 0 where
   pub opened : now.closed ≡ false

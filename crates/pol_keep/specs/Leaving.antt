@@ -13,10 +13,10 @@ pub record ReadsAs {D : Type 0} (disk : Telling D) (now : D) (events : List Plai
   pub told : disk.bytes now ≡ Some bytes
   pub stand : StandsFor events bytes
 
--- From one state of the disk to another, through which it told its bytes, the events of an input were kept behind those that
--- it read as, and the sink took what it has now. A crash at any moment leaves what a crash might have left before, or the old events and those of the
--- first lines. At the end each image stands for so many that each line whose answer the sink took whole is among them;
--- where the sink took nothing, it may be one of those before.
+-- From one state of the disk to another, through which it told its bytes, the events of an input were kept behind those
+-- that it read as, and the sink took what it has now. A crash at any moment leaves what a crash might have left before,
+-- or the old events and those of the first lines. At the end each image stands for so many that each line whose answer
+-- the sink took whole is among them; where the sink took nothing, it may be one of those before.
 pub record KeepsLines {D : Type 0} (disk : Telling D) (before now : D) (left held held' : Option (List ℕ))
     : Type 0 where
   pub moments : (old : List PlainEvent) → ReadsAs disk before old → Tells disk now → IfSome left (λ input.
@@ -32,14 +32,15 @@ KeepsAllLines disk before now left =
     (old : List PlainEvent) → ReadsAs disk before old → Tells disk now → IfSome left (λ input.
     (image : List ℕ) → disk.images now image → StandsFor (events_with old (pieces input)) image)
 
--- From one state of the disk to another, through which it told its bytes, nothing happened to the events that it read as: a crash at any moment leaves
--- them, or what a crash might have left before.
+-- From one state of the disk to another, through which it told its bytes, nothing happened to the events that it read
+-- as: a crash at any moment leaves them, or what a crash might have left before.
 abbrev pub HoldsOn : {D : Type 0} → Telling D → D → D → Type 0
 HoldsOn disk before now =
-    (old : List PlainEvent) → ReadsAs disk before old → Tells disk now → LeavesOnly disk.moment disk.left_since before now
-    (λ image. disk.images before image ⊎ StandsFor old image)
+    (old : List PlainEvent) → ReadsAs disk before old → Tells disk now →
+    LeavesOnly disk.moment disk.left_since before now (λ image. disk.images before image ⊎ StandsFor old image)
 
 -- each image at the end stands for them
 abbrev pub HoldsAll : {D : Type 0} → Telling D → D → D → Type 0
 HoldsAll disk before now =
-    (old : List PlainEvent) → ReadsAs disk before old → Tells disk now → (image : List ℕ) → disk.images now image → StandsFor old image
+    (old : List PlainEvent) → ReadsAs disk before old → Tells disk now →
+    (image : List ℕ) → disk.images now image → StandsFor old image

@@ -3,15 +3,15 @@ ghost use Rattle.std.specs.Prelude.{◌≡◌, ◌≢◌, ◌++◌, ℕ, List, S
 ghost use Rattle.std.specs.Io.KnownBytes.{Appends};
 ghost use Rattle.pol_core.specs.Plants.{plant_history};
 ghost use Rattle.pol_disk.specs.Disks.{told_through};
-ghost use Rattle.pol_events.specs.Events.{PlainEvent, plain_event, plain_history};
+ghost use Rattle.pol_events.specs.Events.{plain_event, plain_history};
 ghost use Rattle.pol_events.specs.Orderly.{is_orderly};
 ghost use Rattle.pol_history.specs.Runs.{IsOrderly, events_of};
 ghost use Rattle.pol_io.specs.Causes.{HasCauseOf, Rose};
 ghost use Rattle.pol_jobs.specs.Ends.{Ends, edge};
 ghost use Rattle.pol_jobs.specs.Written.{WritesPart};
 ghost use Rattle.pol_store.specs.Opens.{IsNoStore};
-ghost use Rattle.pol_store.specs.Stands.{StandsFor, StandsForNone};
-ghost use Rattle.pol_keep.specs.Exported.{HandsOn, entry_lines, event_line, exported_output, journal_text, no_input};
+ghost use Rattle.pol_store.specs.Stands.{StandsForNone};
+ghost use Rattle.pol_keep.specs.Exported.{HandsOn, entry_lines, event_line, exported_output, no_input};
 ghost use Rattle.pol_keep.specs.Keeping.{telling};
 ghost use Rattle.pol_keep.specs.Leaving.{HoldsAll, HoldsOn};
 ghost use Rattle.pol_keep.specs.Kept.{IsUnopened, KeepEnds, job_result};
@@ -91,8 +91,8 @@ fn export_from<K: Sink, D: Disk>(
 ///
 /// How it ends is one row for each result, with no input. `Disk` comes only where the disk's count of faults rose in
 /// this call, and `NotAStore` exactly where it did not and the disk reads as bytes for which no list of at most 200,000
-/// events stands, unless there was no memory. A crash at any moment of the call leaves what it might have left before, or
-/// the events that the disk reads as; where all is done, each image at the end stands for these.
+/// events stands, unless there was no memory. A crash at any moment of the call leaves what it might have left before,
+/// or the events that the disk reads as; where all is done, each image at the end stands for these.
 pub fn export<K: Sink, D: Disk>(alloc: Global, sink: &mut K, disk: D) -> (Result<(), KeepFault>, D)
     ensures ends { KeepEnds exported_output (told_through (D.bytes disk) (D.bytes result.1)) no_input no_input
         (edge (K.held sink.old) (K.faults sink.old)) (edge (K.held sink.new) (K.faults sink.new)) result.0 }

@@ -2,7 +2,6 @@
 ghost use Rattle.std.specs.Prelude.{◌≡◌, ◌≢◌, ℕ, List, Some, false, IfErr, IfSome, OnOk};
 ghost use Rattle.pol_core.specs.Plants.{plant_history};
 ghost use Rattle.pol_disk.specs.Disks.{LeavesOnly, ToldOn, told_through};
-ghost use Rattle.pol_events.specs.Events.{PlainEvent};
 ghost use Rattle.pol_history.specs.Runs.{IsLegal, events_of};
 ghost use Rattle.pol_io.specs.Causes.{Rose};
 ghost use Rattle.pol_io.specs.Pieces.{pieces};
@@ -11,7 +10,8 @@ ghost use Rattle.pol_store.specs.Opens.{IsNoStore};
 ghost use Rattle.pol_store.specs.Stands.{StandsFor, StandsForNone};
 ghost use Rattle.pol_keep.specs.Keeping.{IsKept, telling};
 ghost use Rattle.pol_keep.specs.Leaving.{KeepsAllLines, KeepsLines};
-ghost use Rattle.pol_keep.specs.Kept.{IsUnopened, KeepEnds, StandsForAnswered, StandsForMore, events_with, job_result, kept_output};
+ghost use Rattle.pol_keep.specs.Kept.{IsUnopened, KeepEnds, StandsForAnswered, StandsForMore, events_with, job_result};
+ghost use Rattle.pol_keep.specs.Kept.{kept_output};
 
 use crate::fault::{KeepFault, ended, unopened};
 use crate::keeping::Keeping;
@@ -62,9 +62,10 @@ fn keep_on<S: Source, K: Sink, D: Disk>(
 /// How it ends is one row for each result. `Disk` comes only where the disk's count of faults rose in this call, and
 /// `NotAStore` exactly where it did not and the disk reads as bytes for which no list of at most 200,000 events stands,
 /// unless there was no memory. The old events are those that the disk reads as, whatever a crash might leave of it. A
-/// crash at any moment of the call leaves what it might have left before, or the old events and the new ones of the first
-/// lines. What is said of the disk's bytes holds where it tells them to the end: where each answer was the one of a disk. At the end each image stands for so many of these that each line whose answer the sink took whole is among them;
-/// where all is done, for those of all lines.
+/// crash at any moment of the call leaves what it might have left before, or the old events and the new ones of the
+/// first lines. What is said of the disk's bytes holds where it tells them to the end: where each answer was the one of
+/// a disk. At the end each image stands for so many of these that each line whose answer the sink took whole is among
+/// them; where all is done, for those of all lines.
 pub fn keep<S: Source, K: Sink, D: Disk>(
     alloc: Global,
     source: &mut S,

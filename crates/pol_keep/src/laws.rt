@@ -12,8 +12,8 @@ pub fn answers_are_kept<D: Disk>()
     ensures { LivesKeepAnswers (telling D.bytes D.images D.moment D.left_since D.faults) }
 {}
 
-/// The lines of kept events are replayed as these events were answered, where no line has more than 1,048,576 bytes, and
-/// all together have at most 268,435,456.
+/// The lines of kept events are replayed as these events were answered, where no line has more than 1,048,576 bytes,
+/// and all together have at most 268,435,456.
 pub fn journals_are_replayed()
     ensures { JournalsAreReplayed }
 {

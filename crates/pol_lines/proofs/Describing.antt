@@ -1,5 +1,6 @@
 -- Descriptions by their parts.
-use Rattle.std.proofs.Common.{◌≡◌, ℕ, ℤ, ◌≤◌, ◌<◌, List, [], ◌∷◌, Bool, true, false, length, Option, None, Some, Ok, refl, ap, ◌∙◌, arith, codes}
+use Rattle.std.proofs.Common.{◌≡◌, ℕ, ℤ, ◌≤◌, ◌<◌, List, [], ◌∷◌, Bool, true, false, length, Option, None, Some, Ok}
+use Rattle.std.proofs.Common.{refl, ap, ◌∙◌, arith, codes}
 use Rattle.std.specs.Prelude.{int_lt, option_map}
 use Rattle.std.proofs.lemmas.Grind.{common_steps}
 use Rattle.std.specs.List.{list_all}
@@ -8,14 +9,18 @@ use Rattle.serde_json.specs.Events.{items_len}
 use Rattle.serde_json.specs.Find.{get}
 use Rattle.semver.specs.Parse.{Parts}
 use Rattle.mtp_codes.specs.Numbers.{is_between}
+use Rattle.mtp_codes.specs.Repeats.{repeats_by}
+use Rattle.mtp_json.specs.Form.{field, is_listed, present_or}
+use Rattle.mtp_json.specs.Leaf.{count, name, text_to, truth, whole}
 use Rattle.mtp_assembly.specs.Plain.{PlainParam, PlainVariable}
 use Rattle.mtp_assembly.specs.declared.param.ParamKind.{ParamKind}
-use Rattle.mtp_json.specs.Form.{field, is_listed, present_or, repeats_by}
-use Rattle.mtp_json.specs.Leaf.{count, name, text_to, truth, whole}
-use Rattle.mtp_desc.specs.Form.{description_of, has_one_default, only_procedure, param_of, procedure_of, ranged_param, ruled_service, service_of, variable_of}
-use Rattle.mtp_desc.specs.Plain.{PlainProcedure, PlainService, same_param, same_procedure, same_service, same_variable}
+use Rattle.mtp_desc.specs.Plain.{has_one_default, PlainProcedure, PlainService, same_param, same_procedure}
+use Rattle.mtp_desc.specs.Plain.{same_service, same_variable}
 use Rattle.mtp_desc.specs.Version.{version_of}
-use Rattle.mtp_desc.specs.declared.limits.TheConstants.{MOST_SERVICES, MOST_PROCEDURES, MOST_PARAMS, MOST_VARIABLES, LONGEST_VERSION, GREATEST_PROCEDURE}
+use Rattle.mtp_desc.specs.declared.limits.TheConstants.{MOST_SERVICES, MOST_PROCEDURES, MOST_PARAMS, MOST_VARIABLES}
+use Rattle.mtp_desc.specs.declared.limits.TheConstants.{LONGEST_VERSION, GREATEST_PROCEDURE}
+use Rattle.desc_json.specs.Form.{description_of, only_procedure, param_of, procedure_of, ranged_param, ruled_service}
+use Rattle.desc_json.specs.Form.{service_of, variable_of}
 use Rattle.pol_lines.specs.declared.flat.Member.{Member}
 use Rattle.pol_lines.specs.declared.key.Key.TheVariants as key
 use Rattle.pol_lines.specs.Begins.{Reads, last_of}
@@ -23,7 +28,8 @@ use Rattle.pol_lines.specs.Flat.{flat_data}
 use Rattle.pol_lines.specs.Keys.{key_text}
 use Rattle.pol_lines.specs.Objects.{GivesEach, IsObject, Makes, with_value}
 use Rattle.pol_lines.proofs.Lookups.{only_listed}
-use Rattle.pol_lines.proofs.Cuts.{flat_absent, flat_field, found_with, list_if_any, listed_with, object_reads, unlike_with}
+use Rattle.pol_lines.proofs.Cuts.{flat_absent, flat_field, found_with, list_if_any, listed_with, object_reads}
+use Rattle.pol_lines.proofs.Cuts.{unlike_with}
 
 -- a parameter of these members that has a range
 pub ranged_of_parts : (members : List Member) (named : List ℕ) (low high min max : ℤ) (kind : ℤ → ℤ → ParamKind)

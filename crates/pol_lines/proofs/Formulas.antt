@@ -1,5 +1,6 @@
 -- Conditions by their parts.
-use Rattle.std.proofs.Common.{◌≡◌, ℕ, suc, ◌+◌, ◌≤◌, List, [], ◌∷◌, ◌++◌, length, Bool, true, false, Option, Some, None, Ok, refl, ◌∙◌, subst, arith, codes}
+use Rattle.std.proofs.Common.{◌≡◌, ℕ, suc, ◌+◌, ◌≤◌, List, [], ◌∷◌, ◌++◌, length, Bool, true, false, Option, Some, None}
+use Rattle.std.proofs.Common.{Ok, refl, ◌∙◌, subst, arith, codes}
 use Rattle.std.proofs.lemmas.Grind.{common_steps}
 use Rattle.std.specs.Prelude.{is_some, nat_le}
 use Rattle.std.specs.List.{list_all}
@@ -17,7 +18,8 @@ use Rattle.chart_core.specs.Form.{may_compare, nesting, nestings, test_count, te
 use Rattle.chart_core.specs.Formulas.{Formula, all_of, any_of, constant, formulas_of, not_of, test}
 use Rattle.chart_core.specs.declared.condition.Op.{Op}
 use Rattle.chart_core.specs.declared.limits.TheConstants.{MOST_JOINED}
-use Rattle.chart_json.specs.Form.{all_form, any_form, compared, condition_by_key, condition_of, const_form, formula_of, not_form, test_form}
+use Rattle.chart_json.specs.Form.{all_form, any_form, compared, condition_by_key, condition_of, const_form, formula_of}
+use Rattle.chart_json.specs.Form.{not_form, test_form}
 use Rattle.chart_json.specs.Words.{op_words}
 use Rattle.chart_json.proofs.Within.{formula_steps}
 use Rattle.pol_lines.specs.declared.flat.Member.{Member}

@@ -2,7 +2,8 @@
 use Rattle.std.proofs.Common.{◌≡◌, ℕ, List, [], Option, Some, None, Ok, Err, refl, ap, sym, subst, ◌∙◌, arith, codes}
 use Rattle.std.specs.Prelude.{option_map, ⊤}
 use Rattle.std.specs.Str.{IsUtf8}
-use Rattle.serde_json.specs.Data.{Data, Members, array, boolean, float, negative, null, number, object, string, unsigned}
+use Rattle.serde_json.specs.Data.{Data, Members, array, boolean, float, negative, null, number, object, string}
+use Rattle.serde_json.specs.Data.{unsigned}
 use Rattle.serde_json.specs.Find.{get}
 use Rattle.serde_json.specs.Read.{read}
 use Rattle.mtp_codes.specs.Codes.{command_codes, state_codes}
@@ -14,16 +15,21 @@ use Rattle.mtp_json.specs.Leaf.{code, count, name, scalar, word}
 use Rattle.mtp_json.specs.Parse.{json_of}
 use Rattle.mtp_json.specs.ReadResult.{Finding, ReadResult, ◌>>=◌, here, under}
 use Rattle.mtp_json.proofs.Utf8.{utf8_is}
-use Rattle.pol_events.specs.declared.fault.LineFault.TheVariants.{Json}
-use Rattle.pol_events.specs.declared.kind.EventKind.{EventKind}
-use Rattle.pol_events.specs.declared.kind.EventKind.TheVariants.{Plug, Unplug, Report, Variable, Recipe, Start, Advance, Freeze, Thaw, Stop, Abandon, Desk, ExchangeBegin, ExchangeEnd, ExchangeCancel}
-use Rattle.pol_events.specs.Events.{PlainEvent, abandon, advance, desk, exchange_begin, exchange_cancel, report, stop_batch, thaw, unplug, variable}
-use Rattle.pol_events.specs.Forms.{batch_in, control_in, desk_in, event_by, event_in, exchange_cancel_in, report_in, tag_in, variable_in}
-use Rattle.pol_events.specs.Lines.{event_of}
-use Rattle.pol_events.specs.Words.{kind_words, mode_words, origin_words}
+use Rattle.pol_events.specs.Events.{PlainEvent, abandon, advance, desk, exchange_begin, exchange_cancel, report}
+use Rattle.pol_events.specs.Events.{stop_batch, thaw, unplug, variable}
+use Rattle.event_json.specs.declared.fault.LineFault.TheVariants.{Json}
+use Rattle.event_json.specs.declared.kind.EventKind.{EventKind}
+use Rattle.event_json.specs.declared.kind.EventKind.TheVariants.{Plug, Unplug, Report, Variable, Recipe, Start, Advance}
+use Rattle.event_json.specs.declared.kind.EventKind.TheVariants.{Freeze, Thaw, Stop, Abandon, Desk, ExchangeBegin}
+use Rattle.event_json.specs.declared.kind.EventKind.TheVariants.{ExchangeEnd, ExchangeCancel}
+use Rattle.event_json.specs.Forms.{batch_in, control_in, desk_in, event_by, event_in, exchange_cancel_in, report_in}
+use Rattle.event_json.specs.Forms.{tag_in, variable_in}
+use Rattle.event_json.specs.Lines.{event_of}
+use Rattle.event_json.specs.Words.{kind_words, mode_words, origin_words}
 use Rattle.pol_lines.specs.declared.parts.Part.{Part}
 use Rattle.pol_lines.specs.Parts.{BeginsHeld, IsOfParts, parts_data, simple, simple_members}
-use Rattle.pol_lines.specs.Spots.{at_key, batch_judged, cancel_judged, desk_judged, fault_of, judged, judged_by, line_judged, report_judged, tag_judged, variable_judged}
+use Rattle.pol_lines.specs.Spots.{at_key, batch_judged, cancel_judged, desk_judged, fault_of, judged, judged_by}
+use Rattle.pol_lines.specs.Spots.{line_judged, report_judged, tag_judged, variable_judged}
 use Rattle.pol_lines.proofs.Keeping.{simple_get, simple_listed}
 use Rattle.pol_lines.proofs.Printed.{begins_all}
 

@@ -1,5 +1,7 @@
 -- Parts of objects: what is kept of their values.
-use Rattle.std.proofs.Common.{◌≡◌, ℕ, ◌+◌, ◌-◌, ◌<◌, ◌==◌, pos, negsuc, List, [], ◌∷◌, ◌++◌, length, take, drop, slice_index, get_or, Bool, true, false, Option, Some, None, Ordering, Less, Equal, Greater, refl, sym, ap, ◌∙◌, arith, append-nil, codes}
+use Rattle.std.proofs.Common.{◌≡◌, ℕ, ◌+◌, ◌-◌, ◌<◌, ◌==◌, pos, negsuc, List, [], ◌∷◌, ◌++◌, length, take, drop}
+use Rattle.std.proofs.Common.{slice_index, get_or, Bool, true, false, Option, Some, None, Ordering, Less, Equal}
+use Rattle.std.proofs.Common.{Greater, refl, sym, ap, ◌∙◌, arith, append-nil, codes}
 use Rattle.std.proofs.Math.Bool.{and_assoc, and_comm, and_self_left, and-true}
 use Rattle.std.proofs.lemmas.List.{take-append-drop, take_more}
 use Rattle.std.proofs.lemmas.Map.Text.{is_eq-slice_cmp}
@@ -14,7 +16,8 @@ use Rattle.json.specs.Json as json
 use Rattle.json.specs.Print.{IsNumber, print_from, token_text}
 use Rattle.json.specs.Run.{is_plain}
 use Rattle.json.specs.Token as token
-use Rattle.serde_json.specs.Data.{Data, Members, Num, array, float, member, negative, no_members, null, number, put, unsigned}
+use Rattle.serde_json.specs.Data.{Data, Members, Num, array, float, member, negative, no_members, null, number, put}
+use Rattle.serde_json.specs.Data.{unsigned}
 use Rattle.serde_json.specs.Find.{get, get_member}
 use Rattle.serde_json.specs.Read.{number_from, number_of}
 use Rattle.serde_json.proofs.Views.{get_member-put, get_member-put_other}
@@ -25,7 +28,8 @@ use Rattle.pol_lines.specs.declared.parts.Part.{Part}
 use Rattle.pol_lines.specs.Begins.{Reads, ReadsList}
 use Rattle.pol_lines.specs.Keys.{quoted}
 use Rattle.pol_lines.specs.Leaves.{is_leaf_in_range, leaf_data, leaf_piece}
-use Rattle.pol_lines.specs.Parts.{BeginsHeld, BeginsPart, HoldsParts, IsFraction, IsOfParts, OpensItems, any_item, held_data, parts_data, put_parts, simple, simple_members}
+use Rattle.pol_lines.specs.Parts.{BeginsHeld, BeginsPart, HoldsParts, IsFraction, IsOfParts, OpensItems, any_item}
+use Rattle.pol_lines.specs.Parts.{held_data, parts_data, put_parts, simple, simple_members}
 use Rattle.pol_lines.proofs.Cutting.{last_cut}
 use Rattle.pol_lines.proofs.Listing.{list_closes, list_empty, list_more, list_opens}
 use Rattle.pol_lines.proofs.Members.{begins_leaf, plain_key}

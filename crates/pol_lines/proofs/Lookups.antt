@@ -1,5 +1,6 @@
 -- What stands at a key of an object in which members were put one after another.
-use Rattle.std.proofs.Common.{◌≡◌, ℕ, ◌+◌, ◌<◌, List, [], ◌∷◌, ◌++◌, length, take, get_or, true, Some, Ok, Ordering, Less, Equal, Greater, refl, sym, ap, ◌∙◌, None, false, arith}
+use Rattle.std.proofs.Common.{◌≡◌, ℕ, ◌+◌, ◌<◌, List, [], ◌∷◌, ◌++◌, length, take, get_or, true, Some, Ok, Ordering}
+use Rattle.std.proofs.Common.{Less, Equal, Greater, refl, sym, ap, ◌∙◌, None, false, arith}
 use Rattle.std.proofs.lemmas.Bool.{and_parts}
 use Rattle.std.proofs.lemmas.List.{take_more}
 use Rattle.std.proofs.lemmas.Slice.Eq.{bytes_eq-Decides}
@@ -14,7 +15,10 @@ use Rattle.mtp_json.specs.Form.{all_listed, is_listed, only_keys}
 use Rattle.mtp_json.specs.Leaf.{meaning_of}
 use Rattle.pol_lines.specs.declared.flat.Member.{Member}
 use Rattle.pol_lines.specs.declared.key.Key.{Key}
-use Rattle.pol_lines.specs.declared.key.Key.TheVariants.{At, Ev, Tag, Name, Value, Service, Batch, Ticket, StateCur, CommandEn, CommandOp, Mode, Src, ProcedureCur, Role, TypeName, Version, Step, Procedure, Recipe, Kind, Min, Max, Number, IsDefault, SelfCompleting, Test, Op}
+use Rattle.pol_lines.specs.declared.key.Key.TheVariants.{At, Ev, Tag, Name, Value, Service, Batch, Ticket, StateCur}
+use Rattle.pol_lines.specs.declared.key.Key.TheVariants.{CommandEn, CommandOp, Mode, Src, ProcedureCur, Role, TypeName}
+use Rattle.pol_lines.specs.declared.key.Key.TheVariants.{Version, Step, Procedure, Recipe, Kind, Min, Max, Number}
+use Rattle.pol_lines.specs.declared.key.Key.TheVariants.{IsDefault, SelfCompleting, Test, Op}
 use Rattle.pol_lines.specs.Flat.{flat_data, put_all}
 use Rattle.pol_lines.specs.Keys.{IsNoKey, key_rows, key_text}
 use Rattle.pol_lines.specs.Leaves.{leaf_data}

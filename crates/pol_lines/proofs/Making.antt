@@ -1,6 +1,7 @@
 -- Lines by their parts.
-use Rattle.std.proofs.Common.{◌≡◌, ℕ, suc, ◌≤◌, ◌<◌, List, [], ◌∷◌, length, true, false, Option, Some, None, Ok, Err, refl, ap, ◌∙◌, subst, arith, codes}
-use Rattle.std.specs.Prelude.{IfOk, IfSome, IsTrue, is_some, option_map}
+use Rattle.std.proofs.Common.{◌≡◌, ℕ, suc, ◌≤◌, ◌<◌, List, [], ◌∷◌, length, true, Option, Some, None, Ok, Err}
+use Rattle.std.proofs.Common.{refl, ap, ◌∙◌, subst, arith, codes}
+use Rattle.std.specs.Prelude.{IfOk, IfSome, IsTrue, option_map}
 use Rattle.std.specs.Str.{IsUtf8}
 use Rattle.std.proofs.lemmas.Grind.{common_steps}
 use Rattle.std.specs.List.{list_all}
@@ -13,21 +14,21 @@ use Rattle.mtp_json.specs.Leaf.{count, name, word}
 use Rattle.mtp_json.specs.Parse.{json_of}
 use Rattle.mtp_json.specs.ReadResult.{ReadResult, ◌>>=◌}
 use Rattle.mtp_json.proofs.Utf8.{utf8_is}
-use Rattle.mtp_desc.specs.Form.{description_of}
 use Rattle.mtp_desc.specs.Plain.{PlainDescription}
+use Rattle.desc_json.specs.Form.{description_of}
 use Rattle.chart_core.specs.Form.{is_tree_formed}
 use Rattle.chart_core.specs.Roles.{PlainChart, PlainRole}
 use Rattle.chart_core.specs.Trees.{Tree}
 use Rattle.chart_json.specs.Form.{are_roles_sized, chart_from, role_of, roles_of, tree_of}
 use Rattle.chart_json.proofs.Formed.{roles_sized, tree_formed}
-use Rattle.pol_events.specs.declared.kind.EventKind.TheVariants.{ExchangeEnd, Plug, Recipe}
 use Rattle.pol_events.specs.declared.event.Event.{Event}
 use Rattle.pol_events.specs.Events.{PlainEvent, exchange_end, plain_event, plug, recipe}
-use Rattle.pol_events.specs.Forms.{event_in, exchange_end_in, plug_in, recipe_in}
-use Rattle.pol_events.specs.Lines.{event_of, fault_within}
 use Rattle.pol_events.specs.Orderly.{is_orderly}
-use Rattle.pol_events.specs.Words.{kind_words}
-use Rattle.pol_events.proofs.Again.{faultless}
+use Rattle.event_json.specs.declared.kind.EventKind.TheVariants.{ExchangeEnd, Plug, Recipe}
+use Rattle.event_json.specs.Forms.{event_in, exchange_end_in, plug_in, recipe_in}
+use Rattle.event_json.specs.Lines.{event_of, fault_within}
+use Rattle.event_json.specs.Words.{kind_words}
+use Rattle.event_json.proofs.Again.{faultless}
 use Rattle.pol_lines.specs.declared.flat.Member.{Member}
 use Rattle.pol_lines.specs.declared.key.Key.TheVariants as key
 use Rattle.pol_lines.specs.declared.objects.Cut.{Cut}
@@ -210,8 +211,3 @@ read_is_formed (Some values) (Some chart) roles root given some few gives = (
   roles_fit values roles (roles_in values roles given some few),
   node_formed chart root (given_value tree_of chart root gives),
 )
-
--- where nothing was found there is no fault
-pub no_fault : {A : Type 0} (found : Option A) → is_some found ≡ false → found ≡ None
-no_fault None none = refl
-no_fault (Some fault) some = absurd cc

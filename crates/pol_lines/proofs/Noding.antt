@@ -1,8 +1,10 @@
 -- Nodes by their parts.
-use Rattle.std.proofs.Common.{◌≡◌, ℕ, suc, ◌≤◌, ◌<◌, List, ◌∷◌, ◌++◌, length, true, Option, Some, None, Ok, refl, ◌∙◌, subst, arith, codes}
+use Rattle.std.proofs.Common.{◌≡◌, ℕ, suc, ◌≤◌, ◌<◌, List, ◌∷◌, ◌++◌, length, true, Option, Some, None, Ok, refl, ◌∙◌}
+use Rattle.std.proofs.Common.{subst, arith, codes}
 use Rattle.std.specs.Prelude.{is_some, nat_le}
 use Rattle.std.proofs.lemmas.Grind.{common_steps}
-use Rattle.serde_json.specs.Data.{Data, Items, null, boolean, number, string, array, object, Members, member, no_members}
+use Rattle.serde_json.specs.Data.{Data, Items, null, boolean, number, string, array, object, Members, member}
+use Rattle.serde_json.specs.Data.{no_members}
 use Rattle.serde_json.specs.Events.{items_len}
 use Rattle.serde_json.specs.Find.{get_member}
 use Rattle.mtp_codes.specs.Numbers.{is_between}
@@ -11,7 +13,8 @@ use Rattle.mtp_json.specs.ReadResult.{ReadResult, ◌>>=◌}
 use Rattle.chart_core.specs.Formulas.{Formula}
 use Rattle.chart_core.specs.Trees.{PlainArm, PlainStep, Tree, arms_of, choice, leaf, loop, par, seq, trees_of}
 use Rattle.chart_core.specs.declared.limits.TheConstants.{MOST_ARMS}
-use Rattle.chart_json.specs.Form.{arm_of, condition_of, loop_form, node_by_key, par_form, sel_form, seq_form, step_form, step_of, tree_of}
+use Rattle.chart_json.specs.Form.{arm_of, condition_of, loop_form, node_by_key, par_form, sel_form, seq_form, step_form}
+use Rattle.chart_json.specs.Form.{step_of, tree_of}
 use Rattle.chart_json.proofs.Within.{tree_steps}
 use Rattle.pol_lines.specs.Begins.{Begins, Closes, Reads, ReadsList, last_of}
 use Rattle.pol_lines.proofs.Braces.{one_member, two_members}

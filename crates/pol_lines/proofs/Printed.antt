@@ -1,9 +1,11 @@
 -- What JSON writes of a tree, piece by piece, and what it reads as.
-use Rattle.std.proofs.Common.{◌≡◌, ℕ, suc, ◌≤◌, List, [], ◌∷◌, ◌++◌, Bool, true, false, Option, Some, None, option_map, option_and_then, refl, sym, ap, ◌∙◌, arith, append_assoc, append-nil, fold}
+use Rattle.std.proofs.Common.{◌≡◌, ℕ, suc, ◌≤◌, List, [], ◌∷◌, ◌++◌, Bool, true, false, Option, Some, None, option_map}
+use Rattle.std.proofs.Common.{option_and_then, refl, sym, ap, ◌∙◌, arith, append_assoc, append-nil, fold}
 use Rattle.json.specs.Json as json
 use Rattle.json.specs.Token as token
 use Rattle.json.specs.Print.{ends, print, print_from, token_text}
-use Rattle.json.specs.Tree.{depth, members_depth, HasNumbers, MembersHaveNumbers, items_tokens, json_tokens, members_tokens}
+use Rattle.json.specs.Tree.{depth, members_depth, HasNumbers, MembersHaveNumbers, items_tokens, json_tokens}
+use Rattle.json.specs.Tree.{members_tokens}
 use Rattle.json.proofs.Printed.Tokens.{print_from-append, tokens-print}
 use Rattle.json.proofs.Printed.Trees.{ArePrintable-json_tokens, value-json_tokens}
 use Rattle.serde_json.specs.Data.{Data, Members, no_members, object, put}

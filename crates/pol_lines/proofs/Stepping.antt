@@ -1,11 +1,13 @@
 -- A step by its parts.
-use Rattle.std.proofs.Common.{◌≡◌, ℕ, ◌≤◌, List, [], ◌∷◌, length, map, true, false, Option, Some, None, Ok, Err, refl, ap, ◌∙◌, codes}
+use Rattle.std.proofs.Common.{◌≡◌, ℕ, ◌≤◌, List, [], ◌∷◌, length, map, true, false, Option, Some, None, Ok, Err, refl}
+use Rattle.std.proofs.Common.{ap, ◌∙◌, codes}
 use Rattle.std.specs.Option.{option_or}
 use Rattle.std.specs.Prelude.{option_map}
 use Rattle.std.specs.List.{list_all}
 use Rattle.serde_json.specs.Data.{Data, Items, array}
 use Rattle.mtp_codes.specs.declared.value.Setting.{Setting}
-use Rattle.mtp_json.specs.Form.{field, is_listed, nested_if_present, repeats_by}
+use Rattle.mtp_codes.specs.Repeats.{repeats_by}
+use Rattle.mtp_json.specs.Form.{field, is_listed, nested_if_present}
 use Rattle.mtp_json.specs.Leaf.{count, meaning_of, name}
 use Rattle.mtp_json.specs.ReadResult.{ReadResult, ◌>>=◌}
 use Rattle.chart_core.specs.Formulas.{Formula, plain_condition}

@@ -3,7 +3,8 @@ use Rattle.std.specs.Prelude.{◌≡◌, ℕ, ◌≤◌, List, [], ◌∷◌, �
 use Rattle.json.specs.Json as json
 use Rattle.json.specs.Print.{print, token_text}
 use Rattle.json.specs.Token as token
-use Rattle.json.specs.Tree.{depth, HasNumbers, ItemsHaveNumbers, MembersHaveNumbers, items_depth, json_tokens, members_depth}
+use Rattle.json.specs.Tree.{depth, HasNumbers, ItemsHaveNumbers, MembersHaveNumbers, items_depth, json_tokens}
+use Rattle.json.specs.Tree.{members_depth}
 use Rattle.serde_json.specs.Data.{Data, Items, Members, array, no_members}
 use Rattle.serde_json.specs.Events.{items_len}
 use Rattle.serde_json.specs.Read.{of_items, of_json, of_members}

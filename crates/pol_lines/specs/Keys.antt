@@ -2,7 +2,10 @@
 use Rattle.std.specs.Prelude.{◌≡◌, ℕ, List, [], ◌∷◌, ◌++◌, None, codes}
 use Rattle.mtp_json.specs.Leaf.{meaning_of}
 use Rattle.pol_lines.specs.declared.key.Key.{Key}
-use Rattle.pol_lines.specs.declared.key.Key.TheVariants.{At, Ev, Tag, Name, Value, Service, Batch, Ticket, StateCur, CommandEn, CommandOp, Mode, Src, ProcedureCur, Role, TypeName, Version, Step, Procedure, Recipe, Kind, Min, Max, Number, IsDefault, SelfCompleting, Test, Op}
+use Rattle.pol_lines.specs.declared.key.Key.TheVariants.{At, Ev, Tag, Name, Value, Service, Batch, Ticket, StateCur}
+use Rattle.pol_lines.specs.declared.key.Key.TheVariants.{CommandEn, CommandOp, Mode, Src, ProcedureCur, Role, TypeName}
+use Rattle.pol_lines.specs.declared.key.Key.TheVariants.{Version, Step, Procedure, Recipe, Kind, Min, Max, Number}
+use Rattle.pol_lines.specs.declared.key.Key.TheVariants.{IsDefault, SelfCompleting, Test, Op}
 
 -- the text of a key
 abbrev pub key_text : Key → List ℕ

@@ -2,7 +2,8 @@
 use Rattle.std.specs.Prelude.{◌≡◌, ℕ, List, ◌∷◌, [], ◌++◌, Option, Some, None, true, Ok, ⊤}
 use Rattle.std.specs.List.{list_all}
 use Rattle.json.specs.Run.{is_plain}
-use Rattle.serde_json.specs.Data.{Data, Num, null, boolean, number, string, array, object, unsigned, negative, float, Members, no_members, member, put}
+use Rattle.serde_json.specs.Data.{Data, Num, null, boolean, number, string, array, object, unsigned, negative, float}
+use Rattle.serde_json.specs.Data.{Members, no_members, member, put}
 use Rattle.serde_json.specs.Find.{of_integer}
 use Rattle.mtp_json.specs.ReadResult.{ReadResult}
 use Rattle.pol_lines.specs.declared.parts.Held.{Held}

@@ -10,10 +10,12 @@ use Rattle.mtp_json.specs.declared.path.PathPart.TheVariants as part
 use Rattle.mtp_json.specs.Form.{nothing_but, required}
 use Rattle.mtp_json.specs.Leaf.{code, count, name, scalar, word}
 use Rattle.mtp_json.specs.ReadResult.{Finding, ReadResult, ◌>>=◌}
-use Rattle.pol_events.specs.declared.kind.EventKind.{EventKind}
-use Rattle.pol_events.specs.declared.kind.EventKind.TheVariants.{Plug, Unplug, Report, Variable, Recipe, Start, Advance, Freeze, Thaw, Stop, Abandon, Desk, ExchangeBegin, ExchangeEnd, ExchangeCancel}
-use Rattle.pol_events.specs.Forms.{control_in}
-use Rattle.pol_events.specs.Words.{kind_words}
+use Rattle.event_json.specs.declared.kind.EventKind.{EventKind}
+use Rattle.event_json.specs.declared.kind.EventKind.TheVariants.{Plug, Unplug, Report, Variable, Recipe, Start, Advance}
+use Rattle.event_json.specs.declared.kind.EventKind.TheVariants.{Freeze, Thaw, Stop, Abandon, Desk, ExchangeBegin}
+use Rattle.event_json.specs.declared.kind.EventKind.TheVariants.{ExchangeEnd, ExchangeCancel}
+use Rattle.event_json.specs.Forms.{control_in}
+use Rattle.event_json.specs.Words.{kind_words}
 use Rattle.pol_lines.specs.declared.key.Key.{Key}
 use Rattle.pol_lines.specs.declared.spots.Spot.{Spot}
 use Rattle.pol_lines.specs.Keys.{key_text}

@@ -3,14 +3,14 @@ ghost use Rattle.std.specs.Prelude.{◌≡◌, ◌≤◌, [], Option, IfSome, Ok
 ghost use Rattle.std.specs.List.{list_all};
 ghost use Rattle.serde_json.specs.Data.{Items, array};
 ghost use Rattle.semver.specs.Identifiers.{parts_of};
-ghost use Rattle.mtp_assembly.specs.Plain.{plain_variable};
 ghost use Rattle.mtp_json.specs.Form.{is_listed};
+ghost use Rattle.mtp_assembly.specs.Plain.{plain_variable};
 ghost use Rattle.mtp_desc.specs.PlainDescription.{plain_description};
-ghost use Rattle.mtp_desc.specs.Form.{description_of, service_of, variable_of};
 ghost use Rattle.mtp_desc.specs.Plain.{PlainDescription};
 ghost use Rattle.mtp_desc.specs.PlainService.{plain_service};
 ghost use Rattle.mtp_desc.specs.Version.{version_of};
 ghost use Rattle.mtp_desc.specs.declared.limits.TheConstants.{MOST_SERVICES, MOST_VARIABLES};
+ghost use Rattle.desc_json.specs.Form.{description_of, service_of, variable_of};
 ghost use Rattle.pol_lines.specs.Begins.{Reads, last_of};
 ghost use Rattle.pol_lines.specs.Keys.{key_text};
 ghost use Rattle.pol_lines.specs.Objects.{GivesEach, Makes, with_value};

@@ -1,8 +1,9 @@
 //! The events that flat lines say.
 ghost use Rattle.std.specs.Prelude.{◌≡◌, ℕ, List, Ok, IfSome, IsTrue};
 ghost use Rattle.pol_events.specs.Events.{PlainEvent, plain_event};
-ghost use Rattle.pol_events.specs.Forms.{batch_in, control_in, desk_in, event_in, exchange_cancel_in, report_in, tag_in, variable_in};
 ghost use Rattle.pol_events.specs.Orderly.{is_orderly};
+ghost use Rattle.event_json.specs.Forms.{batch_in, control_in, desk_in, event_in, exchange_cancel_in, report_in};
+ghost use Rattle.event_json.specs.Forms.{tag_in, variable_in};
 ghost use Rattle.pol_lines.specs.Flat.{flat_data};
 
 use crate::fields::{
@@ -11,12 +12,13 @@ use crate::fields::{
 use crate::flat::Member;
 use crate::key::Key;
 use crate::kinds::only;
+use event_json::EventKind;
 use mtp_assembly::ServiceControl;
 use mtp_codes::Name;
-use pol_events::{Event, EventKind};
+use pol_events::Event;
 
 /// A variable's value by its form.
-#[tactic(auto, using(crate::proofs::Lookups::only_listed), unfolding(pol_events::specs::Forms::variable_in))]
+#[tactic(auto, using(crate::proofs::Lookups::only_listed), unfolding(event_json::specs::Forms::variable_in))]
 fn read_variable(members: &[Member]) -> Option<Event>
     ensures says { IfSome result (λ event. variable_in (flat_data members.now) ≡ Ok (plain_event event)) }
     ensures orderly { IfSome result (λ event. IsTrue (is_orderly (plain_event event))) }
@@ -37,7 +39,7 @@ fn read_variable(members: &[Member]) -> Option<Event>
 }
 
 /// The five fields of what a service reports, by their form.
-#[tactic(auto, unfolding(pol_events::specs::Forms::control_in))]
+#[tactic(auto, unfolding(event_json::specs::Forms::control_in))]
 fn read_control(members: &[Member]) -> Option<ServiceControl>
     ensures { IfSome result (λ control. control_in (flat_data members.now) ≡ Ok control) }
 {
@@ -56,7 +58,7 @@ fn read_control(members: &[Member]) -> Option<ServiceControl>
 }
 
 /// A report by its form.
-#[tactic(auto, using(crate::proofs::Lookups::only_listed), unfolding(pol_events::specs::Forms::report_in))]
+#[tactic(auto, using(crate::proofs::Lookups::only_listed), unfolding(event_json::specs::Forms::report_in))]
 fn read_report(members: &[Member]) -> Option<Event>
     ensures says { IfSome result (λ event. report_in (flat_data members.now) ≡ Ok (plain_event event)) }
     ensures orderly { IfSome result (λ event. IsTrue (is_orderly (plain_event event))) }
@@ -77,7 +79,7 @@ fn read_report(members: &[Member]) -> Option<Event>
 }
 
 /// An operator's command by its form.
-#[tactic(auto, using(crate::proofs::Lookups::only_listed), unfolding(pol_events::specs::Forms::desk_in))]
+#[tactic(auto, using(crate::proofs::Lookups::only_listed), unfolding(event_json::specs::Forms::desk_in))]
 fn read_desk(members: &[Member]) -> Option<Event>
     ensures says { IfSome result (λ event. desk_in (flat_data members.now) ≡ Ok (plain_event event)) }
     ensures orderly { IfSome result (λ event. IsTrue (is_orderly (plain_event event))) }
@@ -98,7 +100,7 @@ fn read_desk(members: &[Member]) -> Option<Event>
 }
 
 /// The cancelling of an exchange by its form.
-#[tactic(auto, using(crate::proofs::Lookups::only_listed), unfolding(pol_events::specs::Forms::exchange_cancel_in))]
+#[tactic(auto, using(crate::proofs::Lookups::only_listed), unfolding(event_json::specs::Forms::exchange_cancel_in))]
 fn read_cancel(members: &[Member]) -> Option<Event>
     ensures says { IfSome result (λ event. exchange_cancel_in (flat_data members.now) ≡ Ok (plain_event event)) }
     ensures orderly { IfSome result (λ event. IsTrue (is_orderly (plain_event event))) }
@@ -117,7 +119,7 @@ fn read_cancel(members: &[Member]) -> Option<Event>
 }
 
 /// The stamp and the tag of an event that names nothing more.
-#[tactic(auto, using(crate::proofs::Lookups::only_listed), unfolding(pol_events::specs::Forms::tag_in))]
+#[tactic(auto, using(crate::proofs::Lookups::only_listed), unfolding(event_json::specs::Forms::tag_in))]
 fn read_of_tag(members: &[Member]) -> Option<(u64, Name)>
     ensures { IfSome result (λ read. (event : ℕ → List ℕ → PlainEvent) → tag_in event (flat_data members.now)
         ≡ Ok (event read.0 read.1)) }
@@ -132,7 +134,7 @@ fn read_of_tag(members: &[Member]) -> Option<(u64, Name)>
 }
 
 /// The stamp and the batch of an event that names nothing more.
-#[tactic(auto, using(crate::proofs::Lookups::only_listed), unfolding(pol_events::specs::Forms::batch_in))]
+#[tactic(auto, using(crate::proofs::Lookups::only_listed), unfolding(event_json::specs::Forms::batch_in))]
 fn read_of_batch(members: &[Member]) -> Option<(u64, Name)>
     ensures { IfSome result (λ read. (event : ℕ → List ℕ → PlainEvent) → batch_in event (flat_data members.now)
         ≡ Ok (event read.0 read.1)) }
@@ -147,7 +149,7 @@ fn read_of_batch(members: &[Member]) -> Option<(u64, Name)>
 }
 
 /// The event that the members of a flat line say; None for some lines that say one, and for each that says none.
-#[tactic(auto, unfolding(pol_events::specs::Forms::event_in))]
+#[tactic(auto, unfolding(event_json::specs::Forms::event_in))]
 pub fn read_members(members: &[Member]) -> Option<Event>
     ensures says { IfSome result (λ event. event_in (flat_data members.now) ≡ Ok (plain_event event)) }
     ensures orderly { IfSome result (λ event. IsTrue (is_orderly (plain_event event))) }

@@ -1,8 +1,8 @@
 //! The faults of flat lines.
 ghost use Rattle.std.specs.Prelude.{◌≡◌, [], Err, IfSome, IsTrue};
 ghost use Rattle.std.specs.Str.{IsUtf8};
-ghost use Rattle.pol_events.specs.Lines.{event_of};
-ghost use Rattle.pol_events.specs.declared.fault.LineFault.TheVariants.{Json};
+ghost use Rattle.event_json.specs.Lines.{event_of};
+ghost use Rattle.event_json.specs.declared.fault.LineFault.TheVariants.{Json};
 ghost use Rattle.pol_lines.specs.Spots.{fault_at};
 
 use crate::key::text_of;
@@ -10,9 +10,9 @@ use crate::parts::{read_other, read_parts};
 use crate::pieces::is_text;
 use crate::spots::{Spot, judge};
 use arrayvec::ArrayVec;
+use event_json::LineFault;
 use mtp_codes::Name;
 use mtp_json::{FaultKind, JsonFault, Path, PathPart};
-use pol_events::LineFault;
 use std::alloc::Global;
 
 /// The fault at a spot; None without memory.

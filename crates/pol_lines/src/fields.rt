@@ -3,11 +3,11 @@ ghost use Rattle.std.specs.Prelude.{◌≡◌, ◌≤◌, false, Ok, Some, IfSom
 ghost use Rattle.serde_json.specs.Data.{string};
 ghost use Rattle.serde_json.specs.Find.{get};
 ghost use Rattle.mtp_codes.specs.Codes.{command_codes, state_codes};
-ghost use Rattle.mtp_codes.specs.Numbers.{greatest_u32, greatest_u64, is_within};
+ghost use Rattle.mtp_codes.specs.Numbers.{is_within};
 ghost use Rattle.mtp_json.specs.Form.{field, present_or};
 ghost use Rattle.mtp_json.specs.Leaf.{code, count, meaning_of, name, scalar, text_to, truth, whole, word};
 ghost use Rattle.chart_json.specs.Form.{compared};
-ghost use Rattle.pol_events.specs.Words.{kind_words, mode_words, origin_words};
+ghost use Rattle.event_json.specs.Words.{kind_words, mode_words, origin_words};
 ghost use Rattle.pol_lines.specs.Flat.{flat_data};
 ghost use Rattle.pol_lines.specs.Keys.{key_text};
 ghost use Rattle.pol_lines.specs.Leaves.{leaf_data};
@@ -16,8 +16,8 @@ use crate::flat::Member;
 use crate::key::Key;
 use crate::leaf::Leaf;
 use crate::pieces::is_word;
+use event_json::EventKind;
 use mtp_codes::{Command, Mode, Name, Origin, Reading, Short, State, Value};
-use pol_events::EventKind;
 
 /// The value at a key: the last one, where the key stands more than once.
 #[inline(always)]

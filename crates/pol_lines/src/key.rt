@@ -1,5 +1,5 @@
 //! The keys of flat lines.
-ghost use Rattle.std.specs.Prelude.{◌≡◌, ◌++◌, ◌∷◌, [], IfSome};
+ghost use Rattle.std.specs.Prelude.{◌≡◌, ◌++◌, IfSome};
 ghost use Rattle.pol_lines.specs.Keys.{key_piece, key_text};
 
 use crate::pieces::eat;

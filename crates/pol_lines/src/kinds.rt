@@ -7,7 +7,7 @@ ghost use Rattle.pol_lines.specs.Kinds.{keys_of};
 
 use crate::flat::Member;
 use crate::key::Key;
-use pol_events::EventKind;
+use event_json::EventKind;
 
 /// Whether a key may stand in a line of a kind.
 #[inline(always)]

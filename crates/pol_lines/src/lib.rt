@@ -7,6 +7,8 @@
 //! `read_line` has the contract of `read_event`. What stands below it is sound and not complete: each reader says that
 //! the text begins with what JSON writes of a value (`specs/Begins.antt`), of which the form gives what was found. An
 //! object is read member by member, from cut to cut (`specs/Objects.antt`).
+//!
+//! Tried in `event_examples`.
 #![tactic(auto)]
 
 mod conditions;

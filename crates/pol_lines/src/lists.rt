@@ -1,5 +1,5 @@
 //! Lists at the front of a text.
-ghost use Rattle.std.specs.Prelude.{◌≡◌, ◌≤◌, ℕ, suc, List, [], IfSome, length, map};
+ghost use Rattle.std.specs.Prelude.{◌≡◌, ◌≤◌, ℕ, suc, [], IfSome, length, map};
 ghost use Rattle.serde_json.specs.Data.{Data};
 ghost use Rattle.mtp_json.specs.ReadResult.{ReadResult};
 ghost use Rattle.pol_lines.specs.Begins.{Reads, ReadsList, last_of};

@@ -4,11 +4,11 @@ ghost use Rattle.serde_json.specs.Data.{Data};
 ghost use Rattle.mtp_json.specs.Form.{field};
 ghost use Rattle.mtp_json.specs.Leaf.{word};
 ghost use Rattle.mtp_desc.specs.PlainDescription.{plain_description};
-ghost use Rattle.mtp_desc.specs.Form.{description_of};
+ghost use Rattle.desc_json.specs.Form.{description_of};
 ghost use Rattle.pol_events.specs.Events.{plain_event};
-ghost use Rattle.pol_events.specs.Forms.{event_in};
-ghost use Rattle.pol_events.specs.Lines.{event_of, fault_within};
-ghost use Rattle.pol_events.specs.Words.{kind_words};
+ghost use Rattle.event_json.specs.Forms.{event_in};
+ghost use Rattle.event_json.specs.Lines.{event_of, fault_within};
+ghost use Rattle.event_json.specs.Words.{kind_words};
 ghost use Rattle.pol_lines.specs.Flat.{flat_data};
 ghost use Rattle.pol_lines.specs.Objects.{Makes, Stands};
 
@@ -19,8 +19,9 @@ use crate::key::Key;
 use crate::kinds::only;
 use crate::objects::{Cut, ends, read_flats, read_value_at};
 use arrayvec::ArrayVec;
+use event_json::EventKind;
 use mtp_desc::Description;
-use pol_events::{Event, EventKind};
+use pol_events::Event;
 use std::alloc::Global;
 use std::sync::Arc;
 

@@ -1,7 +1,8 @@
 //! Nodes at the front of a text.
 ghost use Rattle.std.specs.Prelude.{◌≡◌, ◌≤◌, ◌+◌, ◌*◌, [], IfSome, length, map};
 ghost use Rattle.chart_core.specs.Formulas.{plain_condition};
-ghost use Rattle.chart_core.specs.Trees.{Tree, arms, choice, leaf, loop, par, plain_arm, plain_node, plain_step, seq, trees};
+ghost use Rattle.chart_core.specs.Trees.{Tree, arms, choice, leaf, loop, par, plain_arm, plain_node, plain_step, seq};
+ghost use Rattle.chart_core.specs.Trees.{trees};
 ghost use Rattle.chart_core.specs.declared.limits.TheConstants.{MOST_ARMS};
 ghost use Rattle.chart_json.specs.Form.{arm_of, condition_of, tree_of};
 ghost use Rattle.pol_lines.specs.Begins.{Closes, Reads, ReadsList, last_of};

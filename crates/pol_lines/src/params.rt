@@ -3,13 +3,13 @@ ghost use Rattle.std.specs.Prelude.{◌≡◌, IfSome, IsTrue, Ok, codes};
 ghost use Rattle.std.specs.List.{list_all};
 ghost use Rattle.mtp_codes.specs.Names.{is_name};
 ghost use Rattle.mtp_codes.specs.Numbers.{greatest_i32, greatest_i64, least_i32, least_i64};
-ghost use Rattle.mtp_assembly.specs.Kinds.{is_ordered};
-ghost use Rattle.mtp_assembly.specs.Plain.{PlainParam, PlainVariable, plain_param, plain_variable};
 ghost use Rattle.mtp_json.specs.Form.{is_listed};
 ghost use Rattle.mtp_json.specs.Leaf.{meaning_of};
-ghost use Rattle.mtp_desc.specs.Form.{free_param, param_of, ranged_param, variable_of};
+ghost use Rattle.mtp_assembly.specs.Kinds.{is_ordered};
+ghost use Rattle.mtp_assembly.specs.Plain.{PlainParam, PlainVariable, plain_param, plain_variable};
 ghost use Rattle.mtp_desc.specs.Plain.{same_param, same_variable};
-ghost use Rattle.mtp_desc.specs.Words.{variable_words};
+ghost use Rattle.desc_json.specs.Form.{free_param, param_of, ranged_param, variable_of};
+ghost use Rattle.desc_json.specs.Words.{variable_words};
 ghost use Rattle.pol_lines.specs.Flat.{flat_data};
 ghost use Rattle.pol_lines.specs.Keys.{key_text};
 
@@ -76,7 +76,7 @@ fn dint_param(members: &[Member], name: Name) -> Option<Param>
     })
 }
 
-#[tactic(auto, using(crate::proofs::Lookups::only_listed), unfolding(mtp_desc::specs::Form::free_param))]
+#[tactic(auto, using(crate::proofs::Lookups::only_listed), unfolding(desc_json::specs::Form::free_param))]
 fn free_param(members: &[Member], name: Name, kind: ParamKind) -> Option<Param>
     requires name { IsTrue (is_name name) }
     requires kind { IsTrue (is_ordered kind) }
@@ -89,7 +89,7 @@ fn free_param(members: &[Member], name: Name, kind: ParamKind) -> Option<Param>
 }
 
 /// A parameter by its form.
-#[tactic(auto, unfolding(mtp_desc::specs::Form::param_of))]
+#[tactic(auto, unfolding(desc_json::specs::Form::param_of))]
 fn param_in(members: &[Member]) -> Option<Param>
     ensures { IfSome result (λ param. param_of (flat_data members.now) ≡ Ok (plain_param param)) }
 {
@@ -162,7 +162,7 @@ fn view_kind_of(bytes: &[u8]) -> Option<ViewKind>
 }
 
 /// A variable by its form.
-#[tactic(auto, using(crate::proofs::Lookups::only_listed), unfolding(mtp_desc::specs::Form::variable_of))]
+#[tactic(auto, using(crate::proofs::Lookups::only_listed), unfolding(desc_json::specs::Form::variable_of))]
 fn variable_in(members: &[Member]) -> Option<View>
     ensures { IfSome result (λ variable. variable_of (flat_data members.now) ≡ Ok (plain_variable variable)) }
 {

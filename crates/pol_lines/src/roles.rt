@@ -1,9 +1,7 @@
 //! Roles at the front of a text.
-ghost use Rattle.std.specs.Prelude.{◌≡◌, IfSome, IfOk, Ok, codes};
+ghost use Rattle.std.specs.Prelude.{◌≡◌, IfSome, Ok, codes};
 ghost use Rattle.std.specs.List.{list_all};
-ghost use Rattle.semver.specs.Identifiers.{comparator_view};
 ghost use Rattle.mtp_json.specs.Form.{is_listed};
-ghost use Rattle.chart_core.specs.Requirements.{IsReadTo};
 ghost use Rattle.chart_core.specs.Roles.{PlainRole, plain_role};
 ghost use Rattle.chart_json.specs.Form.{role_of};
 ghost use Rattle.pol_lines.specs.Flat.{flat_data};

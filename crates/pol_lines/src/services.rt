@@ -1,15 +1,15 @@
 //! Procedures and services of a description, at the front of a text.
-ghost use Rattle.std.specs.Prelude.{◌≡◌, ◌≤◌, ◌<◌, ◌∷◌, [], Option, None, Some, IfSome, IsTrue, Ok, codes, length, map, option_map};
+ghost use Rattle.std.specs.Prelude.{◌≡◌, ◌≤◌, ◌<◌, ◌∷◌, [], Option, None, Some, IfSome, Ok, codes, length, map};
+ghost use Rattle.std.specs.Prelude.{option_map};
 ghost use Rattle.std.specs.List.{list_all};
 ghost use Rattle.serde_json.specs.Data.{Items, array};
-ghost use Rattle.mtp_codes.specs.Names.{is_name};
-ghost use Rattle.mtp_assembly.specs.Plain.{plain_param};
 ghost use Rattle.mtp_json.specs.Form.{is_listed};
-ghost use Rattle.mtp_desc.specs.Form.{has_one_default, only_procedure, param_of, procedure_of, service_of};
-ghost use Rattle.mtp_desc.specs.Plain.{PlainProcedure, PlainService, same_procedure, same_service};
+ghost use Rattle.mtp_assembly.specs.Plain.{plain_param};
+ghost use Rattle.mtp_desc.specs.Plain.{has_one_default, PlainProcedure, PlainService, same_procedure, same_service};
 ghost use Rattle.mtp_desc.specs.PlainProcedure.{plain_procedure};
 ghost use Rattle.mtp_desc.specs.PlainService.{plain_service};
 ghost use Rattle.mtp_desc.specs.declared.limits.TheConstants.{MOST_PARAMS, MOST_PROCEDURES};
+ghost use Rattle.desc_json.specs.Form.{only_procedure, param_of, procedure_of, service_of};
 ghost use Rattle.pol_lines.specs.Begins.{Reads, last_of};
 ghost use Rattle.pol_lines.specs.Keys.{key_text};
 ghost use Rattle.pol_lines.specs.Objects.{GivesEach, Makes, with_value};

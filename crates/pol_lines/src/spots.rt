@@ -9,8 +9,8 @@ ghost use Rattle.mtp_json.specs.Form.{field, is_listed, nothing_but, required};
 ghost use Rattle.mtp_json.specs.Leaf.{code, count, name, scalar, text, word};
 ghost use Rattle.mtp_json.specs.ReadResult.{here, under};
 ghost use Rattle.mtp_json.specs.ReadsAs.{seen};
-ghost use Rattle.pol_events.specs.Forms.{control_in};
-ghost use Rattle.pol_events.specs.Words.{kind_words, mode_words, origin_words};
+ghost use Rattle.event_json.specs.Forms.{control_in};
+ghost use Rattle.event_json.specs.Words.{kind_words, mode_words, origin_words};
 ghost use Rattle.pol_lines.specs.Keys.{key_text};
 ghost use Rattle.pol_lines.specs.Parts.{held_data, parts_data};
 ghost use Rattle.pol_lines.specs.Spots.{batch_judged, cancel_judged, desk_judged, fault_of, judged, judged_by};
@@ -19,10 +19,10 @@ ghost use Rattle.pol_lines.specs.Spots.{line_judged, report_judged, tag_judged, 
 use crate::fields::{kind_of, mode_of, origin_of};
 use crate::key::{Key, text_of};
 use crate::parts::{Held, Part};
+use event_json::EventKind;
 use mtp_assembly::ServiceControl;
 use mtp_codes::{Command, Mode, Name, Origin, State};
 use mtp_json::FaultKind;
-use pol_events::EventKind;
 
 /// What is wrong with a flat line, and at which key; at none, where it is wrong with the line as a whole.
 #[derive(Clone, Copy)]
@@ -210,7 +210,7 @@ fn judge_variable(parts: &[Part]) -> Result<(), Spot>
     nothing_but(parts, "ev at tag name value")
 }
 
-#[tactic(auto, unfolding(pol_events::specs::Forms::control_in))]
+#[tactic(auto, unfolding(event_json::specs::Forms::control_in))]
 fn judge_control(parts: &[Part]) -> Result<ServiceControl, Spot>
     ensures { told result ≡ control_in (parts_data parts.now) }
 {

@@ -6,7 +6,8 @@ use Rattle.mtp_sim.specs.declared.report.SimReport.{SimReport}
 use Rattle.pol_core.specs.declared.commands.Sent.{Sent}
 use Rattle.pol_events.specs.declared.event.Entry.{Entry}
 use Rattle.pol_site.specs.Sites.{PlainSite, PlainSiteModule}
-use Rattle.pol_actors.specs.Turning.{decision_by, free_after, free_decides, made_after, made_decides, made_looked, made_of, made_ticked, next_found}
+use Rattle.pol_actors.specs.Turning.{decision_by, free_after, free_decides, made_after, made_decides, made_looked}
+use Rattle.pol_actors.specs.Turning.{made_of, made_ticked, next_found}
 use Rattle.pol_actors.specs.declared.simulation.Decision.TheVariants.{Looks, Rests}
 use Rattle.pol_actors.specs.declared.simulation.Simulation.{Simulation}
 use Rattle.pol_actors.specs.declared.unit.Unit.{Unit as Module}

@@ -1,5 +1,6 @@
 -- What the lists of seats are to the history that a run left.
-use Rattle.std.specs.Prelude.{ℕ, suc, ◌≡◌, ◌≢◌, ◌<◌, ◌⊎◌, ◌==◌, ◌+◌, ◌++◌, true, List, [], ◌∷◌, length, nat_lt, Option, Some, None, slice_get, if◌then◌else◌}
+use Rattle.std.specs.Prelude.{ℕ, suc, ◌≡◌, ◌≢◌, ◌<◌, ◌⊎◌, ◌==◌, ◌+◌, ◌++◌, true, List, [], ◌∷◌, length, nat_lt, Option}
+use Rattle.std.specs.Prelude.{Some, None, slice_get, if◌then◌else◌}
 use Rattle.std.specs.List.{AllByRecursion}
 use Rattle.pol_events.specs.Events.{plain_history}
 use Rattle.pol_events.specs.declared.answer.Answer.{Answer}

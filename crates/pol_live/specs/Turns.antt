@@ -1,5 +1,6 @@
 -- What a turn at the locked plant does.
-use Rattle.std.specs.Prelude.{ℕ, suc, ◌≡◌, ◌≢◌, ◌+◌, ◌<◌, ◌++◌, ◌∷◌, List, [], length, ◌⊎◌, Bool, true, false, Option, Some, None, slice_get, slice_set, slice_index}
+use Rattle.std.specs.Prelude.{ℕ, suc, ◌≡◌, ◌≢◌, ◌+◌, ◌<◌, ◌++◌, ◌∷◌, List, [], length, ◌⊎◌, Bool, true, false, Option}
+use Rattle.std.specs.Prelude.{Some, None, slice_get, slice_set, slice_index}
 use Rattle.pol_events.specs.Events.{PlainEvent, plain_history}
 use Rattle.pol_events.specs.declared.event.Entry.{Entry}
 use Rattle.pol_history.specs.Answers.{answer_of, is_full}

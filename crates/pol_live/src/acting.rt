@@ -93,8 +93,8 @@ pub(crate) fn act<J: Job, R: Wait, C: Clock + Send, G: Gate>(
     seat
 }
 
-// One turn of each actor that has no thread: those from the first one on. True where the run is over. Where each rested,
-// this thread rests for all of them.
+// One turn of each actor that has no thread: those from the first one on. True where the run is over. Where each
+// rested, this thread rests for all of them.
 fn pass<J: Job, R: Wait, C: Clock + Send, G: Gate>(
     rt: &R,
     crew: &Crew<'_, J, C, G>,

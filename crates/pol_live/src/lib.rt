@@ -4,6 +4,8 @@
 //! Contracts see a locked plant as its history, who made each entry, and its clock (`specs/Turns.antt`). By its type
 //! the history is legal and follows its site, each change has its command, and the status board shows it, whatever
 //! turns were taken. A turn that rests tells that its actor is settled.
+//!
+//! Tried in `live_examples`.
 #![tactic(auto)]
 
 mod acting;

@@ -1,5 +1,6 @@
 -- How many numbers pass a test.
-use Rattle.std.proofs.Common.{◌≡◌, ◌⊎◌, ℕ, zero, suc, ◌<◌, ◌≤◌, eqb, Bool, true, false, not, List, [], ◌∷◌, map, length, refl, arith, sym, subst, ⊎_elim, inl, inr}
+use Rattle.std.proofs.Common.{◌≡◌, ◌⊎◌, ℕ, zero, suc, ◌<◌, ◌≤◌, eqb, Bool, true, false, not, List, [], ◌∷◌, map, length}
+use Rattle.std.proofs.Common.{refl, arith, sym, subst, ⊎_elim, inl, inr}
 use Rattle.std.specs.List.{list_any, AllByRecursion, IsDistinct}
 use Rattle.std.proofs.lemmas.Cmp.{nat_eq_equiv}
 use Rattle.std.proofs.lemmas.Bool.Decides.{nat_tests}

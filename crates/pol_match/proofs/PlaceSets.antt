@@ -1,11 +1,14 @@
 -- Bits of a set of places.
-use Rattle.std.proofs.Common.{◌≡◌, ◌≢◌, ℕ, ◌-◌, ◌*◌, ◌/◌, ◌%◌, ◌^◌, ◌<◌, ◌≤◌, ◌==◌, true, false, ◌||◌, min, refl, arith, sym, ◌∙◌, ap, ⊎_elim}
+use Rattle.std.proofs.Common.{◌≡◌, ◌≢◌, ℕ, ◌-◌, ◌*◌, ◌/◌, ◌%◌, ◌^◌, ◌<◌, ◌≤◌, ◌==◌, true, false, ◌||◌, min, refl, arith}
+use Rattle.std.proofs.Common.{sym, ◌∙◌, ap, ⊎_elim}
 use Rattle.std.specs.Int.{bit_at, trailing_zeros, w64}
 use Rattle.std.specs.Prelude.{bit_and, bit_or}
 use Rattle.std.proofs.lemmas.Bool.Decides.{nat_tests}
 use Rattle.std.proofs.lemmas.Bool.{cases_Bool, cases_eq, cases_lt}
 use Rattle.std.proofs.lemmas.Nat.{and_le_l, and_le_r}
-use Rattle.std.proofs.lemmas.Nat.Bits.{shr_and_one, bit_at_set_same, bit_at_set_other, bit_at_and, bit_at_not, bit_at-lt, bit_at-zero, bit_at-trailing_zeros, bit_at_above, bit_at_ones, same_from_bits}
+use Rattle.std.proofs.lemmas.Nat.Bits.{shr_and_one, bit_at_set_same, bit_at_set_other, bit_at_and, bit_at_not}
+use Rattle.std.proofs.lemmas.Nat.Bits.{bit_at-lt, bit_at-zero, bit_at-trailing_zeros, bit_at_above, bit_at_ones}
+use Rattle.std.proofs.lemmas.Nat.Bits.{same_from_bits}
 use Rattle.pol_match.specs.Places.{is_in, has_all, IsWithin, IsFirstBeyond}
 
 -- what the test by a shift says
@@ -138,11 +141,6 @@ first_by_rest set other small small_other some =
           absurd (grind (arith, bit, other_bit, equal, zero)))
           (cases_Bool (is_in other each));
     }
-
--- the test of a set's remainder
-pub within_from_test : (set other : ℕ) → set < 2 ^ 64 → other < 2 ^ 64 → has_all set other ≡ true → IsWithin other set
-unfolding has_all
-within_from_test set other small small_other has = within_by_rest other set small_other small (grind (arith, nat_tests))
 
 -- no bit is left of a set that is within the other
 none_left : (set other place : ℕ) → set < 2 ^ 64 → other < 2 ^ 64 → IsWithin other set

@@ -1,5 +1,6 @@
 -- All rows are seated one after the other, or the first that can't be shows that there is no assignment.
-use Rattle.std.proofs.Common.{◌≡◌, ℕ, ◌+◌, ◌^◌, ◌<◌, true, false, Option, Some, None, List, length, arith, sym, ◌∙◌, ap, ⊎_elim}
+use Rattle.std.proofs.Common.{◌≡◌, ℕ, ◌+◌, ◌^◌, ◌<◌, true, false, Option, Some, None, List, length, arith, sym, ◌∙◌, ap}
+use Rattle.std.proofs.Common.{⊎_elim}
 use Rattle.std.specs.Prelude.{slice_index, is_some, MatchOption}
 use Rattle.std.proofs.lemmas.Bool.{cases_eq}
 use Rattle.pol_match.specs.Places.{is_in, has_all, passing, places_of, IsWithin}

@@ -1,5 +1,7 @@
 -- A crowd of rows is a shortage of the chart.
-use Rattle.std.proofs.Common.{◌≡◌, ℕ, zero, suc, ◌+◌, ◌^◌, ◌<◌, ◌≤◌, Bool, true, false, ◌&&◌, ◌||◌, if◌then◌else◌, cond, List, [], ◌∷◌, map, filter, length, get_or, take, refl, arith, sym, ◌∙◌, ap, subst, ⊎_elim, add-zero, zero-add, add-one}
+use Rattle.std.proofs.Common.{◌≡◌, ℕ, zero, suc, ◌+◌, ◌^◌, ◌<◌, ◌≤◌, Bool, true, false, ◌&&◌, ◌||◌, if◌then◌else◌, cond}
+use Rattle.std.proofs.Common.{List, [], ◌∷◌, map, filter, length, get_or, take, refl, arith, sym, ◌∙◌, ap, subst}
+use Rattle.std.proofs.Common.{⊎_elim, add-zero, zero-add, add-one}
 use Rattle.std.specs.Prelude.{slice_index}
 use Rattle.std.specs.List.{AllByRecursion, list_any}
 use Rattle.std.specs.Str.{bytes_eq}

@@ -1,5 +1,6 @@
 -- Rows that each have a place of their own, the least such places, and rows that are too many for their places.
-use Rattle.std.specs.Prelude.{ℕ, ◌≡◌, ◌<◌, ◌≤◌, ◌==◌, List, length, true, false, if◌then◌else◌, slice_index, Option, Some, None}
+use Rattle.std.specs.Prelude.{ℕ, ◌≡◌, ◌<◌, ◌≤◌, ◌==◌, List, length, true, false, if◌then◌else◌, slice_index, Option}
+use Rattle.std.specs.Prelude.{Some, None}
 use Rattle.pol_match.specs.Places.{is_in, passing, has_all, places_of}
 use Rattle.pol_match.specs.Seats.{fits, holder_at, IsSeating}
 

@@ -1,5 +1,6 @@
 -- Rows that hold places, and places that no exchange among holders sets free.
-use Rattle.std.specs.Prelude.{ℕ, ◌≡◌, ◌<◌, ◌⊎◌, List, length, Bool, true, false, Option, Some, None, slice_index, slice_index_or}
+use Rattle.std.specs.Prelude.{ℕ, ◌≡◌, ◌<◌, ◌⊎◌, List, length, Bool, true, false, Option, Some, None, slice_index}
+use Rattle.std.specs.Prelude.{slice_index_or}
 use Rattle.pol_match.specs.Places.{is_in, IsWithin}
 
 -- the row fits the place

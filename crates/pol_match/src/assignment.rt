@@ -2,7 +2,8 @@
 
 ghost use Rattle.std.specs.Prelude.{◌≡◌, ◌<◌, ◌≤◌, ℕ, length, true, None, IfOk, MatchResult};
 ghost use Rattle.pol_match.specs.Seats.{AreInside, fits, holder_at};
-ghost use Rattle.pol_match.specs.Assignments.{AreSeated, HaveNone, IsCrowded, IsLeastAssignment, IsReseated, IsSettled, IsUnseated};
+ghost use Rattle.pol_match.specs.Assignments.{AreSeated, HaveNone, IsCrowded, IsLeastAssignment, IsReseated, IsSettled};
+ghost use Rattle.pol_match.specs.Assignments.{IsUnseated};
 ghost use Rattle.pol_match.specs.Outcomes.{IsOutcome};
 ghost use Rattle.pol_match.specs.declared.limits.TheConstants.{MOST_PLACES};
 

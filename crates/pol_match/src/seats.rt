@@ -1,6 +1,7 @@
 //! Rows that hold places: one more row is seated along a chain of rows that change theirs.
 
-ghost use Rattle.std.specs.Prelude.{◌≡◌, ◌<◌, ◌≤◌, ℕ, length, true, false, Some, IfNone, IfSome, IsTrue, MatchOption, MatchBool};
+ghost use Rattle.std.specs.Prelude.{◌≡◌, ◌<◌, ◌≤◌, ℕ, length, true, false, Some, IfNone, IfSome, IsTrue, MatchOption};
+ghost use Rattle.std.specs.Prelude.{MatchBool};
 ghost use Rattle.pol_match.specs.Places.{is_in};
 ghost use Rattle.pol_match.specs.Seats.{AreInside, holder_at, IsKept, IsSeated, IsSeating, IsStuck, IsVacated, Sits};
 ghost use Rattle.pol_match.specs.declared.limits.TheConstants.{MOST_PLACES};

@@ -1,5 +1,7 @@
 -- The text of a freeze is a line that says the freeze.
-use Rattle.std.proofs.Common.{◌≡◌, ℕ, ◌≤◌, ◌<◌, ◌^◌, ◌&&◌, ◌==◌, nat_lt, nat_le, List, [], ◌∷◌, ◌++◌, length, length-append, Bool, true, false, not, Ok, Some, IsTrue, codes, decimal, refl, ap, sym, ◌∙◌, arith, append_assoc, append-nil, option_and_then}
+use Rattle.std.proofs.Common.{◌≡◌, ℕ, ◌≤◌, ◌<◌, ◌^◌, ◌&&◌, ◌==◌, nat_lt, nat_le, List, [], ◌∷◌, ◌++◌, length}
+use Rattle.std.proofs.Common.{length-append, Bool, true, false, not, Ok, Some, IsTrue, codes, decimal, refl, ap, sym}
+use Rattle.std.proofs.Common.{◌∙◌, arith, append_assoc, append-nil, option_and_then}
 use Rattle.std.specs.List.{list_all}
 use Rattle.std.proofs.lemmas.Bool.{and_parts, and_from, leb-true}
 use Rattle.std.proofs.lemmas.Bool.Decides.{nat_tests}
@@ -25,10 +27,10 @@ use Rattle.mtp_codes.proofs.Names.{digits_in_name}
 use Rattle.pol_io.specs.Pieces.{has_no_feed}
 use Rattle.pol_io.specs.declared.limits.TheConstants.{LONGEST_LINE}
 use Rattle.pol_events.specs.Events.{freeze}
-use Rattle.pol_events.specs.Lines.{event_of, is_blank_byte}
-use Rattle.pol_events.specs.Ranges.{is_stamped}
-use Rattle.pol_events.specs.Written.{written_event, written_freeze}
-use Rattle.pol_events.proofs.Again.{freeze_again, line_again}
+use Rattle.event_json.specs.Lines.{event_of, is_blank_byte}
+use Rattle.event_json.specs.Ranges.{is_stamped}
+use Rattle.event_json.specs.Written.{written_event, written_freeze}
+use Rattle.event_json.proofs.Again.{freeze_again, line_again}
 use Rattle.pol_record.specs.Lines.{an_event, meaning_of}
 
 -- ---- bytes that may stand in a name

@@ -1,5 +1,6 @@
 -- What a line of version 1 becomes is one line that says the same event, or nothing.
-use Rattle.std.proofs.Common.{◌≡◌, ℕ, nat_lt, List, [], ◌∷◌, ◌++◌, length, Bool, true, false, not, ◌==◌, cond, map, Result, Ok, Err, IsTrue, refl, ap, sym, ◌∙◌, subst}
+use Rattle.std.proofs.Common.{◌≡◌, ℕ, nat_lt, List, [], ◌∷◌, ◌++◌, length, Bool, true, false, not, ◌==◌, cond, map}
+use Rattle.std.proofs.Common.{Result, Ok, Err, IsTrue, refl, ap, sym, ◌∙◌, subst}
 use Rattle.std.specs.List.{list_all}
 use Rattle.std.proofs.lemmas.Bool.{and_from}
 use Rattle.serde_json.specs.Written.{compact_text}
@@ -7,13 +8,14 @@ use Rattle.pol_io.specs.Pieces.{pieces, line_of, has_no_feed, is_whole}
 use Rattle.pol_io.specs.declared.limits.TheConstants.{LONGEST_LINE}
 use Rattle.pol_io.proofs.Pieces.{pieces_feed, line_of_feed, whole_feed}
 use Rattle.pol_events.specs.Events.{PlainEvent, freeze}
-use Rattle.pol_events.specs.Lines.{is_blank_byte}
-use Rattle.pol_events.specs.Version1.{event_of_version_1}
-use Rattle.pol_events.specs.Written.{written_event}
-use Rattle.pol_events.specs.declared.fault.LineFault.{LineFault}
-use Rattle.pol_events.specs.declared.fault.LineFault.TheVariants.{TooLong}
-use Rattle.pol_events.proofs.Versions.{is_a_freeze, line_alike, freeze_stamped}
-use Rattle.pol_record.specs.Lines.{LineMeaning, nothing, a_fault, an_event, meaning_from, meaning_of, InputLine, happening, as_input_line, input_line_of}
+use Rattle.event_json.specs.Lines.{is_blank_byte}
+use Rattle.event_json.specs.Version1.{event_of_version_1}
+use Rattle.event_json.specs.Written.{written_event}
+use Rattle.event_json.specs.declared.fault.LineFault.{LineFault}
+use Rattle.event_json.specs.declared.fault.LineFault.TheVariants.{TooLong}
+use Rattle.event_json.proofs.Versions.{is_a_freeze, line_alike, freeze_stamped}
+use Rattle.pol_record.specs.Lines.{LineMeaning, nothing, a_fault, an_event, meaning_from, meaning_of, InputLine}
+use Rattle.pol_record.specs.Lines.{happening, as_input_line, input_line_of}
 use Rattle.pol_migration.specs.Migration.{meaning_of_version_1, migrated_event, migrated_line}
 use Rattle.pol_migration.proofs.FreezeText.{freeze_line}
 

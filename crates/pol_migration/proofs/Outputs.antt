@@ -6,10 +6,12 @@ use Rattle.pol_io.specs.Pieces.{pieces, line_of}
 use Rattle.pol_io.proofs.Pieces.{pieces_append}
 use Rattle.pol_history.specs.Looking.{History}
 use Rattle.pol_history.specs.Runs.{entry_of, recorded, history_after}
-use Rattle.pol_record.specs.Lines.{LineMeaning, nothing, a_fault, an_event, InputLine, as_input_line, input_line_of, events_in, answered_lines_after, answered_texts, closing_text}
+use Rattle.pol_record.specs.Lines.{LineMeaning, nothing, a_fault, an_event, InputLine, as_input_line, input_line_of}
+use Rattle.pol_record.specs.Lines.{events_in, answered_lines_after, answered_texts, closing_text}
 use Rattle.pol_record.specs.Texts.{answer_text}
 use Rattle.pol_history.specs.Answers.{answer_of}
-use Rattle.pol_migration.specs.Migration.{meaning_of_version_1, input_line_of_version_1, is_faultless, migrated_line, migrated_of, MigrationKeepsOutputs}
+use Rattle.pol_migration.specs.Migration.{meaning_of_version_1, input_line_of_version_1, is_faultless, migrated_line}
+use Rattle.pol_migration.specs.Migration.{migrated_of, MigrationKeepsOutputs}
 use Rattle.pol_migration.proofs.Lines.{lines_by, migrated_whole, migrated_lines}
 
 -- the lines of a migrated journal

@@ -2,11 +2,11 @@
 use Rattle.std.proofs.Common.{ℕ, ◌≡◌, ◌∙◌, List, [], ◌∷◌, Bool, true, false, length, ap, refl, if◌then◌else◌}
 use Rattle.std.specs.Prelude.{Some, None, nat_lt}
 use Rattle.std.specs.List.{flat_map}
-use Rattle.pol_events.specs.declared.fault.LineFault.TheVariants.{TooLong}
 use Rattle.pol_io.specs.Pieces.{pieces, line_of}
 use Rattle.pol_io.specs.declared.limits.TheConstants.{LONGEST_LINE}
 use Rattle.pol_jobs.specs.LineWork.{met, output_by, replies}
 use Rattle.pol_jobs.proofs.Meeting.{met_by_length}
+use Rattle.event_json.specs.declared.fault.LineFault.TheVariants.{TooLong}
 use Rattle.pol_record.specs.Lines.{a_fault}
 use Rattle.pol_migration.specs.Job.{migrated_met, migrating, migrating_work}
 use Rattle.pol_migration.specs.Migration.{meaning_of_version_1, migrated_line, migrated_of, short_meaning_of_version_1}

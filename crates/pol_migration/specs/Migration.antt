@@ -4,13 +4,15 @@ use Rattle.std.specs.List.{filter, flat_map, list_all}
 use Rattle.pol_io.specs.Pieces.{pieces, line_of}
 use Rattle.pol_io.specs.declared.limits.TheConstants.{LONGEST_LINE}
 use Rattle.pol_events.specs.Events.{PlainEvent, freeze}
-use Rattle.pol_events.specs.Lines.{is_blank_byte}
-use Rattle.pol_events.specs.Version1.{event_of_version_1}
-use Rattle.pol_events.specs.Written.{written_event}
-use Rattle.pol_events.specs.declared.fault.LineFault.TheVariants.{TooLong}
+use Rattle.event_json.specs.Lines.{is_blank_byte}
+use Rattle.event_json.specs.Version1.{event_of_version_1}
+use Rattle.event_json.specs.Written.{written_event}
+use Rattle.event_json.specs.declared.fault.LineFault.TheVariants.{TooLong}
 use Rattle.pol_history.specs.Looking.{History}
 use Rattle.pol_history.specs.Runs.{history_after}
-use Rattle.pol_record.specs.Lines.{LineMeaning, nothing, a_fault, an_event, meaning_from, InputLine, as_input_line, events_in, AnsweredLine, skipped, bad, answered, answered_lines_after, answered_texts, closing_text, output_of}
+use Rattle.pol_record.specs.Lines.{LineMeaning, nothing, a_fault, an_event, meaning_from, InputLine, as_input_line}
+use Rattle.pol_record.specs.Lines.{events_in, AnsweredLine, skipped, bad, answered, answered_lines_after}
+use Rattle.pol_record.specs.Lines.{answered_texts, closing_text, output_of}
 use Rattle.pol_record.specs.Texts.{line_text}
 
 -- ---- the output by version 1
@@ -36,11 +38,6 @@ answered_lines_of_version_1 bytes = answered_lines_after [] (map input_line_of_v
 -- the history after the lines of the input by version 1
 abbrev pub history_of_version_1 : List ℕ → History
 history_of_version_1 bytes = history_after [] (events_in (map input_line_of_version_1 (pieces bytes)))
-
--- the output by version 1
-abbrev pub output_of_version_1 : List ℕ → List ℕ
-output_of_version_1 bytes =
-    answered_texts (answered_lines_of_version_1 bytes) ++ closing_text (history_of_version_1 bytes)
 
 -- the line isn't at fault
 abbrev pub is_faultless : AnsweredLine → Bool

@@ -3,7 +3,8 @@ ghost use Rattle.std.specs.Prelude.{◌≡◌, ◌++◌, OnOk};
 ghost use Rattle.pol_events.specs.Events.{plain_event};
 ghost use Rattle.pol_migration.specs.Migration.{migrated_event, migrated_line, short_meaning_of_version_1};
 
-use pol_events::{Event, LineRefusal, event_value, is_blank, read_event_of_version_1};
+use event_json::{LineRefusal, event_value, is_blank, read_event_of_version_1};
+use pol_events::Event;
 use pol_io::Sink;
 use pol_jobs::{InputLine, LineJob, PutFault, Stop};
 use std::alloc::{AllocError, Global};

@@ -20,27 +20,12 @@ passes_map view test [] place = refl
 passes_map view test (item ∷ items) zero = refl
 passes_map view test (item ∷ items) (suc place) = passes_map view test items place
 
--- tests that agree on every item
-pub passes_alike : {A : Type 0} (one other : A → Bool) (items : List A) → ((item : A) → one item ≡ other item)
-    → (place : ℕ)
-    → passes_at one items place ≡ passes_at other items place
-passes_alike one other [] same place = refl
-passes_alike one other (item ∷ items) same zero = same item
-passes_alike one other (item ∷ items) same (suc place) = passes_alike one other items same place
-
 -- one item
 pub passes_within : {A : Type 0} (test : A → Bool) (items : List A) (place : ℕ) (item : A) → place < length items
     → item ≡ get_or items place item → passes_at test items place ≡ test item
 passes_within test [] place item inside is = absurd (omega arith)
 passes_within test (first ∷ items) zero item inside is = ap test (sym is)
 passes_within test (first ∷ items) (suc place) item inside is = passes_within test items place item (omega arith) is
-
--- past the end
-pub passes_past : {A : Type 0} (test : A → Bool) (items : List A) (place : ℕ) → length items ≤ place
-    → passes_at test items place ≡ false
-passes_past test [] place past = refl
-passes_past test (first ∷ items) zero past = absurd (omega arith)
-passes_past test (first ∷ items) (suc place) past = passes_past test items place (omega arith)
 
 -- true beside it changes nothing
 pub and_true : (b : Bool) → (b && true) ≡ b
@@ -141,9 +126,3 @@ pub any_alike : {A : Type 0} (one other : A → Bool) (items : List A) → ((ite
     → list_any one items ≡ list_any other items
 any_alike one other [] same = refl
 any_alike one other (item ∷ items) same = rw (same item, any_alike one other items same) refl
-
--- a test that no item passes is passed by none of a list
-pub any_never : {A : Type 0} (test : A → Bool) (items : List A) → ((item : A) → test item ≡ false)
-    → list_any test items ≡ false
-any_never test [] never = refl
-any_never test (item ∷ items) never = rw (never item) (any_never test items never)

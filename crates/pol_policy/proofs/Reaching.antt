@@ -1,41 +1,19 @@
 -- The loops over groups: to which each leads, and what is given to their members.
 use Rattle.std.proofs.Common.{ℕ, suc, ◌≡◌, ◌+◌, ◌-◌, ◌<◌, ◌≤◌, ◌||◌, ◌&&◌, Bool, List, [], ◌∷◌, ◌++◌, length, get_or, take, drop, refl, sym, ap, ◌∙◌, arith, ⊎_elim}
 use Rattle.std.specs.List.{list_any}
-use Rattle.std.proofs.Math.Bool.{or_assoc}
 use Rattle.std.proofs.Math.Seq.{drop-cons}
-use Rattle.std.proofs.lemmas.Bool.{cases_eq}
-use Rattle.std.proofs.lemmas.List.{append-nil, drop_all, take_all, get_or_append_left, get_or-append_right, get_or_default}
+use Rattle.std.proofs.lemmas.List.{append-nil, drop_all, take_all, get_or_default}
 use Rattle.std.proofs.lemmas.List.Folds.{list_any_more}
-use Rattle.mtp_codes.specs.Names.{is_among}
 use Rattle.pol_policy.specs.Deciding.{leads_through}
 use Rattle.pol_policy.specs.Names.{name_has}
 use Rattle.pol_policy.specs.Places.{IsPlacesOf, has}
-use Rattle.pol_policy.specs.Tables.{IsAbove, IsReach, above_has, is_next_group}
+use Rattle.pol_policy.specs.Tables.{IsReach, is_next_group}
 use Rattle.pol_policy.specs.declared.name_index.NameIndex.{NameIndex}
 use Rattle.pol_policy.specs.declared.parts.Group.{Group}
 use Rattle.pol_policy.specs.declared.place_set.PlaceSet.{PlaceSet}
 use Rattle.pol_policy.proofs.Passing.{passes_either, passes_within}
 
 -- ---- lists that grow beside another
-
--- what holds of each set, and of one more that is pushed
-pub each_pushed : {G : Type 0} (Fits : G → PlaceSet → Type 0) (groups : List G) (sets : List PlaceSet) (next : PlaceSet)
-    → ((at : ℕ) (group : G) (set : PlaceSet) → at < length sets → Fits (get_or groups at group) (get_or sets at set))
-    → ((group : G) → Fits (get_or groups (length sets) group) next)
-    → (at : ℕ) (group : G) (set : PlaceSet) → at < length sets + 1
-    → Fits (get_or groups at group) (get_or (sets ++ next ∷ []) at set)
-each_pushed Fits groups sets next before here at group set inside =
-    ⊎_elim
-    (λ (last : at ≡ length sets).
-    let none : length sets - length sets ≡ 0 = omega arith in
-    let read : get_or (sets ++ next ∷ []) (length sets) set ≡ next =
-    get_or-append_right sets (next ∷ []) (length sets) (length sets) set refl (omega arith)
-    ∙ ap (λ n. get_or (next ∷ []) n set) none in
-    rw (last, read) (here group))
-    (λ other.
-    let inner : at < length sets = omega arith in
-    rw (get_or_append_left sets (next ∷ []) set at inner) (before at group set inner))
-    (cases_eq at (length sets))
 
 -- ---- to which each group leads
 
@@ -130,34 +108,3 @@ above_next groups sets index last from reach inside within first is leads absent
     (ap (λ g. list_any (λ each. leads_through is_next_group groups each target
     && name_has index each.group place) (take from groups)
     || (leads_through is_next_group groups g target && name_has index g.group place)) is)
-
--- the members of one more group
-pub member_next : (groups : List Group) (above : List PlaceSet) (index old new : NameIndex) (i : ℕ)
-    → IsAbove groups index above → i < length groups
-    → (group : Group) (set : PlaceSet) → group ≡ get_or groups i group → set ≡ get_or above i set
-    → (name : List ℕ) (place : ℕ)
-    → name_has new name place ≡ (name_has old name place || (is_among group.members.items name && has set place))
-    → name_has old name place
-    ≡ (name_has index name place
-    || list_any (λ last. is_among last.members.items name && above_has groups index last place) (take i groups))
-    → name_has new name place
-    ≡ (name_has index name place
-    || list_any (λ last. is_among last.members.items name && above_has groups index last place) (take (i + 1) groups))
-member_next groups above index old new i ready within group set is read name place now before =
-    let here : has set place ≡ above_has groups index group place =
-    ap (λ s. has s place) read
-    ∙ ready.each i group set within place
-    ∙ ap (λ g. above_has groups index g place) (sym is) in
-    rw (
-      now,
-      before,
-      here,
-      list_any_more (λ last. is_among last.members.items name
-          && above_has groups index last place) groups i group within,
-      or_assoc (name_has index name place)
-          (list_any (λ last. is_among last.members.items name && above_has groups index last place) (take i groups))
-          (is_among group.members.items name && above_has groups index group place),
-    )
-    (ap (λ g. name_has index name place
-    || (list_any (λ last. is_among last.members.items name && above_has groups index last place) (take i groups)
-    || (is_among g.members.items name && above_has groups index g place))) is)

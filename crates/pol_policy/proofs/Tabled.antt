@@ -2,7 +2,8 @@
 use Rattle.std.proofs.Common.{ℕ, ◌≡◌, ◌&&◌, Bool, false, List, [], ◌∷◌, map, Option, Some, None, refl, sym, ap, ◌∙◌, ⊎_elim}
 use Rattle.std.specs.List.{list_any}
 use Rattle.mtp_codes.specs.Names.{same_name, is_among}
-use Rattle.mtp_json.proofs.Lists.{any_map}
+use Rattle.mtp_codes.proofs.Lists.{none_any}
+use Rattle.mtp_codes.proofs.Repeats.{any_map}
 use Rattle.pol_policy.specs.Allowing.{lists}
 use Rattle.pol_policy.specs.Deciding.{admits_person, is_next, leads_through}
 use Rattle.pol_policy.specs.Names.{name_has}
@@ -12,7 +13,7 @@ use Rattle.pol_policy.specs.Tables.{above_has, is_next_group, member_has}
 use Rattle.pol_policy.specs.declared.name_index.NameIndex.{NameIndex}
 use Rattle.pol_policy.specs.declared.parts.Group.{Group}
 use Rattle.pol_policy.specs.declared.parts.PolicyRule.{PolicyRule}
-use Rattle.pol_policy.proofs.Passing.{and_false, any_alike, any_never, at_place, passes_map}
+use Rattle.pol_policy.proofs.Passing.{and_false, any_alike, at_place, passes_map}
 
 -- groups seen as plain data lead where they lead
 leads_map : (through : List Group) (from to : Group)
@@ -73,10 +74,10 @@ nobody : (groups : List Group) (index : NameIndex) (place : ℕ) → ((name : Li
     → (person : List ℕ) → member_has groups index person place ≡ false
 nobody groups index place never person =
     rw (never person)
-    (any_never (λ last. is_among last.members.items person && above_has groups index last place) groups
+    (none_any (λ last. is_among last.members.items person && above_has groups index last place) groups
     (λ last.
     ap (λ b. is_among last.members.items person && b)
-    (any_never (λ first. leads_through is_next_group groups first last && name_has index first.group place) groups
+    (none_any (λ first. leads_through is_next_group groups first last && name_has index first.group place) groups
     (λ first. ap (λ b. leads_through is_next_group groups first last && b) (never first.group)
     ∙ and_false (leads_through is_next_group groups first last)))
     ∙ and_false (is_among last.members.items person)))

@@ -2,9 +2,9 @@
 use Rattle.std.proofs.Common.{ℕ, zero, suc, ◌≡◌, ◌≢◌, ◌+◌, ◌*◌, ◌/◌, ◌%◌, ◌<◌, ◌≤◌, ◌^◌, ◌==◌, ◌||◌, ◌&&◌, Bool, true, false, List, [], ◌∷◌, length, get_or, min, max, refl, sym, arith, bit_or, bit_and, w64, ⊎_elim}
 use Rattle.std.specs.Int.{bit_at, trailing_zeros}
 use Rattle.std.proofs.Math.ListN.{set}
-use Rattle.std.proofs.lemmas.Bool.{cases_eq, cases_lt, eq-eqb, ne_eqb}
+use Rattle.std.proofs.lemmas.Bool.{cases_eq, eq-eqb, ne_eqb}
 use Rattle.std.proofs.lemmas.List.{get_or_past, get_or-set_same, get_or-set_other}
-use Rattle.std.proofs.lemmas.Nat.Bits.{bit_at-lt, bit_at-zero, bit_at_and, bit_at_or, bit_at_set_same, bit_at_set_other, bit_at-trailing_zeros}
+use Rattle.std.proofs.lemmas.Nat.Bits.{bit_at-lt, bit_at_and, bit_at_or, bit_at_set_same, bit_at_set_other, bit_at-trailing_zeros}
 
 -- a place is a bit of a word
 abbrev pub word_has : List ℕ → ℕ → Bool
@@ -123,15 +123,6 @@ insert_has words place l inside other =
 abbrev pub NoneBelow : List ℕ → ℕ → Type 0
 NoneBelow words limit = (place : ℕ) → place < limit → word_has words place ≡ false
 
--- a word of no place was passed
-pub none_in_word : (words : List ℕ) (i : ℕ) → get_or words i 0 ≡ 0 → NoneBelow words (64 * i)
-    → NoneBelow words (64 * (i + 1))
-none_in_word words i empty below place inside =
-    ⊎_elim
-    (λ (here : place / 64 ≡ i). rw (here, empty, bit_at-zero (place % 64)) refl)
-    (λ elsewhere. below place (omega arith))
-    (cases_eq (place / 64) i)
-
 -- a word of some place gives the first
 pub first_in_word : (words : List ℕ) (i : ℕ) → 0 < get_or words i 0 → get_or words i 0 < 18446744073709551616
     → NoneBelow words (64 * i)
@@ -150,12 +141,3 @@ first_in_word words i some fits below =
           (λ elsewhere. below place (omega arith))
           (cases_eq (place / 64) i),
     )
-
--- all words were passed
-pub none_at_all : (words : List ℕ) → length words ≡ 4 → NoneBelow words (64 * 4) → (place : ℕ)
-    → word_has words place ≡ false
-none_at_all words l below place =
-    ⊎_elim
-    (λ (inside : place < 256). below place (omega arith))
-    (λ (past : 256 ≤ place). rw (get_or_past words (place / 64) 0 (omega arith), bit_at-zero (place % 64)) refl)
-    (cases_lt place 256)

@@ -11,11 +11,11 @@ use Rattle.serde_json.specs.Written.{IsInOrder, compact_text, has_float}
 use Rattle.serde_json.proofs.Texts.{tokens_from_order}
 use Rattle.pol_events.specs.declared.event.Event.{Event}
 use Rattle.pol_events.specs.Events.{plain_event}
-use Rattle.pol_events.specs.Forms.{event_in}
 use Rattle.pol_events.specs.Orderly.{is_orderly}
-use Rattle.pol_events.specs.Written.{written_event}
-use Rattle.pol_events.proofs.Again.{faultless}
-use Rattle.pol_events.proofs.Depths.{event_depth}
+use Rattle.event_json.specs.Forms.{event_in}
+use Rattle.event_json.specs.Written.{written_event}
+use Rattle.event_json.proofs.Again.{faultless}
+use Rattle.event_json.proofs.Depths.{event_depth}
 use Rattle.pol_record.specs.Exact.{IsExact, IsWritten}
 
 -- what the code writes of an event is what an entry's line needs

@@ -1,5 +1,6 @@
 -- What is known of a batch, after one more entry of the history.
-use Rattle.std.proofs.Common.{◌≡◌, ℕ, ◌<◌, ◌+◌, Bool, true, false, cond, List, [], ◌∷◌, ◌++◌, length, get_or, take, map, reverse, append-nil, Option, Some, None, refl, ap, sym, ◌∙◌}
+use Rattle.std.proofs.Common.{◌≡◌, ℕ, ◌<◌, ◌+◌, Bool, true, false, cond, List, [], ◌∷◌, ◌++◌, length, get_or, take, map}
+use Rattle.std.proofs.Common.{reverse, append-nil, Option, Some, None, refl, ap, sym, ◌∙◌}
 use Rattle.std.specs.Prelude.{◌&&◌, filter_map}
 use Rattle.std.specs.List.{cons_option}
 use Rattle.std.specs.Option.{option_eq, option_or}
@@ -103,14 +104,6 @@ all_more history entry batch old new is added known other = go (bytes_eq batch o
     go true same added = added ∙ known_more history entry other (known_of old other) (known other) (its ∙ same)
     go false apart added = added ∙ known_same history entry other (known_of old other) (known other) (its ∙ apart)
 
--- another entry is added to none
-all_same : (history : History) (entry : PlainEntry) (records : List (List ℕ × BatchRecord)) →
-    accepted_batch entry ≡ None →
-    AreKnown records history → AreKnown records (entry ∷ history)
-all_same history entry records none known other =
-    known_same history entry other (known_of records other) (known other)
-    (ap (λ found. option_eq bytes_eq found (Some other)) none)
-
 -- what was gathered, after an accepted event of a batch
 pub gathered_more : (history : History) (entry : PlainEntry) (batch : List ℕ) (old new : BatchRecords) →
     new.started.items ≡ old.started.items ++ cons_option (newly_started entry) [] →
@@ -124,17 +117,4 @@ gathered_more history entry batch old new pushed is added gathered = record {
       ∙ ap (λ started. started ++ cons_option (newly_started entry) []) gathered.started
       ∙ sym (started_grows history entry);
   known = all_more history entry batch old.records.entries new.records.entries is added gathered.known;
-}
-
--- and after any other entry
-pub gathered_same : (history : History) (entry : PlainEntry) (old new : BatchRecords) →
-    new.started.items ≡ old.started.items ++ cons_option (newly_started entry) [] →
-    accepted_batch entry ≡ None → new.records.entries ≡ old.records.entries →
-    IsGathered old history → IsGathered new (entry ∷ history)
-gathered_same history entry old new pushed none same gathered = record {
-  started = pushed
-      ∙ ap (λ started. started ++ cons_option (newly_started entry) []) gathered.started
-      ∙ sym (started_grows history entry);
-  known = λ other. ap (λ records. known_of records other) same
-      ∙ all_same history entry old.records.entries none gathered.known other;
 }

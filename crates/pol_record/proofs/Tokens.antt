@@ -1,5 +1,6 @@
 -- Tokens of values, and the texts that they print as.
-use Rattle.std.proofs.Common.{◌≡◌, ℕ, ℤ, pos, negsuc, refl, true, codes, List, [], ◌∷◌, ◌++◌, append_assoc, map, Option, ap, ◌∙◌}
+use Rattle.std.proofs.Common.{◌≡◌, ℕ, ℤ, pos, negsuc, refl, true, codes, List, [], ◌∷◌, ◌++◌, append_assoc, map, Option}
+use Rattle.std.proofs.Common.{ap, ◌∙◌}
 use Rattle.std.specs.Fmt.{signed_decimal}
 use Rattle.json.specs.Print.{print}
 use Rattle.json.specs.Token as token
@@ -11,16 +12,17 @@ use Rattle.serde_json.specs.Data.{Data, boolean, number}
 use Rattle.serde_json.specs.Find.{of_integer}
 use Rattle.serde_json.specs.View.{items_of}
 use Rattle.serde_json.specs.Written.{items_outline, members_outline}
+use Rattle.mtp_codes.specs.declared.value.Reading.{Reading}
 use Rattle.chart_core.specs.declared.entry.LogEntry.{LogEntry}
 use Rattle.chart_core.specs.declared.next.Outcome.{Outcome}
-use Rattle.mtp_codes.specs.declared.value.Reading.{Reading}
-use Rattle.pol_events.specs.Fields.{PlainField}
-use Rattle.pol_events.specs.Written.{bind_members}
 use Rattle.pol_events.specs.declared.event.Bind.{Bind}
-use Rattle.pol_record.specs.Objects.{data_tokens, reading_data, members_in}
+use Rattle.event_json.specs.Fields.{PlainField}
+use Rattle.event_json.specs.Written.{bind_members}
 use Rattle.pol_history.specs.Batches.{Started}
+use Rattle.pol_record.specs.Objects.{data_tokens, reading_data, members_in}
 use Rattle.pol_record.specs.Verdicts.{place_tokens, wrong_object}
-use Rattle.pol_record.specs.Texts.{batch_data, batch_object, course_tokens, end_text, entry_data, line_text, start_tokens, under_key, watch_tokens}
+use Rattle.pol_record.specs.Texts.{batch_data, batch_object, course_tokens, end_text, entry_data, line_text}
+use Rattle.pol_record.specs.Texts.{start_tokens, under_key, watch_tokens}
 
 -- a whole number, with or without a sign
 pub whole_reading : (value : ℤ) → data_tokens (number (of_integer value)) ≡ token.number (signed_decimal value) ∷ []

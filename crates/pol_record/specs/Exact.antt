@@ -6,9 +6,9 @@ use Rattle.serde_json.specs.Data.{Data, depth}
 use Rattle.serde_json.specs.Read.{max_depth, read}
 use Rattle.serde_json.specs.Written.{compact_text}
 use Rattle.pol_events.specs.Events.{PlainEvent}
-use Rattle.pol_events.specs.Forms.{event_in}
-use Rattle.pol_events.specs.Lines.{fault_within}
-use Rattle.pol_events.specs.Written.{written_event}
+use Rattle.event_json.specs.Forms.{event_in}
+use Rattle.event_json.specs.Lines.{fault_within}
+use Rattle.event_json.specs.Written.{written_event}
 use Rattle.pol_record.specs.Objects.{data_tokens}
 
 -- the text of the value is UTF-8, has the value's tokens, and is read as the value

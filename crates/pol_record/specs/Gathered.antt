@@ -1,5 +1,5 @@
 -- What one pass over a history gathers of its batches: the starts in their order, and of each batch what its past says.
-use Rattle.std.specs.Prelude.{ℕ, ◌≡◌, List, [], ◌++◌, Option, None, Some, if◌then◌else◌}
+use Rattle.std.specs.Prelude.{ℕ, ◌≡◌, List, [], ◌++◌, Option, None, if◌then◌else◌}
 use Rattle.std.specs.List.{cons_option}
 use Rattle.std.specs.Map.{lookup}
 use Rattle.std.specs.Option.{option_map, option_map_or, option_or}
@@ -8,7 +8,8 @@ use Rattle.chart_core.specs.declared.entry.LogEntry.{LogEntry}
 use Rattle.chart_core.specs.declared.next.Outcome.{Outcome}
 use Rattle.pol_events.specs.Bound.{plain_allocation}
 use Rattle.pol_events.specs.Events.{PlainEntry}
-use Rattle.pol_history.specs.Batches.{Started, starting, start_by, started_batch, taken, log_by, closing, outcome_by, batches}
+use Rattle.pol_history.specs.Batches.{Started, starting, start_by, started_batch, taken, log_by, closing, outcome_by}
+use Rattle.pol_history.specs.Batches.{batches}
 use Rattle.pol_history.specs.Looking.{History, is_accepted, past_of_batch}
 use Rattle.pol_record.specs.Texts.{started_text}
 use Rattle.pol_record.specs.declared.gathering.BatchRecords.{BatchRecords}

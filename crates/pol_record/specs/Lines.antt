@@ -4,9 +4,9 @@ use Rattle.std.specs.List.{list_all, flat_map}
 use Rattle.pol_io.specs.Pieces.{pieces, line_of}
 use Rattle.pol_io.specs.declared.limits.TheConstants.{LONGEST_LINE}
 use Rattle.pol_events.specs.Events.{PlainEvent, PlainEntry}
-use Rattle.pol_events.specs.Lines.{event_of, is_blank_byte}
-use Rattle.pol_events.specs.declared.fault.LineFault.{LineFault}
-use Rattle.pol_events.specs.declared.fault.LineFault.TheVariants.{TooLong}
+use Rattle.event_json.specs.Lines.{event_of, is_blank_byte}
+use Rattle.event_json.specs.declared.fault.LineFault.{LineFault}
+use Rattle.event_json.specs.declared.fault.LineFault.TheVariants.{TooLong}
 use Rattle.pol_history.specs.Looking.{History}
 use Rattle.pol_history.specs.Runs.{run_after, history_after}
 use Rattle.pol_record.specs.Texts.{answer_text, fault_text, batches_text, end_text}

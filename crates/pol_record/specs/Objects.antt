@@ -2,13 +2,14 @@
 use Rattle.std.specs.Prelude.{List, [], ◌∷◌, map}
 use Rattle.json.specs.Token.{Token}
 use Rattle.json.specs.Tree.{json_tokens}
-use Rattle.serde_json.specs.Data.{Data, boolean, number as number_data, unsigned, string, array, object, Members, member, no_members}
+use Rattle.serde_json.specs.Data.{Data, boolean, number as number_data, unsigned, string, array, object, Members}
+use Rattle.serde_json.specs.Data.{member, no_members}
 use Rattle.serde_json.specs.Find.{of_integer}
 use Rattle.serde_json.specs.View.{items_of}
 use Rattle.serde_json.specs.Written.{outline}
 use Rattle.mtp_codes.specs.declared.value.Reading.{Reading}
 use Rattle.mtp_codes.specs.declared.value.Reading.TheVariants.{Whole, Bit}
-use Rattle.pol_events.specs.Fields.{PlainField, PlainFieldValue, text, number, readings, in_order}
+use Rattle.event_json.specs.Fields.{PlainField, PlainFieldValue, text, number, readings, in_order}
 
 -- a reading
 abbrev pub reading_data : Reading → Data

@@ -3,10 +3,10 @@ use Rattle.std.specs.Prelude.{Bool, true, ◌&&◌}
 use Rattle.mtp_codes.specs.Numbers.{greatest_u32, is_between}
 use Rattle.chart_core.specs.declared.entry.LogEntry.{LogEntry}
 use Rattle.chart_core.specs.declared.entry.LogEntry.TheVariants.{Start}
-use Rattle.pol_events.specs.FieldRanges.{are_in_range}
-use Rattle.pol_events.specs.RuleTable.{rule_row}
 use Rattle.pol_events.specs.declared.answer.Answer.{Answer}
 use Rattle.pol_events.specs.declared.answer.Answer.TheVariants.{Done, Ticket, Did, Waiting, Closed, Refused}
+use Rattle.event_json.specs.FieldRanges.{are_in_range}
+use Rattle.event_json.specs.RuleTable.{rule_row}
 use Rattle.pol_record.specs.Rows.{entry_row, obstacle_row}
 
 -- the number of a procedure has 16 bits

@@ -4,10 +4,11 @@ use Rattle.mtp_codes.specs.Codes.{command_number, state_number}
 use Rattle.mtp_codes.specs.declared.mode.Forbid.{Forbid}
 use Rattle.mtp_codes.specs.declared.mode.Forbid.TheVariants as forbid
 use Rattle.chart_core.specs.declared.entry.LogEntry.{LogEntry}
-use Rattle.chart_core.specs.declared.entry.LogEntry.TheVariants.{Start, Finish, Reset, End, Chose, Turn, Leave, Stop, Broke, Left, StopAsked, Hold, Unhold, Asked}
+use Rattle.chart_core.specs.declared.entry.LogEntry.TheVariants.{Start, Finish, Reset, End, Chose, Turn, Leave, Stop}
+use Rattle.chart_core.specs.declared.entry.LogEntry.TheVariants.{Broke, Left, StopAsked, Hold, Unhold, Asked}
 use Rattle.chart_core.specs.declared.why.Why.{Why}
 use Rattle.chart_core.specs.declared.why.Why.TheVariants as why
-use Rattle.pol_events.specs.Fields.{PlainField, fields_of, number_field, readings_field, text_field}
+use Rattle.event_json.specs.Fields.{PlainField, fields_of, number_field, readings_field, text_field}
 use Rattle.pol_record.specs.declared.rows.Row.{Row}
 
 -- a name and fields

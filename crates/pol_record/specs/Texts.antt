@@ -1,12 +1,6 @@
 -- The output lines: each is one JSON object and a line feed.
 use Rattle.std.specs.Prelude.{ℕ, ◌≡◌, List, [], ◌∷◌, ◌++◌, map, true, codes, Ok, Option, Some, None}
 use Rattle.std.specs.List.{flat_map}
-use Rattle.chart_core.specs.declared.entry.LogEntry.{LogEntry}
-use Rattle.chart_core.specs.declared.fault.ChartFault.{ChartFault}
-use Rattle.chart_core.specs.declared.fault.ChartFault.TheVariants.{TooDeep, TooManySteps, StepTwice, UnknownRole, SameService, TooManyReads}
-use Rattle.chart_core.specs.declared.next.Outcome.{Outcome}
-use Rattle.chart_core.specs.declared.next.Outcome.TheVariants.{Completed, Broken, Stopped, Abandoned}
-use Rattle.chart_core.specs.declared.why.Why.{Why}
 use Rattle.json.specs.Token as token
 use Rattle.json.specs.Token.{Token}
 use Rattle.serde_json.specs.Data.{Data, boolean, string, array, object, Members, member, no_members}
@@ -14,18 +8,26 @@ use Rattle.serde_json.specs.View.{items_of}
 use Rattle.serde_json.specs.Written.{compact_text}
 use Rattle.mtp_json.specs.PathText.{path_text}
 use Rattle.mtp_json.specs.declared.fault.FaultKind.{FaultKind}
-use Rattle.mtp_json.specs.declared.fault.FaultKind.TheVariants.{NotJson, Missing, WrongKind, OutOfRange, Unknown, Repeated, Unsound, BadChart, TooLong as TooLongKind}
+use Rattle.mtp_json.specs.declared.fault.FaultKind.TheVariants.{NotJson, Missing, WrongKind, OutOfRange, Unknown}
+use Rattle.mtp_json.specs.declared.fault.FaultKind.TheVariants.{Repeated, Unsound, BadChart, TooLong as TooLongKind}
+use Rattle.chart_core.specs.declared.entry.LogEntry.{LogEntry}
+use Rattle.chart_core.specs.declared.fault.ChartFault.{ChartFault}
+use Rattle.chart_core.specs.declared.fault.ChartFault.TheVariants.{TooDeep, TooManySteps, StepTwice, UnknownRole}
+use Rattle.chart_core.specs.declared.fault.ChartFault.TheVariants.{SameService, TooManyReads}
+use Rattle.chart_core.specs.declared.next.Outcome.{Outcome}
+use Rattle.chart_core.specs.declared.next.Outcome.TheVariants.{Completed, Broken, Stopped, Abandoned}
+use Rattle.chart_core.specs.declared.why.Why.{Why}
 use Rattle.pol_events.specs.Events.{PlainEntry, PlainEvent}
-use Rattle.pol_events.specs.Fields.{PlainField, number_field, text_field}
-use Rattle.pol_events.specs.Lines.{event_of}
-use Rattle.pol_events.specs.RuleTable.{rule_row}
-use Rattle.pol_events.specs.Written.{watch_member, written_binds, written_event}
 use Rattle.pol_events.specs.declared.answer.Answer.{Answer}
 use Rattle.pol_events.specs.declared.answer.Answer.TheVariants.{Done, Ticket, Did, Waiting, Closed, Refused}
 use Rattle.pol_events.specs.declared.answer.Rule.{Rule}
 use Rattle.pol_events.specs.declared.event.Bind.{Bind}
-use Rattle.pol_events.specs.declared.fault.LineFault.{LineFault}
-use Rattle.pol_events.specs.declared.fault.LineFault.TheVariants.{Json, Chart, TooLong}
+use Rattle.event_json.specs.Fields.{PlainField, number_field, text_field}
+use Rattle.event_json.specs.Lines.{event_of}
+use Rattle.event_json.specs.RuleTable.{rule_row}
+use Rattle.event_json.specs.Written.{watch_member, written_binds, written_event}
+use Rattle.event_json.specs.declared.fault.LineFault.{LineFault}
+use Rattle.event_json.specs.declared.fault.LineFault.TheVariants.{Json, Chart, TooLong}
 use Rattle.pol_history.specs.Batches.{Started, start_of, outcome_of, log_of, batches}
 use Rattle.pol_history.specs.Looking.{History}
 use Rattle.pol_record.specs.Objects.{data_tokens, fields_data}

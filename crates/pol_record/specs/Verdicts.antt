@@ -3,7 +3,7 @@ use Rattle.std.specs.Prelude.{ℕ, List, [], ◌∷◌, codes, decimal}
 use Rattle.json.specs.Token as token
 use Rattle.json.specs.Token.{Token}
 use Rattle.serde_json.specs.Data.{Data, number, string, unsigned, object, member, no_members}
-use Rattle.pol_events.specs.Fields.{PlainField, number_field, text_field}
+use Rattle.event_json.specs.Fields.{PlainField, number_field, text_field}
 use Rattle.pol_record.specs.Objects.{fields_data}
 use Rattle.pol_record.specs.Texts.{answer_data, line_text}
 use Rattle.pol_record.specs.declared.verdicts.Verdict.{Verdict}

@@ -1,19 +1,21 @@
 //! Answers, written token by token.
 ghost use Rattle.std.specs.Prelude.{◌≡◌, ◌++◌, OnOk, codes, true};
 ghost use Rattle.serde_json.specs.Data.{boolean};
-ghost use Rattle.pol_events.specs.Fields.{fields_of};
-ghost use Rattle.pol_events.specs.FieldRanges.{are_in_range};
-ghost use Rattle.pol_events.specs.RuleTable.{rule_row};
+ghost use Rattle.event_json.specs.Fields.{fields_of};
+ghost use Rattle.event_json.specs.FieldRanges.{are_in_range};
+ghost use Rattle.event_json.specs.RuleTable.{rule_row};
 ghost use Rattle.pol_record.specs.Objects.{data_tokens};
 ghost use Rattle.pol_record.specs.Ranges.{is_in_range, is_start_in_range};
 ghost use Rattle.pol_record.specs.Rows.{entry_row, obstacle_row};
-ghost use Rattle.pol_record.specs.Texts.{answer_data, entry_data, entry_fields, obstacle_fields, outcome_name, refusal_fields, under_key};
+ghost use Rattle.pol_record.specs.Texts.{answer_data, entry_data, entry_fields, obstacle_fields, outcome_name};
+ghost use Rattle.pol_record.specs.Texts.{refusal_fields, under_key};
 
 use crate::objects::write_fields;
 use crate::rows::{entry_row, obstacle_row};
 use chart_core::{LogEntry, Outcome, Why};
+use event_json::{Fields, rule_row};
 use json::Writer;
-use pol_events::{Answer, Fields, Rule};
+use pol_events::{Answer, Rule};
 use std::alloc::AllocError;
 
 /// The name of an outcome.
@@ -34,7 +36,7 @@ pub fn refusal_fields(rule: &Rule) -> Fields<'_>
     ensures fields { fields_of result ≡ refusal_fields rule.now }
     ensures held { are_in_range (rule_row rule.now).fields ≡ true }
 {
-    let row = rule.row();
+    let row = rule_row(rule);
     row.fields
         .text("rule", row.name)
         .number("refused", row.number)

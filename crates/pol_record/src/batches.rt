@@ -2,11 +2,12 @@
 ghost use Rattle.std.specs.Prelude.{◌≡◌, ◌++◌, ◌∷◌, [], IfOk, OnOk};
 ghost use Rattle.json.specs.Token as token;
 ghost use Rattle.pol_events.specs.Events.{plain_history};
-ghost use Rattle.pol_events.specs.Written.{written_binds};
+ghost use Rattle.event_json.specs.Written.{written_binds};
 ghost use Rattle.pol_history.specs.Batches.{log_of};
 ghost use Rattle.pol_record.specs.Gathered.{known_of, plain_record, plain_start, record_text};
 ghost use Rattle.pol_record.specs.Objects.{data_tokens};
-ghost use Rattle.pol_record.specs.Texts.{batch_data, batch_text, course_tokens, log_data, outcome_text, start_tokens, watch_tokens};
+ghost use Rattle.pol_record.specs.Texts.{batch_data, batch_text, course_tokens, log_data, outcome_text, start_tokens};
+ghost use Rattle.pol_record.specs.Texts.{watch_tokens};
 
 use crate::answers::{outcome_name, write_entry};
 use crate::gathering::BatchRecords;
@@ -38,7 +39,7 @@ pub fn write_text(writer: &mut Writer, key: &str, text: &str) -> Result<(), Allo
 }
 
 /// Writes binds as an object from role to tag.
-#[tactic(auto, unfolding(pol_events::specs::Written::written_binds))]
+#[tactic(auto, unfolding(event_json::specs::Written::written_binds))]
 pub fn write_binds(writer: &mut Writer, binds: &[Bind]) -> Result<(), AllocError>
     ensures tokens { OnOk result (writer.new.tokens ≡ writer.old.tokens ++ data_tokens (written_binds binds.now)) }
     ensures before { writer.new.before ≡ writer.old.before }

@@ -2,15 +2,16 @@
 ghost use Rattle.std.specs.Prelude.{◌≡◌, ◌++◌, IfOk, IsTrue, Ok, OnOk, true};
 ghost use Rattle.serde_json.specs.Written.{compact_text};
 ghost use Rattle.pol_events.specs.Events.{plain_entry, plain_event};
-ghost use Rattle.pol_events.specs.Lines.{event_of};
 ghost use Rattle.pol_events.specs.Orderly.{is_orderly};
+ghost use Rattle.event_json.specs.Lines.{event_of};
 ghost use Rattle.pol_record.specs.Exact.{IsWritten};
 ghost use Rattle.pol_record.specs.Ranges.{is_in_range};
 ghost use Rattle.pol_record.specs.Texts.{IsReadBack, answer_data, entry_line_text, event_text};
 
 use crate::answers::write_answer;
+use event_json::event_value;
 use json::Writer;
-use pol_events::{Answer, Entry, Event, event_value};
+use pol_events::{Answer, Entry, Event};
 use std::alloc::{AllocError, Global};
 use std::mem;
 

@@ -1,15 +1,15 @@
 //! Faults of lines, written token by token.
 ghost use Rattle.std.specs.Prelude.{◌≡◌, ◌++◌, OnOk};
 ghost use Rattle.mtp_json.specs.PathText.{path_text};
-ghost use Rattle.pol_events.specs.Fields.{fields_of};
+ghost use Rattle.event_json.specs.Fields.{fields_of};
 ghost use Rattle.pol_record.specs.Objects.{data_tokens, fields_data};
 ghost use Rattle.pol_record.specs.Texts.{chart_fault_fields, fault_data, kind_name, node_fields, path_fields};
 
 use crate::objects::write_fields;
 use chart_core::ChartFault;
+use event_json::{Fields, LineFault};
 use json::Writer;
 use mtp_json::{FaultKind, JsonFault};
-use pol_events::{Fields, LineFault};
 use std::alloc::{AllocError, Global};
 
 /// The name of a kind of fault of a text, as lines tell it.

@@ -3,10 +3,12 @@
 //!
 //! Each line is one JSON object in `serde_json`'s compact text (RFC 8259) and a line feed, byte for byte the text that
 //! `specs/Texts.antt` defines; `specs/Lines.antt` says which lines an input brings. A rule, a log entry, an obstacle
-//! and a fault are each a list of fields by a table (`specs/Rows.antt`; that of the rules is in `pol_events`), and one
+//! and a fault are each a list of fields by a table (`specs/Rows.antt`; that of the rules is in `event_json`), and one
 //! function writes fields, token by token, into a buffer that its caller keeps. One pass over a history gathers the
 //! start, the log and the outcome of each batch (`gather`), and each is what looking back over the history finds
 //! (`specs/Gathered.antt`). This crate knows nothing of how an answer is found, or of where a line is written.
+//!
+//! Tried in `event_examples`.
 #![tactic(auto)]
 
 mod answers;

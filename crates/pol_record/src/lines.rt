@@ -6,8 +6,9 @@ ghost use Rattle.pol_record.specs.Texts.{answer_text, end_text, fault_text};
 
 use crate::answers::write_answer;
 use crate::faults::write_fault;
+use event_json::LineFault;
 use json::Writer;
-use pol_events::{Answer, LineFault};
+use pol_events::Answer;
 use std::alloc::{AllocError, Global};
 use std::mem;
 

@@ -1,12 +1,12 @@
 //! Fields as JSON objects, written token by token.
-ghost use Rattle.std.specs.Prelude.{◌≡◌, ◌∷◌, ◌++◌, [], OnOk, decimal};
+ghost use Rattle.std.specs.Prelude.{◌≡◌, ◌∷◌, ◌++◌, OnOk};
 ghost use Rattle.json.specs.Token as token;
-ghost use Rattle.pol_events.specs.Fields.{fields_of, plain_field, plain_field_value};
+ghost use Rattle.event_json.specs.Fields.{fields_of, plain_field, plain_field_value};
 ghost use Rattle.pol_record.specs.Objects.{data_tokens, fields_data, reading_data, readings_data, value_data};
 
+use event_json::{Field, FieldValue, Fields};
 use json::Writer;
 use mtp_codes::Reading;
-use pol_events::{Field, FieldValue, Fields};
 use std::alloc::AllocError;
 
 #[tactic(auto, using(crate::proofs::Tokens::whole_reading))]

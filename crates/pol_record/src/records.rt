@@ -2,7 +2,7 @@
 ghost use Rattle.std.specs.Prelude.{◌≡◌, IfOk, OnOk, []};
 ghost use Rattle.std.specs.Option.{option_map};
 ghost use Rattle.pol_events.specs.Events.{plain_entry, plain_event, plain_history};
-ghost use Rattle.pol_history.specs.Batches.{starting, closing, taken};
+ghost use Rattle.pol_history.specs.Batches.{starting};
 ghost use Rattle.pol_history.specs.Looking.{past_of_batch};
 ghost use Rattle.pol_record.specs.Gathered.{newly_started, plain_record, plain_start, record_by, with_entry};
 

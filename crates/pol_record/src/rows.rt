@@ -1,14 +1,15 @@
 //! The tables of log entries and of obstacles: the name and the fields of each.
 ghost use Rattle.std.specs.Prelude.{◌≡◌, ◌<◌, ◌≤◌, length, true};
-ghost use Rattle.pol_events.specs.FieldRanges.{are_in_range};
-ghost use Rattle.pol_events.specs.Fields.{fields_of};
-ghost use Rattle.pol_events.specs.declared.fields.TheConstants.{MOST_FIELDS};
+ghost use Rattle.event_json.specs.FieldRanges.{are_in_range};
+ghost use Rattle.event_json.specs.Fields.{fields_of};
+ghost use Rattle.event_json.specs.declared.fields.TheConstants.{MOST_FIELDS};
 ghost use Rattle.pol_record.specs.Ranges.{is_start_in_range};
-ghost use Rattle.pol_record.specs.Rows.{command_row, entry_row, forbid_name, named_fields, obstacle_row, row, plain_row};
+ghost use Rattle.pol_record.specs.Rows.{command_row, entry_row, forbid_name, named_fields, obstacle_row, row};
+ghost use Rattle.pol_record.specs.Rows.{plain_row};
 
 use chart_core::{LogEntry, Why};
+use event_json::Fields;
 use mtp_codes::{Forbid, Name};
-use pol_events::Fields;
 
 /// What is told of a log entry or an obstacle.
 #[derive(Drop)]

@@ -1,17 +1,19 @@
 //! The verdict of an audit, as a line.
 ghost use Rattle.std.specs.Prelude.{◌≡◌, ◌∷◌, ◌++◌, IfOk, OnOk, codes};
 ghost use Rattle.json.specs.Token as token;
+ghost use Rattle.event_json.specs.Fields.{fields_of};
 ghost use Rattle.pol_record.specs.Objects.{data_tokens, fields_data};
 ghost use Rattle.pol_record.specs.Texts.{answer_data};
-ghost use Rattle.pol_events.specs.Fields.{fields_of};
-ghost use Rattle.pol_record.specs.Verdicts.{bad_fields, good_fields, place_tokens, verdict_data, verdict_text, wrong_object};
+ghost use Rattle.pol_record.specs.Verdicts.{bad_fields, good_fields, place_tokens, verdict_data, verdict_text};
+ghost use Rattle.pol_record.specs.Verdicts.{wrong_object};
 
 use crate::answers::write_answer;
 use crate::batches::write_text;
 use crate::lines::ended_line;
 use crate::objects::write_fields;
+use event_json::Fields;
 use json::Writer;
-use pol_events::{Answer, Fields};
+use pol_events::Answer;
 use std::alloc::{AllocError, Global};
 
 /// What an audit finds of a history.

@@ -1,5 +1,6 @@
 -- What the history without the concerned entries has in common with the whole history.
-use Rattle.std.proofs.Common.{◌≡◌, ℕ, ◌≤◌, Bool, true, false, cond, not, List, length, reverse, refl, ap, sym, ◌∙◌, ◌⊎◌, inl, inr, Option, Some, None, is_none}
+use Rattle.std.proofs.Common.{◌≡◌, ℕ, ◌≤◌, Bool, true, false, cond, not, List, length, reverse, refl, ap, sym, ◌∙◌, ◌⊎◌}
+use Rattle.std.proofs.Common.{inl, inr, Option, Some, None, is_none}
 use Rattle.std.specs.Prelude.{filter, filter_map}
 use Rattle.std.specs.List.{AllByRecursion}
 use Rattle.std.proofs.lemmas.Bool.{and_parts, not-true}
@@ -7,14 +8,18 @@ use Rattle.mtp_codes.specs.Names.{is_among}
 use Rattle.chart_core.specs.declared.next.Outcome.{Outcome}
 use Rattle.pol_events.specs.Events.{PlainEvent, start, PlainEntry}
 use Rattle.pol_events.specs.Bound.{given, tags_of}
-use Rattle.pol_history.specs.Looking.{History, of_batch, subject, last_of, is_accepted, is_batch, is_accepted_of_batch, past, past_of_batch, recipes}
+use Rattle.pol_history.specs.Looking.{History, of_batch, subject, last_of, is_accepted, is_batch, is_accepted_of_batch}
+use Rattle.pol_history.specs.Looking.{past, past_of_batch, recipes}
 use Rattle.pol_history.specs.Modules.{present_tags}
-use Rattle.pol_history.specs.Batches.{Started, starting, start_of, started_batch, binds_in, outcome_by, outcome_of, taking, takes, watching, watches, if_open, is_open, holder_of, watchers_of, is_start}
+use Rattle.pol_history.specs.Batches.{Started, starting, start_of, started_batch, binds_in, outcome_by, outcome_of}
+use Rattle.pol_history.specs.Batches.{taking, takes, watching, watches, if_open, is_open, holder_of, watchers_of}
+use Rattle.pol_history.specs.Batches.{is_start}
 use Rattle.pol_history.proofs.Filters.{filter_filter, filter_reverse, length_filter}
 use Rattle.pol_removal.proofs.Kept.{filter_agrees, filter_map_kept}
 use Rattle.pol_removal.specs.Removal.{is_some_among, is_of, stays}
 use Rattle.pol_removal.proofs.Each.{all_kept, all_map, last_of_all}
-use Rattle.pol_removal.proofs.Sparing.{Covered, newly_started, start_stays, stays_parts, past_stays, other_batch, other_batch_apart, past_of_batch_stays, recipes_stay}
+use Rattle.pol_removal.proofs.Sparing.{Covered, newly_started, start_stays, stays_parts, past_stays, other_batch}
+use Rattle.pol_removal.proofs.Sparing.{other_batch_apart, past_of_batch_stays, recipes_stay}
 use Rattle.pol_removal.proofs.Present.{fewer_present}
 use Rattle.pol_removal.proofs.Owned.{Owned, takes_parts}
 

@@ -1,5 +1,6 @@
 -- An event that stays is answered alike after two histories that are alike.
-use Rattle.std.proofs.Common.{◌≡◌, ℕ, false, List, ◌∷◌, length, refl, ap, ◌∙◌, Option, Some, None, option_map, option_and_then, inl, inr, map}
+use Rattle.std.proofs.Common.{◌≡◌, ℕ, false, List, ◌∷◌, length, refl, ap, ◌∙◌, Option, Some, None, option_map}
+use Rattle.std.proofs.Common.{option_and_then, inl, inr, map}
 use Rattle.std.specs.Prelude.{nat_le, filter}
 use Rattle.std.proofs.Math.Path.{fun_ext}
 use Rattle.mtp_codes.specs.Faults.{when, first_of}
@@ -13,7 +14,8 @@ use Rattle.chart_cursor.specs.declared.sight.ReadingSight.{ReadingSight}
 use Rattle.mtp_procs.specs.Covers.{cover_fault}
 use Rattle.chart_cursor.specs.Logs.{active}
 use Rattle.chart_cursor.specs.NextEntry.{next_by}
-use Rattle.pol_events.specs.Events.{PlainEvent, plug, unplug, report, variable, recipe, start, advance, freeze, thaw, stop_batch, abandon, desk, exchange_begin, exchange_end, exchange_cancel}
+use Rattle.pol_events.specs.Events.{PlainEvent, plug, unplug, report, variable, recipe, start, advance, freeze, thaw}
+use Rattle.pol_events.specs.Events.{stop_batch, abandon, desk, exchange_begin, exchange_end, exchange_cancel}
 use Rattle.pol_events.specs.declared.event.Bind.{Bind}
 use Rattle.pol_events.specs.declared.answer.Rule.TheVariants.{PlantFull, Held, Watched, BatchesFull, HistoryFull}
 use Rattle.pol_events.specs.declared.answer.Rule.{Rule}
@@ -21,14 +23,17 @@ use Rattle.pol_events.specs.declared.answer.Answer.TheVariants.{Ticket}
 use Rattle.pol_events.specs.Bound.{PlainAllocation, bound_tag, bound_role, given, tags_of, step_on}
 use Rattle.pol_history.specs.Looking.{History, subject, past, past_of_batch, recipes}
 use Rattle.pol_history.specs.Modules.{next_ticket, present_tags}
-use Rattle.pol_history.specs.Batches.{Started, start_by, start_of, chart_named, chart_by, freezing_by, log_by, holder_of, is_start, watchers_of}
+use Rattle.pol_history.specs.Batches.{Started, start_by, start_of, chart_named, chart_by, freezing_by, log_by}
+use Rattle.pol_history.specs.Batches.{holder_of, is_start, watchers_of}
 use Rattle.pol_history.specs.Following.{service_sight, variable_sight, sights_by, next_of_started, next_of}
-use Rattle.pol_history.specs.Rules.{plant_full, batches_full, module_rules, module_rule, modules_unfit, busy_role, busy, active_step_on, active_step, uncovered_by, uncovered_in, held_back, watched}
+use Rattle.pol_history.specs.Rules.{plant_full, batches_full, module_rules, module_rule, modules_unfit, busy_role, busy}
+use Rattle.pol_history.specs.Rules.{active_step_on, active_step, uncovered_by, uncovered_in, held_back, watched}
 use Rattle.pol_history.specs.Answers.{start_rules, rules, advanced, stopped, otherwise, is_full, answer_of}
 use Rattle.pol_removal.specs.Removal.{is_refused_for_another, is_some_among, binds_one, is_of}
 use Rattle.pol_removal.proofs.Alike.{Alike}
 use Rattle.pol_removal.proofs.Roles.{played_outside}
-use Rattle.pol_removal.proofs.Falling.{Falls, AllFall, IsForAnother, first_falls, all_same, when_falls, fewer_reach, first_of_falls, or_falls, map_another, then_another, holder_falls, watchers_fall}
+use Rattle.pol_removal.proofs.Falling.{Falls, AllFall, IsForAnother, first_falls, all_same, when_falls, fewer_reach}
+use Rattle.pol_removal.proofs.Falling.{first_of_falls, or_falls, map_another, then_another, holder_falls, watchers_fall}
 
 -- the rules of an active step and of an uncovered role are for another's sake
 active_another : (recipes : History) (tag batch : List ℕ) (past : History)

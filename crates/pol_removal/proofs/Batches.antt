@@ -1,15 +1,16 @@
 -- The batches and their lines, where modules are taken out.
-use Rattle.std.proofs.Common.{◌≡◌, ℕ, Bool, true, false, not, List, [], ◌∷◌, map, reverse, refl, ap, sym, ◌∙◌, Option, Some, None, if◌then◌else◌}
+use Rattle.std.proofs.Common.{◌≡◌, ℕ, Bool, true, false, not, List, [], ◌∷◌, map, reverse, refl, ap, sym, ◌∙◌, Some}
+use Rattle.std.proofs.Common.{if◌then◌else◌}
 use Rattle.std.specs.Prelude.{filter, filter_map}
 use Rattle.std.specs.List.{AllByRecursion}
 use Rattle.std.proofs.lemmas.Bool.{not-true}
 use Rattle.mtp_codes.specs.Names.{is_among}
-use Rattle.pol_events.specs.Events.{PlainEvent, start, PlainEntry}
-use Rattle.pol_history.specs.Looking.{History, of_batch, subject, is_accepted}
-use Rattle.pol_history.specs.Batches.{start_by, outcome_by, log_by, started_batch, batches}
+use Rattle.pol_events.specs.Events.{PlainEvent, PlainEntry}
+use Rattle.pol_history.specs.Looking.{History}
+use Rattle.pol_history.specs.Batches.{start_by, outcome_by, log_by, batches}
 use Rattle.pol_history.specs.Runs.{recorded, recorded_all, run_of, history_after, AreOrderly}
 use Rattle.pol_record.specs.Texts.{started_text, batch_text, batch_lines, batches_text}
-use Rattle.pol_removal.specs.Removal.{is_of, bound_batches, stays, entries_without}
+use Rattle.pol_removal.specs.Removal.{bound_batches, stays, entries_without}
 use Rattle.pol_removal.proofs.Each.{all_map}
 use Rattle.pol_history.proofs.Filters.{filter_reverse}
 use Rattle.pol_removal.proofs.Kept.{filter_map_kept, flat_map_kept}

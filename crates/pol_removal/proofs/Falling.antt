@@ -1,5 +1,6 @@
 -- A rule for another's sake may fall where modules are taken out: what a smaller list of such rules answers.
-use Rattle.std.proofs.Common.{◌≡◌, ℕ, ◌≤◌, Bool, true, false, cond, not, List, [], ◌∷◌, refl, sym, arith, Option, Some, None, option_map, option_and_then, ◌⊎◌, inl, inr, map}
+use Rattle.std.proofs.Common.{◌≡◌, ℕ, ◌≤◌, Bool, true, false, cond, not, List, [], ◌∷◌, refl, sym, arith, Option, Some}
+use Rattle.std.proofs.Common.{None, option_map, option_and_then, ◌⊎◌, inl, inr, map}
 use Rattle.std.specs.Prelude.{nat_le, filter}
 use Rattle.std.specs.Option.{option_or}
 use Rattle.std.proofs.lemmas.Bool.{leb-true, le-leb, both_ways}

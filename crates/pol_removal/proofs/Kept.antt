@@ -1,9 +1,7 @@
 -- What is kept of a list, turned round, mapped or joined.
-use Rattle.std.proofs.Common.{◌≡◌, Bool, true, false, cond, List, [], ◌∷◌, ◌++◌, reverse, refl, ap, sym, ◌∙◌, append-nil, Option, Some, None}
+use Rattle.std.proofs.Common.{◌≡◌, Bool, true, false, cond, List, [], ◌∷◌, refl, ap, sym, ◌∙◌, Option, Some, None}
 use Rattle.std.specs.Prelude.{filter, filter_map}
 use Rattle.std.specs.List.{AllByRecursion, cons_option, flat_map}
-use Rattle.std.proofs.lemmas.List.{reverse-append}
-use Rattle.std.proofs.lemmas.List.Elements.{filter-append}
 
 -- two tests that agree on what is kept
 pub filter_agrees : {X : Type 0} (one other keeps : X → Bool) → ((x : X) → keeps x ≡ true → one x ≡ other x)

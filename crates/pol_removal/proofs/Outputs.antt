@@ -5,7 +5,8 @@ use Rattle.std.specs.List.{AllByRecursion}
 use Rattle.pol_io.specs.Pieces.{pieces}
 use Rattle.pol_history.specs.Runs.{run_of, history_after, AreOrderly}
 use Rattle.pol_record.specs.Texts.{end_text}
-use Rattle.pol_record.specs.Lines.{InputLine, input_line_of, input_lines_of, events_in, AnsweredLine, answered_lines_after, answered_texts, closing_text}
+use Rattle.pol_record.specs.Lines.{InputLine, input_line_of, input_lines_of, events_in, AnsweredLine}
+use Rattle.pol_record.specs.Lines.{answered_lines_after, answered_texts, closing_text}
 use Rattle.pol_removal.specs.Removal.{bound_batches, stays, row_stays, piece_of, rows_without, without, RemovalOfLines}
 use Rattle.pol_removal.proofs.Pieces.{AreCut, pieces_cut, filter_cut, pieces_joined}
 use Rattle.pol_removal.proofs.Reading.{events_orderly, item_in, IsReadBack, read_back}

@@ -1,5 +1,6 @@
 -- Cutting what was joined from cut pieces gives the pieces again.
-use Rattle.std.proofs.Common.{◌≡◌, ℕ, Bool, true, false, cond, List, [], ◌∷◌, ◌++◌, map, refl, ap, ◌∙◌, append-nil, ◌⊎◌, inl, inr, ◌==◌}
+use Rattle.std.proofs.Common.{◌≡◌, ℕ, Bool, true, false, cond, List, [], ◌∷◌, ◌++◌, map, refl, ap, ◌∙◌, append-nil, ◌⊎◌}
+use Rattle.std.proofs.Common.{inl, inr, ◌==◌}
 use Rattle.std.specs.Prelude.{filter, IsTrue}
 use Rattle.std.specs.List.{flat_map}
 use Rattle.pol_io.specs.Pieces.{onto_first, pieces, is_whole}

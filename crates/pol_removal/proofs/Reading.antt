@@ -1,17 +1,20 @@
 -- Lines and the events that they say, which are orderly.
-use Rattle.std.proofs.Common.{◌≡◌, ℕ, Bool, true, false, cond, List, [], ◌∷◌, length, map, refl, ap, sym, ◌∙◌, Ok, Err, Result}
+use Rattle.std.proofs.Common.{◌≡◌, ℕ, Bool, true, false, cond, List, [], ◌∷◌, length, map, refl, ap, sym, ◌∙◌, Ok, Err}
+use Rattle.std.proofs.Common.{Result}
 use Rattle.std.specs.Prelude.{nat_lt}
 use Rattle.std.specs.List.{AllByRecursion, list_all}
 use Rattle.pol_io.specs.Pieces.{line_of}
 use Rattle.pol_io.specs.declared.limits.TheConstants.{LONGEST_LINE}
 use Rattle.pol_events.specs.Events.{PlainEvent}
-use Rattle.pol_events.specs.Lines.{event_of, is_blank_byte}
 use Rattle.pol_events.specs.Orderly.{is_orderly}
-use Rattle.pol_events.specs.declared.fault.LineFault.{LineFault}
-use Rattle.pol_events.specs.declared.fault.LineFault.TheVariants.{TooLong}
-use Rattle.pol_events.proofs.Orderly.{line_orderly}
+use Rattle.event_json.specs.Lines.{event_of, is_blank_byte}
+use Rattle.event_json.specs.declared.fault.LineFault.{LineFault}
+use Rattle.event_json.specs.declared.fault.LineFault.TheVariants.{TooLong}
+use Rattle.event_json.proofs.Orderly.{line_orderly}
 use Rattle.pol_history.specs.Runs.{AreOrderly}
-use Rattle.pol_record.specs.Lines.{LineMeaning, nothing, a_fault, an_event, meaning_from, meaning_of, InputLine, blank, faulty, happening, as_input_line, input_line_of, events_in, AnsweredLine, skipped, bad, answered}
+use Rattle.pol_record.specs.Lines.{LineMeaning, nothing, a_fault, an_event, meaning_from, meaning_of, InputLine, blank}
+use Rattle.pol_record.specs.Lines.{faulty, happening, as_input_line, input_line_of, events_in, AnsweredLine, skipped}
+use Rattle.pol_record.specs.Lines.{bad, answered}
 use Rattle.pol_removal.specs.Removal.{piece_of}
 
 -- an event that a line says is in order

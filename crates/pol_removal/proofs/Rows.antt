@@ -4,7 +4,8 @@ use Rattle.std.specs.Prelude.{filter}
 use Rattle.pol_events.specs.Events.{PlainEntry}
 use Rattle.pol_history.specs.Looking.{History}
 use Rattle.pol_history.specs.Runs.{entry_of, recorded, run_after, run_of, AreOrderly}
-use Rattle.pol_record.specs.Lines.{InputLine, blank, faulty, happening, events_in, AnsweredLine, skipped, bad, answered, answered_lines, answered_lines_after}
+use Rattle.pol_record.specs.Lines.{InputLine, blank, faulty, happening, events_in, AnsweredLine, skipped, bad, answered}
+use Rattle.pol_record.specs.Lines.{answered_lines, answered_lines_after}
 use Rattle.pol_removal.specs.Removal.{bound_batches, stays, entries_without, row_stays}
 use Rattle.pol_removal.proofs.Induction.{events_removed}
 use Rattle.pol_removal.proofs.Reading.{item_in}

@@ -1,14 +1,18 @@
 -- Which entries stay where modules are taken out.
-use Rattle.std.proofs.Common.{◌≡◌, ℕ, Bool, true, false, not, ◌&&◌, List, [], refl, ap, ◌∙◌, Option, Some, None, if◌then◌else◌}
+use Rattle.std.proofs.Common.{◌≡◌, ℕ, Bool, true, false, not, ◌&&◌, List, [], refl, ap, ◌∙◌, Option, Some, None}
+use Rattle.std.proofs.Common.{if◌then◌else◌}
 use Rattle.std.specs.Prelude.{filter}
 use Rattle.std.specs.List.{AllByRecursion}
-use Rattle.std.proofs.lemmas.Bool.{and_parts, and_from, or_from, or_parts, not_from_false, not-true, false_from_ne_true, both_ways}
+use Rattle.std.proofs.lemmas.Bool.{and_parts, and_from, or_from, or_parts, not_from_false, not-true, false_from_ne_true}
+use Rattle.std.proofs.lemmas.Bool.{both_ways}
 use Rattle.mtp_codes.specs.Names.{is_among}
 use Rattle.mtp_codes.proofs.Names.{same_true}
 use Rattle.pol_events.specs.Events.{PlainEvent, start, PlainEntry}
 use Rattle.pol_events.specs.declared.answer.Answer.{Answer}
 use Rattle.pol_events.specs.declared.answer.Answer.TheVariants.{Refused}
-use Rattle.pol_history.specs.Looking.{History, Subject, of_module, of_batch, of_recipe, subject, is_accepted, is_module, is_batch, is_recipe, is_accepted_of, is_accepted_of_batch, is_accepted_recipe, past, past_of_batch, recipes}
+use Rattle.pol_history.specs.Looking.{History, Subject, of_module, of_batch, of_recipe, subject, is_accepted, is_module}
+use Rattle.pol_history.specs.Looking.{is_batch, is_recipe, is_accepted_of, is_accepted_of_batch, is_accepted_recipe}
+use Rattle.pol_history.specs.Looking.{past, past_of_batch, recipes}
 use Rattle.pol_history.specs.Batches.{binds_in, started_batch}
 use Rattle.pol_history.proofs.Filters.{filter_kept, all_of}
 use Rattle.pol_removal.specs.Removal.{is_refused_for_another, binds_one, is_of, is_named, is_concerned, stays}

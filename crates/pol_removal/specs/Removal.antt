@@ -1,10 +1,12 @@
 -- Taking modules out of a journal.
-use Rattle.std.specs.Prelude.{ℕ, Bool, true, false, not, ◌||◌, ◌&&◌, ◌≡◌, List, [], ◌++◌, filter, filter_map, map, Option, None, if◌then◌else◌}
+use Rattle.std.specs.Prelude.{ℕ, Bool, true, false, not, ◌||◌, ◌&&◌, ◌≡◌, List, [], ◌++◌, filter, filter_map, map}
+use Rattle.std.specs.Prelude.{Option, None, if◌then◌else◌}
 use Rattle.std.specs.List.{flat_map, list_any}
 use Rattle.mtp_codes.specs.Names.{is_among}
 use Rattle.pol_events.specs.Events.{PlainEvent, PlainEntry}
 use Rattle.pol_events.specs.declared.answer.Rule.{Rule}
-use Rattle.pol_events.specs.declared.answer.Rule.TheVariants.{PlantFull, Held, Watched, Busy, BatchesFull, ActiveStep, HeldBack, HistoryFull}
+use Rattle.pol_events.specs.declared.answer.Rule.TheVariants.{PlantFull, Held, Watched, Busy, BatchesFull, ActiveStep}
+use Rattle.pol_events.specs.declared.answer.Rule.TheVariants.{HeldBack, HistoryFull}
 use Rattle.pol_events.specs.declared.answer.Answer.{Answer}
 use Rattle.pol_events.specs.declared.answer.Answer.TheVariants.{Refused}
 use Rattle.pol_events.specs.Bound.{tags_of}
@@ -12,7 +14,8 @@ use Rattle.pol_history.specs.Looking.{Subject, of_module, of_batch, of_recipe, s
 use Rattle.pol_history.specs.Batches.{binds_in, started_batch, batches}
 use Rattle.pol_history.specs.Runs.{run_of, AreOrderly}
 use Rattle.pol_record.specs.Texts.{batch_lines, end_text}
-use Rattle.pol_record.specs.Lines.{AnsweredLine, skipped, bad, answered, events_in, input_lines_of, answered_lines_after, answered_texts, history_of, output_of}
+use Rattle.pol_record.specs.Lines.{AnsweredLine, skipped, bad, answered, events_in, input_lines_of}
+use Rattle.pol_record.specs.Lines.{answered_lines_after, answered_texts, history_of, output_of}
 
 -- a rule that refuses an event for the sake of another
 abbrev pub is_for_another : Rule → Bool

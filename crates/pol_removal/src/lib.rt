@@ -3,6 +3,8 @@
 //! output lines is the contract of functions with an empty body.
 //!
 //! It knows nothing of how an answer is found.
+//!
+//! Laws alone: no test tries them.
 #![tactic(auto)]
 
 ghost use Rattle.pol_removal.specs.Removal.{RemovalOfEvents, RemovalOfLines};

@@ -1,5 +1,6 @@
 -- The lines of the batches, one after another.
-use Rattle.std.proofs.Common.{ℕ, ◌≡◌, ◌<◌, List, [], ◌∷◌, ◌++◌, suc, length, drop, get_or, refl, ap, sym, subst, ◌+◌, ◌∙◌, arith, append_assoc, append-nil, length-append, Option}
+use Rattle.std.proofs.Common.{ℕ, ◌≡◌, ◌<◌, List, [], ◌∷◌, ◌++◌, suc, length, drop, get_or, refl, ap, sym, subst, ◌+◌}
+use Rattle.std.proofs.Common.{◌∙◌, arith, append_assoc, append-nil, length-append, Option}
 use Rattle.std.specs.List.{flat_map}
 use Rattle.std.proofs.Math.Seq.{drop-cons}
 use Rattle.std.specs.Io.KnownBytes.{Appends}
@@ -104,10 +105,3 @@ broken_at_end held between held' history line appended is part = record {
   };
   proper = part.proper;
 }
-
--- both were
-pub closed_well : (held between held' : Option (List ℕ)) (history : History) (line : List ℕ)
-    → Appends held between (batches_text history) → line ≡ end_text → Appends between held' line →
-    Appends held held' (closing_text history)
-closed_well held between held' history line batches is appended =
-    Appends_trans held between held' (batches_text history) end_text batches (rw is at appended)

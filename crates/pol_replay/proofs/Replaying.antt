@@ -5,7 +5,8 @@ use Rattle.pol_io.specs.Pieces.{pieces, line_of}
 use Rattle.pol_history.specs.Looking.{History}
 use Rattle.pol_history.specs.Answers.{answer_of}
 use Rattle.pol_record.specs.Lines as lines
-use Rattle.pol_record.specs.Lines.{as_input_line, input_line_of, events_in, answered_lines_after, answered_texts, closing_text, meaning_of}
+use Rattle.pol_record.specs.Lines.{as_input_line, input_line_of, events_in, answered_lines_after, answered_texts}
+use Rattle.pol_record.specs.Lines.{closing_text, meaning_of}
 use Rattle.pol_history.specs.Runs.{entry_of, recorded, history_after}
 use Rattle.pol_record.specs.Texts.{answer_text, fault_text}
 use Rattle.pol_jobs.specs.LineWork.{replies, after_all, output_by}

@@ -2,14 +2,14 @@
 use Rattle.std.proofs.Common.{ℕ, ◌≡◌, ◌∙◌, List, Bool, length, true, false, ap, refl, if◌then◌else◌}
 use Rattle.std.specs.Prelude.{Ok, Err, Some, None, nat_lt}
 use Rattle.std.specs.List.{list_all}
-use Rattle.pol_events.specs.Events.{PlainEvent}
-use Rattle.pol_events.specs.Lines.{event_of, is_blank_byte}
-use Rattle.pol_events.specs.declared.fault.LineFault.{LineFault}
-use Rattle.pol_events.specs.declared.fault.LineFault.TheVariants.{TooLong}
 use Rattle.pol_io.specs.declared.limits.TheConstants.{LONGEST_LINE}
-use Rattle.pol_record.specs.Lines as lines
 use Rattle.pol_jobs.specs.LineWork.{met}
 use Rattle.pol_jobs.proofs.Meeting.{met_by_length}
+use Rattle.pol_events.specs.Events.{PlainEvent}
+use Rattle.event_json.specs.Lines.{event_of, is_blank_byte}
+use Rattle.event_json.specs.declared.fault.LineFault.{LineFault}
+use Rattle.event_json.specs.declared.fault.LineFault.TheVariants.{TooLong}
+use Rattle.pol_record.specs.Lines as lines
 use Rattle.pol_replay.specs.Meanings.{meaning_met}
 
 -- a line of blanks says nothing

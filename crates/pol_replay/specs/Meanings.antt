@@ -1,16 +1,16 @@
 -- What a line says, and what that brings: an output line and a history.
 use Rattle.std.specs.Prelude.{ℕ, List, [], Bool, true, not, IsTrue, Some, None}
 use Rattle.std.specs.List.{list_all}
-use Rattle.pol_events.specs.Lines.{is_blank_byte}
-use Rattle.pol_events.specs.declared.fault.LineFault.TheVariants.{TooLong}
+use Rattle.pol_jobs.specs.LineWork.{Line}
 use Rattle.pol_events.specs.Events.{plain_event}
 use Rattle.pol_events.specs.Orderly.{is_orderly}
+use Rattle.event_json.specs.Lines.{is_blank_byte}
+use Rattle.event_json.specs.declared.fault.LineFault.TheVariants.{TooLong}
 use Rattle.pol_history.specs.Looking.{History}
 use Rattle.pol_history.specs.Answers.{answer_of}
 use Rattle.pol_history.specs.Runs.{entry_of, recorded}
 use Rattle.pol_record.specs.Texts.{answer_text, fault_text}
 use Rattle.pol_record.specs.Lines as lines
-use Rattle.pol_jobs.specs.LineWork.{Line}
 use Rattle.pol_replay.specs.declared.meaning.LineMeaning.{LineMeaning}
 use Rattle.pol_replay.specs.declared.meaning.LineMeaning.TheVariants.{Nothing, Fault, Event}
 

@@ -1,5 +1,5 @@
 //! What ends an output: the line of each batch in the order of the starts, and the end line.
-ghost use Rattle.std.specs.Prelude.{ℕ, List, OnOk, OnErr};
+ghost use Rattle.std.specs.Prelude.{OnOk, OnErr};
 ghost use Rattle.std.specs.Io.KnownBytes.{Appends};
 ghost use Rattle.pol_events.specs.Events.{plain_history};
 ghost use Rattle.pol_history.specs.Runs.{IsOrderly};

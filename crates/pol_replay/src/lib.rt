@@ -3,6 +3,8 @@
 //!
 //! A replay knows the history of its plant: it replies to a line with the fault's or the answer's line, and closes with
 //! the line of each batch and the end line (`specs/Replay.antt`); so its output is the defined output of its input.
+//!
+//! Tried in `pol_examples`.
 #![tactic(auto)]
 
 mod closing;

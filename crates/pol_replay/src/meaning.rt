@@ -3,7 +3,8 @@ ghost use Rattle.std.specs.Prelude.{◌≡◌, IfOk};
 ghost use Rattle.pol_jobs.specs.InputLines.{plain_line};
 ghost use Rattle.pol_replay.specs.Meanings.{IsOrderly, meaning_met, plain_meaning};
 
-use pol_events::{Event, LineFault, LineRefusal, is_blank};
+use event_json::{LineFault, LineRefusal, is_blank};
+use pol_events::Event;
 use pol_jobs::InputLine;
 use pol_lines::read_line;
 use std::alloc::{AllocError, Global};

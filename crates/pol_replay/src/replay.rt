@@ -1,20 +1,21 @@
 //! The replay of a journal.
 ghost use Rattle.std.specs.Prelude.{◌≡◌, ◌++◌, [], false, IsTrue, OnOk};
 ghost use Rattle.std.specs.List.{list_all};
+ghost use Rattle.pol_jobs.specs.InputLines.{plain_line};
 ghost use Rattle.pol_events.specs.Events.{plain_event};
-ghost use Rattle.pol_events.specs.Lines.{is_blank_byte};
 ghost use Rattle.pol_events.specs.Orderly.{is_orderly};
+ghost use Rattle.event_json.specs.Lines.{is_blank_byte};
 ghost use Rattle.pol_history.specs.Answers.{answer_of};
 ghost use Rattle.pol_history.specs.Runs.{entry_of, recorded};
 ghost use Rattle.pol_record.specs.Lines.{short_meaning};
 ghost use Rattle.pol_record.specs.Texts.{answer_text};
 ghost use Rattle.pol_core.specs.Plants.{plant_history};
-ghost use Rattle.pol_jobs.specs.InputLines.{plain_line};
 ghost use Rattle.pol_replay.specs.Meanings.{meaning_met, reply_text, after_meaning};
 
 use crate::closing::close;
+use event_json::{LineFault, LineRefusal, is_blank, read_event};
 use pol_core::Plant;
-use pol_events::{Event, LineFault, LineRefusal, is_blank, read_event};
+use pol_events::Event;
 use pol_io::Sink;
 use pol_jobs::{InputLine, LineJob, PutFault, Stop};
 use pol_lines::{read_fault, read_quick};

@@ -14,17 +14,18 @@ use Rattle.chart_core.specs.declared.next.Outcome.{Outcome}
 use Rattle.chart_core.specs.declared.next.Outcome.TheVariants.{Completed}
 use Rattle.chart_core.specs.declared.why.Why.{Why}
 use Rattle.chart_core.specs.declared.why.Why.TheVariants.{Frozen}
-use Rattle.pol_events.specs.Fields.{PlainField, in_order, number, number_field, text_field}
-use Rattle.pol_events.specs.RuleTable.{rule_row}
+use Rattle.event_json.specs.Fields.{PlainField, in_order, number, number_field, text_field}
 use Rattle.pol_events.specs.declared.answer.Answer.{Answer}
 use Rattle.pol_events.specs.declared.answer.Answer.TheVariants.{Done, Ticket, Did, Waiting, Closed, Refused}
 use Rattle.pol_events.specs.declared.answer.Rule.{Rule}
 use Rattle.pol_events.specs.declared.answer.Rule.TheVariants.{TagTaken}
 use Rattle.pol_record.specs.Objects.{members_in}
 use Rattle.pol_record.specs.Rows.{entry_row, obstacle_row}
-use Rattle.pol_record.specs.Texts.{answer_data, entry_data, entry_fields, obstacle_fields, refusal_fields, outcome_name, under_key}
+use Rattle.pol_record.specs.Texts.{answer_data, entry_data, entry_fields, obstacle_fields, refusal_fields, outcome_name}
+use Rattle.pol_record.specs.Texts.{under_key}
 use Rattle.pol_entries.specs.Answers.{closed_fields, ticket_fields}
-use Rattle.pol_events.specs.FieldRanges.{are_in_range, is_value_in_range}
+use Rattle.event_json.specs.RuleTable.{rule_row}
+use Rattle.event_json.specs.FieldRanges.{are_in_range, is_value_in_range}
 use Rattle.pol_record.specs.Ranges.{is_in_range, is_start_in_range}
 use Rattle.pol_retold.specs.Told.{AnswersAreExact}
 use Rattle.pol_retold.proofs.Exact.{IsSound, sound_exact}

@@ -1,12 +1,14 @@
 -- The compact text of a value has no line feed.
-use Rattle.std.proofs.Common.{◌≡◌, ◌<◌, [], ◌∷◌, ◌++◌, ◌/◌, ◌%◌, ◌==◌, ℕ, zero, suc, List, Bool, true, false, refl, ap, ◌∙◌, arith, decimal, pos, negsuc, inl, inr, if◌then◌else◌}
+use Rattle.std.proofs.Common.{◌≡◌, ◌<◌, [], ◌∷◌, ◌++◌, ◌/◌, ◌%◌, ◌==◌, ℕ, zero, suc, List, Bool, true, false, refl, ap}
+use Rattle.std.proofs.Common.{◌∙◌, arith, decimal, pos, negsuc, inl, inr, if◌then◌else◌}
 use Rattle.std.proofs.lemmas.Bool.{and_parts, cases_lt, cases_eq, ne_eqb}
 use Rattle.std.proofs.lemmas.List.Folds.{list_all-append}
 use Rattle.std.specs.Prelude.{◌&&◌, ◌+◌, not, nat_lt}
 use Rattle.std.specs.Fmt.{digit_glyph, digits, digits_onto}
 use Rattle.json.specs.Print.{escape, escape_byte, quoted}
 use Rattle.json.proofs.Printed.Strings.{escape_byte_plain}
-use Rattle.serde_json.specs.Data.{Data, null, boolean, number, string, array, object, Items, no_items, item, Members, no_members, member, Num, unsigned, negative, float}
+use Rattle.serde_json.specs.Data.{Data, null, boolean, number, string, array, object, Items, no_items, item, Members}
+use Rattle.serde_json.specs.Data.{no_members, member, Num, unsigned, negative, float}
 use Rattle.serde_json.specs.Written.{comma_if, compact_text, items_text, members_text, number_text}
 use Rattle.pol_io.specs.Pieces.{has_no_feed}
 

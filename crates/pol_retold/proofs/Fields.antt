@@ -1,5 +1,6 @@
 -- The object of fields whose keys and values are in range is sound.
-use Rattle.std.proofs.Common.{◌≡◌, ◌≤◌, ◌<◌, ◌^◌, ◌&&◌, [], ◌∷◌, ℕ, zero, suc, List, Bool, true, false, Some, refl, ap, arith, pos, negsuc, length, decimal, inl, inr}
+use Rattle.std.proofs.Common.{◌≡◌, ◌≤◌, ◌<◌, ◌^◌, ◌&&◌, [], ◌∷◌, ℕ, zero, suc, List, Bool, true, false, Some, refl, ap}
+use Rattle.std.proofs.Common.{arith, pos, negsuc, length, decimal, inl, inr}
 use Rattle.std.proofs.lemmas.Bool.{and_parts, leb-true, cases_eq}
 use Rattle.std.proofs.lemmas.Fmt.{IsAscii-decimal}
 use Rattle.std.specs.List.{AllByRecursion, fold, insert, list_all, position_or_len}
@@ -11,7 +12,8 @@ use Rattle.json.specs.Tree.{MembersHaveNumbers, ItemsHaveNumbers}
 use Rattle.json.specs.Print.{IsNumber, quoted}
 use Rattle.json.proofs.Printed.Decimals.{IsNumber-decimal, IsNumber-signed_decimal}
 use Rattle.json.proofs.Printed.Utf8.{IsUtf8-are_ascii, IsUtf8-boolean, IsUtf8-quoted}
-use Rattle.serde_json.specs.Data.{boolean, number as number_data, string, unsigned, negative, Members, no_members, depth, members_depth, items_depth, put}
+use Rattle.serde_json.specs.Data.{boolean, number as number_data, string, unsigned, negative, Members, no_members}
+use Rattle.serde_json.specs.Data.{depth, members_depth, items_depth, put}
 use Rattle.serde_json.specs.Read.{of_items, of_members}
 use Rattle.serde_json.specs.View.{items_of}
 use Rattle.serde_json.specs.Written.{comma_if, compact_text, items_outline, items_text, members_outline, members_text}
@@ -23,9 +25,10 @@ use Rattle.mtp_codes.proofs.Ascii.{name_is_text}
 use Rattle.mtp_codes.specs.declared.value.Reading.{Reading}
 use Rattle.mtp_codes.specs.declared.value.Reading.TheVariants.{Whole, Bit}
 use Rattle.chart_core.specs.declared.limits.TheConstants.{MOST_READS}
-use Rattle.pol_events.specs.Fields.{PlainField, PlainFieldValue, in_order, number, placed, readings, stands_before, text}
+use Rattle.event_json.specs.Fields.{PlainField, PlainFieldValue, in_order, number, placed, readings, stands_before}
+use Rattle.event_json.specs.Fields.{text}
+use Rattle.event_json.specs.FieldRanges.{is_reading_in_range, is_value_in_range}
 use Rattle.pol_record.specs.Objects.{fields_data, members_in, reading_data, value_data}
-use Rattle.pol_events.specs.FieldRanges.{is_reading_in_range, is_value_in_range}
 use Rattle.pol_retold.proofs.Exact.{IsSound}
 
 -- ---- numbers

@@ -1,26 +1,29 @@
 -- The bytes that are written of a history, cut into lines again.
-use Rattle.std.proofs.Common.{◌≡◌, ◌≤◌, [], ◌∷◌, ◌++◌, ℕ, List, Bool, true, false, Option, Some, None, length, map, reverse, append_assoc, length-append, append-nil, refl, sym, ap, ap₂, ◌∙◌, subst, arith, if◌then◌else◌}
+use Rattle.std.proofs.Common.{◌≡◌, ◌≤◌, [], ◌∷◌, ◌++◌, ℕ, List, Bool, true, false, Option, Some, None, length, map}
+use Rattle.std.proofs.Common.{reverse, append_assoc, length-append, append-nil, refl, sym, ap, ap₂, ◌∙◌, subst, arith}
+use Rattle.std.proofs.Common.{if◌then◌else◌}
 use Rattle.std.proofs.lemmas.Bool.{le-ltb}
 use Rattle.std.proofs.lemmas.Slice.Eq.{bytes_eq-Decides}
 use Rattle.std.specs.List.{AllByRecursion, cons_option, flat_map, list_all}
 use Rattle.std.specs.Prelude.{filter, filter_map, is_some}
 use Rattle.std.specs.Option.{option_or}
 use Rattle.serde_json.specs.Written.{compact_text}
+use Rattle.mtp_codes.proofs.Lists.{all_append, all_reverse}
 use Rattle.pol_io.specs.Pieces.{has_no_feed, line_of, pieces}
 use Rattle.pol_io.specs.declared.limits.TheConstants.{LONGEST_LINE}
 use Rattle.pol_io.proofs.Pieces.{line_of_feed, pieces_feed}
 use Rattle.pol_events.specs.Events.{PlainEntry, PlainEvent, start}
-use Rattle.pol_events.specs.Lines.{is_blank_byte}
-use Rattle.pol_events.specs.Written.{written_event}
+use Rattle.event_json.specs.Lines.{is_blank_byte}
+use Rattle.event_json.specs.Written.{written_event}
 use Rattle.pol_events.specs.declared.answer.Answer.{Answer}
 use Rattle.pol_history.specs.Batches.{Started, batches, log_of, outcome_of, start_by, start_of, started_batch, starting}
 use Rattle.pol_history.specs.Looking.{History, is_accepted, is_accepted_of_batch, past_of_batch}
-use Rattle.pol_record.specs.Texts.{answer_data, batch_data, batch_object, batch_text, end_data, end_text, entry_line_text, entry_object, under_key}
+use Rattle.pol_record.specs.Texts.{answer_data, batch_data, batch_object, batch_text, end_data, end_text}
+use Rattle.pol_record.specs.Texts.{entry_line_text, entry_object, under_key}
 use Rattle.pol_audit.specs.Verdict.{closing_lines}
-use Rattle.pol_audit.proofs.Orderly.{all_turned}
 use Rattle.pol_jobs.specs.LineWork.{met}
 use Rattle.pol_jobs.proofs.Meeting.{met_by_length}
-use Rattle.pol_site.specs.Texts.{is_filled}
+use Rattle.site_json.specs.Texts.{is_filled}
 use Rattle.pol_retold.specs.Inputs.{InputsAreGood, IsShortLine, lines_read, run_text}
 use Rattle.pol_retold.specs.Retold.{AreGood, entry_text, run_lines, short_lines, with_feed}
 use Rattle.pol_retold.proofs.Feeds.{text_no_feed}
@@ -130,12 +133,6 @@ batch_is history batch was = go (start_of history batch) refl was
         let value = batch_data batch started (log_of history batch) (outcome_of history batch) in
         record { text = compact_text value; is = rw found refl; none = text_no_feed value; filled = refl }
 
--- what holds of each of two lists holds of each of them together
-all_append : {A : Type 0} (P : A → Type 0) (xs ys : List A) → AllByRecursion P xs → AllByRecursion P ys
-    → AllByRecursion P (xs ++ ys)
-all_append P [] ys first second = second
-all_append P (x ∷ xs) ys first second = (first.0, all_append P xs ys first.1 second)
-
 -- each line of an entry is one
 entries_are : (entries : List PlainEntry) → AllByRecursion IsLine (map entry_line_text entries)
 entries_are [] = tt
@@ -153,7 +150,7 @@ lines_are history =
     all_append IsLine (map entry_line_text (reverse history)) (closing_lines history) (entries_are (reverse history))
     (all_append IsLine (map (batch_text history) (batches history)) (end_text ∷ [])
     (batches_are history (batches history)
-    (all_turned (WasStarted history) (filter_map newly history) (each_started history)))
+    (all_reverse (WasStarted history) (filter_map newly history) (each_started history)))
     (end_is, tt))
 
 -- ---- cut again

@@ -1,5 +1,6 @@
 -- A text that begins with another key is no entry.
-use Rattle.std.proofs.Common.{◌≡◌, [], ◌∷◌, ◌++◌, ℕ, List, Bool, true, false, true≢false, Option, Some, None, Ok, Err, refl, sym, ◌∙◌, if◌then◌else◌, codes, Ordering, Less, Equal, Greater}
+use Rattle.std.proofs.Common.{◌≡◌, [], ◌∷◌, ◌++◌, ℕ, List, Bool, true, false, true≢false, Option, Some, None, Ok, Err}
+use Rattle.std.proofs.Common.{refl, sym, ◌∙◌, if◌then◌else◌, codes, Ordering, Less, Equal, Greater}
 use Rattle.std.specs.Prelude.{option_and_then, option_map, ◌&&◌}
 use Rattle.std.specs.Ordering.{match_ordering, nat_cmp}
 use Rattle.std.specs.Cmp.Lexicographic.{slice_cmp}
@@ -18,8 +19,8 @@ use Rattle.mtp_json.specs.Parse.{json_of, or_not_json}
 use Rattle.mtp_json.specs.ReadResult.{ReadResult, ◌>>=◌, here}
 use Rattle.mtp_json.specs.declared.fault.FaultKind.TheVariants.{NotJson, Unknown}
 use Rattle.pol_events.specs.Events.{PlainEvent}
-use Rattle.pol_events.specs.Forms.{event_in}
 use Rattle.pol_events.specs.declared.answer.Answer.{Answer}
+use Rattle.event_json.specs.Forms.{event_in}
 use Rattle.pol_entries.specs.Answers.{answer_form}
 use Rattle.pol_entries.specs.Entries.{entry_form, entry_of, of_line}
 

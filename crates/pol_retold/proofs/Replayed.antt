@@ -1,24 +1,28 @@
 -- The replay of a history's events gives its answers.
-use Rattle.std.proofs.Common.{◌≡◌, [], ◌∷◌, ◌++◌, ℕ, List, false, length, map, reverse, if◌then◌else◌, append_assoc, append-nil, refl, sym, ap, ap₂, ◌∙◌, subst}
+use Rattle.std.proofs.Common.{◌≡◌, [], ◌∷◌, ◌++◌, ℕ, List, false, length, map, reverse, if◌then◌else◌, append_assoc}
+use Rattle.std.proofs.Common.{append-nil, refl, sym, ap, ap₂, ◌∙◌, subst}
 use Rattle.std.proofs.lemmas.Bool.{le-ltb}
 use Rattle.std.proofs.lemmas.List.{reverse-reverse}
 use Rattle.std.specs.List.{AllByRecursion, flat_map, list_all}
 use Rattle.serde_json.specs.Written.{compact_text}
+use Rattle.mtp_codes.proofs.Lists.{reverse_next, all_reverse}
+use Rattle.pol_history.proofs.Legal.{earlier_legal}
 use Rattle.pol_io.specs.declared.limits.TheConstants.{LONGEST_LINE}
 use Rattle.pol_io.proofs.Pieces.{line_of_feed, pieces_feed}
 use Rattle.pol_events.specs.Events.{PlainEntry, PlainEvent, unplug}
-use Rattle.pol_events.specs.Lines.{is_blank_byte}
-use Rattle.pol_events.specs.Written.{written_batch, written_desk, written_event, written_exchange_cancel, written_exchange_end, written_plug, written_recipe, written_report, start_with, written_tag, written_variable, written_freeze}
+use Rattle.event_json.specs.Lines.{is_blank_byte}
+use Rattle.event_json.specs.Written.{written_batch, written_desk, written_event, written_exchange_cancel}
+use Rattle.event_json.specs.Written.{written_exchange_end, written_plug, written_recipe, written_report, start_with}
+use Rattle.event_json.specs.Written.{written_tag, written_variable, written_freeze}
 use Rattle.pol_events.specs.declared.answer.Answer.{Answer}
 use Rattle.pol_history.specs.Looking.{History}
 use Rattle.pol_history.specs.Runs.{IsLegal, entry_of, history_after, recorded, recorded_all, run_after}
-use Rattle.pol_record.specs.Lines.{InputLine, answered_lines, answered_texts, as_input_line, closing_text, events_in, happening, input_line_of, input_lines_of, meaning_of}
+use Rattle.pol_record.specs.Lines.{InputLine, answered_lines, answered_texts, as_input_line, closing_text, events_in}
+use Rattle.pol_record.specs.Lines.{happening, input_line_of, input_lines_of, meaning_of}
 use Rattle.pol_record.specs.Texts.{IsReadBack, answer_text, event_text}
-use Rattle.pol_audit.proofs.Orderly.{all_turned}
 use Rattle.pol_retold.specs.Replayed.{IsShortEvent, ReplaysAnswer, answers_text, journal_of}
 use Rattle.pol_retold.specs.Retold.{with_feed}
 use Rattle.pol_retold.proofs.Feeds.{text_no_feed}
-use Rattle.pol_retold.proofs.Judged.{earlier_legal, next_to}
 
 -- ---- the run of the events
 
@@ -31,7 +35,7 @@ pub runs_again : (history : History) (later : List PlainEntry) → IsLegal (reve
     → (run_after history (events_in_order later) ≡ later) × (recorded_all history later ≡ reverse later ++ history)
 runs_again history [] legal = (refl, refl)
 runs_again history (entry ∷ later) legal =
-    let moved : IsLegal (reverse later ++ entry ∷ history) = subst IsLegal (next_to later entry history) legal in
+    let moved : IsLegal (reverse later ++ entry ∷ history) = subst IsLegal (reverse_next later entry history) legal in
     let here : IsLegal (entry ∷ history) = earlier_legal (reverse later) (entry ∷ history) moved in
     let same : entry_of history entry.event ≡ entry =
     ap (λ answer. entry_with entry.event answer) (sym here.0) in
@@ -41,7 +45,7 @@ runs_again history (entry ∷ later) legal =
       ap (λ first. first ∷ run_after (recorded first history) (events_in_order later)) same
           ∙ ap (λ past. entry ∷ run_after past (events_in_order later)) kept
           ∙ ap (λ others. entry ∷ others) rest.0,
-      ap (λ past. recorded_all past later) kept ∙ rest.1 ∙ sym (next_to later entry history),
+      ap (λ past. recorded_all past later) kept ∙ rest.1 ∙ sym (reverse_next later entry history),
     )
   where
     entry_with : PlainEvent → Answer → PlainEntry
@@ -102,7 +106,7 @@ replays_answer history legal read short =
     entries = reverse history
 
     lines : input_lines_of (journal_of history) ≡ happened entries
-    lines = lines_are entries (all_turned IsReadBack history read) (all_turned IsShortEvent history short)
+    lines = lines_are entries (all_reverse IsReadBack history read) (all_reverse IsShortEvent history short)
 
     events : events_in (input_lines_of (journal_of history)) ≡ events_in_order entries
     events = ap events_in lines ∙ happened_events entries

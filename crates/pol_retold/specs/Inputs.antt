@@ -8,7 +8,7 @@ use Rattle.pol_record.specs.Lines.{closing_text}
 use Rattle.pol_record.specs.Texts.{entry_line_text}
 use Rattle.pol_audit.specs.declared.judging.TheConstants.{MOST_JUDGED}
 use Rattle.pol_jobs.specs.LineWork.{Line, met}
-use Rattle.pol_site.specs.Texts.{filled_lines}
+use Rattle.site_json.specs.Texts.{filled_lines}
 use Rattle.pol_retold.specs.Retold.{AreGood, IsRetold, run_lines}
 
 -- ---- what is read

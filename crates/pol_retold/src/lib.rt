@@ -3,6 +3,8 @@
 //! histories, or over all answers or entries that a program holds: the contract of a function with an empty body.
 //!
 //! It knows nothing of how a history came about, nor of who writes it.
+//!
+//! Laws alone: no test tries them.
 #![tactic(auto)]
 
 ghost use Rattle.pol_retold.specs.Inputs.{InputsAreGood};

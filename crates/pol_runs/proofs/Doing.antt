@@ -1,5 +1,6 @@
 -- What an entry that comes next is, and what the run stands for once it is done.
-use Rattle.std.proofs.Common.{◌≡◌, ℕ, ◌+◌, ◌<◌, Bool, true, false, cond, List, [], ◌∷◌, ◌++◌, map, Option, Some, None, is_some, is_none, refl, ap, sym, ◌∙◌, subst, arith}
+use Rattle.std.proofs.Common.{◌≡◌, ℕ, ◌+◌, ◌<◌, Bool, true, false, cond, List, [], ◌∷◌, ◌++◌, map, Option, Some, None}
+use Rattle.std.proofs.Common.{is_some, is_none, refl, ap, sym, ◌∙◌, subst, arith}
 use Rattle.std.specs.Prelude.{◌&&◌, ◌||◌, nat_le}
 use Rattle.std.specs.Option.{option_or}
 use Rattle.mtp_codes.specs.declared.command.Command.TheVariants as command
@@ -26,7 +27,9 @@ use Rattle.chart_core.proofs.Logs.{stands_is_partial}
 use Rattle.chart_core.proofs.Validity.{steps_rise}
 use Rattle.chart_cursor.specs.Logs.{chart_entries, active, is_broke, has_broken, was_stopped}
 use Rattle.chart_cursor.specs.Next.{next_after}
-use Rattle.chart_cursor.specs.NextEntry.{stop_step, stop_next, is_broken_state, broken_step, first_broken, first_hold, unasked, owed, first_unhold, unless_whole, run_next, did_or, unfrozen_next, next_by}
+use Rattle.chart_cursor.specs.NextEntry.{stop_step, stop_next, is_broken_state, broken_step, first_broken, first_hold}
+use Rattle.chart_cursor.specs.NextEntry.{unasked, owed, first_unhold, unless_whole, run_next, did_or, unfrozen_next}
+use Rattle.chart_cursor.specs.NextEntry.{next_by}
 use Rattle.chart_cursor.specs.Freezing.{Freezing, thawed, waiting, holding}
 use Rattle.chart_core.specs.declared.why.Why.TheVariants.{Frozen}
 use Rattle.chart_cursor.proofs.HoldSources.{hold_from, unhold_from}

@@ -1,5 +1,6 @@
 -- What the code finds is what comes next, for every log that the run stands for.
-use Rattle.std.proofs.Common.{◌≡◌, ℕ, Bool, true, false, cond, List, [], ◌∷◌, map, Option, Some, None, refl, ap, sym, ◌∙◌}
+use Rattle.std.proofs.Common.{◌≡◌, ℕ, Bool, true, false, cond, List, [], ◌∷◌, map, Option, Some, None, refl, ap, sym}
+use Rattle.std.proofs.Common.{◌∙◌}
 use Rattle.std.specs.Prelude.{not, ◌&&◌, nat_le, option_map}
 use Rattle.std.proofs.lemmas.Bool.{and_right}
 use Rattle.chart_core.specs.Active.{is_active, active_steps}
@@ -9,11 +10,13 @@ use Rattle.chart_core.specs.declared.entry.LogEntry.{LogEntry}
 use Rattle.chart_cursor.specs.Holding.{flag_at, is_unasked, numbered, under_way}
 use Rattle.chart_cursor.specs.Logs.{chart_entries, active, has_broken, was_stopped, was_held}
 use Rattle.chart_cursor.specs.Next.{next_after}
-use Rattle.chart_cursor.specs.NextEntry.{stop_next, first_broken, first_hold, unasked, is_under_way, owed, first_unhold, unless_whole, run_next, did_or, unfrozen_next}
+use Rattle.chart_cursor.specs.NextEntry.{stop_next, first_broken, first_hold, unasked, is_under_way, owed, first_unhold}
+use Rattle.chart_cursor.specs.NextEntry.{unless_whole, run_next, did_or, unfrozen_next}
 use Rattle.chart_cursor.specs.Running.{is_wanted, running_step, first_placed, name_of}
 use Rattle.chart_cursor.specs.Sights.{Sights}
 use Rattle.chart_cursor.specs.declared.running.RunningStep.{RunningStep}
 use Rattle.mtp_codes.specs.Names.{is_among, same_name}
+use Rattle.chart_cursor.proofs.Held.{steps_of}
 use Rattle.pol_events.specs.Bound.{bound_role, ArePaired, step_on}
 use Rattle.pol_events.specs.declared.event.Bind.{Bind}
 use Rattle.pol_events.proofs.Lists.{member_kept}
@@ -22,7 +25,8 @@ use Rattle.pol_runs.specs.Logs.{Asks, Follows, Proceeds}
 use Rattle.pol_runs.specs.Runs.{PlainRun, from_of, is_breaking, is_stopping}
 use Rattle.pol_runs.specs.Stopping.{stop_found}
 use Rattle.pol_runs.specs.declared.course.Course.TheVariants.{Running, Breaking, Stopping}
-use Rattle.pol_runs.proofs.Wanted.{first_step, late, from_zero, filter_same, filter_twice, mapped_filter, wanted_late, wanted_first}
+use Rattle.pol_runs.proofs.Wanted.{first_step, late, from_zero, filter_same, filter_twice, mapped_filter, wanted_late}
+use Rattle.pol_runs.proofs.Wanted.{wanted_first}
 
 -- ---- the active steps
 
@@ -65,10 +69,6 @@ running_active run log proceeds is =
     proceeds.active placed inside
     ∙ ap (λ course. nat_le (from_of course) placed.number && is_active (chart_entries log) placed) is
     ∙ ap (λ late. late && is_active (chart_entries log) placed) (from_zero placed.number))
-
--- the steps alone
-abbrev pub steps_of : List Placed → List PlainStep
-steps_of placed = map (λ placed. placed.step) placed
 
 -- of the active steps, those that are flagged as held and whose services aren't over are owed an Unhold
 owed_flagged : (run : PlainRun) (log : List LogEntry) (seen : Sights) → Follows run log → run.course ≡ Running →

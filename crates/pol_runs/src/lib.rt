@@ -6,6 +6,8 @@
 //! where a clause speaks of the log, it holds of every log that the run stands for. What `would` and `advance` answer
 //! is what comes next by definition (`next_by` of `chart_cursor`) for each such log, and after it the run stands for
 //! the log that this leaves. No call but `new` takes memory.
+//!
+//! Tried in `part_examples`.
 #![tactic(auto)]
 
 mod course;

@@ -1,5 +1,6 @@
 //! One batch.
-ghost use Rattle.std.specs.Prelude.{◌≡◌, ◌&&◌, ◌||◌, ◌++◌, ◌∷◌, [], not, ℕ, List, Some, None, IfOk, OnErr, OnOk, option_map, if◌then◌else◌};
+ghost use Rattle.std.specs.Prelude.{◌≡◌, ◌&&◌, ◌||◌, ◌++◌, ◌∷◌, [], not, ℕ, List, Some, None, IfOk, OnErr, OnOk};
+ghost use Rattle.std.specs.Prelude.{option_map, if◌then◌else◌};
 ghost use Rattle.std.specs.Option.{option_or};
 ghost use Rattle.mtp_codes.specs.Faults.{when, done_unless};
 ghost use Rattle.chart_core.specs.Active.{active_steps};
@@ -223,7 +224,8 @@ impl Run {
 
     /// Freezes the open batch until it is thawed, and where `hold` is true lets it hold the services of its active
     /// steps. `AlreadyFrozen` exactly where it is frozen and, beside that, either `hold` is false or its services are
-    /// held already; then nothing changes. So a batch that only waits can be frozen anew, so that its services are held.
+    /// held already; then nothing changes. So a batch that only waits can be frozen anew, so that its services are
+    /// held.
     pub fn freeze(&mut self, hold: bool) -> Result<(), Rule>
         ensures answer { result
             ≡ done_unless (when (is_frozen self.old.freeze && (not hold || is_holding self.old.freeze))

@@ -1,12 +1,14 @@
 -- Which steps are active after one more entry, and where their services were reported.
-use Rattle.std.proofs.Common.{◌≡◌, ℕ, Bool, true, false, List, [], ◌∷◌, ◌++◌, Option, Some, None, refl, ap, sym, ◌∙◌, subst}
+use Rattle.std.proofs.Common.{◌≡◌, ℕ, Bool, true, false, List, [], ◌∷◌, ◌++◌, Option, Some, None, refl, ap, sym, ◌∙◌}
+use Rattle.std.proofs.Common.{subst}
 use Rattle.std.specs.List.{Contains}
 use Rattle.mtp_codes.specs.declared.mode.Speaker.TheVariants.{Recipe}
 use Rattle.mtp_codes.specs.declared.command.Command.TheVariants as command
 use Rattle.mtp_codes.specs.Faults.{when}
 use Rattle.mtp_codes.specs.Names.{same_name}
 use Rattle.mtp_codes.proofs.Names.{same_true}
-use Rattle.chart_core.specs.Active.{Phase, idle, started, finished, was_reset, or_earlier, last_of, phase_by, or_idle, is_running, is_active}
+use Rattle.chart_core.specs.Active.{Phase, idle, started, finished, was_reset, or_earlier, last_of, phase_by, or_idle}
+use Rattle.chart_core.specs.Active.{is_running, is_active}
 use Rattle.chart_core.specs.Roles.{PlainChart, role_names}
 use Rattle.chart_core.specs.Trees.{Placed, steps}
 use Rattle.chart_core.specs.Valid.{IsValid}

@@ -6,14 +6,16 @@ use Rattle.chart_core.specs.Trees.{PlainStep}
 use Rattle.chart_core.specs.declared.entry.LogEntry.{LogEntry}
 use Rattle.chart_cursor.specs.Logs.{chart_entries, active, has_broken, was_stopped}
 use Rattle.chart_cursor.specs.Next.{next_after}
-use Rattle.chart_cursor.specs.NextEntry.{first_broken, stop_next, owed, first_unhold, unless_whole, run_next, did_or, next_by}
+use Rattle.chart_cursor.specs.NextEntry.{first_broken, stop_next, owed, first_unhold, unless_whole, run_next, did_or}
+use Rattle.chart_cursor.specs.NextEntry.{next_by}
 use Rattle.chart_cursor.specs.Freezing.{thawed}
 use Rattle.chart_cursor.specs.Sights.{Sights}
 use Rattle.chart_cursor.proofs.Firsts.{next_follows}
 use Rattle.pol_events.specs.Events.{advance}
 use Rattle.pol_events.specs.declared.answer.Answer.{Answer}
 use Rattle.pol_history.specs.Looking.{History, past, past_of_batch, recipes, is_accepted}
-use Rattle.pol_history.specs.Batches.{Started, start_of, chart_named, chart_by, is_frozen_by, is_holding_by, asked_by, frozen_so, log_of, freezing_of}
+use Rattle.pol_history.specs.Batches.{Started, start_of, chart_named, chart_by, is_frozen_by, is_holding_by, asked_by}
+use Rattle.pol_history.specs.Batches.{frozen_so, log_of, freezing_of}
 use Rattle.pol_history.specs.Following.{next_of_started, next_of}
 use Rattle.pol_history.specs.Rules.{no_batch}
 use Rattle.pol_history.specs.Answers.{advanced, answer_of}

@@ -1,5 +1,6 @@
 -- The chart's entries of each log are a run of its chart.
-use Rattle.std.proofs.Common.{◌≡◌, ℕ, Bool, true, false, List, [], ◌∷◌, reverse, Option, Some, None, refl, ap, sym, ◌∙◌, subst}
+use Rattle.std.proofs.Common.{◌≡◌, ℕ, Bool, true, false, List, [], ◌∷◌, reverse, Option, Some, None, refl, ap, sym, ◌∙◌}
+use Rattle.std.proofs.Common.{subst}
 use Rattle.std.specs.Prelude.{◌||◌, filter_map, is_some, if◌then◌else◌}
 use Rattle.std.specs.List.{cons_option}
 use Rattle.std.specs.Option.{option_or}
@@ -24,7 +25,8 @@ use Rattle.pol_events.specs.declared.answer.Answer.{Answer}
 use Rattle.pol_events.specs.declared.answer.Answer.TheVariants.{Done, Did, Waiting, Closed}
 use Rattle.pol_events.specs.Bound.{given}
 use Rattle.pol_history.specs.Looking.{History, past, past_of_batch, recipes, is_accepted}
-use Rattle.pol_history.specs.Batches.{Started, starting, start_by, start_of, chart_named, chart_by, chart_of, closing, outcome_by, outcome_of, freezing_of, taken, log_by, log_of}
+use Rattle.pol_history.specs.Batches.{Started, starting, start_by, start_of, chart_named, chart_by, chart_of, closing}
+use Rattle.pol_history.specs.Batches.{outcome_by, outcome_of, freezing_of, taken, log_by, log_of}
 use Rattle.pol_history.specs.Following.{sights_by, next_of}
 use Rattle.pol_history.specs.Answers.{advanced, otherwise}
 use Rattle.pol_history.specs.Runs.{IsLegal, IsOrderly}
@@ -32,9 +34,11 @@ use Rattle.pol_history.proofs.Accepted.{paired}
 use Rattle.pol_history.proofs.Pasts.{log_grows}
 use Rattle.pol_safety.specs.Charts.{LogsFollowCharts}
 use Rattle.pol_events.proofs.Options.{no_both}
-use Rattle.pol_safety.proofs.Nexts.{ComesFrom, stops, leaves, breaks, holds, unholds, runs, did_from, completed_from, next_at}
+use Rattle.pol_safety.proofs.Nexts.{ComesFrom, stops, leaves, breaks, holds, unholds, runs, did_from, completed_from}
+use Rattle.pol_safety.proofs.Nexts.{next_at}
 use Rattle.pol_safety.proofs.Sides.{Sides, sides, accepted, Comes, IsKeptBy, always, at_own}
-use Rattle.pol_safety.proofs.Starts.{may_start, is_open_batch, start_same, IsGoodChart, sound, unstarted, StartCase, its_own, earlier, start_case, chart_before}
+use Rattle.pol_safety.proofs.Starts.{may_start, is_open_batch, start_same, IsGoodChart, sound, unstarted, StartCase}
+use Rattle.pol_safety.proofs.Starts.{its_own, earlier, start_case, chart_before}
 
 -- the chart's entries in a batch's log are a partial run of the chart, and a complete one where the batch was completed
 pub record Follows (chart : PlainChart) (past : History) : Type 0 where

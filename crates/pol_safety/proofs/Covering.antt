@@ -6,23 +6,27 @@ use Rattle.std.specs.List.{Contains}
 use Rattle.mtp_desc.specs.Plain.{PlainDescription}
 use Rattle.chart_core.specs.Roles.{PlainChart, role_names}
 use Rattle.mtp_procs.specs.Covers.{cover_fault, missing_by}
-use Rattle.pol_events.specs.Events.{PlainEvent, plug, unplug, report, variable, start, desk, exchange_begin, exchange_end, exchange_cancel}
+use Rattle.pol_events.specs.Events.{PlainEvent, plug, unplug, report, variable, start, desk, exchange_begin}
+use Rattle.pol_events.specs.Events.{exchange_end, exchange_cancel}
 use Rattle.pol_events.specs.Refusals.{cover_rule, in_exchange}
 use Rattle.pol_events.specs.declared.answer.Rule.TheVariants.{Held, HeldBack, Watched}
 use Rattle.pol_events.specs.declared.event.Bind.{Bind}
 use Rattle.pol_events.specs.Bound.{PlainAllocation, bound_tag, given}
 use Rattle.pol_history.proofs.Open.{open_before}
 use Rattle.pol_history.specs.Looking.{History, past, past_of_batch, recipes}
-use Rattle.pol_history.specs.Modules.{Docking, absent, docked, away, docking_by, docking_of, description_by, description_of, ticket_of}
+use Rattle.pol_history.specs.Modules.{Docking, absent, docked, away, docking_by, docking_of, description_by}
+use Rattle.pol_history.specs.Modules.{description_of, ticket_of}
 use Rattle.pol_history.specs.Batches.{Started, starting, start_by, chart_named, outcome_by, holder_of, watchers_of}
-use Rattle.pol_history.specs.Rules.{tag_taken, no_module, not_covered, module_rule, uncovered_by, uncovered_in, held_back, watched}
+use Rattle.pol_history.specs.Rules.{tag_taken, no_module, not_covered, module_rule, uncovered_by, uncovered_in}
+use Rattle.pol_history.specs.Rules.{held_back, watched}
 use Rattle.pol_history.specs.Runs.{IsLegal, IsOrderly}
 use Rattle.pol_events.proofs.Options.{some_same, neither, no_image}
 use Rattle.pol_events.proofs.Lists.{none_first}
 use Rattle.pol_safety.specs.Kept.{IsCovered}
 use Rattle.pol_safety.proofs.Sides.{Sides, sides, accepted, Comes, IsKeptBy, always, at_own}
 use Rattle.pol_history.proofs.Binds.{IsFitting}
-use Rattle.pol_safety.proofs.Starts.{MayStart, may_start, start_fits, StartCase, its_own, earlier, start_case, IsRunning, was_running, running_fits}
+use Rattle.pol_safety.proofs.Starts.{MayStart, may_start, start_fits, StartCase, its_own, earlier, start_case}
+use Rattle.pol_safety.proofs.Starts.{IsRunning, was_running, running_fits}
 use Rattle.pol_safety.proofs.Holding.{IsUsed, uses}
 
 -- ---- whether a module is there

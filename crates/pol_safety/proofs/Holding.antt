@@ -1,11 +1,13 @@
 -- Which batches hold and watch a module: what every event keeps of it.
-use Rattle.std.proofs.Common.{◌≡◌, ℕ, Bool, true, false, cond, List, ◌∷◌, Option, Some, None, refl, ap, sym, ◌∙◌, subst, inl, inr, ◌⊎◌}
+use Rattle.std.proofs.Common.{◌≡◌, ℕ, Bool, true, false, cond, List, ◌∷◌, Option, Some, None, refl, ap, sym, ◌∙◌, subst}
+use Rattle.std.proofs.Common.{inl, inr, ◌⊎◌}
 use Rattle.std.specs.Prelude.{◌&&◌, filter_map, is_none, if◌then◌else◌}
 use Rattle.std.specs.List.{Contains, cons_option}
 use Rattle.std.specs.Option.{option_or}
 use Rattle.std.specs.Str.{bytes_eq}
 use Rattle.mtp_codes.specs.Names.{is_among}
 use Rattle.mtp_codes.proofs.Names.{same_refl}
+use Rattle.mtp_codes.proofs.Options.{or_none}
 use Rattle.chart_core.specs.Roles.{PlainChart, role_names}
 use Rattle.chart_core.specs.Trees.{Placed, steps}
 use Rattle.pol_events.specs.Events.{PlainEvent, start, PlainEntry}
@@ -14,13 +16,14 @@ use Rattle.pol_events.specs.Bound.{PlainAllocation, bound_tag, given, tags_of}
 use Rattle.pol_events.specs.Orderly.{is_allocation}
 use Rattle.pol_events.proofs.Given.{held_once, tag_given}
 use Rattle.pol_events.proofs.Played.{bound_member}
-use Rattle.pol_history.proofs.Holders.{no_taking, or_nothing}
+use Rattle.pol_history.proofs.Holders.{no_taking}
 use Rattle.pol_history.proofs.Watchers.{open_watches, watcher_parts, watches_none}
 use Rattle.std.proofs.lemmas.List.Elements.{Contains-append_cases}
 use Rattle.chart_core.proofs.Lawful.{member_cases}
 use Rattle.pol_history.proofs.Open.{open_before, open_some}
 use Rattle.pol_history.specs.Looking.{History, past_of_batch, recipes, is_accepted, last_of}
-use Rattle.pol_history.specs.Batches.{Started, starting, start_by, start_of, chart_named, chart_by, outcome_by, outcome_of, taking, takes, watches, if_open, holder_of, watchers_of}
+use Rattle.pol_history.specs.Batches.{Started, starting, start_by, start_of, chart_named, chart_by, outcome_by}
+use Rattle.pol_history.specs.Batches.{outcome_of, taking, takes, watches, if_open, holder_of, watchers_of}
 use Rattle.pol_history.specs.Rules.{busy_module, busy_role}
 use Rattle.pol_history.specs.Runs.{IsLegal, IsOrderly}
 use Rattle.pol_safety.specs.Kept.{HoldersAreOpen, WatchersAreOpen}
@@ -28,7 +31,8 @@ use Rattle.pol_events.proofs.Options.{no_both}
 use Rattle.pol_events.proofs.Lists.{no_member, member_image, image_member, member_among, among_member, none_first}
 use Rattle.pol_safety.proofs.Sides.{Sides, sides, accepted, Comes, IsKeptBy, always}
 use Rattle.pol_history.proofs.Binds.{binds_known, tags_by_role, unknown_parts}
-use Rattle.pol_safety.proofs.Starts.{MayStart, may_start, start_same, start_stays, StartCase, its_own, earlier, start_case, charted, IsRunning, running_holds}
+use Rattle.pol_safety.proofs.Starts.{MayStart, may_start, start_same, start_stays, StartCase, its_own, earlier}
+use Rattle.pol_safety.proofs.Starts.{start_case, charted, IsRunning, running_holds}
 
 -- ---- holders
 
@@ -229,7 +233,7 @@ pub holds_step : (history : History) (batch : List ℕ) (started : Started) (cha
 holds_step history batch started chart placed tag legal orderly running inside bound =
     let unwatched = running_holds history batch started chart legal orderly running placed inside in
     let held : bound_tag started.binds.held placed.step.role ≡ Some tag
-    = sym (or_nothing (bound_tag started.binds.held placed.step.role))
+    = sym (or_none (bound_tag started.binds.held placed.step.role))
     ∙ ap (option_or (bound_tag started.binds.held placed.step.role)) (sym unwatched)
     ∙ sym (tag_given started.binds placed.step.role) ∙ bound in
     let (bind, within, same) = bound_member started.binds.held placed.step.role tag held in

@@ -23,7 +23,8 @@ use Rattle.chart_cursor.specs.declared.next.CursorNext.TheVariants.{Entry, Wait,
 use Rattle.chart_cursor.specs.declared.sight.Sight.{Sight}
 use Rattle.chart_cursor.specs.declared.sight.Sight.TheVariants as sight
 use Rattle.chart_cursor.specs.Logs.{chart_entries, active, has_broken, was_stopped}
-use Rattle.chart_cursor.specs.NextEntry.{stop_step, stop_next, is_broken_state, broken_step, first_broken, first_hold, unasked, owed, first_unhold, unless_whole, run_next, did_or, next_by}
+use Rattle.chart_cursor.specs.NextEntry.{stop_step, stop_next, is_broken_state, broken_step, first_broken, first_hold}
+use Rattle.chart_cursor.specs.NextEntry.{unasked, owed, first_unhold, unless_whole, run_next, did_or, next_by}
 use Rattle.chart_cursor.specs.Freezing.{Freezing, thawed, waiting, holding}
 use Rattle.chart_cursor.proofs.HoldSources.{IsHold, IsUnhold, hold_from, unhold_from}
 use Rattle.pol_events.specs.Bound.{given}

@@ -7,9 +7,11 @@ use Rattle.std.proofs.lemmas.Bool.{and_right, false_from_ne_true}
 use Rattle.std.proofs.lemmas.Map.Views.{any-filter_same}
 use Rattle.mtp_codes.specs.Names.{is_among}
 use Rattle.mtp_codes.proofs.Names.{same_true, same_refl}
-use Rattle.pol_events.specs.Events.{PlainEvent, PlainEntry, plug, unplug, report, variable, desk, exchange_begin, exchange_end, exchange_cancel}
+use Rattle.pol_events.specs.Events.{PlainEvent, PlainEntry, plug, unplug, report, variable, desk, exchange_begin}
+use Rattle.pol_events.specs.Events.{exchange_end, exchange_cancel}
 use Rattle.pol_history.specs.Looking.{History, subject, is_module, is_accepted, past}
-use Rattle.pol_history.specs.Modules.{Docking, absent, docked, away, docking_by, docking_of, tags_without, present_after, present_tags}
+use Rattle.pol_history.specs.Modules.{Docking, absent, docked, away, docking_by, docking_of, tags_without}
+use Rattle.pol_history.specs.Modules.{present_after, present_tags}
 use Rattle.pol_history.specs.Rules.{no_module}
 use Rattle.pol_history.specs.Answers.{rules, answer_of}
 use Rattle.pol_history.proofs.Accepted.{NoneHolds, accepted_none}

@@ -1,5 +1,6 @@
 -- The services of active steps: what every event keeps of their reports.
-use Rattle.std.proofs.Common.{◌≡◌, ℕ, Bool, true, false, cond, List, [], ◌∷◌, Option, Some, None, refl, ap, sym, ◌∙◌, inl, inr, ◌⊎◌}
+use Rattle.std.proofs.Common.{◌≡◌, ℕ, Bool, true, false, cond, List, [], ◌∷◌, Option, Some, None, refl, ap, sym, ◌∙◌}
+use Rattle.std.proofs.Common.{inl, inr, ◌⊎◌}
 use Rattle.std.specs.Prelude.{◌||◌, filter, option_map, if◌then◌else◌}
 use Rattle.std.specs.List.{Contains}
 use Rattle.std.specs.Option.{option_or, option_and_then}
@@ -14,14 +15,17 @@ use Rattle.chart_core.specs.declared.entry.LogEntry.TheVariants.{StopAsked}
 use Rattle.chart_core.specs.declared.next.Next.TheVariants as next
 use Rattle.chart_core.specs.declared.next.Next.{Next}
 use Rattle.chart_cursor.specs.Logs.{active, has_broken, was_stopped}
-use Rattle.pol_events.specs.Events.{PlainEvent, plug, unplug, report, variable, start, advance, freeze, thaw, stop_batch, abandon, desk, exchange_begin, exchange_end, exchange_cancel, PlainEntry}
+use Rattle.pol_events.specs.Events.{PlainEvent, plug, unplug, report, variable, start, advance, freeze, thaw}
+use Rattle.pol_events.specs.Events.{stop_batch, abandon, desk, exchange_begin, exchange_end, exchange_cancel}
+use Rattle.pol_events.specs.Events.{PlainEntry}
 use Rattle.pol_events.specs.declared.answer.Answer.TheVariants.{Done, Did}
 use Rattle.pol_events.specs.declared.answer.Rule.TheVariants.{Held, ActiveStep}
 use Rattle.pol_events.specs.Bound.{bound_tag, given, is_tag, step_on}
 use Rattle.pol_history.proofs.Open.{open_before}
 use Rattle.pol_history.specs.Looking.{History, past, past_of_batch, recipes, is_accepted, is_accepted_of_batch}
 use Rattle.pol_history.specs.Modules.{absent, docked, docking_by, docking_of}
-use Rattle.pol_history.specs.Batches.{Started, start_by, start_of, chart_named, outcome_by, outcome_of, freezing_of, taken, log_by, log_of, holder_of}
+use Rattle.pol_history.specs.Batches.{Started, start_by, start_of, chart_named, outcome_by, outcome_of, freezing_of}
+use Rattle.pol_history.specs.Batches.{taken, log_by, log_of, holder_of}
 use Rattle.pol_history.specs.Following.{sights_by, next_of}
 use Rattle.pol_history.specs.Rules.{not_in_exchange, active_step_on, active_step}
 use Rattle.pol_history.specs.Answers.{advanced, otherwise}
@@ -33,7 +37,8 @@ use Rattle.pol_safety.proofs.Sides.{Sides, sides, accepted, Comes, IsKeptBy, alw
 use Rattle.pol_history.proofs.Binds.{IsFitting}
 use Rattle.pol_safety.specs.Kept.{IsLive, IsSeen}
 use Rattle.pol_safety.proofs.Nexts.{did_from, next_at}
-use Rattle.pol_safety.proofs.Starts.{may_start, sound, unstarted, StartCase, its_own, earlier, start_case, IsRunning, was_running, running_fits}
+use Rattle.pol_safety.proofs.Starts.{may_start, sound, unstarted, StartCase, its_own, earlier, start_case, IsRunning}
+use Rattle.pol_safety.proofs.Starts.{was_running, running_fits}
 use Rattle.pol_history.proofs.Pasts.{log_grows}
 use Rattle.pol_safety.proofs.Courses.{log_stays}
 use Rattle.pol_safety.proofs.Holding.{holds_step}

@@ -1,5 +1,6 @@
 -- Starts and recipes: what every event keeps of them.
-use Rattle.std.proofs.Common.{◌≡◌, ℕ, Bool, true, false, cond, List, [], ◌∷◌, Option, Some, None, refl, ap, sym, ◌∙◌, subst, inl, inr}
+use Rattle.std.proofs.Common.{◌≡◌, ℕ, Bool, true, false, cond, List, [], ◌∷◌, Option, Some, None, refl, ap, sym, ◌∙◌}
+use Rattle.std.proofs.Common.{subst, inl, inr}
 use Rattle.std.specs.Prelude.{◌&&◌, IsTrue, is_some, is_none, if◌then◌else◌}
 use Rattle.std.specs.List.{Contains}
 use Rattle.std.specs.Option.{option_or}
@@ -21,7 +22,8 @@ use Rattle.pol_events.proofs.Lists.{no_member, among_member, image_member}
 use Rattle.pol_history.proofs.Open.{open_before}
 use Rattle.pol_history.specs.Looking.{History, past_of_batch, recipes, is_accepted, is_accepted_of_batch}
 use Rattle.pol_history.specs.Batches.{Started, starting, start_by, chart_named, outcome_of, start_of}
-use Rattle.pol_history.specs.Rules.{no_batch, batch_closed, role_unbound, role_unknown, one_module_twice, has_step, watched_step, steps_in, modules_unfit, busy}
+use Rattle.pol_history.specs.Rules.{no_batch, batch_closed, role_unbound, role_unknown, one_module_twice, has_step}
+use Rattle.pol_history.specs.Rules.{watched_step, steps_in, modules_unfit, busy}
 use Rattle.pol_history.specs.Answers.{start_rules, otherwise}
 use Rattle.pol_history.specs.Runs.{IsLegal, IsOrderly}
 use Rattle.pol_history.proofs.Accepted.{NoneHolds}

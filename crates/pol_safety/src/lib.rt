@@ -4,6 +4,8 @@
 //! legal histories, the contract of a function with an empty body; `specs/Sound.antt` has them together.
 //!
 //! It knows nothing of how an answer is found.
+//!
+//! Laws alone: no test tries them.
 #![tactic(auto)]
 
 ghost use Rattle.pol_safety.specs.Advances.{AdvancesFollowCharts};

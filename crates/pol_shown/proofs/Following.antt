@@ -1,5 +1,6 @@
 -- A display that follows a history by one entry, word after word.
-use Rattle.std.proofs.Common.{◌≡◌, ◌≢◌, ◌<◌, ◌≤◌, ◌∙◌, ℕ, suc, ◌*◌, ◌/◌, ◌%◌, ◌∷◌, List, Bool, true, false, Option, Some, None, length, refl, sym, ap, subst, ⊎_elim, arith}
+use Rattle.std.proofs.Common.{◌≡◌, ◌≢◌, ◌<◌, ◌≤◌, ◌∙◌, ℕ, suc, ◌*◌, ◌/◌, ◌%◌, ◌∷◌, List, Bool, true, false, Option}
+use Rattle.std.proofs.Common.{Some, None, length, refl, sym, ap, subst, ⊎_elim, arith}
 use Rattle.std.specs.Str.{bytes_eq}
 use Rattle.std.specs.Prelude.{◌+◌, if◌then◌else◌, nat_lt, option_map, slice_get, slice_index, slice_set}
 use Rattle.std.proofs.lemmas.Bool.{cases_lt, lt-ltb, le-ltb}
@@ -16,7 +17,8 @@ use Rattle.pol_site.specs.Sites.{PlainSite, PlainSiteModule}
 use Rattle.pol_events.specs.Subjects.{accepted_tag}
 use Rattle.pol_shown.specs.Displays.{Displayed, Shows, ShowsAt, name_in, said_by, service_of_word}
 use Rattle.pol_shown.specs.Followed.{ShowsBelow, name_after, published}
-use Rattle.pol_shown.proofs.Words.{IsQuiet, accepted_of, quiet_word, quiet_name, word_followed, name_followed, number_short, said_number}
+use Rattle.pol_shown.proofs.Words.{IsQuiet, accepted_of, quiet_word, quiet_name, word_followed, name_followed}
+use Rattle.pol_shown.proofs.Words.{number_short, said_number}
 
 -- ---- nothing is published
 
@@ -138,10 +140,6 @@ one_higher at word other =
 module _ (site : PlainSite) (entry : PlainEntry) (older : History) (word : ℕ) (unit : PlainSiteModule)
     (there : slice_get site.modules (word / 32) ≡ Some unit) (accepted : is_accepted_of unit.tag entry ≡ true)
     (before after : Displayed) (shows : ShowsBelow word site entry older before) where
-  -- the history that the words up to this one show
-  abbrev at_word : ℕ → History
-  at_word at = history_at entry older (nat_lt at word)
-
   -- and that which they show once it is written
   abbrev at_next : ℕ → History
   at_next at = history_at entry older (nat_lt at (suc word))

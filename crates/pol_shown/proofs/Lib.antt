@@ -1,6 +1,4 @@
 pub mod Words
-pub mod First
 pub mod Listed
 pub mod Following
-pub mod Watching
 pub mod Crossing

@@ -1,5 +1,6 @@
 -- What an entry does to one word of the board, and to the name at it.
-use Rattle.std.proofs.Common.{◌≡◌, ◌≤◌, ◌∙◌, ℕ, suc, ◌/◌, ◌%◌, List, [], ◌∷◌, Bool, true, false, cond, Option, Some, None, length, refl, sym, ap, arith}
+use Rattle.std.proofs.Common.{◌≡◌, ◌≤◌, ◌∙◌, ℕ, suc, ◌/◌, ◌%◌, List, [], ◌∷◌, Bool, true, false, cond, Option, Some}
+use Rattle.std.proofs.Common.{None, length, refl, sym, ap, arith}
 use Rattle.std.specs.Prelude.{◌&&◌, if◌then◌else◌, slice_get}
 use Rattle.std.specs.Option.{option_or}
 use Rattle.std.proofs.Math.Bool.{and-true, and-false}
@@ -7,9 +8,11 @@ use Rattle.mtp_desc.specs.Plain.{PlainDescription}
 use Rattle.pol_board.specs.Words.{number_of}
 use Rattle.pol_board.proofs.Older.{number_said}
 use Rattle.pol_events.specs.Events.{PlainEntry}
-use Rattle.pol_history.specs.Looking.{History, Subject, of_module, of_batch, of_recipe, is_module, is_accepted, is_accepted_of, past, subject}
+use Rattle.pol_history.specs.Looking.{History, Subject, of_module, of_batch, of_recipe, is_module, is_accepted}
+use Rattle.pol_history.specs.Looking.{is_accepted_of, past, subject}
 use Rattle.pol_history.specs.Modules.{described, description_by, description_of}
-use Rattle.pol_site.specs.Shown.{BoardWord, board_word, is_name_of, name_at, shown_by, shown_in, word_after, word_of, word_of_module}
+use Rattle.pol_site.specs.Shown.{BoardWord, board_word, is_name_of, name_at, shown_by, shown_in, word_after, word_of}
+use Rattle.pol_site.specs.Shown.{word_of_module}
 use Rattle.pol_site.specs.Sites.{PlainSite, PlainSiteModule}
 use Rattle.pol_events.specs.Subjects.{accepted_tag, subject_tag}
 use Rattle.pol_shown.specs.Displays.{name_of_module, said_by, service_of_word}

@@ -1,5 +1,6 @@
 //! The board of a plant, kept in step with its history.
-ghost use Rattle.std.specs.Prelude.{◌≡◌, ◌<◌, ◌≤◌, ◌+◌, ◌*◌, ◌%◌, ◌^◌, ◌∷◌, [], length, slice_get, slice_index, slice_set, true, Some, IfOk, option_map};
+ghost use Rattle.std.specs.Prelude.{◌≡◌, ◌<◌, ◌≤◌, ◌+◌, ◌*◌, ◌%◌, ◌^◌, ◌∷◌, [], length, slice_get, slice_index};
+ghost use Rattle.std.specs.Prelude.{slice_set, true, Some, IfOk, option_map};
 ghost use Rattle.mtp_codes.specs.declared.limits.TheConstants.{LONGEST_HISTORY, MOST_MODULES};
 ghost use Rattle.pol_board.specs.Words.{number_of};
 ghost use Rattle.pol_events.specs.Events.{plain_entry, plain_event, plain_history};

@@ -4,6 +4,8 @@
 //! state that its service reported last, or none where an exchange began since, beside the length that the history then
 //! had. `Display` holds a board with its publisher: by `Display::follow` it shows the history with one more entry. The
 //! crate knows nothing of locks and threads: whoever appends to the history calls `follow`, and readers never wait.
+//!
+//! Tried in `live_examples`.
 #![tactic(auto)]
 
 mod display;

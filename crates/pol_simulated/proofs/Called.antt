@@ -1,12 +1,13 @@
 -- Lists whose items have names, no two the same: one item is replaced by another of its name.
-use Rattle.std.proofs.Common.{◌≡◌, ℕ, suc, zero, Bool, true, false, cond, List, [], ◌∷◌, Option, Some, refl, ap, sym, ◌∙◌}
+use Rattle.std.proofs.Common.{◌≡◌, ℕ, suc, zero, Bool, true, false, cond, List, [], ◌∷◌, Option, Some, refl, ap, sym}
+use Rattle.std.proofs.Common.{◌∙◌}
 use Rattle.std.specs.Prelude.{◌||◌, find, map, slice_get, slice_set}
 use Rattle.std.specs.List.{list_any}
 use Rattle.std.specs.Str.{bytes_eq}
 use Rattle.std.proofs.lemmas.Option.{same_Some}
 use Rattle.std.proofs.lemmas.Bool.{or_parts}
 use Rattle.mtp_codes.proofs.Names.{same_true, same_refl}
-use Rattle.mtp_json.specs.Form.{repeats_by}
+use Rattle.mtp_codes.specs.Repeats.{repeats_by}
 use Rattle.mtp_sim.proofs.Edges.{none_at}
 use Rattle.mtp_sim.specs.declared.service.SimService.{SimService}
 

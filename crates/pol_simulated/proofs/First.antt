@@ -1,10 +1,11 @@
 -- A new simulator is in step.
-use Rattle.std.proofs.Common.{◌≡◌, ℕ, Bool, true, false, cond, List, [], ◌∷◌, Option, Some, None, refl, ap, sym, ◌∙◌, subst, arith}
+use Rattle.std.proofs.Common.{◌≡◌, ℕ, Bool, true, false, cond, List, [], ◌∷◌, Option, Some, None, refl, ap, sym, ◌∙◌}
+use Rattle.std.proofs.Common.{subst, arith}
 use Rattle.std.specs.Prelude.{map, find}
 use Rattle.std.specs.Str.{bytes_eq}
 use Rattle.std.proofs.lemmas.Option.{same_Some}
 use Rattle.mtp_codes.specs.declared.command.Command.{Command}
-use Rattle.mtp_json.proofs.Lists.{repeats_map}
+use Rattle.mtp_codes.proofs.Repeats.{repeats_map}
 use Rattle.mtp_desc.specs.Plain.{PlainDescription, PlainService}
 use Rattle.mtp_sim.specs.declared.plan.Drift.{Drift}
 use Rattle.mtp_sim.specs.declared.service.SimService.{SimService}
@@ -12,7 +13,8 @@ use Rattle.mtp_sim.specs.declared.drift.SimDrift.{SimDrift}
 use Rattle.mtp_sim.specs.Sims.{first_service, first_drift}
 use Rattle.mtp_sim.proofs.Edges.{firsts_next}
 use Rattle.mtp_sim.proofs.Indexed.{first_named}
-use Rattle.pol_simulated.specs.Units.{IsTold, IsServiceTold, IsServiceCounted, IsDriftTold, service_called, drift_called, is_same_service}
+use Rattle.pol_simulated.specs.Units.{IsTold, IsServiceTold, IsServiceCounted, IsDriftTold, service_called}
+use Rattle.pol_simulated.specs.Units.{drift_called, is_same_service}
 use Rattle.pol_simulated.specs.Laws.{FirstSimsAreInStep}
 
 -- a service at first

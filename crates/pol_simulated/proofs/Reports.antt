@@ -1,5 +1,6 @@
 -- The reports of a module in step are accepted.
-use Rattle.std.proofs.Common.{◌≡◌, ◌≢◌, ℕ, suc, zero, Bool, true, false, cond, List, [], ◌∷◌, Option, Some, None, refl, ap, sym, ◌∙◌, subst, ℤ}
+use Rattle.std.proofs.Common.{◌≡◌, ◌≢◌, ℕ, suc, zero, Bool, true, false, cond, List, [], ◌∷◌, Option, Some, None, refl}
+use Rattle.std.proofs.Common.{ap, sym, ◌∙◌, subst, ℤ}
 use Rattle.std.specs.Prelude.{◌||◌, find, map, not, is_none, slice_get, option_map, if◌then◌else◌}
 use Rattle.std.specs.List.{AllByRecursion, cons_option}
 use Rattle.std.specs.Option.{option_or}
@@ -17,7 +18,9 @@ use Rattle.mtp_sim.specs.declared.service.SimService.{SimService}
 use Rattle.mtp_sim.specs.declared.drift.SimDrift.{SimDrift}
 use Rattle.mtp_sim.specs.declared.report.SimReport.TheVariants.{Service}
 use Rattle.mtp_sim.specs.Sims.{PlainSim}
-use Rattle.mtp_sim.specs.Ticks.{service_here, drift_here, tick_report, report_by, drift_report, report_of, ticked_service, limit_of, is_reported, control_now, value_told, is_executing, variable_report}
+use Rattle.mtp_sim.specs.Ticks.{service_here, drift_here, tick_report, report_by, drift_report, report_of}
+use Rattle.mtp_sim.specs.Ticks.{ticked_service, limit_of, is_reported, control_now, value_told, is_executing}
+use Rattle.mtp_sim.specs.Ticks.{variable_report}
 use Rattle.mtp_sim.specs.Told.{MayTell, IsNext}
 use Rattle.mtp_sim.proofs.Edges.{all_at, name_ticked, told_ticked}
 use Rattle.pol_events.specs.Refusals.{not_an_edge}

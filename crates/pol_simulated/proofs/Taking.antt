@@ -1,5 +1,6 @@
 -- A command that a module takes keeps it in step, and its changes counted.
-use Rattle.std.proofs.Common.{◌≡◌, ◌≤◌, ◌+◌, ℕ, Bool, true, false, cond, not, List, [], ◌∷◌, Option, Some, None, refl, ap, sym, ◌∙◌, subst, arith}
+use Rattle.std.proofs.Common.{◌≡◌, ◌≤◌, ◌+◌, ℕ, Bool, true, false, cond, not, List, [], ◌∷◌, Option, Some, None, refl}
+use Rattle.std.proofs.Common.{ap, sym, ◌∙◌, subst, arith}
 use Rattle.std.specs.Prelude.{◌&&◌, ◌||◌, slice_get, slice_set, position, option_map, option_and_then, if◌then◌else◌}
 use Rattle.std.specs.List.{list_any, AllByRecursion}
 use Rattle.std.specs.Str.{bytes_eq}
@@ -15,7 +16,8 @@ use Rattle.mtp_desc.specs.Plain.{PlainDescription}
 use Rattle.mtp_desc.specs.Lookup.{self_completes}
 use Rattle.mtp_sim.specs.Ticks.{is_state, is_untold, is_silent, control_now, runs_through}
 use Rattle.mtp_sim.specs.Sims.{PlainSim}
-use Rattle.mtp_sim.specs.Commands.{sent_to, service_took, procedure_after, with_service, place_of, took_at, after_command}
+use Rattle.mtp_sim.specs.Commands.{sent_to, service_took, procedure_after, with_service, place_of, took_at}
+use Rattle.mtp_sim.specs.Commands.{after_command}
 use Rattle.mtp_codes.specs.declared.command.Command.TheVariants.{Complete}
 use Rattle.mtp_codes.proofs.Names.{same_true}
 use Rattle.pol_history.specs.Looking.{History}
@@ -23,7 +25,8 @@ use Rattle.pol_history.specs.Modules.{since_docking}
 use Rattle.pol_site.specs.Sites.{PlainSite}
 use Rattle.pol_site.specs.Stories.{controls_in}
 use Rattle.pol_site.specs.Commanded.{changes_by, is_change_by, is_own_change}
-use Rattle.pol_simulated.specs.Units.{IsTold, IsServiceTold, IsServiceCounted, IsInStep, IsCountedBy, changes_of, service_called}
+use Rattle.pol_simulated.specs.Units.{IsTold, IsServiceTold, IsServiceCounted, IsInStep, IsCountedBy, changes_of}
+use Rattle.pol_simulated.specs.Units.{service_called}
 use Rattle.mtp_sim.specs.Told.{IsNext}
 use Rattle.mtp_sim.proofs.Indexed.{named_set}
 use Rattle.mtp_sim.proofs.Edges.{all_set, led_next, none_at, pending_none, same_state_is, state_refl}

@@ -1,5 +1,6 @@
 -- A tick keeps a module in step, and its changes counted.
-use Rattle.std.proofs.Common.{◌≡◌, ◌≤◌, ◌+◌, ℕ, Bool, true, false, cond, not, List, [], ◌∷◌, Option, Some, None, refl, ap, sym, ◌∙◌, subst, arith, length, ℤ, ◌-◌}
+use Rattle.std.proofs.Common.{◌≡◌, ◌≤◌, ◌+◌, ℕ, Bool, true, false, cond, not, List, [], ◌∷◌, Option, Some, None, refl}
+use Rattle.std.proofs.Common.{ap, sym, ◌∙◌, subst, arith, length, ℤ, ◌-◌}
 use Rattle.std.specs.Prelude.{◌&&◌, ◌||◌, nat_le, slice_set, option_map, if◌then◌else◌}
 use Rattle.std.specs.Option.{option_or}
 use Rattle.mtp_codes.specs.declared.value.Value.TheVariants.{Whole}
@@ -10,23 +11,28 @@ use Rattle.std.specs.Str.{bytes_eq}
 use Rattle.mtp_codes.specs.declared.command.Command.{Command}
 use Rattle.mtp_codes.specs.declared.state.State.{State}
 use Rattle.mtp_codes.proofs.Names.{same_true}
+use Rattle.mtp_codes.specs.Repeats.{repeats_by}
 use Rattle.std.proofs.lemmas.Option.{same_Some}
 use Rattle.std.proofs.lemmas.Bool.{and_from}
 use Rattle.mtp_machine.specs.Machine.{own_target, command_target}
 use Rattle.mtp_assembly.specs.declared.control.ServiceControl.{ServiceControl}
-use Rattle.mtp_json.specs.Form.{repeats_by}
 use Rattle.mtp_desc.specs.Plain.{PlainDescription}
 use Rattle.mtp_desc.specs.Lookup.{self_completes}
 use Rattle.mtp_sim.specs.declared.service.SimService.{SimService}
 use Rattle.mtp_sim.specs.declared.drift.SimDrift.{SimDrift}
-use Rattle.mtp_sim.specs.Ticks.{drift_here, drift_report, ticked_at_drift, value_told, is_executing, variable_report, moved, drifts_after, reported_at, service_here, service_report, limit_of, ticked_service, ticked_at, report_of, ticked, tick_report, control_now, is_untold, is_state, changes, service_ticked, is_reported, moved_on, told, counted}
+use Rattle.mtp_sim.specs.Ticks.{drift_here, drift_report, ticked_at_drift, value_told, is_executing, variable_report}
+use Rattle.mtp_sim.specs.Ticks.{moved, drifts_after, reported_at, service_here, service_report, limit_of}
+use Rattle.mtp_sim.specs.Ticks.{ticked_service, ticked_at, report_of, ticked, tick_report, control_now, is_untold}
+use Rattle.mtp_sim.specs.Ticks.{is_state, changes, service_ticked, is_reported, moved_on, told, counted}
 use Rattle.mtp_sim.specs.Sims.{PlainSim, drift_in}
 use Rattle.pol_history.specs.Looking.{History}
 use Rattle.pol_history.specs.Modules.{since_docking}
 use Rattle.pol_site.specs.Sites.{PlainSite}
 use Rattle.pol_site.specs.Stories.{controls_in, times_sent}
 use Rattle.pol_site.specs.Commanded.{changes_by, is_own_change}
-use Rattle.pol_simulated.specs.Units.{told as told_of, heard, plan_in, IsInStep, IsInStepWith, IsCounted, IsServiceCounted, IsDriftTold, drift_called, newest, IsTold, IsServiceTold, changes_of, is_same_service, service_called}
+use Rattle.pol_simulated.specs.Units.{told as told_of, heard, plan_in, IsInStep, IsInStepWith, IsCounted}
+use Rattle.pol_simulated.specs.Units.{IsServiceCounted, IsDriftTold, drift_called, newest, IsTold, IsServiceTold}
+use Rattle.pol_simulated.specs.Units.{changes_of, is_same_service, service_called}
 use Rattle.mtp_sim.proofs.Edges.{name_ticked, next_ticked_at, state_refl}
 use Rattle.mtp_sim.proofs.Indexed.{named_set}
 use Rattle.pol_simulated.proofs.Called.{called_at, called_set, map_set, repeats_set, service_name}

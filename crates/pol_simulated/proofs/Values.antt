@@ -1,5 +1,6 @@
 -- The values that a simulated module reports are allowed.
-use Rattle.std.proofs.Common.{◌≡◌, ◌<◌, ℕ, suc, zero, ℤ, pos, negsuc, ◌+ℤ◌, nat_abs, int_lt, int_le, Bool, true, false, cond, not, List, [], ◌∷◌, length, Option, Some, None, refl, ap, sym, ◌∙◌, subst, arith}
+use Rattle.std.proofs.Common.{◌≡◌, ◌<◌, ℕ, suc, zero, ℤ, pos, negsuc, ◌+ℤ◌, nat_abs, int_lt, int_le, Bool, true, false}
+use Rattle.std.proofs.Common.{cond, not, List, [], ◌∷◌, length, Option, Some, None, refl, ap, sym, ◌∙◌, subst, arith}
 use Rattle.std.specs.Prelude.{◌&&◌, ◌||◌, ◌-◌, map, is_none, option_map, option_and_then, slice_get, if◌then◌else◌}
 use Rattle.std.specs.List.{AllByRecursion, Contains, list_all}
 use Rattle.std.proofs.lemmas.Bool.{and_parts, not-true}
@@ -14,8 +15,8 @@ use Rattle.mtp_assembly.specs.Fits.{view_fault}
 use Rattle.mtp_assembly.specs.Plain.{PlainVariable}
 use Rattle.mtp_assembly.specs.declared.variable.ViewKind.{ViewKind}
 use Rattle.mtp_assembly.specs.declared.variable.ViewKind.TheVariants as kind
-use Rattle.mtp_json.specs.Form.{repeats_by}
-use Rattle.mtp_json.proofs.Lists.{repeats_map}
+use Rattle.mtp_codes.specs.Repeats.{repeats_by}
+use Rattle.mtp_codes.proofs.Repeats.{repeats_map}
 use Rattle.mtp_desc.specs.Plain.{PlainDescription}
 use Rattle.mtp_desc.specs.Lookup.{variable_named}
 use Rattle.mtp_sim.specs.declared.plan.Drift.{Drift}
@@ -23,7 +24,9 @@ use Rattle.mtp_sim.specs.declared.drift.SimDrift.{SimDrift}
 use Rattle.mtp_sim.specs.declared.service.SimService.{SimService}
 use Rattle.mtp_sim.specs.declared.report.SimReport.TheVariants.{Variable}
 use Rattle.mtp_sim.specs.Sims.{PlainSim, first_drift, drift_in}
-use Rattle.mtp_sim.specs.Ticks.{next_value, at_most, service_here, drift_here, tick_report, report_by, drift_report, report_of, ticked_service, is_reported, limit_of, value_told, is_executing, variable_report, reported_at, drifts_after, ticked_at}
+use Rattle.mtp_sim.specs.Ticks.{next_value, at_most, service_here, drift_here, tick_report, report_by, drift_report}
+use Rattle.mtp_sim.specs.Ticks.{report_of, ticked_service, is_reported, limit_of, value_told, is_executing}
+use Rattle.mtp_sim.specs.Ticks.{variable_report, reported_at, drifts_after, ticked_at}
 use Rattle.mtp_sim.specs.Commands.{took_at, place_of, after_command, with_service, service_took}
 use Rattle.mtp_sim.proofs.Edges.{all_at, all_set}
 use Rattle.pol_events.specs.Refusals.{value_misfit, no_variable}
@@ -34,7 +37,8 @@ use Rattle.pol_site.specs.Plans.{drifts_in, whole_in}
 use Rattle.pol_site.specs.Rules.{can_drift, found_drifts, is_drift_sound, same_drift}
 use Rattle.pol_site.specs.Sound.{is_drift_ranged}
 use Rattle.pol_simulated.specs.Units.{IsDriftTold, is_same_drift}
-use Rattle.pol_simulated.specs.Values.{has_risen, IsDriftKept, AreDriftsKept, PlansAreKept, FirstDriftsAreKept, TicksKeepDrifts, CommandsKeepDrifts, ValuesAreAllowed}
+use Rattle.pol_simulated.specs.Values.{has_risen, IsDriftKept, AreDriftsKept, PlansAreKept, FirstDriftsAreKept}
+use Rattle.pol_simulated.specs.Values.{TicksKeepDrifts, CommandsKeepDrifts, ValuesAreAllowed}
 use Rattle.pol_simulated.proofs.Called.{called_at}
 
 -- ---- numbers

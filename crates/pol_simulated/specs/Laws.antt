@@ -2,7 +2,7 @@
 use Rattle.std.specs.Prelude.{ℕ, ◌+◌, ◌≡◌, ◌≤◌, ◌&&◌, false, Some, map, List, [], ◌∷◌, Option, if◌then◌else◌}
 use Rattle.std.specs.Str.{bytes_eq}
 use Rattle.mtp_codes.specs.declared.command.Command.{Command}
-use Rattle.mtp_json.specs.Form.{repeats_by}
+use Rattle.mtp_codes.specs.Repeats.{repeats_by}
 use Rattle.mtp_desc.specs.Plain.{PlainDescription, same_service}
 use Rattle.mtp_sim.specs.Sims.{PlainSim, PlainPlan, first_sim, first_drift, drift_in}
 use Rattle.pol_site.specs.Plans.{plan_by}

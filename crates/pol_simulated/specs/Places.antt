@@ -1,5 +1,6 @@
 -- The places of a history, from 0 for the oldest entry: what stands before a place, and the next command from it on.
-use Rattle.std.specs.Prelude.{ℕ, suc, ◌+◌, ◌≡◌, ◌≤◌, nat_lt, nat_le, true, false, List, [], ◌∷◌, length, Option, Some, None, option_map, if◌then◌else◌, ◌&&◌, is_some}
+use Rattle.std.specs.Prelude.{ℕ, suc, ◌+◌, ◌≡◌, ◌≤◌, nat_lt, nat_le, true, false, List, [], ◌∷◌, length, Option, Some}
+use Rattle.std.specs.Prelude.{None, option_map, if◌then◌else◌, ◌&&◌, is_some}
 use Rattle.std.specs.Option.{option_or}
 use Rattle.mtp_codes.specs.declared.command.Command.{Command}
 use Rattle.chart_core.specs.declared.entry.LogEntry.{LogEntry}

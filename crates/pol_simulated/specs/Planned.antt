@@ -1,6 +1,6 @@
 -- Which plan an event of a module brings, in a history that follows its site.
 use Rattle.std.specs.Prelude.{ℕ, pred, ◌≡◌, false, List, ◌∷◌, Some, slice_get}
-use Rattle.mtp_json.specs.Form.{repeats_by}
+use Rattle.mtp_codes.specs.Repeats.{repeats_by}
 use Rattle.mtp_desc.specs.Plain.{PlainDescription}
 use Rattle.pol_events.specs.Events.{plug, exchange_end}
 use Rattle.pol_events.specs.declared.answer.Answer.TheVariants.{Done}

@@ -1,9 +1,10 @@
 -- How a simulated module stands to what was told of it.
-use Rattle.std.specs.Prelude.{ℕ, ℤ, ◌≡◌, ◌≤◌, Bool, false, List, [], ◌∷◌, map, find, Option, Some, None, option_map, if◌then◌else◌}
+use Rattle.std.specs.Prelude.{ℕ, ℤ, ◌≡◌, ◌≤◌, Bool, false, List, [], ◌∷◌, map, find, Option, Some, None, option_map}
+use Rattle.std.specs.Prelude.{if◌then◌else◌}
 use Rattle.std.specs.Str.{bytes_eq}
 use Rattle.mtp_codes.specs.declared.command.Command.{Command}
+use Rattle.mtp_codes.specs.Repeats.{repeats_by}
 use Rattle.mtp_assembly.specs.declared.control.ServiceControl.{ServiceControl}
-use Rattle.mtp_json.specs.Form.{repeats_by}
 use Rattle.mtp_desc.specs.Plain.{PlainDescription}
 use Rattle.mtp_desc.specs.Lookup.{self_completes}
 use Rattle.mtp_sim.specs.declared.service.SimService.{SimService}

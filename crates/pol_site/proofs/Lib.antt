@@ -1,7 +1,4 @@
-pub mod Asking
-pub mod Keeping
 pub mod SampleSite
-pub mod SampleTexts
 pub mod SampleFollowing
 pub mod SampleOwners
 pub mod SampleCommanded

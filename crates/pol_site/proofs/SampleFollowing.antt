@@ -10,14 +10,17 @@ use Rattle.mtp_codes.specs.declared.mode.Origin.TheVariants as origin
 use Rattle.mtp_codes.specs.declared.state.State.TheVariants as state
 use Rattle.mtp_codes.specs.declared.value.Value.TheVariants as value
 use Rattle.chart_core.specs.declared.why.Why.TheVariants as why
-use Rattle.pol_events.specs.Events.{PlainEntry, unplug, report, variable, recipe, start, freeze, thaw, stop_batch, abandon, desk, exchange_begin, exchange_end, exchange_cancel}
+use Rattle.pol_events.specs.Events.{PlainEntry, unplug, report, variable, recipe, start, freeze, thaw, stop_batch}
+use Rattle.pol_events.specs.Events.{abandon, desk, exchange_begin, exchange_end, exchange_cancel}
 use Rattle.pol_events.specs.declared.answer.Answer.TheVariants as answer
 use Rattle.pol_events.specs.declared.answer.Rule.TheVariants as rule
 use Rattle.pol_history.specs.Looking.{History, is_accepted}
 use Rattle.mtp_codes.specs.Codes.{command_number}
 use Rattle.mtp_sim.specs.Ticks.{enabled_of}
 use Rattle.pol_site.specs.Following.{FollowsSite, IsAllowed}
-use Rattle.pol_site.proofs.SampleSite.{site, tag, dose, batch, charge, doser, other_doser, drift, other_drift, chart, of, known, plugged, idle, starting, executing, told, valued, started, sent, begun, ended, ordered}
+use Rattle.pol_site.proofs.SampleSite.{site, tag, dose, batch, charge, doser, other_doser, drift, other_drift, chart}
+use Rattle.pol_site.proofs.SampleSite.{of, known, plugged, idle, starting, executing, told, valued, started, sent}
+use Rattle.pol_site.proofs.SampleSite.{begun, ended, ordered}
 
 -- an entry is allowed after these
 abbrev Follows : History → PlainEntry → Type 0

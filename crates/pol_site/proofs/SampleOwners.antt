@@ -3,7 +3,8 @@ use Rattle.std.specs.Prelude.{◌≡◌, codes, false, Some, None}
 use Rattle.std.proofs.Common.{refl}
 use Rattle.pol_events.specs.Events.{unplug, freeze, advance}
 use Rattle.pol_site.specs.Actors.{owner_of}
-use Rattle.pol_site.proofs.SampleSite.{site, tag, batch, known, plugged, idle, valued, started, sent, begun, ended, ordered}
+use Rattle.pol_site.proofs.SampleSite.{site, tag, batch, known, plugged, idle, valued, started, sent, begun, ended}
+use Rattle.pol_site.proofs.SampleSite.{ordered}
 
 -- recipes, modules and exchanges are of the exchanger, which has the number 0
 of_the_exchanger : (owner_of site known.event ≡ Some 0) × (owner_of site plugged.event ≡ Some 0)

@@ -10,7 +10,8 @@ use Rattle.pol_history.specs.Looking.{History}
 use Rattle.pol_site.specs.Following.{ordered as ordered_in}
 use Rattle.pol_site.specs.Sites.{PlainSiteBatch}
 use Rattle.pol_site.specs.Settled.{is_settled_batch, is_settled_exchanger, is_settled_module, waits_to_order}
-use Rattle.pol_site.proofs.SampleSite.{site, tag, batch, charge, binds, known, plugged, idle, starting, told, valued, started, sent, begun, ended, ordered, of}
+use Rattle.pol_site.proofs.SampleSite.{site, tag, batch, charge, binds, known, plugged, idle, starting, told, valued}
+use Rattle.pol_site.proofs.SampleSite.{started, sent, begun, ended, ordered, of}
 
 -- ---- the exchanger
 

@@ -14,7 +14,8 @@ use Rattle.mtp_sim.specs.Sims.{PlainPlan}
 use Rattle.chart_core.specs.Roles.{PlainChart}
 use Rattle.chart_core.specs.Trees.{leaf}
 use Rattle.chart_core.specs.declared.entry.LogEntry.TheVariants as entry
-use Rattle.pol_events.specs.Events.{PlainEvent, PlainEntry, plug, report, variable, recipe, start, advance, desk, exchange_begin, exchange_end}
+use Rattle.pol_events.specs.Events.{PlainEvent, PlainEntry, plug, report, variable, recipe, start, advance, desk}
+use Rattle.pol_events.specs.Events.{exchange_begin, exchange_end}
 use Rattle.pol_events.specs.declared.answer.Answer.{Answer}
 use Rattle.pol_events.specs.declared.answer.Answer.TheVariants as answer
 use Rattle.pol_events.specs.Bound.{PlainAllocation}

@@ -1,5 +1,6 @@
 -- A history follows a site: each entry is one that the site allows after those before it.
-use Rattle.std.specs.Prelude.{ℕ, pred, ◌≡◌, ◌≢◌, ◌≤◌, Bool, true, false, List, [], ◌∷◌, ◌++◌, length, map, filter, find, Option, Some, None, option_map, unwrap_or, slice_get, if◌then◌else◌}
+use Rattle.std.specs.Prelude.{ℕ, pred, ◌≡◌, ◌≢◌, ◌≤◌, Bool, true, false, List, [], ◌∷◌, ◌++◌, length, map, filter, find}
+use Rattle.std.specs.Prelude.{Option, Some, None, option_map, unwrap_or, slice_get, if◌then◌else◌}
 use Rattle.std.specs.List.{Contains}
 use Rattle.std.specs.Str.{bytes_eq}
 use Rattle.mtp_codes.specs.declared.command.Command.{Command}
@@ -11,12 +12,15 @@ use Rattle.mtp_assembly.specs.declared.control.ServiceControl.{ServiceControl}
 use Rattle.mtp_desc.specs.Plain.{PlainDescription}
 use Rattle.mtp_sim.specs.declared.plan.Drift.{Drift}
 use Rattle.mtp_sim.specs.Ticks.{control_in, next_value}
-use Rattle.pol_events.specs.Events.{PlainEvent, plug, unplug, report, variable, recipe, start, advance, freeze, thaw, stop_batch, abandon, desk, exchange_begin, exchange_end, exchange_cancel, PlainEntry}
+use Rattle.pol_events.specs.Events.{PlainEvent, plug, unplug, report, variable, recipe, start, advance, freeze, thaw}
+use Rattle.pol_events.specs.Events.{stop_batch, abandon, desk, exchange_begin, exchange_end, exchange_cancel}
+use Rattle.pol_events.specs.Events.{PlainEntry}
 use Rattle.pol_events.specs.Bound.{PlainAllocation}
 use Rattle.pol_events.specs.declared.answer.Answer.{Answer}
 use Rattle.pol_events.specs.declared.answer.Answer.TheVariants.{Ticket, Did, Closed, Refused}
 use Rattle.pol_events.specs.declared.answer.Rule.{Rule}
-use Rattle.pol_events.specs.declared.answer.Rule.TheVariants.{NoModule, InExchange, NoRecipe, NotReported, NotIdle, Busy, HeldBack}
+use Rattle.pol_events.specs.declared.answer.Rule.TheVariants.{NoModule, InExchange, NoRecipe, NotReported, NotIdle}
+use Rattle.pol_events.specs.declared.answer.Rule.TheVariants.{Busy, HeldBack}
 use Rattle.pol_history.specs.Looking.{History, subject, is_accepted, is_batch, past, last_of}
 use Rattle.pol_history.specs.Modules.{control_by, value_by, description_by, completes_by}
 use Rattle.pol_site.specs.Sites.{PlainSite, PlainSiteBatch, PlainSiteExchange}

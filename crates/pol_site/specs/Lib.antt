@@ -1,10 +1,8 @@
 pub mod Sites
 pub mod Views
 pub mod PlainSite
-pub mod Form
 pub mod Rules
 pub mod Sound
-pub mod Texts
 pub mod Actors
 pub mod Stories
 pub mod Plans

@@ -1,5 +1,6 @@
 -- How the module that is docked is simulated, by the site.
-use Rattle.std.specs.Prelude.{ℕ, pred, ℤ, List, [], ◌∷◌, length, filter, find, Option, Some, None, option_map, slice_get}
+use Rattle.std.specs.Prelude.{ℕ, pred, ℤ, List, [], ◌∷◌, length, filter, find, Option, Some, None, option_map}
+use Rattle.std.specs.Prelude.{slice_get}
 use Rattle.std.specs.Option.{option_or}
 use Rattle.std.specs.Str.{bytes_eq}
 use Rattle.mtp_codes.specs.declared.value.Value.{Value}

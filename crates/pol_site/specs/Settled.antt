@@ -1,5 +1,6 @@
 -- An actor of a site has nothing to do.
-use Rattle.std.specs.Prelude.{ℕ, Bool, true, false, not, ◌&&◌, ◌||◌, ◌⊎◌, nat_lt, nat_le, List, length, Option, Some, None, is_some, is_none, slice_get, IsTrue, if◌then◌else◌}
+use Rattle.std.specs.Prelude.{ℕ, Bool, true, false, not, ◌&&◌, ◌||◌, ◌⊎◌, nat_lt, nat_le, List, length, Option, Some}
+use Rattle.std.specs.Prelude.{None, is_some, is_none, slice_get, IsTrue, if◌then◌else◌}
 use Rattle.std.specs.List.{list_all, list_any, AllByRecursion}
 use Rattle.mtp_machine.specs.States.{is_execute}
 use Rattle.mtp_desc.specs.Plain.{PlainService, PlainDescription}
@@ -14,7 +15,8 @@ use Rattle.chart_core.specs.declared.next.Next.TheVariants.{Waiting}
 use Rattle.pol_events.specs.declared.answer.Rule.{Rule}
 use Rattle.pol_events.specs.declared.answer.Rule.TheVariants.{ActiveStep, NotAtRest}
 use Rattle.pol_history.specs.Looking.{History, past, is_accepted}
-use Rattle.pol_history.specs.Modules.{Docking, absent, docked, away, docking_by, docking_of, description_by, view_by, value_by}
+use Rattle.pol_history.specs.Modules.{Docking, absent, docked, away, docking_by, docking_of, description_by, view_by}
+use Rattle.pol_history.specs.Modules.{value_by}
 use Rattle.pol_history.specs.Batches.{start_of, outcome_of}
 use Rattle.pol_history.specs.Following.{next_of}
 use Rattle.pol_history.specs.Answers.{answer_of, is_full}

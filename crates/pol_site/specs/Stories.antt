@@ -1,6 +1,7 @@
 -- A module's story: its accepted events, and the entries whose answers send it a command. What is found there is a
 -- function of the story. No site is named here.
-use Rattle.std.specs.Prelude.{ℕ, Bool, true, false, ◌&&◌, ◌||◌, List, filter, filter_map, length, Option, Some, None, is_some, unwrap_or, if◌then◌else◌}
+use Rattle.std.specs.Prelude.{ℕ, Bool, true, false, ◌&&◌, ◌||◌, List, filter, filter_map, length, Option, Some, None}
+use Rattle.std.specs.Prelude.{is_some, unwrap_or, if◌then◌else◌}
 use Rattle.std.specs.List.{list_all}
 use Rattle.std.specs.Str.{bytes_eq}
 use Rattle.mtp_codes.specs.declared.command.Command.{Command}

@@ -3,7 +3,8 @@ use Rattle.std.specs.Prelude.{List, map}
 use Rattle.mtp_desc.specs.PlainDescription.{plain_description}
 use Rattle.mtp_sim.specs.Sims.{plain_plan}
 use Rattle.chart_core.specs.Charts.{plain_chart}
-use Rattle.pol_site.specs.Sites.{PlainSite, PlainSiteModule, PlainSiteRecipe, PlainSiteBatch, PlainSiteExchange, PlainSiteDesk}
+use Rattle.pol_site.specs.Sites.{PlainSite, PlainSiteModule, PlainSiteRecipe, PlainSiteBatch, PlainSiteExchange}
+use Rattle.pol_site.specs.Sites.{PlainSiteDesk}
 use Rattle.pol_site.specs.declared.parts.SiteModule.{SiteModule}
 use Rattle.pol_site.specs.declared.parts.SiteRecipe.{SiteRecipe}
 use Rattle.pol_site.specs.declared.parts.SiteBatch.{SiteBatch}

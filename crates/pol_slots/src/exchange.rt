@@ -4,7 +4,8 @@ ghost use Rattle.mtp_codes.specs.Faults.{done_unless};
 ghost use Rattle.mtp_desc.specs.PlainDescription.{plain_description};
 ghost use Rattle.pol_events.specs.Refusals.{wrong_ticket};
 ghost use Rattle.pol_slots.specs.Refused.{refusal_by};
-ghost use Rattle.pol_slots.specs.Slots.{slot_tag, slot_description, slot_begins, slot_ticket, IsDocked, IsUnchanged, IsUnreported};
+ghost use Rattle.pol_slots.specs.Slots.{slot_tag, slot_description, slot_begins, slot_ticket, IsDocked, IsUnchanged};
+ghost use Rattle.pol_slots.specs.Slots.{IsUnreported};
 
 use super::berth::Berth;
 use super::refusal::SlotRefusal;

@@ -3,6 +3,8 @@
 //! It knows nothing of other modules, of who holds this one, or of the history: contracts see a slot through
 //! `specs/Slots.antt`. Each call answers the first rule that what the slot keeps decides, and changes the slot as an
 //! accepted event does; after a refusal the slot is unchanged.
+//!
+//! Tried in `part_examples`.
 #![tactic(auto)]
 
 mod berth;

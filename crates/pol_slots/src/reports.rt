@@ -4,7 +4,8 @@ ghost use Rattle.std.specs.Str.{bytes_eq};
 ghost use Rattle.mtp_codes.specs.Faults.{done_unless, first_of};
 ghost use Rattle.mtp_assembly.specs.Fits.{view_fault};
 ghost use Rattle.pol_events.specs.Refusals.{report_rules, variable_rules, in_exchange, value_rule};
-ghost use Rattle.pol_slots.specs.Slots.{slot_tag, slot_description, slot_ticket, last_control, last_value, SameModule, SameControls, SameValues};
+ghost use Rattle.pol_slots.specs.Slots.{slot_tag, slot_description, slot_ticket, last_control, last_value, SameModule};
+ghost use Rattle.pol_slots.specs.Slots.{SameControls, SameValues};
 
 use super::slot::Slot;
 use mtp_assembly::{ServiceControl, View, check_view};

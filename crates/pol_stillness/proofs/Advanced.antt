@@ -15,14 +15,16 @@ use Rattle.mtp_machine.specs.Machine.{command_target, same_state, every_state}
 use Rattle.mtp_machine.specs.States.{is_idle}
 use Rattle.mtp_machine.proofs.EveryState.{of_each_state}
 use Rattle.mtp_modes.specs.declared.view.ServiceView.{ServiceView}
-use Rattle.chart_core.specs.Active.{Phase, idle, started, finished, was_reset, or_earlier, last_of as last_said, phase_by, or_idle, phase_after, is_running, is_active}
+use Rattle.chart_core.specs.Active.{Phase, idle, started, finished, was_reset, or_earlier, last_of as last_said}
+use Rattle.chart_core.specs.Active.{phase_by, or_idle, phase_after, is_running, is_active}
 use Rattle.chart_core.specs.Entries.{chart_entry}
 use Rattle.chart_core.specs.Roles.{PlainChart, role_names}
 use Rattle.chart_core.specs.Runs.{IsPartial}
 use Rattle.chart_core.specs.Trees.{PlainStep, Placed, steps}
 use Rattle.chart_core.specs.Valid.{IsValid}
 use Rattle.chart_core.specs.declared.entry.LogEntry.{LogEntry}
-use Rattle.chart_core.specs.declared.entry.LogEntry.TheVariants.{Start, Finish, Reset, End, Chose, Turn, Leave, Stop, Broke, Left, StopAsked, Hold, Unhold, Asked}
+use Rattle.chart_core.specs.declared.entry.LogEntry.TheVariants.{Start, Finish, Reset, End, Chose, Turn, Leave, Stop}
+use Rattle.chart_core.specs.declared.entry.LogEntry.TheVariants.{Broke, Left, StopAsked, Hold, Unhold, Asked}
 use Rattle.chart_core.proofs.Lawful.{names_tell_steps, roles_of_steps}
 use Rattle.chart_cursor.specs.Commands.{Sent, sent_by, is_step_entry, IsOfStep}
 use Rattle.chart_cursor.specs.Next.{next_after}
@@ -314,8 +316,8 @@ end_due was_reset step one due waits = ap is_idle (sym (same_Some state.Complete
 is_for_service : (t s tag service : List ℕ) (sent : Sent) → sent.service ≡ s → t ≡ tag → s ≡ service
     → is_for service (if bytes_eq t tag then Some sent else None) ≡ true
 is_for_service t s tag service sent sent_is tag_is service_is =
-    ap (λ b. is_for service (if b then Some sent else None)) (same_name_is t tag tag_is) ∙ same_name_is sent.service service
-    (sent_is ∙ service_is)
+    ap (λ b. is_for service (if b then Some sent else None)) (same_name_is t tag tag_is)
+    ∙ same_name_is sent.service service (sent_is ∙ service_is)
 
 -- an entry that sends the service nothing says nothing of the step that is owed
 silent : (older : History) (tag service : List ℕ) (owed : IsOwed older tag service) (entry : LogEntry)

@@ -25,8 +25,10 @@ use Rattle.chart_cursor.proofs.Walked.{done_closed}
 use Rattle.chart_core.proofs.Link.{stands_of}
 use Rattle.chart_core.specs.Progress.{Marks, Stands}
 use Rattle.chart_core.specs.Names.{names}
-use Rattle.chart_cursor.proofs.Sending.{StepEntry, starts, finishes, resets_started, resets_finished, ends, NodeEntry, OnEntries, sent_among}
-use Rattle.pol_stillness.specs.Apart.{is_step_of, any_open, IsApart, AreApart, NextStepsAreAlone, CompleteRunsAreStill, is_due}
+use Rattle.chart_cursor.proofs.Sending.{StepEntry, starts, finishes, resets_started, resets_finished, ends, NodeEntry}
+use Rattle.chart_cursor.proofs.Sending.{OnEntries, sent_among}
+use Rattle.pol_stillness.specs.Apart.{is_step_of, any_open, IsApart, AreApart, NextStepsAreAlone, CompleteRunsAreStill}
+use Rattle.pol_stillness.specs.Apart.{is_due}
 use Rattle.pol_stillness.proofs.Apart.{spots_apart}
 use Rattle.pol_stillness.proofs.Clear.{valid_clear}
 use Rattle.chart_cursor.proofs.Commanding.{IsAmong, SpotAmong, open_steps}

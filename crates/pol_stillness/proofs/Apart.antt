@@ -2,15 +2,19 @@
 use Rattle.std.proofs.Common.{◌≡◌, ℕ, suc, zero, ◌+◌, Bool, true, false, cond, List, [], ◌∷◌, ◌++◌, refl, ap, sym, ◌∙◌}
 use Rattle.std.specs.Prelude.{◌||◌}
 use Rattle.std.proofs.lemmas.Bool.{and_from, or_parts, or_from}
-use Rattle.chart_core.specs.Trees.{Tree, Trees, Arms, leaf, seq, par, choice, loop, no_trees, more_trees, no_arms, more_arms, size}
+use Rattle.chart_core.specs.Trees.{Tree, Trees, Arms, leaf, seq, par, choice, loop, no_trees, more_trees, no_arms}
+use Rattle.chart_core.specs.Trees.{more_arms, size}
 use Rattle.chart_core.specs.Valid.{uses, some_uses, arm_uses}
 use Rattle.chart_core.specs.Runs.{course}
 use Rattle.chart_core.specs.Progress.{Marks}
 use Rattle.chart_core.specs.Changes.{is_done}
 use Rattle.chart_core.specs.declared.progress.Progress.{Progress}
-use Rattle.chart_core.specs.declared.progress.Progress.TheVariants.{Untouched, Begun, Finished, WasReset, Ended, Chosen, Left}
-use Rattle.chart_cursor.specs.OpenNodes.{OpenNode, open_nodes, open_in_step, open_in_choice, open_in_loop, open_in_seq, open_in_par, open_in_arm}
-use Rattle.pol_stillness.specs.Apart.{is_step_of, any_open, IsApart, AreApart, AllClear, ArmsClear, Disjoint, OpenStepsAreApart}
+use Rattle.chart_core.specs.declared.progress.Progress.TheVariants.{Untouched, Begun, Finished, WasReset, Ended, Chosen}
+use Rattle.chart_core.specs.declared.progress.Progress.TheVariants.{Left}
+use Rattle.chart_cursor.specs.OpenNodes.{OpenNode, open_nodes, open_in_step, open_in_choice, open_in_loop, open_in_seq}
+use Rattle.chart_cursor.specs.OpenNodes.{open_in_par, open_in_arm}
+use Rattle.pol_stillness.specs.Apart.{is_step_of, any_open, IsApart, AreApart, AllClear, ArmsClear, Disjoint}
+use Rattle.pol_stillness.specs.Apart.{OpenStepsAreApart}
 use Rattle.std.proofs.lemmas.List.Folds.{list_any-append}
 use Rattle.mtp_codes.proofs.Names.{same_refl}
 

@@ -12,7 +12,8 @@ use Rattle.chart_core.specs.declared.entry.LogEntry.{LogEntry}
 use Rattle.pol_events.proofs.Lists.{kept_member, member_kept}
 use Rattle.pol_events.specs.Events.{PlainEvent, plug, exchange_end, PlainEntry}
 use Rattle.pol_history.specs.Looking.{History, past, past_of_batch, recipes, last_of, is_accepted_of}
-use Rattle.pol_history.specs.Modules.{is_moving, since_docking, reported, described, control_by, description_by, seen_with, view_by, view_of}
+use Rattle.pol_history.specs.Modules.{is_moving, since_docking, reported, described, control_by, description_by}
+use Rattle.pol_history.specs.Modules.{seen_with, view_by, view_of}
 use Rattle.pol_history.specs.Batches.{Started, start_by, start_of, chart_named, outcome_by, outcome_of, log_by, log_of}
 use Rattle.pol_history.specs.Commands.{sent_command}
 use Rattle.pol_site.specs.Stories.{sent_to, if_to, story, is_for, answering, is_answered}

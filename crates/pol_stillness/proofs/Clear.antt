@@ -1,13 +1,17 @@
 -- In a valid chart no two branches of a parallel have a step of one role and service.
-use Rattle.std.proofs.Common.{◌≡◌, ℕ, ◌+◌, ◌-◌, ◌<◌, ◌≤◌, Bool, true, false, List, [], ◌∷◌, None, refl, ap, sym, ◌∙◌, subst, arith}
+use Rattle.std.proofs.Common.{◌≡◌, ℕ, ◌+◌, ◌-◌, ◌<◌, ◌≤◌, Bool, true, false, List, [], ◌∷◌, None, refl, ap, sym, ◌∙◌}
+use Rattle.std.proofs.Common.{subst, arith}
 use Rattle.std.specs.Prelude.{◌&&◌}
 use Rattle.std.proofs.lemmas.Bool.{and_parts, or_parts, or_from}
 use Rattle.mtp_codes.specs.Names.{same_name}
 use Rattle.mtp_codes.specs.Faults.{when}
 use Rattle.mtp_codes.proofs.Names.{same_true}
-use Rattle.chart_core.specs.Trees.{Placed, Tree, Trees, Arms, leaf, seq, par, choice, loop, no_trees, more_trees, no_arms, more_arms, size, sizes, arm_sizes, steps, all_steps, arm_steps}
+use Rattle.chart_core.specs.Trees.{Placed, Tree, Trees, Arms, leaf, seq, par, choice, loop, no_trees, more_trees}
+use Rattle.chart_core.specs.Trees.{no_arms, more_arms, size, sizes, arm_sizes, steps, all_steps, arm_steps}
 use Rattle.chart_core.specs.Roles.{PlainChart}
-use Rattle.chart_core.specs.Valid.{Visit, visit, visits, all_visits, arm_visits, step_count, node_faults, node_fault, first_fault, uses, some_uses, arm_uses, clashes, clashes_in_turn, clashes_at_once, clashes_in_arms}
+use Rattle.chart_core.specs.Valid.{Visit, visit, visits, all_visits, arm_visits, step_count, node_faults, node_fault}
+use Rattle.chart_core.specs.Valid.{first_fault, uses, some_uses, arm_uses, clashes, clashes_in_turn, clashes_at_once}
+use Rattle.chart_core.specs.Valid.{clashes_in_arms}
 use Rattle.chart_core.specs.declared.fault.ChartFault.TheVariants.{SameService}
 use Rattle.chart_core.proofs.Validity.{Each, each_append, each_front, each_back, no_fault, first_clear, none_first}
 use Rattle.pol_stillness.specs.Apart.{Clear, AllClear, ArmsClear, Disjoint, ValidChartsAreClear}

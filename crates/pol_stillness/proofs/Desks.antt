@@ -10,7 +10,8 @@ use Rattle.mtp_codes.specs.declared.mode.Forbid.TheVariants.{ModeForbids}
 use Rattle.mtp_assembly.specs.declared.control.ServiceControl.{ServiceControl}
 use Rattle.mtp_modes.specs.Permission.{forbidden_by}
 use Rattle.mtp_modes.specs.declared.view.ServiceView.{ServiceView}
-use Rattle.pol_events.specs.Events.{PlainEvent, plug, unplug, report, desk, exchange_begin, exchange_end, exchange_cancel}
+use Rattle.pol_events.specs.Events.{PlainEvent, plug, unplug, report, desk, exchange_begin, exchange_end}
+use Rattle.pol_events.specs.Events.{exchange_cancel}
 use Rattle.pol_events.specs.declared.answer.Answer.{Answer}
 use Rattle.pol_events.specs.Refusals.{forbid_rule, forbidden}
 use Rattle.pol_history.specs.Looking.{History, past, is_accepted, is_accepted_of}

@@ -20,7 +20,8 @@ use Rattle.chart_cursor.specs.declared.next.CursorNext.{CursorNext}
 use Rattle.chart_cursor.specs.declared.next.CursorNext.TheVariants.{Entry, Wait, Whole}
 use Rattle.chart_cursor.specs.declared.sight.Sight.{Sight}
 use Rattle.chart_cursor.specs.declared.sight.Sight.TheVariants as sight
-use Rattle.chart_cursor.proofs.Sending.{Sends, StepEntry, starts, finishes, resets_started, resets_finished, ends, NodeEntry, node_sends}
+use Rattle.chart_cursor.proofs.Sending.{Sends, StepEntry, starts, finishes, resets_started, resets_finished, ends}
+use Rattle.chart_cursor.proofs.Sending.{NodeEntry, node_sends}
 use Rattle.chart_cursor.proofs.Commanding.{IsAmong, SpotAmong, open_steps}
 use Rattle.pol_events.proofs.Lists.{member_first, member_later}
 

@@ -1,5 +1,6 @@
 -- A module is away exactly under the ticket of the exchange that is open.
-use Rattle.std.proofs.Common.{◌≡◌, ◌⊎◌, inl, inr, ℕ, Bool, true, false, cond, List, [], ◌∷◌, Option, Some, None, refl, ap, sym, ◌∙◌, subst, arith}
+use Rattle.std.proofs.Common.{◌≡◌, ◌⊎◌, inl, inr, ℕ, Bool, true, false, cond, List, [], ◌∷◌, Option, Some, None, refl}
+use Rattle.std.proofs.Common.{ap, sym, ◌∙◌, subst, arith}
 use Rattle.std.specs.Prelude.{◌&&◌, ◌==◌, map, option_map, option_and_then, unwrap_or, if◌then◌else◌}
 use Rattle.std.specs.Option.{option_or}
 use Rattle.std.specs.Str.{bytes_eq}
@@ -12,7 +13,8 @@ use Rattle.pol_events.specs.Bound.{bound_role, given}
 use Rattle.pol_history.specs.Batches.{chart_by, holder_of, start_by, watchers_of}
 use Rattle.mtp_codes.specs.declared.cover.CoverFault.{CoverFault}
 use Rattle.mtp_codes.proofs.Names.{same_true}
-use Rattle.pol_events.specs.Events.{PlainEvent, PlainEntry, plug, unplug, report, variable, desk, exchange_begin, exchange_end, exchange_cancel}
+use Rattle.pol_events.specs.Events.{PlainEvent, PlainEntry, plug, unplug, report, variable, desk, exchange_begin}
+use Rattle.pol_events.specs.Events.{exchange_end, exchange_cancel}
 use Rattle.pol_events.specs.declared.answer.Answer.{Answer}
 use Rattle.pol_events.specs.declared.answer.Answer.TheVariants.{Done, Refused, Ticket}
 use Rattle.pol_events.specs.declared.answer.Rule.{Rule}
@@ -23,7 +25,8 @@ use Rattle.pol_history.specs.Modules.{Docking, absent, docked, away, docking_aft
 use Rattle.pol_history.specs.Rules.{held_back, uncovered_in}
 use Rattle.pol_history.specs.Runs.{is_recorded}
 use Rattle.pol_history.proofs.Accepted.{accepted_otherwise, paired}
-use Rattle.pol_site.specs.Following.{IsAllowed, Exchanging, ended_with, exchanging, last_exchanging, none_open, was_begun, was_held}
+use Rattle.pol_site.specs.Following.{IsAllowed, Exchanging, ended_with, exchanging, last_exchanging, none_open}
+use Rattle.pol_site.specs.Following.{was_begun, was_held}
 use Rattle.pol_stillness.specs.Exchanges.{open_ticket, OpenIsAway}
 
 -- ---- tickets

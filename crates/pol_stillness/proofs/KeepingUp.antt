@@ -1,5 +1,6 @@
 -- A simulated module keeps up with a history.
-use Rattle.std.proofs.Common.{◌≡◌, ◌≤◌, ◌<◌, ◌+◌, ℕ, suc, Bool, true, false, List, [], ◌∷◌, length, Option, Some, None, refl, ap, sym, ◌∙◌, subst, arith}
+use Rattle.std.proofs.Common.{◌≡◌, ◌≤◌, ◌<◌, ◌+◌, ℕ, suc, Bool, true, false, List, [], ◌∷◌, length, Option, Some, None}
+use Rattle.std.proofs.Common.{refl, ap, sym, ◌∙◌, subst, arith}
 use Rattle.std.specs.Prelude.{◌&&◌, is_some, option_map, option_and_then, slice_get, if◌then◌else◌}
 use Rattle.std.specs.Str.{bytes_eq}
 use Rattle.std.proofs.lemmas.Bool.{and_right, or_parts}
@@ -40,7 +41,8 @@ use Rattle.pol_simulated.proofs.Values.{drifts_commanded, drifts_ticked, first_d
 use Rattle.pol_stillness.specs.Phases.{asked_in, wanted}
 use Rattle.pol_stillness.specs.Served.{IsServed, IsServedBy}
 use Rattle.pol_stillness.specs.Together.{AreServed, after_report}
-use Rattle.pol_stillness.specs.KeepingUp.{KeepsUp, FirstsKeepUp, IdlesKeepUp, TicksKeepUp, LooksKeepUp, SendsKeepUp, OthersKeepUp, KeptUpIsCommanded}
+use Rattle.pol_stillness.specs.KeepingUp.{KeepsUp, FirstsKeepUp, IdlesKeepUp, TicksKeepUp, LooksKeepUp, SendsKeepUp}
+use Rattle.pol_stillness.specs.KeepingUp.{OthersKeepUp, KeptUpIsCommanded}
 use Rattle.pol_stillness.proofs.Served.{firsts_served, none_ahead, others_served, sends_served, unlooked_none}
 use Rattle.pol_stillness.proofs.Together.{looks_all, name_of, ticks_all}
 

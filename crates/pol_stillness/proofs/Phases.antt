@@ -1,5 +1,6 @@
 -- How a simulated service stands to the commands that were sent to it.
-use Rattle.std.proofs.Common.{◌≡◌, ◌+◌, ℕ, Bool, true, false, cond, not, List, [], ◌∷◌, Option, Some, None, refl, ap, sym, ◌∙◌, subst}
+use Rattle.std.proofs.Common.{◌≡◌, ◌+◌, ℕ, Bool, true, false, cond, not, List, [], ◌∷◌, Option, Some, None, refl, ap}
+use Rattle.std.proofs.Common.{sym, ◌∙◌, subst}
 use Rattle.std.specs.Prelude.{◌&&◌, ◌||◌, is_some, nat_le, option_map, option_and_then, unwrap_or, if◌then◌else◌}
 use Rattle.std.specs.Option.{option_or}
 use Rattle.std.specs.Str.{bytes_eq}
@@ -15,7 +16,8 @@ use Rattle.mtp_modes.specs.declared.view.ServiceView.{ServiceView}
 use Rattle.mtp_desc.specs.Plain.{PlainDescription}
 use Rattle.mtp_desc.specs.Lookup.{self_completes}
 use Rattle.mtp_sim.specs.declared.service.SimService.{SimService}
-use Rattle.mtp_sim.specs.Ticks.{control_in, control_now, is_untold, changes, changes_in, runs_through, moved_on, told, counted, service_ticked, is_reported}
+use Rattle.mtp_sim.specs.Ticks.{control_in, control_now, is_untold, changes, changes_in, runs_through, moved_on, told}
+use Rattle.mtp_sim.specs.Ticks.{counted, service_ticked, is_reported}
 use Rattle.mtp_sim.specs.Commands.{asked_procedure, procedure_after, sent_to}
 use Rattle.chart_core.specs.Entries.{chart_entry}
 use Rattle.chart_core.specs.declared.entry.LogEntry.{LogEntry}
@@ -27,14 +29,15 @@ use Rattle.pol_history.specs.Looking.{History, past, last_of}
 use Rattle.pol_history.specs.Modules.{is_moving, since_docking, control_by, description_by, completes_by, seen_with}
 use Rattle.pol_history.specs.Batches.{taken}
 use Rattle.pol_history.proofs.Accepted.{paired}
-use Rattle.pol_site.specs.Stories.{story, if_to, is_for, started_in, procedure_started, answering, is_answered, controls_in}
+use Rattle.pol_site.specs.Stories.{story, if_to, is_for, started_in, procedure_started, answering, is_answered}
+use Rattle.pol_site.specs.Stories.{controls_in}
 use Rattle.pol_simulated.specs.Units.{newest}
 use Rattle.pol_simulated.proofs.Taking.{moved_untold, told_state}
 use Rattle.mtp_sim.proofs.Edges.{told_last, name_ticked}
-use Rattle.pol_stillness.specs.Phases.{asked_in, is_changed, wanted, IsPhase, told_after, TicksKeepPhases, TakesSettle, SendsGive}
+use Rattle.pol_stillness.specs.Phases.{asked_in, is_changed, wanted, IsPhase, told_after, TicksKeepPhases, TakesSettle}
+use Rattle.pol_stillness.specs.Phases.{SendsGive}
 use Rattle.pol_stillness.proofs.Desks.{view_control}
 use Rattle.pol_simulated.proofs.Reports.{last_newest}
-use Rattle.pol_stillness.proofs.Plain.{}
 use Rattle.pol_stillness.proofs.Carried.{undescribed}
 use Rattle.mtp_sim.proofs.Edges.{state_refl}
 

@@ -1,5 +1,6 @@
 -- Only Start, Complete and Reset are ever sent, and no service leaves the states that they lead to.
-use Rattle.std.proofs.Common.{◌≡◌, ◌≤◌, ◌+◌, ℕ, Bool, true, false, cond, not, List, [], ◌∷◌, Option, Some, None, refl, ap, sym, ◌∙◌, subst, arith, length}
+use Rattle.std.proofs.Common.{◌≡◌, ◌≤◌, ◌+◌, ℕ, Bool, true, false, cond, not, List, [], ◌∷◌, Option, Some, None, refl}
+use Rattle.std.proofs.Common.{ap, sym, ◌∙◌, subst, arith, length}
 use Rattle.std.specs.Prelude.{◌&&◌, ◌||◌, unwrap_or, is_some, filter, if◌then◌else◌}
 use Rattle.std.specs.List.{AllByRecursion, list_any, cons_option}
 use Rattle.std.specs.Option.{option_or}
@@ -20,7 +21,8 @@ use Rattle.chart_core.specs.Entries.{chart_entry}
 use Rattle.chart_core.specs.Roles.{PlainChart}
 use Rattle.chart_core.specs.Trees.{PlainStep}
 use Rattle.chart_core.specs.declared.entry.LogEntry.{LogEntry}
-use Rattle.chart_core.specs.declared.entry.LogEntry.TheVariants.{Start, Finish, Reset, Stop, Broke, StopAsked, Hold, Unhold, Asked}
+use Rattle.chart_core.specs.declared.entry.LogEntry.TheVariants.{Start, Finish, Reset, Stop, Broke, StopAsked, Hold}
+use Rattle.chart_core.specs.declared.entry.LogEntry.TheVariants.{Unhold, Asked}
 use Rattle.chart_cursor.specs.Commands.{Sent, sent_by}
 use Rattle.chart_cursor.specs.Next.{next_after}
 use Rattle.chart_cursor.specs.Sights.{Sights}
@@ -29,7 +31,8 @@ use Rattle.chart_cursor.specs.declared.next.CursorNext.TheVariants.{Entry, Wait,
 use Rattle.chart_cursor.specs.declared.sight.Sight.{Sight}
 use Rattle.chart_cursor.specs.declared.sight.Sight.TheVariants as sight
 use Rattle.chart_cursor.proofs.Commanding.{next_of_run}
-use Rattle.pol_events.specs.Events.{PlainEvent, plug, unplug, report, advance, freeze, thaw, stop_batch, abandon, desk, exchange_begin, exchange_end, exchange_cancel, PlainEntry}
+use Rattle.pol_events.specs.Events.{PlainEvent, plug, unplug, report, advance, freeze, thaw, stop_batch, abandon, desk}
+use Rattle.pol_events.specs.Events.{exchange_begin, exchange_end, exchange_cancel, PlainEntry}
 use Rattle.pol_events.specs.Bound.{given}
 use Rattle.pol_events.specs.Refusals.{may_follow, not_an_edge}
 use Rattle.pol_events.specs.declared.answer.Answer.{Answer}
@@ -40,7 +43,8 @@ use Rattle.chart_core.specs.declared.next.Outcome.{Outcome}
 use Rattle.chart_core.specs.declared.next.Outcome.TheVariants as outcome
 use Rattle.pol_events.specs.declared.answer.Rule.TheVariants.{NotAnEdge}
 use Rattle.pol_history.specs.Looking.{History, past, past_of_batch, is_accepted, is_accepted_of, is_accepted_of_batch}
-use Rattle.pol_history.specs.Modules.{is_moving, since_docking, control_by, description_by, completes_by, seen_with, view_of}
+use Rattle.pol_history.specs.Modules.{is_moving, since_docking, control_by, description_by, completes_by, seen_with}
+use Rattle.pol_history.specs.Modules.{view_of}
 use Rattle.pol_history.specs.Batches.{freezing, is_frozen, is_frozen_by, freezing_of, taken, log_by, log_of}
 use Rattle.pol_history.specs.Commands.{sent_command}
 use Rattle.pol_history.specs.Following.{sights_by, next_of}
@@ -58,13 +62,17 @@ use Rattle.pol_site.specs.Commanded.{is_change_by, changes_by, times_changed, Is
 use Rattle.pol_simulated.proofs.Reports.{last_newest}
 use Rattle.pol_simulated.specs.Units.{newest}
 use Rattle.pol_stillness.proofs.Desks.{view_control, desks_refused}
-use Rattle.pol_stillness.specs.Plain.{is_plain, is_plain_command, is_completed_outcome, is_plain_answer, IsPlain, PlantsArePlain}
-use Rattle.chart_cursor.specs.NextEntry.{did_or, broken_step, first_broken, first_unhold, is_broken_state, is_under_way, next_by, owed, run_next, stop_next, unless_whole}
+use Rattle.pol_stillness.specs.Plain.{is_plain, is_plain_command, is_completed_outcome, is_plain_answer, IsPlain}
+use Rattle.pol_stillness.specs.Plain.{PlantsArePlain}
+use Rattle.chart_cursor.specs.NextEntry.{did_or, broken_step, first_broken, first_unhold, is_broken_state, is_under_way}
+use Rattle.chart_cursor.specs.NextEntry.{next_by, owed, run_next, stop_next, unless_whole}
 use Rattle.chart_cursor.specs.Freezing.{Freezing, thawed}
-use Rattle.chart_cursor.specs.Logs.{active, chart_entries, has_broken, holding_by, is_broke, is_stop_asked, was_held, was_stopped}
+use Rattle.chart_cursor.specs.Logs.{active, chart_entries, has_broken, holding_by, is_broke, is_stop_asked, was_held}
+use Rattle.chart_cursor.specs.Logs.{was_stopped}
 use Rattle.chart_core.specs.Active.{or_earlier, last_of}
 use Rattle.mtp_codes.specs.Names.{same_name}
 use Rattle.mtp_codes.proofs.Names.{same_refl}
+use Rattle.mtp_codes.proofs.Lists.{none_any}
 
 -- ---- states
 
@@ -100,11 +108,6 @@ kept_plain false old new =
     of_each_state (λ new. is_kept_plain false old new ≡ true)
     (of_each_state (λ old. AllByRecursion (λ new. is_kept_plain false old new ≡ true) every_state) every_plain_waiting
     old) new
-
--- where no item passes a test, none of the list does
-none_any : {X : Type 0} (test : X → Bool) (xs : List X) → ((x : X) → test x ≡ false) → list_any test xs ≡ false
-none_any test [] none = refl
-none_any test (x ∷ xs) none = rw (none x) (none_any test xs none)
 
 -- a plain state is followed by a plain one, or by one to which no plain command led
 plain_next : (completes : Bool) (old new : State) → is_plain old ≡ true → may_follow old new ≡ true

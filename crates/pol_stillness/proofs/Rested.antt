@@ -1,5 +1,6 @@
 -- A simulated module that is settled rests.
-use Rattle.std.proofs.Common.{◌≡◌, ◌≤◌, ℕ, suc, zero, ℤ, Bool, true, false, cond, not, List, [], ◌∷◌, ◌++◌, length, Option, Some, None, refl, ap, sym, ◌∙◌, subst, arith}
+use Rattle.std.proofs.Common.{◌≡◌, ◌≤◌, ℕ, suc, zero, ℤ, Bool, true, false, cond, not, List, [], ◌∷◌, ◌++◌, length}
+use Rattle.std.proofs.Common.{Option, Some, None, refl, ap, sym, ◌∙◌, subst, arith}
 use Rattle.std.specs.Prelude.{◌&&◌, ◌||◌, map, is_some, is_none, option_map, slice_get, unwrap_or, if◌then◌else◌}
 use Rattle.std.specs.List.{list_all, list_any}
 use Rattle.std.specs.Option.{option_or}
@@ -20,13 +21,16 @@ use Rattle.chart_core.specs.declared.entry.LogEntry.{LogEntry}
 use Rattle.chart_cursor.specs.Commands.{Sent, sent_by}
 use Rattle.pol_events.specs.Events.{PlainEntry}
 use Rattle.pol_history.specs.Looking.{History, is_accepted_of, last_of, past}
-use Rattle.pol_history.specs.Modules.{control_by, description_by, is_moving, reported, seen_with, since_docking, view_by}
+use Rattle.pol_history.specs.Modules.{control_by, description_by, is_moving, reported, seen_with, since_docking}
+use Rattle.pol_history.specs.Modules.{view_by}
 use Rattle.pol_history.specs.Runs.{IsLegal}
 use Rattle.pol_safety.specs.Permitted.{WasPermitted}
 use Rattle.pol_safety.proofs.Sending.{sent_was_permitted}
 use Rattle.pol_site.specs.Plans.{drifts_in, plan_by}
-use Rattle.pol_site.specs.Settled.{is_quiet_by, is_quiet_module, is_read, is_running, is_settled_in, is_some_running, is_spent, is_still}
-use Rattle.pol_site.specs.Stories.{answering, are_answered, controls_in, if_to, is_answered, is_for, is_sent_answered, sent_to, story, touches}
+use Rattle.pol_site.specs.Settled.{is_quiet_by, is_quiet_module, is_read, is_running, is_settled_in, is_some_running}
+use Rattle.pol_site.specs.Settled.{is_spent, is_still}
+use Rattle.pol_site.specs.Stories.{answering, are_answered, controls_in, if_to, is_answered, is_for, is_sent_answered}
+use Rattle.pol_site.specs.Stories.{sent_to, story, touches}
 use Rattle.pol_simulated.specs.Units.{IsServiceTold, IsTold, newest, service_called}
 use Rattle.pol_simulated.specs.Places.{Found, found_at, next_command, StaysFrom}
 use Rattle.pol_simulated.proofs.Called.{called_at, service_name}

@@ -1,5 +1,6 @@
 -- A simulated module that rests is settled.
-use Rattle.std.proofs.Common.{◌≡◌, ℕ, suc, ℤ, Bool, true, false, cond, not, List, [], ◌∷◌, Option, Some, None, refl, ap, sym, ◌∙◌, subst}
+use Rattle.std.proofs.Common.{◌≡◌, ℕ, suc, ℤ, Bool, true, false, cond, not, List, [], ◌∷◌, Option, Some, None, refl, ap}
+use Rattle.std.proofs.Common.{sym, ◌∙◌, subst}
 use Rattle.std.specs.Prelude.{◌&&◌, ◌||◌, map, find, is_some, is_none, slice_get}
 use Rattle.std.specs.List.{list_all, list_any}
 use Rattle.std.specs.Str.{bytes_eq}
@@ -12,7 +13,8 @@ use Rattle.mtp_sim.specs.declared.plan.Drift.{Drift}
 use Rattle.mtp_sim.specs.declared.drift.SimDrift.{SimDrift}
 use Rattle.mtp_sim.specs.declared.service.SimService.{SimService}
 use Rattle.mtp_sim.specs.Sims.{PlainSim, drift_in}
-use Rattle.mtp_sim.specs.Ticks.{changes, control_now, is_executing, is_left, is_pending, is_silent, is_untold, next_value}
+use Rattle.mtp_sim.specs.Ticks.{changes, control_now, is_executing, is_left, is_pending, is_silent, is_untold}
+use Rattle.mtp_sim.specs.Ticks.{next_value}
 use Rattle.mtp_sim.proofs.Edges.{none_at}
 use Rattle.pol_history.specs.Looking.{History, past}
 use Rattle.pol_history.specs.Modules.{control_by, since_docking, value_by, view_by}

@@ -1,5 +1,6 @@
 -- How a simulated service stands in a history, whose commands it looks at one by one.
-use Rattle.std.proofs.Common.{◌≡◌, ◌≤◌, ◌<◌, ℕ, suc, Bool, true, false, cond, not, List, [], ◌∷◌, ◌++◌, length, Option, Some, None, refl, ap, sym, ◌∙◌, subst, arith}
+use Rattle.std.proofs.Common.{◌≡◌, ◌≤◌, ◌<◌, ℕ, suc, Bool, true, false, cond, not, List, [], ◌∷◌, ◌++◌, length, Option}
+use Rattle.std.proofs.Common.{Some, None, refl, ap, sym, ◌∙◌, subst, arith}
 use Rattle.std.specs.Prelude.{◌&&◌, ◌||◌, nat_le, is_some, option_map, if◌then◌else◌}
 use Rattle.std.specs.List.{cons_option, list_all}
 use Rattle.std.specs.Option.{option_or}
@@ -35,7 +36,8 @@ use Rattle.pol_stillness.specs.Law.{IsSentStill}
 use Rattle.pol_stillness.specs.Phases.{asked_in, wanted, Wanted, IsGiven, IsPhase, IsTaken}
 use Rattle.pol_simulated.proofs.Places.{found_within, is_at, le_true, lt_fails, taken_sends}
 use Rattle.pol_simulated.specs.Places.{Found, found_at, next_command}
-use Rattle.pol_stillness.specs.Served.{unlooked, list_of, IsServed, IsServedBy, FirstsAreServed, SendsServe, OthersServe, TicksServe, LooksServe, RestIsAnswered}
+use Rattle.pol_stillness.specs.Served.{unlooked, list_of, IsServed, IsServedBy, FirstsAreServed, SendsServe}
+use Rattle.pol_stillness.specs.Served.{OthersServe, TicksServe, LooksServe, RestIsAnswered}
 use Rattle.pol_stillness.proofs.Desks.{view_control}
 use Rattle.pol_simulated.proofs.Reports.{last_newest}
 use Rattle.pol_stillness.proofs.Plain.{plants_plain, answer_plain, did_runs}

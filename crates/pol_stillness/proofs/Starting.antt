@@ -6,14 +6,16 @@ use Rattle.std.proofs.lemmas.Bool.{and_parts, eqb-true}
 use Rattle.mtp_codes.specs.Names.{same_name}
 use Rattle.mtp_desc.specs.Plain.{PlainDescription, PlainProcedure}
 use Rattle.mtp_desc.specs.Lookup.{procedure_at}
-use Rattle.mtp_procs.specs.Covers.{role_fault, role_named, is_refused, is_refused_step, refused_step, refused_variable, cover_fault}
+use Rattle.mtp_procs.specs.Covers.{role_fault, role_named, is_refused, is_refused_step, refused_step, refused_variable}
+use Rattle.mtp_procs.specs.Covers.{cover_fault}
 use Rattle.mtp_procs.specs.Demands.{procedure_fault, step_fault}
 use Rattle.mtp_codes.specs.declared.cover.CoverFault.TheVariants.{NotCovered}
 use Rattle.mtp_codes.proofs.Names.{same_refl}
 use Rattle.mtp_sim.specs.Commands.{default_number, asked_procedure}
 use Rattle.chart_core.specs.Form.{is_step_formed, is_tree_formed, are_trees_formed, are_arms_formed}
 use Rattle.chart_core.specs.Roles.{PlainChart, role_names}
-use Rattle.chart_core.specs.Trees.{Placed, Tree, Trees, Arms, leaf, seq, par, choice, loop, no_trees, more_trees, no_arms, more_arms, size, steps, all_steps, arm_steps}
+use Rattle.chart_core.specs.Trees.{Placed, Tree, Trees, Arms, leaf, seq, par, choice, loop, no_trees, more_trees}
+use Rattle.chart_core.specs.Trees.{no_arms, more_arms, size, steps, all_steps, arm_steps}
 use Rattle.chart_core.specs.declared.entry.LogEntry.TheVariants.{Start}
 use Rattle.chart_core.proofs.Lawful.{each_member, roles_of_steps}
 use Rattle.chart_core.proofs.Validity.{Each, each_append, form_tree}

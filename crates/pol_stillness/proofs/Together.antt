@@ -1,5 +1,6 @@
 -- All services of a simulated module, as they stand in a history.
-use Rattle.std.proofs.Common.{◌≡◌, ◌+◌, ◌<◌, ℕ, suc, Bool, true, false, cond, not, arith, get_or, List, [], ◌∷◌, length, Option, Some, None, refl, ap, sym, ◌∙◌, subst}
+use Rattle.std.proofs.Common.{◌≡◌, ◌+◌, ◌<◌, ℕ, suc, Bool, true, false, cond, not, arith, get_or, List, [], ◌∷◌, length}
+use Rattle.std.proofs.Common.{Option, Some, None, refl, ap, sym, ◌∙◌, subst}
 use Rattle.std.specs.Prelude.{is_some, find, option_map, option_and_then, slice_get, slice_set, if◌then◌else◌}
 use Rattle.std.specs.List.{position, prefix_len}
 use Rattle.std.specs.Str.{bytes_eq}
@@ -7,14 +8,16 @@ use Rattle.std.proofs.lemmas.List.Quantifiers.{position-Some}
 use Rattle.std.proofs.lemmas.Option.{same_Some, slice_get-get_or}
 use Rattle.mtp_codes.proofs.Names.{same_true, same_refl}
 use Rattle.mtp_desc.specs.Plain.{PlainDescription}
-use Rattle.mtp_json.specs.Form.{repeats_by}
 use Rattle.mtp_sim.specs.declared.drift.SimDrift.{SimDrift}
 use Rattle.mtp_sim.specs.declared.service.SimService.{SimService}
 use Rattle.mtp_sim.specs.Sims.{PlainSim, first_service}
-use Rattle.mtp_sim.specs.Ticks.{is_executing, is_reported, value_told, variable_report, report_of, limit_of, ticked_service, service_report, drift_report, report_by, service_here, drift_here, ticked_at, ticked_at_drift, control_now}
+use Rattle.mtp_sim.specs.Ticks.{is_executing, is_reported, value_told, variable_report, report_of, limit_of}
+use Rattle.mtp_sim.specs.Ticks.{ticked_service, service_report, drift_report, report_by, service_here, drift_here}
+use Rattle.mtp_sim.specs.Ticks.{ticked_at, ticked_at_drift, control_now}
 use Rattle.mtp_sim.specs.Commands.{service_took, place_of, with_service, took_at, took, after_command}
 use Rattle.chart_cursor.specs.Commands.{sent_by}
 use Rattle.mtp_codes.specs.declared.value.Value.TheVariants.{Whole}
+use Rattle.mtp_codes.specs.Repeats.{repeats_by}
 use Rattle.pol_events.specs.Events.{report, PlainEntry, variable}
 use Rattle.pol_events.specs.declared.answer.Answer.TheVariants.{Done}
 use Rattle.pol_history.specs.Looking.{History}

@@ -1,6 +1,6 @@
 -- A simulated module keeps up with a history: all that the laws ask of it, in one.
 use Rattle.std.specs.Prelude.{ℕ, suc, ◌≡◌, ◌≤◌, true, false, List, [], ◌∷◌, length, Some, None}
-use Rattle.mtp_json.specs.Form.{repeats_by}
+use Rattle.mtp_codes.specs.Repeats.{repeats_by}
 use Rattle.mtp_desc.specs.Plain.{PlainDescription, same_service}
 use Rattle.mtp_sim.specs.Sims.{PlainSim, PlainPlan, first_sim}
 use Rattle.mtp_sim.specs.Ticks.{is_pending, tick_report, ticked}

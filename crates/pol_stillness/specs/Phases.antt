@@ -1,6 +1,7 @@
 -- How a simulated service stands to the commands that were sent to it: nothing is left to look at, or one command that
 -- it takes.
-use Rattle.std.specs.Prelude.{ℕ, ◌≡◌, ◌&&◌, not, Bool, true, false, List, ◌∷◌, Option, Some, None, is_some, if◌then◌else◌}
+use Rattle.std.specs.Prelude.{ℕ, ◌≡◌, ◌&&◌, not, Bool, true, false, List, ◌∷◌, Option, Some, None, is_some}
+use Rattle.std.specs.Prelude.{if◌then◌else◌}
 use Rattle.mtp_codes.specs.declared.command.Command.{Command}
 use Rattle.mtp_codes.specs.declared.command.Command.TheVariants.{Complete}
 use Rattle.mtp_codes.specs.declared.state.State.{State}

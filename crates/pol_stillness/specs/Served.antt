@@ -1,5 +1,6 @@
 -- How a simulated service stands in a history, whose commands it looks at one by one.
-use Rattle.std.specs.Prelude.{ℕ, suc, ◌≡◌, ◌≤◌, ◌&&◌, nat_le, true, false, List, [], ◌∷◌, length, Option, Some, None, if◌then◌else◌}
+use Rattle.std.specs.Prelude.{ℕ, suc, ◌≡◌, ◌≤◌, ◌&&◌, nat_le, true, false, List, [], ◌∷◌, length, Option, Some, None}
+use Rattle.std.specs.Prelude.{if◌then◌else◌}
 use Rattle.std.specs.List.{cons_option}
 use Rattle.mtp_desc.specs.Plain.{PlainDescription}
 use Rattle.mtp_sim.specs.declared.service.SimService.{SimService}
@@ -14,7 +15,8 @@ use Rattle.pol_history.specs.Modules.{is_moving, since_docking, description_by}
 use Rattle.pol_history.specs.Batches.{taken}
 use Rattle.pol_history.specs.Runs.{IsLegal, IsOrderly}
 use Rattle.pol_site.specs.Sites.{PlainSite}
-use Rattle.pol_site.specs.Stories.{sent_to, if_to, touches, story, is_for, answering, started_in, controls_in, are_answered}
+use Rattle.pol_site.specs.Stories.{sent_to, if_to, touches, story, is_for, answering, started_in, controls_in}
+use Rattle.pol_site.specs.Stories.{are_answered}
 use Rattle.pol_site.specs.Following.{FollowsSite}
 use Rattle.pol_site.specs.Commanded.{IsCommanded}
 use Rattle.pol_simulated.specs.Units.{IsTold, IsInStep, service_called}

@@ -1,7 +1,7 @@
 -- All services of a simulated module, as they stand in a history.
 use Rattle.std.specs.Prelude.{ℕ, suc, ◌≡◌, false, true, List, ◌∷◌, Option, Some, None, is_some}
+use Rattle.mtp_codes.specs.Repeats.{repeats_by}
 use Rattle.mtp_desc.specs.Plain.{PlainDescription}
-use Rattle.mtp_json.specs.Form.{repeats_by}
 use Rattle.mtp_sim.specs.declared.report.SimReport.{SimReport}
 use Rattle.mtp_sim.specs.declared.service.SimService.{SimService}
 use Rattle.mtp_sim.specs.Sims.{PlainSim}

@@ -37,34 +37,10 @@ told_keeps seen images end behind events waiting all told keeps =
     subst (λ (o : Option (List ℕ)). IfSome o (λ (l : List ℕ). KeepsGroup seen images end behind events waiting)) told
     keeps
 
--- bytes that are told
-abbrev some : List ℕ → Option (List ℕ)
-some l = Some l
-
--- what a told disk tells is one thing
-same_some : (xs ys : List ℕ) → some xs ≡ some ys → xs ≡ ys
-same_some xs ys same = cc
-
 -- a fact of what is done, where it was
 pub at_ok : {T E P : Type 0} (r : Result T E) → is_err r ≡ false → OnOk r P → P
 at_ok (Ok x) good p = p
 at_ok (Err e) good p = absurd cc
-
--- the closed gate lies within the bytes
-pub near_end : (seen : Option (List ℕ)) (images : List ℕ → Type 0) (end : ℕ) (behind : List ℕ)
-    (events : List PlainEvent) (waiting : ℕ) → Keeps seen images end behind events waiting →
-    IfSome seen (λ all. end < length all)
-near_end None images end behind events waiting keeps = tt
-near_end (Some all) images end behind events waiting keeps =
-    let s = keeps.keeps.settled in
-    omega (
-      arith,
-      s.ends,
-      ap length
-          (same_some all s.bytes s.synced.told),
-      ap length s.begins.is,
-      length-append s.begins.records (0 ∷ s.begins.behind),
-    )
 
 -- what holds wherever bytes are told
 pub if_now : (seen : Option (List ℕ)) (X : Type 0) → ((now : List ℕ) → seen ≡ Some now → X) →
@@ -230,8 +206,3 @@ module _ {D : Type 0} (bytes : D → Option (List ℕ)) (images : D → List ℕ
       KeepsEvents (bytes new) (images new) (end + length behind) events) → KeepsAll bytes images s new
   keeps_all new kept = λ all told image left.
       kept_stands (bytes new) (images new) (end + length behind) events (kept all told) image left
-
-  -- of a store for which nothing waits too
-  pub all_kept : IsOpen → s.closed ≡ false → s.waiting ≡ 0 → KeepsAll bytes images s s.disk
-  all_kept o is none = λ all told image left.
-      kept_now o is all told events [] record { are = sym (append-nil events); many = sym none } image left

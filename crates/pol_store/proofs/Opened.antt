@@ -1,16 +1,20 @@
 -- A disk is opened.
-use Rattle.std.proofs.Common.{◌≡◌, inl, inr, ℕ, ◌<◌, ◌≤◌, List, [], length, Option, Some, None, refl, sym, ap, ◌∙◌, subst, arith}
-use Rattle.std.specs.Prelude.{IfSome, unwrap_or}
+use Rattle.std.proofs.Common.{◌≡◌, inl, inr, ℕ, ◌<◌, ◌≤◌, Bool, true, List, [], length, Option, Some, None, refl, sym, ap, ◌∙◌, subst, arith}
+use Rattle.std.specs.Bool.{Decides}
+use Rattle.std.specs.Prelude.{◌≢◌, IfSome, unwrap_or}
 use Rattle.pol_disk.specs.Disks.{LeavesOnly, StillTells}
 use Rattle.pol_disk.proofs.Moments.{then, wider}
+use Rattle.pol_texts.specs.Finds.{IsFound}
 use Rattle.pol_texts.specs.Settled.{IsSynced, IsSettled}
 use Rattle.pol_texts.specs.Stands.{Stands}
+use Rattle.pol_texts.specs.declared.finding.Found.TheVariants.{Neither}
 use Rattle.pol_events.specs.Events.{PlainEvent}
 use Rattle.pol_store.specs.Stands.{StandsFor, BreaksAt}
 use Rattle.pol_store.specs.Opens.{Breaks, IsLeftOf, IsOpened, IsReplayed, IsNoStore, Tells}
 use Rattle.pol_store.specs.declared.opening.OpenFault.{OpenFault}
 use Rattle.pol_store.specs.declared.opening.OpenFault.TheVariants.{Memory, Disk, NotAStore}
 use Rattle.pol_store.proofs.Broken.{breaks_none}
+use Rattle.pol_store.proofs.Replays.{neither_breaks}
 
 -- a short disk stands for no event
 pub short_stands : (all : List ℕ) → length all ≤ 1 → StandsFor [] all
@@ -63,19 +67,29 @@ both : (o : Option (List ℕ)) (A B C : List ℕ → Type 0) → ((l : List ℕ)
 both None A B C f a b = tt
 both (Some l) A B C f a b = f l a b
 
--- what a fault of the replay says of the disk
-pub replay_tells : (fault : OpenFault) (items : List ℕ) (number : ℕ) (seen seen' : Option (List ℕ))
-    (faults faults' : ℕ) → Breaks items fault → StillTells seen seen' → faults' ≡ faults
-    → 1 < number → IfSome seen' (λ l. number ≡ length l) → IfSome seen' (λ l. items ≡ l) →
-    Tells fault seen seen' faults faults'
-replay_tells Memory items number seen seen' faults faults' breaks still faultless long counted read = still
-replay_tells Disk items number seen seen' faults faults' breaks still faultless long counted read = tt
-replay_tells (NotAStore place) items number seen seen' faults faults' breaks still faultless long counted read = (
-  faultless,
+-- what a fault says of the bytes that were read it says of those that are told
+pub breaks_told : (fault : OpenFault) (items : List ℕ) (seen : Option (List ℕ)) → Breaks items fault →
+    IfSome seen (λ l. items ≡ l) → IfSome seen (λ l. Breaks l fault)
+breaks_told fault items None breaks is = tt
+breaks_told fault items (Some all) breaks is = subst (λ (l : List ℕ). Breaks l fault) is breaks
+
+-- where what a disk begins with is cut short, it breaks at its front
+pub cut_breaks : (cut : Bool) (seen : Option (List ℕ)) → cut ≡ true →
+    IfSome seen (λ all. Decides cut (IsFound all Neither)) → IfSome seen (λ all. Breaks all (NotAStore 0))
+cut_breaks cut None is told = tt
+cut_breaks cut (Some all) is told = neither_breaks all (told.0 is)
+
+-- what a fault of an open disk says of it
+pub fault_tells : (fault : OpenFault) (number : ℕ) (seen seen' : Option (List ℕ)) (faults faults' : ℕ) →
+    IfSome seen' (λ l. Breaks l fault) → StillTells seen seen' → (fault ≢ Disk → faults' ≡ faults) →
+    1 < number → IfSome seen' (λ l. number ≡ length l) → Tells fault seen seen' faults faults'
+fault_tells Memory number seen seen' faults faults' breaks still faultless long counted = still
+fault_tells Disk number seen seen' faults faults' breaks still faultless long counted = tt
+fault_tells (NotAStore place) number seen seen' faults faults' breaks still faultless long counted = (
+  faultless (λ same. cc),
   still,
-  both seen' (λ l. number ≡ length l) (λ l. items ≡ l) (λ l. IsNoStore l place)
-      (λ l many is. no_store l place (omega (arith, long, many))
-      (subst (λ (i : List ℕ). BreaksAt place i) is breaks)) counted read,
+  both seen' (λ l. number ≡ length l) (λ l. BreaksAt place l) (λ l. IsNoStore l place)
+      (λ l many broken. no_store l place (omega (arith, long, many)) broken) counted breaks,
 )
 
 -- after calls of which a crash at any moment leaves only what has a property, each image has it
@@ -93,7 +107,8 @@ module _ {D : Type 0} (images : D → List ℕ → Type 0) (moment : D → ℕ) 
   left_settled = wider moment left_since old mid (images old) (IsLeftOf all (images old)) first (λ image was. inl was)
 
   -- a short disk was begun
-  pub left_begun : (new : D) → images old all → length all ≤ 1 → LeavesOnly moment left_since mid new (λ image. Stands image []) →
+  pub left_begun : (new : D) → images old all → length all ≤ 1 →
+      LeavesOnly moment left_since mid new (λ image. Stands image []) →
       LeavesOnly moment left_since old new (IsLeftOf all (images old))
   left_begun new image short begun =
       then moment left_since old mid new (IsLeftOf all (images old)) (λ image. Stands image []) left_settled begun

@@ -1,8 +1,10 @@
 -- An image is replayed record by record.
-use Rattle.std.proofs.Common.{◌≡◌, ℕ, ◌+◌, ◌<◌, ◌≤◌, List, [], ◌∷◌, ◌++◌, length, drop, refl, sym, ◌∙◌, ap, subst, arith, append_assoc, length-append, length-drop}
+use Rattle.std.proofs.Common.{◌≡◌, ℕ, ◌+◌, ◌≤◌, List, [], ◌∷◌, ◌++◌, length, drop, refl, sym, ◌∙◌, ap, subst, arith, append_assoc, length-append}
 use Rattle.std.proofs.lemmas.List.{drop_at}
 use Rattle.mtp_codes.specs.declared.limits.TheConstants.{LONGEST_HISTORY}
+use Rattle.pol_texts.specs.Finds.{IsFound}
 use Rattle.pol_texts.specs.Stands.{body_of}
+use Rattle.pol_texts.specs.declared.finding.Found.TheVariants.{Neither}
 use Rattle.pol_texts.proofs.Crash.{records-push}
 use Rattle.pol_events.specs.Events.{PlainEvent}
 use Rattle.pol_store.specs.Stands.{BeginsWithEvents, IsBroken, BreaksAt}
@@ -21,11 +23,6 @@ rest_is : (place : ℕ) (image : List ℕ) (events : List PlainEvent) (b : Begin
 rest_is place image events b =
     ap (λ (l : List ℕ). drop place l) b.is ∙ drop_at b.records b.behind place (sym b.place_is)
 
--- their end lies within the image
-pub place_within : (place : ℕ) (image : List ℕ) (events : List PlainEvent) → BeginsWithEvents place image events →
-    place ≤ length image
-place_within place image events b = omega (arith, b.place_is, ap length b.is, length-append b.records b.behind)
-
 -- one record more
 pub replay_more : (place size : ℕ) (image : List ℕ) (events : List PlainEvent) (event : PlainEvent) →
     BeginsWithEvents place image events → IsRecord (drop place image) event size
@@ -41,16 +38,6 @@ replay_more place size image events event b r = record {
   are_records = records-push b.records b.texts r.begins.gate r.text b.are_records r.begins.open_gate r.begins.counted;
   place_is = omega (arith, b.place_is, r.long, length-append b.records (r.begins.gate ∷ body_of r.text));
 }
-
--- a record has bytes, all in the image
-pub record_size : (place size : ℕ) (image : List ℕ) (event : PlainEvent) → place ≤ length image →
-    IsRecord (drop place image) event size → (0 < size) × (place + size ≤ length image)
-record_size place size image event within r =
-    let long = ap length r.begins.is in (
-      omega (arith, r.long),
-      omega
-          (arith, r.long, long, length-append (body_of r.text) r.behind, length-drop place image, within),
-    )
 
 -- the closed gate
 pub replay_closed : (place : ℕ) (image behind : List ℕ) (events : List PlainEvent) →
@@ -79,3 +66,14 @@ replay_breaks place image events b broken = record {
   begins = b;
   broken = subst (IsBroken (length events)) (rest_is place image events b) broken;
 }
+
+-- where neither a closed gate nor a record stands
+pub neither_broken : (count : ℕ) (bytes : List ℕ) → IsFound bytes Neither → IsBroken count bytes
+neither_broken count bytes neither = record {
+  no_gate = neither.0;
+  no_record = λ text behind event begins names. absurd (neither.1 text behind begins);
+}
+
+-- so an image with neither at its front breaks there
+pub neither_breaks : (image : List ℕ) → IsFound image Neither → BreaksAt 0 image
+neither_breaks image neither = replay_breaks 0 image [] (begun image) (neither_broken 0 image neither)

@@ -1,10 +1,10 @@
 -- Texts and their events.
 use Rattle.std.proofs.Common.{◌≡◌, inl, inr, ℕ, List, [], ◌∷◌, ◌++◌, length, Option, Ok, Result, refl, sym, ◌∙◌, ap, subst, arith}
-use Rattle.pol_texts.specs.Stands.{Stands, Begins}
+use Rattle.pol_texts.specs.Stands.{Begins}
 use Rattle.pol_texts.proofs.Unique.{one_list}
 use Rattle.pol_texts.specs.Stands as of_texts
 use Rattle.pol_events.specs.Events.{PlainEvent}
-use Rattle.pol_events.specs.declared.fault.LineFault.{LineFault}
+use Rattle.event_json.specs.declared.fault.LineFault.{LineFault}
 use Rattle.pol_store.specs.Stands.{IsTextOf, AreTextsOf, StandsFor, StandsWithAllOrNone}
 use Rattle.pol_store.specs.Keeping.{KeepsEvents}
 

@@ -26,10 +26,10 @@ use Rattle.mtp_codes.specs.declared.value.Value.TheVariants as scalar
 use Rattle.mtp_json.specs.Written.{is_scalar, scalar_data}
 use Rattle.pol_events.specs.Events.{PlainEvent, advance, desk, plain_event, report, variable}
 use Rattle.pol_events.specs.Orderly.{is_orderly}
-use Rattle.pol_events.specs.Ranges.{is_control_in_range, is_in_range, is_stamped}
-use Rattle.pol_events.specs.Written.{mode_word, origin_word, written_batch, written_desk, written_event, written_report, written_variable}
 use Rattle.pol_events.specs.declared.event.Event.{Event}
-use Rattle.pol_events.proofs.Again.{event_again, line_again}
+use Rattle.event_json.specs.Ranges.{is_control_in_range, is_in_range, is_stamped}
+use Rattle.event_json.specs.Written.{mode_word, origin_word, written_batch, written_desk, written_event, written_report, written_variable}
+use Rattle.event_json.proofs.Again.{event_again, line_again}
 use Rattle.pol_lines.proofs.Printed.{begins_all}
 use Rattle.pol_record.specs.Objects.{data_tokens}
 use Rattle.pol_record.specs.Texts.{event_text}

@@ -30,8 +30,8 @@ pub record IsNoStore (image : List ℕ) (place : ℕ) : Type 0 where
   pub none : StandsForNone image
   pub breaks : BreaksAt place image
 
--- what a fault says, where the disk tells its bytes still: of NotAStore, that no call of the disk failed; of Memory, that reads
--- give what they gave
+-- what a fault says, where the disk tells its bytes still: of NotAStore, that no call of the disk failed; of Memory,
+-- that reads give what they gave
 abbrev pub Tells : OpenFault → Option (List ℕ) → Option (List ℕ) → ℕ → ℕ → Type 0
 Tells Memory seen seen' faults faults' = StillTells seen seen'
 Tells Disk seen seen' faults faults' = Unit {0}
@@ -44,7 +44,7 @@ pub record IsOpened (all : List ℕ) (seen : Option (List ℕ)) (images : List �
   pub stood : StandsFor events all
   pub kept : KeepsEvents seen images end events
 
--- what opening a disk leaves that reads as these bytes: an image that a crash might have left before; or one that stands
--- for no event, where a crash might have left these bytes, and there is at most one of them
+-- what opening a disk leaves that reads as these bytes: an image that a crash might have left before; or one that
+-- stands for no event, where a crash might have left these bytes, and there is at most one of them
 abbrev pub IsLeftOf : List ℕ → (List ℕ → Type 0) → List ℕ → Type 0
 IsLeftOf all images image = images image ⊎ (images all × (length all ≤ 1) × StandsFor [] image)

@@ -3,7 +3,7 @@ use Rattle.std.specs.Prelude.{◌≡◌, ◌≢◌, ◌⊎◌, ◌≤◌, ℕ, L
 use Rattle.mtp_codes.specs.declared.limits.TheConstants.{LONGEST_HISTORY}
 use Rattle.pol_texts.specs.Stands.{Stands, BeginsWith, AreRecords}
 use Rattle.pol_events.specs.Events.{PlainEvent}
-use Rattle.pol_events.specs.Lines.{event_of}
+use Rattle.event_json.specs.Lines.{event_of}
 use Rattle.pol_record.specs.Texts.{event_text}
 
 -- the text is the one that is written of the event, and it is read as this event

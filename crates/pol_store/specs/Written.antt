@@ -7,9 +7,9 @@ use Rattle.mtp_assembly.specs.declared.control.ServiceControl.{ServiceControl}
 use Rattle.serde_json.specs.Data.{Data}
 use Rattle.serde_json.specs.Read.{read}
 use Rattle.pol_events.specs.Events.{PlainEvent}
-use Rattle.pol_events.specs.Lines.{event_of}
-use Rattle.pol_events.specs.Ranges.{is_in_range}
-use Rattle.pol_events.specs.Written.{mode_word, origin_word, written_event}
+use Rattle.event_json.specs.Lines.{event_of}
+use Rattle.event_json.specs.Ranges.{is_in_range}
+use Rattle.event_json.specs.Written.{mode_word, origin_word, written_event}
 use Rattle.pol_record.specs.Objects.{data_tokens}
 use Rattle.pol_record.specs.Texts.{event_text}
 

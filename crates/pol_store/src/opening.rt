@@ -1,16 +1,16 @@
 //! A disk is opened.
-ghost use Rattle.std.specs.Prelude.{◌≡◌, ◌≢◌, ◌≤◌, ◌∷◌, ℕ, List, Some, IfOk, IfErr, IfSome, OnOk, length};
+ghost use Rattle.std.specs.Prelude.{◌≡◌, ℕ, List, Some, IfOk, IfErr, IfSome, OnOk, length};
 ghost use Rattle.pol_io.specs.Causes.{HasCauseOf};
 ghost use Rattle.pol_disk.specs.Disks.{LeavesOnly, StillTells, ToldOn, Keeps as KeepsImages};
 ghost use Rattle.pol_core.specs.Plants.{plant_history};
 ghost use Rattle.pol_history.specs.Runs.{IsLegal, IsOrderly, events_of};
-ghost use Rattle.pol_store.specs.Opens.{IsLeftOf, IsOpened, Tells};
+ghost use Rattle.pol_store.specs.Opens.{Breaks, IsLeftOf, IsOpened, Tells};
 
 use crate::replaying::replay;
 use pol_core::Plant;
 use pol_disk::Disk;
 use pol_io::Failed;
-use pol_texts::{LoadFault, begin, load, settle};
+use pol_texts::{LoadFault, begin, begins_cut_short, load, settle};
 use std::alloc::{AllocError, Global};
 
 /// Why a disk can't be opened.
@@ -49,7 +49,8 @@ impl From<Failed> for OpenFault {
     }
 }
 
-// The bytes of a disk that has so many.
+// The bytes of a disk that has so many. One whose first record is cut short is told by its first bytes, so that a large
+// file of another kind needs no memory.
 fn load_all<D: Disk>(alloc: Global, disk: &mut D, size: u64) -> Result<Vec<u8>, OpenFault>
     requires { IfSome (D.bytes disk.old) (λ all. size ≡ length all) }
     ensures read { IfOk result (λ bytes. IfSome (D.bytes disk.new) (λ all. bytes.items ≡ all)) }
@@ -57,8 +58,12 @@ fn load_all<D: Disk>(alloc: Global, disk: &mut D, size: u64) -> Result<Vec<u8>, 
     ensures images { KeepsImages (D.images disk.old) (D.images disk.new) }
     ensures moments { LeavesOnly D.moment D.left_since disk.old disk.new (D.images disk.old) }
     ensures cause { HasCauseOf OpenFault.Disk (D.faults disk.old) (D.faults disk.new) result }
-    ensures no_store { IfErr result (λ fault. (place : ℕ) → fault ≢ OpenFault.NotAStore place) }
+    ensures breaks { IfErr result (λ fault. IfSome (D.bytes disk.new) (λ all. Breaks all fault)) }
 {
+    let cut = begins_cut_short(disk, size)?;
+    if cut {
+        return Err(OpenFault::NotAStore { place: 0 });
+    }
     match load(alloc, disk, size) {
         Ok(bytes) => Ok(bytes),
         Err(LoadFault::Memory) => Err(OpenFault::Memory),
@@ -66,13 +71,15 @@ fn load_all<D: Disk>(alloc: Global, disk: &mut D, size: u64) -> Result<Vec<u8>, 
     }
 }
 
-/// Opens a disk: the plant whose events it keeps, and the place of the closed gate behind their records. What is said of
-/// the bytes that the disk told before holds where it tells its bytes behind the call too: so each answer was right.
+/// Opens a disk: the plant whose events it keeps, and the place of the closed gate behind their records. What is said
+/// of the bytes that the disk told before holds where it tells its bytes behind the call too: so each answer was
+/// right.
 pub fn open_on<D: Disk>(alloc: Global, disk: &mut D) -> Result<(Plant, u64), OpenFault>
     ensures left { (all now : List ℕ) → D.bytes disk.old ≡ Some all → D.bytes disk.new ≡ Some now
         → LeavesOnly D.moment D.left_since disk.old disk.new (IsLeftOf all (D.images disk.old)) }
     ensures opened { IfOk result (λ done. (all now : List ℕ) → D.bytes disk.old ≡ Some all
-        → D.bytes disk.new ≡ Some now → IsOpened all (D.bytes disk.new) (D.images disk.new) done.1 (events_of (plant_history done.0))) }
+        → D.bytes disk.new ≡ Some now
+        → IsOpened all (D.bytes disk.new) (D.images disk.new) done.1 (events_of (plant_history done.0))) }
     ensures legal { IfOk result (λ done. IsLegal (plant_history done.0)) }
     ensures orderly { IfOk result (λ done. IsOrderly (plant_history done.0)) }
     ensures image { OnOk result ((all : List ℕ) → D.bytes disk.old ≡ Some all → D.images disk.old all) }

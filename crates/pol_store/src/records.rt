@@ -3,13 +3,14 @@ ghost use Rattle.std.specs.Prelude.{◌≡◌, ◌++◌, ◌∷◌, [], ℕ, IfO
 ghost use Rattle.pol_texts.specs.Settled.{behind_gate};
 ghost use Rattle.pol_events.specs.Orderly.{is_orderly};
 ghost use Rattle.pol_events.specs.Events.{plain_event};
-ghost use Rattle.pol_events.specs.Lines.{event_of};
+ghost use Rattle.event_json.specs.Lines.{event_of};
 ghost use Rattle.pol_record.specs.Texts.{event_text};
 ghost use Rattle.pol_store.specs.Records.{IsNext, Names, OrderlyNext, OrderlyOption, WritesBehind};
 
 use crate::writing::put_event_text;
+use event_json::LineRefusal;
 use mtp_codes::LONGEST_HISTORY;
-use pol_events::{Event, LineRefusal};
+use pol_events::Event;
 use pol_lines::read_line;
 use pol_texts::{CLOSED_GATE, Found, find};
 use std::alloc::{AllocError, Global};

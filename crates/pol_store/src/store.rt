@@ -101,15 +101,17 @@ fn has_place(end: u64, group: &[u8], behind: &[u8]) -> bool
 }
 
 impl<D: Disk> Store<D> {
-    /// Opens a disk, whatever a crash, a kill or a failed run left on it. At Ok each crash from now on leaves the events
-    /// that the disk reads as. A disk of at most one byte becomes a store without events. What is said of the bytes that the
-    /// disk told before holds where it tells its bytes still: so no answer was other than these.
+    /// Opens a disk, whatever a crash, a kill or a failed run left on it. At Ok each crash from now on leaves the
+    /// events that the disk reads as. A disk of at most one byte becomes a store without events. What is said of the
+    /// bytes that the disk told before holds where it tells its bytes still: so no answer was other than these.
     pub fn open(alloc: Global, disk: D) -> Result<Store<D>, (D, OpenFault)>
         ensures opened { IfOk result (λ store. (store.closed ≡ false) × (store.waiting ≡ 0)) }
         ensures left { (all now : List ℕ) → D.bytes disk ≡ Some all → IfOk result (λ store.
-            D.bytes store.disk ≡ Some now → LeavesOnly D.moment D.left_since disk store.disk (IsLeftOf all (D.images disk))) }
+            D.bytes store.disk ≡ Some now
+            → LeavesOnly D.moment D.left_since disk store.disk (IsLeftOf all (D.images disk))) }
         ensures left_err { (all now : List ℕ) → D.bytes disk ≡ Some all → IfErr result (λ back.
-            D.bytes back.0 ≡ Some now → LeavesOnly D.moment D.left_since disk back.0 (IsLeftOf all (D.images disk))) }
+            D.bytes back.0 ≡ Some now
+            → LeavesOnly D.moment D.left_since disk back.0 (IsLeftOf all (D.images disk))) }
         ensures stand { IfOk result (λ store. (now : List ℕ) → D.bytes store.disk ≡ Some now → (image : List ℕ)
             → D.images store.disk image → StandsFor (events_of (plant_history store.plant)) image) }
         ensures stood { IfOk result (λ store. (all now : List ℕ) → D.bytes disk ≡ Some all

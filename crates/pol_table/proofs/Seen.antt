@@ -513,16 +513,6 @@ at_index watches index watch inside is =
     drop-cons watches index watch inside ∙ ap (λ (first : Watch). first ∷ drop (suc index) watches) (sym is)
     ∙ ap (λ next. watch ∷ drop next watches) next
 
--- a watch of another tag is passed over
-pub passes_over : (tag : List ℕ) (watches : List Watch) (index : ℕ) (watch : Watch) → index < length watches →
-    watch ≡ get_or watches index watch → bytes_eq watch.tag tag ≡ false → (left : ℕ) (said : Option (List ℕ)) →
-    slice_get (watchers_in tag (drop index watches)) left ≡ said →
-    slice_get (watchers_in tag (drop (index + 1) watches)) left ≡ said
-passes_over tag watches index watch inside is apart left said before =
-    ap (λ same. slice_get (cons_option (cond same (Some watch.batch) None)
-    (watchers_in tag (drop (index + 1) watches))) left) (sym apart)
-    ∙ ap (λ watches. slice_get (watchers_in tag watches) left) (sym (at_index watches index watch inside is)) ∙ before
-
 -- one of this tag is counted
 pub counts_one : (tag : List ℕ) (watches : List Watch) (index : ℕ) (watch : Watch) → index < length watches →
     watch ≡ get_or watches index watch → bytes_eq watch.tag tag ≡ true → (left less : ℕ) (said : Option (List ℕ)) →
@@ -534,12 +524,3 @@ counts_one tag watches index watch inside is same left less said one before =
     (watchers_in tag (drop (index + 1) watches))) (suc less)) (sym same)
     ∙ ap (λ watches. slice_get (watchers_in tag watches) (suc less)) (sym (at_index watches index watch inside is))
     ∙ ap (slice_get (watchers_in tag (drop index watches))) next ∙ before
-
--- and is the first of those that are left
-pub is_first : (tag : List ℕ) (watches : List Watch) (index : ℕ) (watch : Watch) → index < length watches →
-    watch ≡ get_or watches index watch → bytes_eq watch.tag tag ≡ true →
-    slice_get (watchers_in tag (drop index watches)) 0 ≡ Some watch.batch
-is_first tag watches index watch inside is same =
-    ap (λ watches. slice_get (watchers_in tag watches) 0) (at_index watches index watch inside is)
-    ∙ ap (λ same. slice_get (cons_option (cond same (Some watch.batch) None)
-    (watchers_in tag (drop (index + 1) watches))) 0) same

@@ -4,6 +4,8 @@
 //! It knows nothing of what a part is, of recipes or of events. `specs/Rows.antt` says what contracts see of a
 //! table, `specs/Answers.antt` what its calls answer; holding takes all tags or none, and a release frees exactly
 //! the tags of one batch and ends its watches.
+//!
+//! Tried in `io_examples`.
 #![tactic(auto)]
 
 mod faults;

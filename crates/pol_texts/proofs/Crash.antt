@@ -4,7 +4,7 @@ use Rattle.std.proofs.lemmas.Bool.Decides.{eqb_tells}
 use Rattle.std.proofs.lemmas.List.{append-nil, take_at, drop_at, drop_more}
 use Rattle.pol_disk.specs.Disks.{Torn, spliced}
 use Rattle.pol_texts.specs.Stands.{body_of, AreRecords, Begins, Stands, StandsWithAllOrNone}
-use Rattle.pol_texts.specs.Settled.{AreCounted, IsGroup, behind_gate, group_body, opened_records}
+use Rattle.pol_texts.specs.Settled.{AreCounted, IsGroup, group_body, opened_records}
 
 -- records and one more behind them
 pub records-push : (bytes : List ℕ) (texts : List (List ℕ)) (gate : ℕ) (text : List ℕ) → AreRecords bytes texts →
@@ -91,12 +91,9 @@ module _ (records behind : List ℕ) (texts : List (List ℕ)) (are : AreRecords
         ap (λ (l : List ℕ). take (end + 1) l) (sym (append_assoc records (0 ∷ []) tail))
         ∙ take_at (records ++ 0 ∷ []) tail (end + 1) gate_len
 
-    -- it lies within the bytes
-    pub length-before : end < length (records ++ 0 ∷ behind)
-    length-before = omega (arith, ends, length-append records (0 ∷ behind))
-
     -- the closed gate stands in each outcome of the first write
-    pub torn_behind : (size : ℕ) (image : List ℕ) → Torn (end + 1) size (records ++ 0 ∷ behind) image → Begins image texts
+    pub torn_behind : (size : ℕ) (image : List ℕ) → Torn (end + 1) size (records ++ 0 ∷ behind) image →
+        Begins image texts
     torn_behind size image torn = record {
       records = records;
       behind = drop (end + 1) image;
@@ -162,7 +159,8 @@ module _ (records behind : List ℕ) (texts : List (List ℕ)) (are : AreRecords
         (λ open_gate. inr (inr (opened gate tail image open_gate.1 whole))) (eqb_tells gate 0)
 
     -- the bytes after the second write
-    pub written_gate : (tail : List ℕ) → spliced end (1 ∷ []) (staged tail) ≡ records ++ 1 ∷ (group_body group ++ 0 ∷ tail)
+    pub written_gate : (tail : List ℕ) →
+        spliced end (1 ∷ []) (staged tail) ≡ records ++ 1 ∷ (group_body group ++ 0 ∷ tail)
     written_gate tail =
         ap (λ (l : List ℕ). l ++ (1 ∷ []) ++ drop (end + 1) (staged tail)) (take_front tail)
         ∙ ap (λ (l : List ℕ). records ++ (1 ∷ []) ++ l) (drop_front tail)
@@ -182,11 +180,3 @@ module _ (records behind : List ℕ) (texts : List (List ℕ)) (are : AreRecords
 -- a disk of at most one byte stands for nothing, whatever a write of one byte at its start leaves
 pub torn_short : (bytes image : List ℕ) → length bytes ≤ 1 → Torn 0 1 bytes image → Stands image []
 torn_short bytes image short torn = inl (omega (arith, short, torn.no_longer), refl)
-
--- one text is a group
-pub one_group : (text behind : List ℕ) → behind ≡ behind_gate text → length text < 2 ^ 64 → IsGroup (text ∷ []) behind
-one_group text behind is counted = record {
-  some = omega arith;
-  counted = (counted, tt);
-  is = is ∙ ap (λ (l : List ℕ). l ++ 0 ∷ []) (sym (append-nil (body_of text)));
-}

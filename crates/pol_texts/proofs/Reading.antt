@@ -26,7 +26,7 @@ module _ {D : Type 0} (bytes : D → Option (List ℕ)) (images : D → List ℕ
   loads_more old mid new filled size count slice slice' so_far front long bound read told kept time faultless = record {
     within = bound;
     long = long ∙ so_far.long;
-    sized = still_holds (bytes mid) (bytes new) (λ all. size ≡ length all) told so_far.sized;
+    sized = still_holds (bytes mid) (bytes new) (λ all. size ≤ length all) told so_far.sized;
     read =
         both (bytes new) (λ all. take filled slice ≡ take filled all)
         (λ all. take count (drop filled slice') ≡ take count (drop filled all))

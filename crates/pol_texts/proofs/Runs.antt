@@ -127,13 +127,13 @@ module _ {D : Type 0} (bytes : D → Option (List ℕ)) (images : D → List ℕ
       LeavesOnly moment left_since old mid P
   behind_left old mid s leaves = wider moment left_since old mid (Torn (end + 1) (length behind) s.bytes) P leaves
       (λ image torn. inl
-      (inr (torn_behind s.begins.records s.begins.behind texts s.begins.are end s.ends group behind is_group (length behind)
-      image (subst (λ (l : List ℕ). Torn (end + 1) (length behind) l image) s.begins.is torn))))
+      (inr (torn_behind s.begins.records s.begins.behind texts s.begins.are end s.ends group behind is_group
+      (length behind) image (subst (λ (l : List ℕ). Torn (end + 1) (length behind) l image) s.begins.is torn))))
 
   -- the bytes after that write
   pub staged_is : (old : D) (s : IsSettled (bytes old) (images old) end texts) →
-      spliced (end + 1) behind s.bytes ≡ s.begins.records
-      ++ 0 ∷ (group_body group ++ 0 ∷ tail_of s.begins.records s.begins.behind texts s.begins.are end s.ends group behind is_group)
+      spliced (end + 1) behind s.bytes ≡ s.begins.records ++ 0 ∷ (group_body group
+      ++ 0 ∷ tail_of s.begins.records s.begins.behind texts s.begins.are end s.ends group behind is_group)
   staged_is old s =
       ap (λ (l : List ℕ). spliced (end + 1) behind l) s.begins.is
       ∙ written_behind s.begins.records s.begins.behind texts s.begins.are end s.ends group behind is_group
@@ -146,8 +146,8 @@ module _ {D : Type 0} (bytes : D → Option (List ℕ)) (images : D → List ℕ
   gate_left old mid new s first second =
       then moment left_since old mid new P (Torn end 1 (spliced (end + 1) behind s.bytes))
       (behind_left old mid s first) second
-      (λ image torn. torn_gate s.begins.records s.begins.behind texts s.begins.are end s.ends group behind is_group _ image
-      (subst (λ (l : List ℕ). Torn end 1 l image) (staged_is old s) torn))
+      (λ image torn. torn_gate s.begins.records s.begins.behind texts s.begins.are end s.ends group behind is_group _
+      image (subst (λ (l : List ℕ). Torn end 1 l image) (staged_is old s) torn))
 
   -- after both the disk is settled with it
   pub settled_after : (old new : D) (s : IsSettled (bytes old) (images old) end texts) →
@@ -158,7 +158,8 @@ module _ {D : Type 0} (bytes : D → Option (List ℕ)) (images : D → List ℕ
       let is_opened : spliced end (1 ∷ []) (spliced (end + 1) behind s.bytes) ≡ s.begins.records
       ++ 1 ∷ (group_body group ++ 0 ∷ tail) =
       ap (λ (l : List ℕ). spliced end (1 ∷ []) l) (staged_is old s)
-      ∙ written_gate s.begins.records s.begins.behind texts s.begins.are end s.ends group behind is_group tail in record {
+      ∙ written_gate s.begins.records s.begins.behind texts s.begins.are end s.ends group behind is_group tail in
+      record {
         bytes = spliced end (1 ∷ []) (spliced (end + 1) behind s.bytes);
         synced = synced;
         begins =

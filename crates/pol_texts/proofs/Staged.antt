@@ -1,10 +1,9 @@
 -- One text more in a group that waits to be written.
-use Rattle.std.proofs.Common.{◌≡◌, ℕ, ◌-◌, ◌<◌, ◌^◌, List, [], ◌∷◌, ◌++◌, length, set, sym, ◌∙◌, ap, subst, arith, append_assoc, length-append}
+use Rattle.std.proofs.Common.{◌≡◌, ℕ, ◌-◌, ◌<◌, ◌^◌, List, [], ◌∷◌, ◌++◌, length, set, sym, ◌∙◌, ap, arith, append_assoc, length-append}
 use Rattle.std.proofs.lemmas.List.{append-nil}
 use Rattle.std.proofs.Math.Seq.{set-append_seam}
 use Rattle.pol_texts.specs.Stands.{body_of}
-use Rattle.pol_texts.specs.Settled.{AreCounted, IsGroup, IsStaged, behind_gate, group_body, opened_records}
-use Rattle.pol_texts.proofs.Crash.{one_group}
+use Rattle.pol_texts.specs.Settled.{AreCounted, IsStaged, behind_gate, group_body, opened_records}
 
 -- records behind gates of 1, and one more
 opened-push : (texts : List (List ℕ)) (text : List ℕ) →
@@ -19,14 +18,6 @@ counted-push : (texts : List (List ℕ)) (text : List ℕ) → AreCounted texts 
     AreCounted (texts ++ text ∷ [])
 counted-push [] text counted one = (one, tt)
 counted-push (t ∷ ts) text counted one = (counted.0, counted-push ts text counted.1 one)
-
--- the first text of a group that has none yet
-pub staged_first : (texts : List (List ℕ)) (text old behind : List ℕ) → IsStaged texts old → length old ≡ 0 →
-    behind ≡ behind_gate text → length text < 2 ^ 64 → IsStaged (texts ++ text ∷ []) (old ++ behind)
-staged_first [] text old behind staged empty is counted =
-    subst (λ (l : List ℕ). IsGroup (text ∷ []) (l ++ behind)) (sym staged) (one_group text behind is counted)
-staged_first (t ∷ ts) text old behind staged empty is counted =
-    absurd (omega (arith, empty, ap length staged.is, length-append (group_body (t ∷ ts)) (0 ∷ [])))
 
 -- one more behind others
 pub staged_more : (texts : List (List ℕ)) (text old behind : List ℕ) (size : ℕ) → IsStaged texts old →

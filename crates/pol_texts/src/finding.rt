@@ -16,8 +16,8 @@ pub enum Found<'a> {
     Neither,
 }
 
-// How many bytes tell the length of a text.
-const LENGTH_BYTES: usize = 8;
+/// How many bytes tell the length of a text.
+pub const LENGTH_BYTES: usize = 8;
 
 // The text of a body, where it isn't cut short.
 fn text_of(body: &[u8]) -> Option<&[u8]>

@@ -1,4 +1,4 @@
-//! All bytes of a disk.
+//! The first bytes of a disk, and all of them.
 ghost use Rattle.std.specs.Prelude.{◌≡◌, ◌+◌, ◌<◌, ◌≤◌, IfOk, IfErr, IfSome, OnOk, length, take, drop};
 ghost use Rattle.pol_io.specs.Causes.{HasCause, HasCauseOf};
 ghost use Rattle.pol_disk.specs.Disks.{Elapses, Keeps, LeavesOnly, StillTells};
@@ -54,10 +54,10 @@ fn read_behind<D: Disk>(disk: &mut D, bytes: &mut [u8], filled: usize) -> Result
     disk.read(filled as u64, &mut bytes[filled..])
 }
 
-// Fills the slice with the bytes of a disk that has so many.
-fn read_all<D: Disk>(disk: &mut D, bytes: &mut [u8]) -> Result<(), Failed>
-    requires { IfSome (D.bytes disk.old) (λ all. length bytes.old ≡ length all) }
-    ensures read { OnOk result (IfSome (D.bytes disk.new) (λ all. bytes.new ≡ all)) }
+/// Fills the slice with the first bytes of a disk that has so many.
+pub fn read_front<D: Disk>(disk: &mut D, bytes: &mut [u8]) -> Result<(), Failed>
+    requires { IfSome (D.bytes disk.old) (λ all. length bytes.old ≤ length all) }
+    ensures read { OnOk result (IfSome (D.bytes disk.new) (λ all. bytes.new ≡ take (length bytes.old) all)) }
     ensures bytes { StillTells (D.bytes disk.old) (D.bytes disk.new) }
     ensures images { Keeps (D.images disk.old) (D.images disk.new) }
     ensures moments { LeavesOnly D.moment D.left_since disk.old disk.new (D.images disk.old) }
@@ -81,6 +81,6 @@ pub fn load<D: Disk>(alloc: Global, disk: &mut D, size: u64) -> Result<Vec<u8>, 
 {
     let mut bytes = Vec::new(alloc);
     bytes.resize(size as usize, 0)?;
-    read_all(disk, &mut bytes)?;
+    read_front(disk, &mut bytes)?;
     Ok(bytes)
 }

@@ -4,8 +4,8 @@ ghost use Rattle.pol_record.specs.Verdicts.{verdict_text};
 ghost use Rattle.pol_audit.specs.Audits.{plain_audit};
 ghost use Rattle.pol_audit.specs.Reading.{nothing_read, verdict_after};
 
+use event_json::is_blank;
 use pol_audit::Audit;
-use pol_events::is_blank;
 use pol_io::Sink;
 use pol_jobs::{InputLine, LineJob, PutFault, Stop, close_with};
 use pol_record::verdict_line;

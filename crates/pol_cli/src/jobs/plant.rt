@@ -12,7 +12,8 @@ ghost use Rattle.pol_jobs.specs.Written.{WritesPart, WritesSome};
 ghost use Rattle.pol_cli.specs.Journal.{Laws};
 ghost use Rattle.pol_retold.specs.Inputs.{run_text};
 ghost use Rattle.pol_retold.specs.Retold.{IsRetold};
-ghost use Rattle.pol_cli.specs.SiteRuns.{AreReadBack, AreRetold, IsRunOf, RunWrites, entries_text, entry_lines, planted};
+ghost use Rattle.pol_cli.specs.SiteRuns.{AreReadBack, AreRetold, IsRunOf, RunWrites, entries_text, entry_lines};
+ghost use Rattle.pol_cli.specs.SiteRuns.{planted};
 ghost use Rattle.pol_cli.specs.Tasks.{PlantEnds};
 
 use crate::jobs::site_text::read_text;

@@ -9,11 +9,12 @@ ghost use Rattle.pol_jobs.specs.LineWork.{AcceptsEnd};
 ghost use Rattle.pol_cli.specs.SiteRuns.{planted};
 ghost use Rattle.pol_cli.specs.SiteTexts.{Says, after_filled, line_says, one, site_work, lines_told, told};
 
+use event_json::is_blank;
 use mtp_json::{FaultKind, JsonFault, JsonRefusal, Path};
-use pol_events::is_blank;
 use pol_io::{Sink, SinkFault, Source};
 use pol_jobs::{InputLine, JobFault, LineJob, PutFault, Stop, work};
-use pol_site::{Site, read_site};
+use pol_site::Site;
+use site_json::read_site;
 use std::alloc::{AllocError, Global};
 use std::mem;
 

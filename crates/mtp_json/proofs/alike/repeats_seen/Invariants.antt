@@ -1,5 +1,5 @@
 use Rattle.std.proofs.Common.{◌≡◌, length}
-use Rattle.mtp_json.specs.Form.{repeats_by}
+use Rattle.mtp_codes.specs.Repeats.{repeats_by}
 use Rattle.mtp_json.proofs.alike.repeats_seen.Given as goal
 
 abbrev pub invariant-loop-first : goal.invariant-loop-first

@@ -1,10 +1,11 @@
 use Rattle.std.proofs.Common.{rules, tests, ap, sym, ◌∙◌}
 use Rattle.std.proofs.lemmas.Iterator.Adapters.{option_map_id}
+use Rattle.pol_events.proofs.Options.{not_some}
 use Rattle.pol_events.specs.Events.{plain_history}
 use Rattle.pol_history.specs.Looking.{last_of, past_of_batch}
 use Rattle.pol_history.specs.Batches.{closing}
 use Rattle.pol_audit.specs.Placed.{closes}
-use Rattle.pol_audit.proofs.Among.{last_among, unsaid}
+use Rattle.pol_audit.proofs.Among.{last_among}
 use Rattle.pol_audit.proofs.LookingBack.{last_found, listed_back}
 use Rattle.pol_audit.proofs.batches.outcome_of.Goals as goal
 
@@ -14,5 +15,5 @@ returns c =
     ∙ last_found (λ found. found) (λ entry. closing entry.answer) _ c.find_map.ensures.runs
     (listed_back c.closings.result.now (cc)) (λ item found after called. search (rules, tests))
     ∙ ap (last_of (λ entry. closing entry.answer)) c.closings.ensures
-    ∙ last_among closes (λ entry. closing entry.answer) (λ entry is. unsaid (closing entry.answer) is)
+    ∙ last_among closes (λ entry. closing entry.answer) (λ entry is. not_some (closing entry.answer) is)
     (past_of_batch c.args.batch (plain_history c.args.history.now))

@@ -52,7 +52,8 @@ same_serial is = cc
 pub returns-in-Ok-Serial-clause-unread : goal.returns-in-Ok-Serial-clause-unread
 returns-in-Ok-Serial-clause-unread g c =
     λ seed means. c.serve.ensures.unread seed (same_serial (one_task (texts_of c.args.words.now)
-    (Serial c.in-Ok-Serial.task) (Serial (Demo seed)) (rw c.in-Ok-Serial.field-0-is at c.in-Ok-Serial.ensures.ok) means))
+    (Serial c.in-Ok-Serial.task) (Serial (Demo seed))
+    (rw c.in-Ok-Serial.field-0-is at c.in-Ok-Serial.ensures.ok) means))
 
 pub returns-in-Ok-Live-clause-unbegun : goal.returns-in-Ok-Live-clause-unbegun
 returns-in-Ok-Live-clause-unbegun g c = λ task means. c.live-status.ensures.unbegun
@@ -176,7 +177,8 @@ returns-in-Ok-Export-clause-unbegun g c =
     (rw c.in-Ok-Export.field-0-is at c.in-Ok-Export.ensures.ok)))
 
 pub returns-in-Ok-Export-clause-unkept : goal.returns-in-Ok-Export-clause-unkept
-returns-in-Ok-Export-clause-unkept g c = λ not. absurd (not (inr (rw c.in-Ok-Export.field-0-is at c.in-Ok-Export.ensures.ok)))
+returns-in-Ok-Export-clause-unkept g c =
+    λ not. absurd (not (inr (rw c.in-Ok-Export.field-0-is at c.in-Ok-Export.ensures.ok)))
 
 pub returns-in-Ok-Export-clause-keeps : goal.returns-in-Ok-Export-clause-keeps
 returns-in-Ok-Export-clause-keeps g c =

@@ -5,7 +5,8 @@ use Rattle.std.proofs.lemmas.Result.{IfOk-weaker, on_err_weaker}
 use Rattle.mtp_desc.specs.PlainDescription.{plain_description}
 use Rattle.chart_core.specs.Charts.{plain_chart}
 use Rattle.chart_core.specs.Roles.{is_chart_form}
-use Rattle.pol_events.specs.Events.{plain_event, plug, unplug, report, variable, recipe, start, advance, freeze, thaw, stop_batch, abandon, desk, exchange_begin, exchange_end, exchange_cancel}
+use Rattle.pol_events.specs.Events.{plain_event, plug, unplug, report, variable, recipe, start, advance, freeze, thaw}
+use Rattle.pol_events.specs.Events.{stop_batch, abandon, desk, exchange_begin, exchange_end, exchange_cancel}
 use Rattle.pol_events.specs.Orderly.{is_allocation, is_orderly, is_valid}
 use Rattle.pol_core.specs.Mirrors.{Answers}
 use Rattle.pol_core.proofs.Learned.{recipe_answered}

@@ -5,7 +5,8 @@ use Rattle.chart_core.specs.declared.chart.Chart.{Chart}
 use Rattle.pol_events.specs.Bound.{plain_allocation}
 use Rattle.pol_events.specs.declared.answer.Rule.TheVariants.{NoRecipe}
 use Rattle.pol_core.specs.Judging.{chart_rule}
-use Rattle.pol_core.proofs.Begun.{charted_is, no_recipe_rules, start_rules_are, start_refused, fresh_batch, tags_free, watched_distinct, watched_there, binds_fit, start_answered}
+use Rattle.pol_core.proofs.Begun.{charted_is, no_recipe_rules, start_rules_are, start_refused, fresh_batch, tags_free}
+use Rattle.pol_core.proofs.Begun.{watched_distinct, watched_there, binds_fit, start_answered}
 use Rattle.pol_core.proofs.starting.start.Goals as goal
 
 pub returns-in_default-clause-answered : goal.returns-in_default-clause-answered

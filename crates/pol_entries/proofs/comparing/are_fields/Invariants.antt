@@ -1,6 +1,6 @@
 use Rattle.std.proofs.Common.{◌≡◌, drop, map}
 use Rattle.serde_json.specs.View.{members_view}
-use Rattle.pol_events.specs.Fields.{plain_field}
+use Rattle.event_json.specs.Fields.{plain_field}
 use Rattle.pol_entries.specs.Compared.{are_fields}
 use Rattle.pol_entries.proofs.comparing.are_fields.Given as goal
 

@@ -2,7 +2,7 @@ use Rattle.std.proofs.Common.{codes, subst}
 use Rattle.serde_json.specs.View.{view}
 use Rattle.mtp_json.specs.Form.{nested}
 use Rattle.pol_events.specs.Events.{plain_event}
-use Rattle.pol_events.specs.Forms.{event_in}
+use Rattle.event_json.specs.Forms.{event_in}
 use Rattle.pol_entries.specs.Entries.{Sound}
 use Rattle.pol_entries.proofs.Lines.{with_answer}
 use Rattle.pol_entries.proofs.entries.read_asked.Goals as goal

@@ -1,6 +1,6 @@
 use Rattle.std.proofs.Common.{◌≡◌, drop, map}
 use Rattle.std.specs.Slice.Iter.{iter_rest}
-use Rattle.pol_events.specs.Fields.{plain_field}
+use Rattle.event_json.specs.Fields.{plain_field}
 use Rattle.pol_entries.specs.Same.{same_fields}
 use Rattle.pol_entries.proofs.same.same_lists.Given as goal
 

@@ -1,6 +1,6 @@
 -- The binds that are left, put in one after the other, complete what is in order so far.
 use Rattle.std.proofs.Common.{◌≡◌, vec_len}
-use Rattle.pol_events.specs.Binds.{by_role}
+use Rattle.pol_events.specs.ByRole.{by_role}
 use Rattle.pol_find.proofs.Sorting.{with_each}
 use Rattle.pol_find.proofs.lines.by_role.Given as goal
 

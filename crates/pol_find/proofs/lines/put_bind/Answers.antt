@@ -2,7 +2,7 @@
 use Rattle.std.proofs.Common.{◌++◌, ◌<◌, arith, length, sym, ap, take, ◌∙◌}
 use Rattle.std.specs.Cmp.Lexicographic.{slice_cmp}
 use Rattle.std.specs.Ordering.{nat_cmp}
-use Rattle.pol_events.specs.Binds.{with_bind}
+use Rattle.pol_events.specs.ByRole.{with_bind}
 use Rattle.pol_events.specs.declared.event.Bind.{Bind}
 use Rattle.pol_find.proofs.Sorting.{stands_here}
 use Rattle.pol_find.proofs.lines.put_bind.Goals as goal

@@ -1,6 +1,6 @@
 -- The bind stands behind the binds so far.
 use Rattle.std.proofs.Common.{◌≡◌, ◌++◌, drop, take}
-use Rattle.pol_events.specs.Binds.{with_bind}
+use Rattle.pol_events.specs.ByRole.{with_bind}
 use Rattle.pol_find.proofs.lines.put_bind.Given as goal
 
 abbrev pub invariant-loop-place : goal.invariant-loop-place

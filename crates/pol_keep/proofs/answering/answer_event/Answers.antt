@@ -5,7 +5,8 @@ use Rattle.pol_keep.proofs.answering.answer_event.Goals as goal
 pub returns-in-Ok-clause-admits : goal.returns-in-Ok-clause-admits
 returns-in-Ok-clause-admits g c =
     let did = c.in-Ok.ensures in
-    admitted c.args.store.now c.admit.new.self (plain_event c.args.event) did.uncalled did.closed did.history did.waits _
+    admitted c.args.store.now c.admit.new.self (plain_event c.args.event) did.uncalled did.closed did.history did.waits
+    _
 
 pub returns-in-Err-clause-admits : goal.returns-in-Err-clause-admits
 returns-in-Err-clause-admits g c =

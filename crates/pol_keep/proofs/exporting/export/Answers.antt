@@ -34,8 +34,8 @@ returns-in-Ok-clause-holds_all g c =
     let did = c.in-Ok.ensures in
     on_ok_holds c.export_from.result.0
     (rw c.export_from.ensures.disk (λ old reads tells.
-    let opened = opened_kept (telling d.bytes d.images d.moment d.left_since d.faults) c.args.disk old reads c.in-Ok.store
-    did.opened tells (did.stood reads.bytes tells.0 reads.told tells.1) (did.stand tells.0 tells.1) in
+    let opened = opened_kept (telling d.bytes d.images d.moment d.left_since d.faults) c.args.disk old reads
+    c.in-Ok.store did.opened tells (did.stood reads.bytes tells.0 reads.told tells.1) (did.stand tells.0 tells.1) in
     (λ image now. subst (λ (events : List PlainEvent). StandsFor events image) opened.1
     (did.stand tells.0 tells.1 image now))))
 

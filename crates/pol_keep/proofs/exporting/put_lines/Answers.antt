@@ -37,7 +37,8 @@ returns-in_err-put_if_enough-clause-part g c =
     let rest = entry_lines (drop (c.loop-entry.entry-index + 1) c.args.entries.now) in
     let cut = cut_lines line c.args.entries.now c.loop-entry.entry-index c.entry-item.result c.loop-entry-test.true
     c.entry-item.is in
-    let fault = err_from_is_err_and c.from_residual-in_err-put_if_enough.result c.from_residual-in_err-put_if_enough.ensures.1 in
+    let fault = err_from_is_err_and c.from_residual-in_err-put_if_enough.result
+    c.from_residual-in_err-put_if_enough.ensures.1 in
     rw fault.1 (cut_next _ _ _ c.put_event_line.new.lines.items rest all
     (subst (λ waiting. WritesUpTo (g.K.Sink.held c.args.sink.now) (g.K.Sink.held c.loop-entry.sink)
     (waiting ++ rest) all) (sym c.in_ok-put_event_line.ensures)
@@ -58,7 +59,8 @@ loop-entry-preserved g c =
           (waiting ++ rest) all) (sym c.in_ok-put_event_line.ensures)
           (waits_longer _ _ c.loop-entry.lines.items (line c.entry-item.result) rest all
           (subst (λ rest. WritesUpTo (g.K.Sink.held c.args.sink.now) (g.K.Sink.held c.loop-entry.sink)
-          (c.loop-entry.lines.items ++ rest) all) cut c.loop-entry.invariant.so_far))) c.in_ok-put_if_enough.ensures.text;
+          (c.loop-entry.lines.items ++ rest) all) cut c.loop-entry.invariant.so_far)))
+          c.in_ok-put_if_enough.ensures.text;
       sound = c.in_ok-put_if_enough.ensures.cause.done ∙ c.loop-entry.invariant.sound;
     }
 

@@ -7,7 +7,8 @@ use Rattle.pol_store.specs.Stands.{StandsFor}
 use Rattle.pol_store.proofs.Histories.{legal_few, length-events}
 use Rattle.pol_keep.specs.Keeping.{telling}
 use Rattle.pol_keep.specs.Kept.{kept_output}
-use Rattle.pol_keep.proofs.Ended.{going_all, going_kept, going_moments, keep_ends, keeps, of_input, opened_kept, opening_more, unopened_is, unopened_kept}
+use Rattle.pol_keep.proofs.Ended.{going_all, going_kept, going_moments, keep_ends, keeps, of_input, opened_kept}
+use Rattle.pol_keep.proofs.Ended.{opening_more, unopened_is, unopened_kept}
 use Rattle.pol_keep.proofs.job.keep.Goals as goal
 
 pub returns-in-Ok-clause-ends : goal.returns-in-Ok-clause-ends

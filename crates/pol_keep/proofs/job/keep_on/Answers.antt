@@ -17,7 +17,8 @@ returns-clause-ends g c =
     rw c.ended.ensures.job (subst (λ output. Ends output
     (edge (s.left c.args.source.now) (s.faults c.args.source.now))
     (edge (s.left c.work-done.new.source) (s.faults c.work-done.new.source))
-    (edge (k.held c.args.sink.now) (k.faults c.args.sink.now)) (edge (k.held c.work-done.new.sink) (k.faults c.work-done.new.sink))
+    (edge (k.held c.args.sink.now) (k.faults c.args.sink.now))
+    (edge (k.held c.work-done.new.sink) (k.faults c.work-done.new.sink))
     c.work-done.result) (output_run history (runs_legal history c.requires.legal)) c.work-done.ensures.ends)
 
 pub returns-clause-moments : goal.returns-clause-moments
@@ -55,6 +56,6 @@ returns-clause-on g c =
     let d = g.D.Disk in
     let history = plant_history c.args.store.plant in
     let disk = telling d.bytes d.images d.moment d.left_since d.faults in
-    let did = did_either replay_work history (GoesOn disk c.args.store c.work-done.new.job.store) _ _ _ c.work-done.result
-    c.work-done.ensures.did_all c.work-done.ensures.did_some in
+    let did = did_either replay_work history (GoesOn disk c.args.store c.work-done.new.job.store) _ _ _
+    c.work-done.result c.work-done.ensures.did_all c.work-done.ensures.did_some in
     rw c.into_parts-plant.ensures.1 did.did.on

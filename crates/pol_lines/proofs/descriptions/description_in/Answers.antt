@@ -2,8 +2,8 @@ use Rattle.std.proofs.Common.{◌≡◌, ◌<◌, ◌≤◌, sym, subst, map, le
 use Rattle.std.proofs.lemmas.Grind.{common_steps}
 use Rattle.std.proofs.lemmas.List.{length-map}
 use Rattle.semver.specs.Identifiers.{parts_of}
+use Rattle.mtp_codes.specs.Repeats.{repeats_by}
 use Rattle.mtp_assembly.specs.Plain.{plain_variable}
-use Rattle.mtp_json.specs.Form.{repeats_by}
 use Rattle.mtp_desc.specs.Plain.{same_service, same_variable}
 use Rattle.mtp_desc.specs.PlainService.{plain_service}
 use Rattle.mtp_desc.specs.declared.limits.TheConstants.{MOST_SERVICES, MOST_VARIABLES}

@@ -2,7 +2,7 @@ use Rattle.std.proofs.Common.{[], refl, sym, subst, arith, codes}
 use Rattle.std.specs.Prelude.{option_map}
 use Rattle.serde_json.specs.Data.{array}
 use Rattle.mtp_desc.specs.PlainDescription.{plain_description}
-use Rattle.mtp_desc.specs.Form.{description_of}
+use Rattle.desc_json.specs.Form.{description_of}
 use Rattle.pol_lines.specs.Objects.{IsObject, Stands, with_value}
 use Rattle.pol_lines.proofs.Cuts.{object_reads}
 use Rattle.pol_lines.proofs.descriptions.read_description.Goals as goal

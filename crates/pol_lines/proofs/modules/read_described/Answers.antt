@@ -1,6 +1,6 @@
 use Rattle.std.proofs.Common.{[], refl, sym, subst, arith, codes}
 use Rattle.mtp_desc.specs.PlainDescription.{plain_description}
-use Rattle.mtp_desc.specs.Form.{description_of}
+use Rattle.desc_json.specs.Form.{description_of}
 use Rattle.pol_events.specs.Events.{plain_event}
 use Rattle.pol_lines.specs.Objects.{Stands, with_value}
 use Rattle.pol_lines.proofs.Making.{line_with_value}

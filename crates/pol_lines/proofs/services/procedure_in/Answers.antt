@@ -1,7 +1,7 @@
 use Rattle.std.proofs.Common.{◌≡◌, ◌≤◌, sym, subst, map, length, false}
 use Rattle.std.proofs.lemmas.List.{length-map}
+use Rattle.mtp_codes.specs.Repeats.{repeats_by}
 use Rattle.mtp_assembly.specs.Plain.{plain_param}
-use Rattle.mtp_json.specs.Form.{repeats_by}
 use Rattle.mtp_desc.specs.Plain.{same_param}
 use Rattle.mtp_desc.specs.declared.limits.TheConstants.{MOST_PARAMS}
 use Rattle.pol_lines.proofs.Describing.{procedure_of_parts}

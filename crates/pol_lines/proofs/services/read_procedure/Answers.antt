@@ -1,8 +1,8 @@
 use Rattle.std.proofs.Common.{[], refl, sym, subst, arith, codes}
 use Rattle.std.specs.Prelude.{option_map}
 use Rattle.serde_json.specs.Data.{array}
-use Rattle.mtp_desc.specs.Form.{procedure_of}
 use Rattle.mtp_desc.specs.PlainProcedure.{plain_procedure}
+use Rattle.desc_json.specs.Form.{procedure_of}
 use Rattle.pol_lines.specs.Objects.{IsObject, Stands, with_value}
 use Rattle.pol_lines.proofs.Cuts.{object_reads}
 use Rattle.pol_lines.proofs.services.read_procedure.Goals as goal

@@ -2,9 +2,9 @@ use Rattle.std.proofs.Common.{◌<◌, [], length, refl, sym, subst, arith, code
 use Rattle.std.proofs.lemmas.Grind.{common_steps}
 use Rattle.std.specs.Prelude.{map, option_map}
 use Rattle.serde_json.specs.Data.{array}
-use Rattle.mtp_desc.specs.Form.{service_of}
 use Rattle.mtp_desc.specs.PlainProcedure.{plain_procedure}
 use Rattle.mtp_desc.specs.PlainService.{plain_service}
+use Rattle.desc_json.specs.Form.{service_of}
 use Rattle.pol_lines.specs.Objects.{IsObject, Stands, with_value}
 use Rattle.pol_lines.proofs.Cuts.{object_reads}
 use Rattle.pol_lines.proofs.Describing.{service_reads}

@@ -1,10 +1,10 @@
 use Rattle.std.proofs.Common.{◌≡◌, ◌<◌, ◌≤◌, [], sym, subst, map, length, false, true}
 use Rattle.std.proofs.lemmas.List.{length-map}
-use Rattle.mtp_json.specs.Form.{repeats_by}
-use Rattle.mtp_desc.specs.Form.{has_one_default, service_of}
-use Rattle.mtp_desc.specs.Plain.{same_procedure}
+use Rattle.mtp_codes.specs.Repeats.{repeats_by}
+use Rattle.mtp_desc.specs.Plain.{has_one_default, same_procedure}
 use Rattle.mtp_desc.specs.PlainProcedure.{plain_procedure}
 use Rattle.mtp_desc.specs.declared.limits.TheConstants.{MOST_PROCEDURES}
+use Rattle.desc_json.specs.Form.{service_of}
 use Rattle.pol_lines.specs.Objects.{Makes}
 use Rattle.pol_lines.proofs.Describing.{service_alone, service_of_parts}
 use Rattle.pol_lines.proofs.services.service_in.Goals as goal

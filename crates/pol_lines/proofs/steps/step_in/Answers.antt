@@ -1,7 +1,7 @@
 use Rattle.std.proofs.Common.{◌≡◌, ap, sym, subst, map, ◌∙◌, false}
+use Rattle.mtp_codes.specs.Repeats.{repeats_by}
 use Rattle.chart_core.specs.Trees.{plain_finish}
 use Rattle.chart_json.specs.Form.{same_setting}
-use Rattle.mtp_json.specs.Form.{repeats_by}
 use Rattle.pol_lines.proofs.Stepping.{same_list, step_of_parts}
 use Rattle.pol_lines.proofs.steps.step_in.Goals as goal
 

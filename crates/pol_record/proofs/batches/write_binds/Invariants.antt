@@ -1,6 +1,6 @@
 -- The tokens so far and those of the binds that are left are all.
 use Rattle.std.proofs.Common.{◌≡◌, ◌++◌, drop}
-use Rattle.pol_events.specs.Written.{written_binds}
+use Rattle.event_json.specs.Written.{written_binds}
 use Rattle.pol_record.specs.Objects.{data_tokens}
 use Rattle.pol_record.proofs.Tokens.{binds_tokens}
 use Rattle.pol_record.proofs.batches.write_binds.Given as goal

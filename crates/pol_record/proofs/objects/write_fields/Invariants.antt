@@ -1,6 +1,6 @@
 -- The tokens so far and those of the fields that are left are all.
 use Rattle.std.proofs.Common.{◌≡◌, ◌++◌, drop, map}
-use Rattle.pol_events.specs.Fields.{plain_field, fields_of}
+use Rattle.event_json.specs.Fields.{plain_field, fields_of}
 use Rattle.pol_record.specs.Objects.{data_tokens, fields_data}
 use Rattle.pol_record.proofs.Tokens.{fields_tokens}
 use Rattle.pol_record.proofs.objects.write_fields.Given as goal

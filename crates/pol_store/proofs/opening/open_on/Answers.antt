@@ -1,14 +1,27 @@
-use Rattle.std.proofs.Common.{◌≡◌, ℕ, ◌<◌, ◌≤◌, List, length, Option, Some, ◌∙◌, subst, arith}
-use Rattle.std.specs.Prelude.{IfSome}
+use Rattle.std.proofs.Common.{◌≡◌, ℕ, ◌<◌, ◌≤◌, List, length, Some, ◌∙◌, subst, arith}
 use Rattle.std.proofs.lemmas.Result.{err_from_is_err_and}
-use Rattle.pol_disk.proofs.Telling.{on_still, on_then, still_holds, still_then, told_before, was_told}
+use Rattle.pol_disk.proofs.Telling.{still_holds, still_then, told_before, was_told}
 use Rattle.pol_texts.specs.Settled.{IsSynced}
 use Rattle.pol_events.specs.Events.{PlainEvent}
 use Rattle.pol_core.specs.Plants.{plant_history}
 use Rattle.pol_store.specs.Opens.{Breaks, IsOpened, IsReplayed}
 use Rattle.pol_history.specs.Runs.{events_of}
-use Rattle.pol_store.proofs.Opened.{bytes_told, left_begun, left_read, number_told, opened_long, opened_short, replay_tells, same_told}
+use Rattle.pol_store.proofs.Opened.{breaks_told, bytes_told, fault_tells, left_begun, left_read, number_told, opened_long, opened_short, same_told}
 use Rattle.pol_store.proofs.opening.open_on.Goals as goal
+
+pub returns-in_err-bytes-clause-tells : goal.returns-in_err-bytes-clause-tells
+returns-in_err-bytes-clause-tells g c =
+    let d = g.D.Disk in
+    let fault = err_from_is_err_and c.from_residual-in_err-bytes.result c.from_residual-in_err-bytes.ensures.1 in
+    let long : 1 < c.in_ok-size.size = omega (arith, c.if-size-le1.false) in
+    let counted = still_holds (d.bytes c.settle.new.disk) (d.bytes c.load_all.new.disk)
+    (λ l. c.in_ok-size.size ≡ length l) c.in_err-bytes.ensures.bytes c.in_ok-size.ensures.number in
+    rw (fault.1, fault.2)
+    (fault_tells c.in_err-bytes.field-0.0 c.in_ok-size.size (d.bytes c.args.disk.now) (d.bytes c.load_all.new.disk)
+    (d.faults c.args.disk.now) (d.faults c.load_all.new.disk) c.in_err-bytes.ensures.breaks
+    (still_then (d.bytes c.args.disk.now) (d.bytes c.settle.new.disk) (d.bytes c.load_all.new.disk)
+    c.in_ok-size.ensures.bytes c.in_err-bytes.ensures.bytes)
+    (λ other. c.in_err-bytes.ensures.cause.other other ∙ c.in_ok-size.ensures.cause.done) long counted)
 
 pub returns-in_err-plant-clause-tells : goal.returns-in_err-plant-clause-tells
 returns-in_err-plant-clause-tells g c =
@@ -21,11 +34,12 @@ returns-in_err-plant-clause-tells g c =
     let counted = still_holds (d.bytes c.settle.new.disk) (d.bytes c.load_all.new.disk)
     (λ l. c.in_ok-size.size ≡ length l) c.in_ok-bytes.ensures.bytes c.in_ok-size.ensures.number in
     rw (fault.1, fault.2)
-    (replay_tells c.in_err-plant.field-0.0 items c.in_ok-size.size (d.bytes c.args.disk.now)
-    (d.bytes c.load_all.new.disk) (d.faults c.args.disk.now) (d.faults c.load_all.new.disk) breaks
+    (fault_tells c.in_err-plant.field-0.0 c.in_ok-size.size (d.bytes c.args.disk.now) (d.bytes c.load_all.new.disk)
+    (d.faults c.args.disk.now) (d.faults c.load_all.new.disk)
+    (breaks_told c.in_err-plant.field-0.0 items (d.bytes c.load_all.new.disk) breaks c.in_ok-bytes.ensures.read)
     (still_then (d.bytes c.args.disk.now) (d.bytes c.settle.new.disk) (d.bytes c.load_all.new.disk)
-    c.in_ok-size.ensures.bytes c.in_ok-bytes.ensures.bytes) (c.in_ok-bytes.ensures.cause.done
-    ∙ c.in_ok-size.ensures.cause.done) long counted c.in_ok-bytes.ensures.read)
+    c.in_ok-size.ensures.bytes c.in_ok-bytes.ensures.bytes)
+    (λ other. c.in_ok-bytes.ensures.cause.done ∙ c.in_ok-size.ensures.cause.done) long counted)
 
 pub returns-clause-opened : goal.returns-clause-opened
 returns-clause-opened g c = λ all now told later.

@@ -47,7 +47,8 @@ record-preserved c =
     (subst (λ (l : List ℕ). IsRecord l event c.in-Record.size) (take_rest bytes c.record.at) sliced.0, sliced.1) in
     let counted : length c.history-count.result.now ≡ length events = ap length c.history-count.ensures.entries
     ∙ sym (length-plant c.record.plant) in
-    let grown : events_of (plant_history c.take_event.new.plant) ≡ events ++ event ∷ [] = c.in_ok-take_event-in-Record.ensures in
+    let grown : events_of (plant_history c.take_event.new.plant) ≡ events ++ event ∷ [] =
+    c.in_ok-take_event-in-Record.ensures in
     let more = replay_more c.record.at c.in-Record.size c.args.bytes.now events event c.record.invariant.0 found.0 in (
       subst (λ (es : List PlainEvent). BeginsWithEvents (c.record.at + c.in-Record.size) c.args.bytes.now es)
           (sym grown) more,

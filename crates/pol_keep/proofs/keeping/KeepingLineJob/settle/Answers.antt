@@ -7,7 +7,8 @@ returns-in-Ok-clause-settled g c = λ first settled waiting so_far.
     let d = g.D.Disk in
     let did = c.in-Ok.ensures in
     settles (telling d.bytes d.images d.moment d.left_since d.faults) first.store c.args.self.now.store
-    c.commit.new.self settled waiting so_far did.moments did.on did.kept did.told did.plant did.waits did.open.1 did.quiet
+    c.commit.new.self settled waiting so_far did.moments did.on did.kept did.told did.plant did.waits did.open.1
+    did.quiet
 
 pub returns-in-Err-clause-failed : goal.returns-in-Err-clause-failed
 returns-in-Err-clause-failed g c = λ first settled waiting so_far.

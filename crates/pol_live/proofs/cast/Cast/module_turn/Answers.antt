@@ -12,7 +12,9 @@ use Rattle.pol_simulated.specs.Units.{report_event}
 use Rattle.pol_actors.proofs.Owners.{actor_module}
 use Rattle.pol_live.specs.Turns.{Enters, Locked, history_of}
 use Rattle.pol_live.proofs.Looking.{look_of}
-use Rattle.pol_live.proofs.ModuleSteps.{at_turn, kept_calm, kept_reported, module_at, module_count, module_known, module_turned, module_within, moved, report_owner, settled_before, undocked_settled}
+use Rattle.pol_live.proofs.ModuleSteps.{at_turn, kept_calm, kept_reported, module_at, module_count, module_known}
+use Rattle.pol_live.proofs.ModuleSteps.{module_turned, module_within, moved, report_owner, settled_before}
+use Rattle.pol_live.proofs.ModuleSteps.{undocked_settled}
 use Rattle.pol_live.proofs.Steps.{entered_is, rested}
 use Rattle.pol_live.proofs.cast.Cast.module_turn.Goals as goal
 

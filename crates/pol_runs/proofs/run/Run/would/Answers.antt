@@ -9,17 +9,19 @@ use Rattle.chart_core.specs.Trees.{Placed}
 use Rattle.chart_cursor.specs.Holding.{flag_at, is_unasked, numbered, under_way}
 use Rattle.chart_cursor.specs.Logs.{chart_entries, active}
 use Rattle.chart_cursor.specs.Next.{next_after}
-use Rattle.chart_cursor.specs.NextEntry.{did_or, first_broken, first_hold, first_unhold, unless_whole, run_next, next_by}
+use Rattle.chart_cursor.specs.NextEntry.{did_or, first_broken, first_hold, first_unhold, unless_whole, run_next}
+use Rattle.chart_cursor.specs.NextEntry.{next_by}
 use Rattle.chart_cursor.specs.Running.{first_placed, is_wanted}
 use Rattle.chart_cursor.specs.Sights.{Sights}
 use Rattle.std.specs.Prelude.{Bool, None}
+use Rattle.chart_cursor.proofs.Held.{steps_of}
 use Rattle.pol_runs.specs.Freezes.{freezing}
 use Rattle.pol_runs.specs.Logs.{Asks, Follows}
 use Rattle.pol_runs.specs.Runs.{PlainRun, from_of}
 use Rattle.pol_runs.specs.Stopping.{stop_found}
 use Rattle.pol_runs.specs.declared.freeze.Freeze.{Freeze}
 use Rattle.pol_runs.specs.contracts.run.Run.{the_view}
-use Rattle.pol_runs.proofs.Nexts.{steps_of, running_next, breaking_next, stopping_next, hold_next}
+use Rattle.pol_runs.proofs.Nexts.{running_next, breaking_next, stopping_next, hold_next}
 use Rattle.pol_runs.proofs.run.Run.would.Goals as goal
 
 -- it is what comes next, whatever log the run stands for

@@ -1,0 +1,12 @@
+pub mod Fields
+pub mod FieldRanges
+pub mod RuleTable
+pub mod Words
+pub mod Kinds
+pub mod Binds
+pub mod Forms
+pub mod Lines
+pub mod Version1
+pub mod Ranges
+pub mod Written
+pub mod Guarded

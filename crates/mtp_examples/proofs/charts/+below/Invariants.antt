@@ -1,4 +1,0 @@
-use Rattle.mtp_examples.proofs.charts.+below.Given as goal
-
-abbrev pub decreases-below : goal.decreases-below
-decreases-below l = l.above
