@@ -292,7 +292,7 @@ const docs = {
     thaw: "done",
     stop: "did stop_asked, or done where it broke or was asked before",
     abandon: "closed as Abandoned",
-    desk: "did asked; the command is sent for the operator",
+    desk: "did asked; the command may be sent for the operator",
     exchange_begin: "the ticket; the module is away",
     exchange_end: "done; the new module is docked",
     exchange_cancel: "done; the old module is docked",

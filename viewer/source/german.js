@@ -155,7 +155,7 @@ const german = {
     thaw: ["erledigt", "a4c3ed04"],
     stop: ["stop_asked, oder erledigt, wo sie schon brach oder stoppen sollte", "58c16eec"],
     abandon: ["geschlossen als Abandoned", "555957cf"],
-    desk: ["erlaubt; der Befehl ist für den Bediener zu senden", "ceb832be"],
+    desk: ["erlaubt; der Befehl darf für den Bediener gesendet werden", "b5ad80fc"],
     exchange_begin: ["das Ticket; das Modul ist im Tausch", "aa09eeb1"],
     exchange_end: ["erledigt; das neue Modul ist angedockt", "b9dcc5b6"],
     exchange_cancel: ["erledigt; das alte Modul ist angedockt", "76092c84"],
