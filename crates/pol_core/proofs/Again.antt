@@ -15,7 +15,7 @@ use Rattle.chart_core.specs.Charts.{plain_chart}
 use Rattle.chart_core.specs.Roles.{PlainChart}
 use Rattle.pol_events.specs.Bound.{bound_role, given}
 use Rattle.pol_events.specs.Events.{exchange_end}
-use Rattle.pol_events.specs.declared.answer.Answer.TheVariants.{Done}
+use Rattle.pol_events.specs.declared.answer.Answer.{Answer}
 use Rattle.pol_events.specs.declared.answer.Rule.{Rule}
 use Rattle.pol_events.specs.declared.answer.Rule.TheVariants.{HeldBack}
 use Rattle.pol_history.specs.Batches.{Started, chart_by, holder_of}
@@ -23,15 +23,14 @@ use Rattle.pol_history.specs.Looking.{History, past, past_of_batch, recipes}
 use Rattle.pol_history.specs.Modules.{dockings_by}
 use Rattle.pol_history.specs.Rules.{uncovered_by, uncovered_in, held_back}
 use Rattle.pol_history.proofs.Accepted.{paired}
-use Rattle.pol_slots.specs.Slots.{slot_ticket, slot_begins, IsDocked}
+use Rattle.pol_slots.specs.Slots.{slot_ticket, slot_begins, IsDocked, IsUnchanged}
 use Rattle.pol_slots.specs.declared.slot.Slot.{Slot}
 use Rattle.pol_table.specs.Rows as tables
-use Rattle.pol_table.specs.Rows.{Row, Rows, look, part_of}
+use Rattle.pol_table.specs.Rows.{Row, Rows, look, part_of, with_part}
 use Rattle.pol_runs.specs.Runs.{PlainRun}
 use Rattle.pol_core.specs.Batches.{IsRun, RunsMirror}
-use Rattle.pol_core.specs.Exchanges.{StaysAway, run_lacks, lacks}
-use Rattle.pol_core.specs.Seats.{users_of, SlotKeeps, IsTaken, IsSeated, SeatsMirror, IsCounted}
-use Rattle.pol_core.proofs.Counting.{counted_part}
+use Rattle.pol_core.specs.Exchanges.{run_lacks, lacks}
+use Rattle.pol_core.specs.Seats.{users_of, SlotKeeps, IsTaken, IsSeated, SeatsMirror}
 use Rattle.pol_core.proofs.Keeping.{unchanged_keeps}
 use Rattle.pol_core.proofs.Seating.{part_changes}
 use Rattle.pol_core.proofs.Telling.{has_row, seated_slot}
@@ -44,10 +43,10 @@ docked_once_more begins again dockings same away = omega (arith, same, away)
 
 -- the slot keeps the past that ends in the end of the exchange
 pub end_keeps : (tag : List ℕ) (ticket : ℕ) (description : PlainDescription) (old new : Slot)
-    (past : History) (at : ℕ) → slot_ticket old ≡ Some ticket →
+    (past : History) (at : ℕ) (answer : Answer) → slot_ticket old ≡ Some ticket →
     IsDocked old new description → SlotKeeps tag old past →
-    SlotKeeps tag new (paired (exchange_end at tag ticket description) Done ∷ past)
-end_keeps tag ticket description old new past at away docks keeps =
+    SlotKeeps tag new (paired (exchange_end at tag ticket description) answer ∷ past)
+end_keeps tag ticket description old new past at answer away docks keeps =
     record {
       tag_is = docks.tag ∙ keeps.tag_is;
       is_there = λ is. cc;
@@ -61,37 +60,30 @@ end_keeps tag ticket description old new past at away docks keeps =
       values = docks.unreported.values;
     }
 
--- for want of memory nothing that is mirrored changes
-pub stays_mirrored : (history : History) (tag : List ℕ) (slot : Slot) (old new : Rows Slot) →
-    part_of tag old ≡ Some slot → StaysAway tag slot old new →
-    SeatsMirror old history → SeatsMirror new history
-stays_mirrored history tag slot old new found stays mirror other =
-    let has = has_row tag old slot found in
-    let keeps = seated_slot history tag old slot mirror found in
-    let after = unchanged_keeps tag slot stays.after (past tag history) stays.same.same_module
-    stays.same.controls stays.same.values keeps in
+-- where nothing that contracts see of a slot changes, the table keeps the history
+pub stays_mirrored : (history : History) (tag : List ℕ) (slot after : Slot) (rows : Rows Slot) →
+    part_of tag rows ≡ Some slot → IsUnchanged slot after → SeatsMirror rows history →
+    SeatsMirror (with_part tag rows after) history
+stays_mirrored history tag slot after rows found same mirror other =
+    let has = has_row tag rows slot found in
+    let keeps = unchanged_keeps tag slot after (past tag history) same.same_module same.controls same.values
+    (seated_slot history tag rows slot mirror found) in
     let taken : IsTaken tag has.row (past tag history) (users_of history tag)
     = subst (λ found. IsSeated tag found (past tag history) (users_of history tag)) has.found (mirror tag) in
     subst (λ found. IsSeated other found (past other history) (users_of history other))
-    (sym (ap (look other) stays.table ∙ part_changes tag has.row old stays.after has.found other))
-    (go has.row after taken.held_by taken.watched_by (bytes_eq tag other) refl)
+    (sym (part_changes tag has.row rows after has.found other))
+    (go has.row keeps taken.held_by taken.watched_by (bytes_eq tag other) refl)
   where
-    go : (row : Row Slot) → SlotKeeps tag stays.after (past tag history) →
+    go : (row : Row Slot) → SlotKeeps tag after (past tag history) →
         row.holder ≡ (users_of history tag).holder → row.watchers ≡ (users_of history tag).watchers →
         (same : Bool) → bytes_eq tag other ≡ same →
-        IsSeated other (cond same (Some (record row { part = stays.after })) (look other old))
+        IsSeated other (cond same (Some (record row { part = after })) (look other rows))
         (past other history) (users_of history other)
-    go row after held watched false apart = mirror other
-    go row after held watched true same =
-        subst (λ other. IsSeated other (Some (record row { part = stays.after })) (past other history)
+    go row keeps held watched false apart = mirror other
+    go row keeps held watched true same =
+        subst (λ other. IsSeated other (Some (record row { part = after })) (past other history)
         (users_of history other)) (same_true tag other same)
-        (record { slot_keeps = after; held_by = held; watched_by = watched })
-
--- nor does a count
-pub stays_counted : (history : History) (tag : List ℕ) (slot : Slot) (old new : Rows Slot) →
-    StaysAway tag slot old new → IsCounted old history → IsCounted new history
-stays_counted history tag slot old new stays counted =
-    subst (λ rows. IsCounted rows history) (sym stays.table) (counted_part history tag stays.after old counted)
+        (record { slot_keeps = keeps; held_by = held; watched_by = watched })
 
 -- ---- HeldBack
 

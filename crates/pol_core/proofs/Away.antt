@@ -29,7 +29,7 @@ use Rattle.pol_core.proofs.Plugging.{refused_answered}
 use Rattle.pol_core.proofs.Telling.{seated_slot, slot_changes}
 
 -- nothing follows the last rule
-last_or : (rule : Option Rule) → option_or rule None ≡ rule
+pub last_or : (rule : Option Rule) → option_or rule None ≡ rule
 last_or None = refl
 last_or (Some rule) = refl
 

@@ -44,7 +44,7 @@ there_is tag (docked count) there = refl
 there_is tag (away ticket) there = refl
 
 -- what the first of the rules leaves of an event that is done
-rules_done : (rules : List (Option Rule)) → done_or_refused (done_unless (first_of rules)) ≡ first_rule rules Done
+pub rules_done : (rules : List (Option Rule)) → done_or_refused (done_unless (first_of rules)) ≡ first_rule rules Done
 rules_done [] = refl
 rules_done (None ∷ rules) = rules_done rules
 rules_done (Some rule ∷ rules) = refl

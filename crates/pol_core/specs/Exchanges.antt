@@ -7,19 +7,11 @@ use Rattle.chart_core.specs.Charts.{plain_chart}
 use Rattle.pol_events.specs.Bound.{bound_role}
 use Rattle.pol_runs.specs.Runs.{PlainRun}
 use Rattle.mtp_desc.specs.Plain.{PlainDescription}
-use Rattle.pol_events.specs.Refusals.{wrong_ticket}
 use Rattle.pol_events.specs.declared.answer.Rule.{Rule}
-use Rattle.pol_events.specs.declared.answer.Rule.TheVariants.{HeldBack, NotInExchange}
-use Rattle.pol_slots.specs.Slots.{slot_tag, slot_ticket, slot_description, slot_begins, IsUnreported, IsDocked}
-use Rattle.pol_slots.specs.Slots.{IsUnchanged}
+use Rattle.pol_events.specs.declared.answer.Rule.TheVariants.{HeldBack}
+use Rattle.pol_slots.specs.Slots.{slot_tag, slot_ticket, slot_description, slot_begins, IsUnreported}
 use Rattle.pol_slots.specs.declared.slot.Slot.{Slot}
 use Rattle.pol_table.specs.Rows.{Rows, part_of, with_part}
-
--- the rule that the end or the cancel of an exchange meets first, by the ticket under which the module is away: it is
--- not away, or the given ticket is another
-abbrev pub ticket_rule : ℕ → Option ℕ → Option Rule
-ticket_rule given None = Some NotInExchange
-ticket_rule given (Some kept) = wrong_ticket given (Some kept)
 
 -- a module is docked under the tag
 pub record IsDockedAt (tag : List ℕ) (rows : Rows Slot) : Type 0 where
@@ -45,19 +37,6 @@ pub record SendsAway (tag : List ℕ) (ticket : ℕ) (slot : Slot) (old new : Ro
 -- each module has begun fewer exchanges than a ticket can count
 abbrev pub HaveBegunFew : Rows Slot → Type 0
 HaveBegunFew rows = (tag : List ℕ) (slot : Slot) → part_of tag rows ≡ Some slot → slot_begins slot < 4294967295
-
--- another module docks in place of the one that is away
-pub record DocksAgain (tag : List ℕ) (description : PlainDescription) (slot : Slot)
-    (old new : Rows Slot) : Type 0 where
-  pub after : Slot
-  pub docks : IsDocked slot after description
-  pub table : new ≡ with_part tag old after
-
--- nothing that contracts see of the slot has changed
-pub record StaysAway (tag : List ℕ) (slot : Slot) (old new : Rows Slot) : Type 0 where
-  pub after : Slot
-  pub same : IsUnchanged slot after
-  pub table : new ≡ with_part tag old after
 
 -- what of its chart the run of a batch doesn't find in the description, for the role that the tag plays
 abbrev pub run_lacks : List ℕ → PlainDescription → List ℕ → PlainRun → Option Rule

@@ -1,6 +1,5 @@
 //! Modules that are exchanged.
-ghost use Rattle.std.specs.Prelude.{◌≡◌, ℕ, List, map, Some, None, IsSome, IfOk, OnOk, OnErr, option_map};
-ghost use Rattle.std.specs.Prelude.{option_and_then};
+ghost use Rattle.std.specs.Prelude.{◌≡◌, ℕ, [], ◌∷◌, map, Some, None, IfOk, OnOk, OnErr, option_map, option_and_then};
 ghost use Rattle.mtp_codes.specs.Faults.{first_of, done_unless};
 ghost use Rattle.mtp_desc.specs.PlainDescription.{plain_description};
 ghost use Rattle.mtp_procs.specs.Covers.{cover_fault, missing_by};
@@ -11,13 +10,13 @@ ghost use Rattle.pol_events.specs.Events.{exchange_begin, exchange_end, exchange
 ghost use Rattle.pol_history.specs.Answers.{rules};
 ghost use Rattle.pol_history.specs.Looking.{History};
 ghost use Rattle.pol_history.specs.Rules.{active_step, held_back};
-ghost use Rattle.pol_slots.specs.Slots.{slot_description, slot_ticket, IsDocked, IsUnchanged};
+ghost use Rattle.pol_slots.specs.Refused.{ticket_rule};
+ghost use Rattle.pol_slots.specs.Slots.{slot_ticket, IsDocked, IsUnchanged};
 ghost use Rattle.pol_slots.specs.declared.slot.Slot.{Slot as slot_type};
 ghost use Rattle.pol_table.specs.Rows.{holder_of, part_of, watchers_of};
 ghost use Rattle.pol_runs.specs.Logs.{Follows};
 ghost use Rattle.pol_core.specs.Batches.{ModuleAnswersBeside, RunsMirror};
-ghost use Rattle.pol_core.specs.Exchanges.{HaveBegunFew, IsDockedAt, SendsAway, DocksAgain, StaysAway, lacks};
-ghost use Rattle.pol_core.specs.Exchanges.{ticket_rule};
+ghost use Rattle.pol_core.specs.Exchanges.{HaveBegunFew, IsDockedAt, SendsAway, lacks};
 ghost use Rattle.pol_core.specs.Seats.{IsCounted, ModuleAnswers, SeatsMirror};
 
 use crate::modules::done_or_refused;
@@ -84,50 +83,6 @@ pub fn exchange_begin(modules: &mut Table<Slot>, runs: &IndexMap<Name, Run>, tag
         return Answer::Refused(rule);
     }
     Answer::Ticket(send_away(modules, tag))
-}
-
-// The rule that the end or the cancel of an exchange meets first: the module isn't away, or is under another ticket.
-fn ticket_rule(slot: &Slot, ticket: u32) -> Option<Rule>
-    ensures { result ≡ ticket_rule ticket (slot_ticket slot.now) }
-{
-    match slot.ticket() {
-        None => Some(Rule::NotInExchange),
-        Some(kept) => {
-            if kept == ticket {
-                None
-            } else {
-                Some(Rule::WrongTicket {
-                    kept,
-                    given: ticket,
-                })
-            }
-        }
-    }
-}
-
-// Docks another module in place of the one that is away. AllocError where memory is wanting; then nothing that is seen
-// changes.
-fn dock_again(
-    modules: &mut Table<Slot>,
-    tag: Name,
-    ticket: u32,
-    desc: Arc<Description>,
-) -> Result<(), AllocError>
-    requires there { IsSome (part_of tag modules.old) }
-    requires away { (slot : slot_type) → part_of tag modules.old ≡ Some slot → slot_ticket slot ≡ Some ticket }
-    ensures docked { OnOk result ((slot : slot_type) → part_of tag modules.old ≡ Some slot
-        → DocksAgain tag (plain_description desc.value) slot modules.old modules.new) }
-    ensures kept { OnErr result ((slot : slot_type) → part_of tag modules.old ≡ Some slot
-        → StaysAway tag slot modules.old modules.new) }
-{
-    match modules.get_mut(tag) {
-        Some(slot) => match slot.finish(ticket, desc) {
-            Ok(()) => Ok(()),
-            Err(SlotRefusal::Memory) => Err(AllocError),
-            Err(SlotRefusal::Rule(_)) => unreachable!(),
-        },
-        None => unreachable!(),
-    }
 }
 
 // What of the batch's chart the description doesn't cover, for the role that the tag plays.
@@ -205,6 +160,31 @@ fn held_back(
     }
 }
 
+// Docks another module in place of the one that is away, unless the ticket is wrong or this rule holds the module back.
+// AllocError where memory is wanting; then, as after a refusal, the slot is unchanged.
+fn dock_again(
+    slot: &mut Slot,
+    ticket: u32,
+    held_back: Option<Rule>,
+    desc: &Arc<Description>,
+) -> Result<Result<(), Rule>, AllocError>
+    ensures answer { IfOk result (λ answer. answer
+        ≡ done_unless (first_of (ticket_rule ticket (slot_ticket slot.old) ∷ held_back ∷ []))) }
+    ensures docked { IfOk result (λ answer. OnOk answer
+        (IsDocked slot.old slot.new (plain_description desc.now.value))) }
+    ensures refused { IfOk result (λ answer. OnErr answer (IsUnchanged slot.old slot.new)) }
+    ensures unchanged { OnErr result (IsUnchanged slot.old slot.new) }
+{
+    if let Some(rule) = held_back {
+        return Ok(Err(slot.ticket_rule(ticket).unwrap_or(rule)));
+    }
+    match slot.finish(ticket, desc.clone()?) {
+        Ok(()) => Ok(Ok(())),
+        Err(SlotRefusal::Rule(rule)) => Ok(Err(rule)),
+        Err(SlotRefusal::Memory) => Err(AllocError),
+    }
+}
+
 /// Another module comes in place of the one that is away. AllocError where memory is wanting; then nothing that is seen
 /// changes.
 pub fn exchange_end(
@@ -219,29 +199,11 @@ pub fn exchange_end(
     ensures kept { OnErr result ((history : History) → SeatsMirror modules.old history → IsCounted modules.old history
         → SeatsMirror modules.new history × IsCounted modules.new history) }
 {
-    let Some(slot) = modules.get(tag) else {
-        return Ok(Answer::Refused(Rule::NoModule { tag }));
-    };
-    if let Some(rule) = ticket_rule(slot, ticket) {
-        return Ok(Answer::Refused(rule));
+    let held_back = held_back(modules, runs, tag, desc);
+    match modules.get_mut(tag) {
+        None => Ok(Answer::Refused(Rule::NoModule { tag })),
+        Some(slot) => Ok(done_or_refused(dock_again(slot, ticket, held_back, desc)?)),
     }
-    if let Some(rule) = held_back(modules, runs, tag, desc) {
-        return Ok(Answer::Refused(rule));
-    }
-    dock_again(modules, tag, ticket, desc.clone()?)?;
-    Ok(Answer::Done)
-}
-
-// Docks the module that is away again, by its ticket.
-fn dock_back(slot: &mut Slot, ticket: u32) -> Result<(), Rule>
-    ensures answer { result ≡ done_unless (ticket_rule ticket (slot_ticket slot.old)) }
-    ensures docked { OnOk result (IsDocked slot.old slot.new (slot_description slot.old)) }
-    ensures unchanged { OnErr result (IsUnchanged slot.old slot.new) }
-{
-    if slot.ticket().is_none() {
-        return Err(Rule::NotInExchange);
-    }
-    slot.cancel(ticket)
 }
 
 /// An exchange is cancelled: the module that is away is docked again.
@@ -250,6 +212,6 @@ pub fn exchange_cancel(modules: &mut Table<Slot>, tag: Name, ticket: u32) -> Ans
 {
     match modules.get_mut(tag) {
         None => Answer::Refused(Rule::NoModule { tag }),
-        Some(slot) => done_or_refused(dock_back(slot, ticket)),
+        Some(slot) => done_or_refused(slot.cancel(ticket)),
     }
 }

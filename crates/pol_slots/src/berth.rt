@@ -1,11 +1,11 @@
 //! Whether a module is docked or away.
-ghost use Rattle.std.specs.Prelude.{◌≡◌, Some, None, IsSome, OnOk, OnErr, option_and_then};
+ghost use Rattle.std.specs.Prelude.{◌≡◌, Some, None, OnOk, OnErr, option_and_then};
 ghost use Rattle.std.specs.Map.{lookup};
 ghost use Rattle.std.specs.Str.{bytes_eq};
 ghost use Rattle.mtp_codes.specs.Faults.{done_unless};
-ghost use Rattle.pol_events.specs.Refusals.{wrong_ticket};
 ghost use Rattle.pol_slots.specs.LastValues.{report_rule};
 ghost use Rattle.pol_slots.specs.Berths.{ticket_in, reported_in, docked_in, IsBack};
+ghost use Rattle.pol_slots.specs.Refused.{ticket_rule};
 ghost use Rattle.pol_slots.specs.Reported.{ReportsControl, ReportsSame, ReportsValue};
 
 use super::reported::Reported;
@@ -22,7 +22,8 @@ pub(crate) enum Berth {
     Away(Away<Reported>),
 }
 
-fn ticket_rule(wrong: WrongTicket) -> Rule
+// A wrong ticket, as a rule.
+fn wrong_ticket(wrong: WrongTicket) -> Rule
     ensures { result ≡ Rule.WrongTicket wrong.kept wrong.given }
 {
     Rule::WrongTicket {
@@ -51,6 +52,21 @@ impl Berth {
         match self {
             Berth::Docked(_) => None,
             Berth::Away(away) => Some(away.ticket()),
+        }
+    }
+
+    /// The rule that the end or the cancel of an exchange by this ticket meets: the module isn't away, or is under
+    /// another.
+    pub(crate) fn ticket_rule(&self, ticket: u32) -> Option<Rule>
+        ensures { result ≡ ticket_rule ticket (ticket_in self.now) }
+    {
+        match self {
+            Berth::Docked(_) => Some(Rule::NotInExchange),
+            Berth::Away(away) if away.ticket() == ticket => None,
+            Berth::Away(away) => Some(wrong_ticket(WrongTicket {
+                kept: away.ticket(),
+                given: ticket,
+            })),
         }
     }
 
@@ -116,33 +132,32 @@ impl Berth {
         }
     }
 
-    /// Docks another module, which told this, in place of the one that is away; or, with a wrong ticket, leaves it
-    /// away.
+    /// Docks another module, which told this, in place of the one that is away.
+    ///
+    /// `NotInExchange` where none is away, `WrongTicket` where the ticket isn't its own; then all stays.
     pub(crate) fn finish(self, ticket: u32, reported: Reported) -> (Berth, Result<(), Rule>)
-        requires { IsSome (ticket_in self) }
-        ensures answer { result.1 ≡ done_unless (wrong_ticket ticket (ticket_in self)) }
+        ensures answer { result.1 ≡ done_unless (ticket_rule ticket (ticket_in self)) }
         ensures docked { OnOk result.1 (result.0 ≡ Berth.Docked reported) }
         ensures unchanged { OnErr result.1 (result.0 ≡ self) }
     {
         let away = match self {
-            Berth::Docked(_) => unreachable!(),
+            Berth::Docked(docked) => return (Berth::Docked(docked), Err(Rule::NotInExchange)),
             Berth::Away(away) => away,
         };
         match away.finish(ticket, reported) {
             Ok((docked, _old)) => (Berth::Docked(docked), Ok(())),
-            Err((away, _reported, wrong)) => (Berth::Away(away), Err(ticket_rule(wrong))),
+            Err((away, _reported, wrong)) => (Berth::Away(away), Err(wrong_ticket(wrong))),
         }
     }
 
-    /// Docks the module that is away again, with nothing told; or, with a wrong ticket, leaves it away.
+    /// Docks the module that is away again, with nothing told; refused as [`Berth::finish`] is.
     pub(crate) fn cancel(self, ticket: u32) -> (Berth, Result<(), Rule>)
-        requires { IsSome (ticket_in self) }
-        ensures answer { result.1 ≡ done_unless (wrong_ticket ticket (ticket_in self)) }
+        ensures answer { result.1 ≡ done_unless (ticket_rule ticket (ticket_in self)) }
         ensures docked { OnOk result.1 (IsBack self result.0) }
         ensures unchanged { OnErr result.1 (result.0 ≡ self) }
     {
         let away = match self {
-            Berth::Docked(_) => unreachable!(),
+            Berth::Docked(docked) => return (Berth::Docked(docked), Err(Rule::NotInExchange)),
             Berth::Away(away) => away,
         };
         match away.cancel(ticket) {
@@ -150,7 +165,7 @@ impl Berth {
                 docked.part_mut().forget();
                 (Berth::Docked(docked), Ok(()))
             }
-            Err((away, wrong)) => (Berth::Away(away), Err(ticket_rule(wrong))),
+            Err((away, wrong)) => (Berth::Away(away), Err(wrong_ticket(wrong))),
         }
     }
 }

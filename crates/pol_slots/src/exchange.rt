@@ -1,9 +1,8 @@
 //! Docking, and the exchange of a module for another.
-ghost use Rattle.std.specs.Prelude.{◌≡◌, ℕ, ◌+◌, ◌<◌, Some, None, IsSome, IfOk, IfErr, OnOk, OnErr};
+ghost use Rattle.std.specs.Prelude.{◌≡◌, ℕ, ◌+◌, ◌<◌, Some, None, IfOk, IfErr, OnOk, OnErr};
 ghost use Rattle.mtp_codes.specs.Faults.{done_unless};
 ghost use Rattle.mtp_desc.specs.PlainDescription.{plain_description};
-ghost use Rattle.pol_events.specs.Refusals.{wrong_ticket};
-ghost use Rattle.pol_slots.specs.Refused.{refusal_by};
+ghost use Rattle.pol_slots.specs.Refused.{ticket_rule, refusal_by};
 ghost use Rattle.pol_slots.specs.Slots.{slot_tag, slot_description, slot_begins, slot_ticket, IsDocked, IsUnchanged};
 ghost use Rattle.pol_slots.specs.Slots.{IsUnreported};
 
@@ -60,17 +59,12 @@ impl Slot {
         self.begins
     }
 
-    // The ticket is the one under which the module is away.
-    fn check_ticket(&self, ticket: u32) -> Result<(), Rule>
-        ensures { result ≡ done_unless (wrong_ticket ticket (slot_ticket self.now)) }
+    /// The rule that the end or the cancel of an exchange by this ticket meets: `NotInExchange` while the module is
+    /// docked; `WrongTicket` with both tickets where it is away under another.
+    pub fn ticket_rule(&self, ticket: u32) -> Option<Rule>
+        ensures { result ≡ ticket_rule ticket (slot_ticket self.now) }
     {
-        match self.ticket() {
-            Some(kept) if kept != ticket => Err(Rule::WrongTicket {
-                kept,
-                given: ticket,
-            }),
-            _ => Ok(()),
-        }
+        self.berth.ticket_rule(ticket)
     }
 
     /// Sends the module away for exchange. The answer is the ticket, by which the exchange is ended or cancelled: one
@@ -95,20 +89,18 @@ impl Slot {
     /// Ends the exchange: another module, with this description, is docked in place of the one that is away. Nothing
     /// was reported of it yet.
     ///
-    /// `WrongTicket` with both tickets where the given one isn't that of the exchange; else `Memory` for want of
-    /// memory. After either the slot is unchanged.
+    /// `NotInExchange` while the module is docked, `WrongTicket` with both tickets where the given one isn't that of the
+    /// exchange; else `Memory` for want of memory. After each the slot is unchanged.
     #[tactic(auto, unfolding(crate::specs::Slots::last_control, crate::specs::Slots::last_value))]
     pub fn finish(&mut self, ticket: u32, description: Arc<Description>) -> Result<(), SlotRefusal>
-        requires { IsSome (slot_ticket self.old) }
-        ensures accepted { OnOk result (wrong_ticket ticket (slot_ticket self.old) ≡ None) }
+        ensures accepted { OnOk result (ticket_rule ticket (slot_ticket self.old) ≡ None) }
         ensures docked { OnOk result (IsDocked self.old self.new (plain_description description.value)) }
-        ensures refused { IfErr result (λ refusal. refusal ≡ refusal_by (wrong_ticket ticket (slot_ticket self.old))) }
+        ensures refused { IfErr result (λ refusal. refusal ≡ refusal_by (ticket_rule ticket (slot_ticket self.old))) }
         ensures unchanged { OnErr result (IsUnchanged self.old self.new) }
     {
-        if let Err(rule) = self.check_ticket(ticket) {
-            return Err(SlotRefusal::Rule(rule));
-        }
-        let reported = Reported::new(self.alloc, &description)?;
+        let Ok(reported) = Reported::new(self.alloc, &description) else {
+            return Err(SlotRefusal::by(self.ticket_rule(ticket)));
+        };
         let berth = mem::replace(&mut self.berth, Berth::empty(self.alloc));
         let (berth, answer) = berth.finish(ticket, reported);
         self.berth = berth;
@@ -117,18 +109,18 @@ impl Slot {
                 self.description = description;
                 Ok(())
             }
-            Err(_) => unreachable!(),
+            Err(rule) => Err(SlotRefusal::Rule(rule)),
         }
     }
 
     /// Cancels the exchange: the module that is away is docked again, with its old description. Nothing was reported
     /// since.
     ///
-    /// `WrongTicket` with both tickets where the given one isn't that of the exchange; then the slot is unchanged.
+    /// `NotInExchange` while the module is docked, `WrongTicket` with both tickets where the given one isn't that of the
+    /// exchange; then the slot is unchanged.
     #[tactic(auto, unfolding(crate::specs::Slots::last_control, crate::specs::Slots::last_value))]
     pub fn cancel(&mut self, ticket: u32) -> Result<(), Rule>
-        requires { IsSome (slot_ticket self.old) }
-        ensures answer { result ≡ done_unless (wrong_ticket ticket (slot_ticket self.old)) }
+        ensures answer { result ≡ done_unless (ticket_rule ticket (slot_ticket self.old)) }
         ensures docked { OnOk result (IsDocked self.old self.new (slot_description self.old)) }
         ensures unchanged { OnErr result (IsUnchanged self.old self.new) }
     {

@@ -1,9 +1,8 @@
 //! Why the end of an exchange is refused.
 ghost use Rattle.std.specs.Prelude.{◌≡◌};
-ghost use Rattle.pol_slots.specs.declared.refusal.SlotRefusal.TheVariants.{Memory};
+ghost use Rattle.pol_slots.specs.Refused.{refusal_by};
 
 use pol_events::Rule;
-use std::alloc::AllocError;
 
 /// Why the end of an exchange is refused: by a rule, or because there was no memory.
 #[derive(Clone, Copy, Debug, PartialEq, Eq)]
@@ -12,10 +11,14 @@ pub enum SlotRefusal {
     Memory,
 }
 
-impl From<AllocError> for SlotRefusal {
-    ghost from_gives = { λ _ refusal. refusal ≡ Memory };
-
-    fn from(_error: AllocError) -> SlotRefusal {
-        SlotRefusal::Memory
+impl SlotRefusal {
+    /// By the rule, where there is one; else for want of memory.
+    pub(crate) fn by(rule: Option<Rule>) -> SlotRefusal
+        ensures { result ≡ refusal_by rule }
+    {
+        match rule {
+            Some(rule) => SlotRefusal::Rule(rule),
+            None => SlotRefusal::Memory,
+        }
     }
 }

@@ -1,31 +1,17 @@
--- Another module is docked, or all that is seen stays.
-use Rattle.std.proofs.Common.{◌≡◌, ◌∙◌, sym, ap, subst, refl}
-use Rattle.std.specs.Option.{option_copied_mut}
-use Rattle.std.proofs.lemmas.Option.{same_Some}
-use Rattle.mtp_desc.specs.PlainDescription.{plain_description}
-use Rattle.pol_slots.specs.Slots.{IsDocked, IsUnchanged}
-use Rattle.pol_slots.specs.declared.slot.Slot.{Slot}
+-- A rule that the slot refuses by is the ticket's.
+use Rattle.std.proofs.Common.{◌≡◌, ◌∷◌, [], Option, Some, None, Result, Err, ap, sym, ◌∙◌}
+use Rattle.std.specs.Prelude.{⊤}
+use Rattle.mtp_codes.specs.Faults.{first_of, done_unless}
+use Rattle.pol_events.specs.declared.answer.Rule.{Rule}
+use Rattle.pol_slots.specs.Refused.{refusal_by}
+use Rattle.pol_slots.specs.declared.refusal.SlotRefusal.TheVariants as refusal
 use Rattle.pol_core.proofs.exchanges.dock_again.Goals as goal
 
-pub returns-in-Ok-clause-docked : goal.returns-in-Ok-clause-docked
-returns-in-Ok-clause-docked c =
-    λ slot found.
-    let is : c.in-Some.slot.now ≡ slot = same_Some c.in-Some.slot.now slot (sym (ap option_copied_mut c.in-Some.is)
-    ∙ c.get_mut.ensures.value ∙ found) in
-    record {
-      after = c.finish.new.self;
-      docks = subst (λ (slot : Slot). IsDocked slot c.finish.new.self (plain_description c.args.desc.value))
-          is c.in-Ok.ensures.docked;
-      table = refl;
-    }
+refused : (rule : Rule) (found held : Option Rule) → refusal.Rule rule ≡ refusal_by found
+    → ◌≡◌ {A = Result ⊤ Rule} (Err rule) (done_unless (first_of (found ∷ held ∷ [])))
+refused rule None held is = cc
+refused rule (Some other) held is = let same : rule ≡ other = cc in ap Err same
 
-pub returns-in-Err-Memory-clause-kept : goal.returns-in-Err-Memory-clause-kept
-returns-in-Err-Memory-clause-kept c =
-    λ slot found.
-    let is : c.in-Some.slot.now ≡ slot = same_Some c.in-Some.slot.now slot (sym (ap option_copied_mut c.in-Some.is)
-    ∙ c.get_mut.ensures.value ∙ found) in
-    record {
-      after = c.finish.new.self;
-      same = subst (λ (slot : Slot). IsUnchanged slot c.finish.new.self) is c.in-Err-Memory.ensures.unchanged;
-      table = refl;
-    }
+pub returns-in-Err-Rule-clause-answer : goal.returns-in-Err-Rule-clause-answer
+returns-in-Err-Rule-clause-answer c =
+    refused c.in-Err-Rule.rule _ c.args.held_back (sym c.in-Err-Rule.field-0-is ∙ c.in-Err-Rule.ensures.refused)

@@ -1,57 +1,61 @@
 -- Another module is docked, or a rule is against it.
-use Rattle.std.proofs.Common.{◌∙◌, sym, ap, subst, refl}
-use Rattle.std.specs.Option.{option_copied}
+use Rattle.std.proofs.Common.{◌≡◌, ◌∙◌, sym, ap, ◌∷◌, [], Some, refl}
+use Rattle.std.specs.Option.{option_copied_mut}
+use Rattle.std.proofs.lemmas.Result.{on_err_weaker}
+use Rattle.mtp_codes.specs.Faults.{first_of, done_unless}
 use Rattle.mtp_desc.specs.PlainDescription.{plain_description}
+use Rattle.pol_history.specs.Looking.{past}
 use Rattle.pol_history.specs.Rules.{held_back}
-use Rattle.pol_core.specs.Exchanges.{DocksAgain}
-use Rattle.pol_core.proofs.Again.{stays_mirrored, stays_counted}
-use Rattle.pol_core.proofs.Ending.{end_refused, end_held_back, end_answered}
+use Rattle.pol_slots.specs.Refused.{ticket_rule}
+use Rattle.pol_slots.specs.Slots.{slot_ticket}
+use Rattle.pol_table.specs.Rows.{part_of}
+use Rattle.pol_core.specs.Seats.{done_or_refused}
+use Rattle.pol_core.proofs.Again.{end_keeps, stays_mirrored}
+use Rattle.pol_core.proofs.Counting.{counted_part}
+use Rattle.pol_core.proofs.Ending.{end_judged, with_right_ticket}
+use Rattle.pol_core.proofs.Keeping.{unchanged_keeps}
 use Rattle.pol_core.proofs.Plugging.{missing_answered}
-use Rattle.pol_core.proofs.Telling.{on_err_of}
+use Rattle.pol_core.proofs.Telling.{on_err_of, seated_slot, slot_answered}
 use Rattle.pol_core.proofs.exchanges.exchange_end.Goals as goal
 
-pub returns-in_default-clause-answered : goal.returns-in_default-clause-answered
-returns-in_default-clause-answered c =
+pub returns-in-None-clause-answered : goal.returns-in-None-clause-answered
+returns-in-None-clause-answered c =
     λ history at seats counted batches room.
     missing_answered history _ c.args.tag _ c.args.modules.now refl room seats counted
-    (sym c.get.ensures ∙ ap option_copied c.in_default.is)
+    (sym c.get_mut.ensures.value ∙ ap option_copied_mut c.in-None.is)
 
-pub returns-in-Some-ticket_rule-clause-answered : goal.returns-in-Some-ticket_rule-clause-answered
-returns-in-Some-ticket_rule-clause-answered c =
+pub returns-in_ok-dock_again-in-Some-clause-answered : goal.returns-in_ok-dock_again-in-Some-clause-answered
+returns-in_ok-dock_again-in-Some-clause-answered c =
     λ history at seats counted batches room.
-    end_refused history at c.args.tag c.args.ticket (plain_description c.args.desc.now.value)
-    c.in-Some.slot.now c.args.modules.now c.in-Some-ticket_rule.rule
-    room seats counted (sym c.in-Some.ensures) (sym c.ticket_rule.ensures ∙ c.in-Some-ticket_rule.is)
+    let tag = c.args.tag in
+    let ticket = c.args.ticket in
+    let slot = c.in-Some.slot.now in
+    let description = plain_description c.args.desc.now.value in
+    let after = c.dock_again.new.slot in
+    let done = c.in_ok-dock_again-in-Some in
+    let found : part_of tag c.args.modules.now ≡ Some slot = sym c.get_mut.ensures.value
+    ∙ ap option_copied_mut c.in-Some.is in
+    let keeps = seated_slot history tag c.args.modules.now slot seats found in
+    let answer : done.field-0 ≡ done_unless (first_of (ticket_rule ticket (slot_ticket slot)
+    ∷ held_back history tag description ∷ [])) = done.ensures.answer
+    ∙ ap (λ held. done_unless (first_of (ticket_rule ticket (slot_ticket slot) ∷ held ∷ [])))
+    (c.held_back-held_back.ensures history seats batches
+    ∙ ap (λ desc. held_back history tag (plain_description desc)) c.deref.ensures) in
+    slot_answered history _ tag c.args.modules.now slot after done.field-0 _ refl refl c.done_or_refused.ensures
+    (ap done_or_refused answer ∙ end_judged history at tag ticket description slot room keeps)
+    seats counted found
+    (with_right_ticket ticket (slot_ticket slot) (held_back history tag description ∷ []) done.field-0 answer
+    (λ away docks. end_keeps tag ticket description slot after (past tag history) at _ away docks keeps)
+    done.ensures.docked)
+    (on_err_weaker done.field-0 (λ same.
+    unchanged_keeps tag slot after (past tag history) same.same_module same.controls same.values keeps)
+    done.ensures.refused)
 
-pub returns-in-Some-held_back-clause-answered : goal.returns-in-Some-held_back-clause-answered
-returns-in-Some-held_back-clause-answered c =
-    λ history at seats counted batches room.
-    end_held_back history at c.args.tag c.args.ticket (plain_description c.args.desc.now.value)
-    c.in-Some.slot.now c.args.modules.now c.in-Some-held_back.rule
-    room seats counted (sym c.in-Some.ensures) (sym c.ticket_rule.ensures ∙ c.in_default-ticket_rule.is)
-    (ap (λ desc. held_back history c.args.tag (plain_description desc)) (sym c.deref.ensures)
-    ∙ sym (c.held_back.ensures history seats batches) ∙ c.in-Some-held_back.is)
-
-pub returns-in_err-dock_again-clause-kept : goal.returns-in_err-dock_again-clause-kept
-returns-in_err-dock_again-clause-kept c =
-    on_err_of c.from_residual-in_err-dock_again.result (λ history seats counted.
-    let found = sym c.in-Some.ensures in
-    let stays = c.in_err-dock_again.ensures.kept c.in-Some.slot.now found in (
-      stays_mirrored history c.args.tag c.in-Some.slot.now c.args.modules.now c.dock_again.new.modules
-          found stays seats,
-      stays_counted history c.args.tag c.in-Some.slot.now c.args.modules.now c.dock_again.new.modules stays counted,
+pub returns-in_err-dock_again-in-Some-clause-kept : goal.returns-in_err-dock_again-in-Some-clause-kept
+returns-in_err-dock_again-in-Some-clause-kept c =
+    on_err_of c.from_residual.result (λ history seats counted. (
+      stays_mirrored history c.args.tag c.in-Some.slot.now c.dock_again.new.slot c.args.modules.now
+          (sym c.get_mut.ensures.value ∙ ap option_copied_mut c.in-Some.is)
+          c.in_err-dock_again-in-Some.ensures.unchanged seats,
+      counted_part history c.args.tag c.dock_again.new.slot c.args.modules.now counted,
     ))
-
-pub returns : goal.returns
-returns c = record {
-  answered = λ history at seats counted batches room.
-      end_answered history at c.args.tag c.args.ticket (plain_description c.args.desc.now.value)
-      c.in-Some.slot.now c.args.modules.now c.dock_again.new.modules
-      room seats counted (sym c.in-Some.ensures) (sym c.ticket_rule.ensures ∙ c.in_default-ticket_rule.is)
-      (ap (λ desc. held_back history c.args.tag (plain_description desc)) (sym c.deref.ensures)
-      ∙ sym (c.held_back.ensures history seats batches) ∙ c.in_default-held_back.is)
-      (subst (λ desc. DocksAgain c.args.tag (plain_description desc) c.in-Some.slot.now c.args.modules.now
-      c.dock_again.new.modules) c.in_ok-clone.ensures.cases
-      (c.in_ok-dock_again.ensures.docked c.in-Some.slot.now (sym c.in-Some.ensures)));
-  kept = tt;
-}
