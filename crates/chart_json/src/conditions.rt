@@ -183,6 +183,7 @@ fn read_each(alloc: Global, values: &[Value]) -> Result<Vec<Condition>, JsonRefu
         let condition = in_place(i, read_inner(alloc, value))?;
         found.push(condition)?;
     }
+    found.shrink_to_fit();
     Ok(found)
 }
 

@@ -162,6 +162,7 @@ fn read_each(alloc: Global, values: &[Value]) -> Result<Vec<Node>, JsonRefusal>
         let node = in_place(i, read_inner(alloc, value))?;
         found.push(node)?;
     }
+    found.shrink_to_fit();
     Ok(found)
 }
 
@@ -174,6 +175,7 @@ fn read_each_arm(alloc: Global, values: &[Value]) -> Result<Vec<Arm>, JsonRefusa
         let arm = in_place(i, read_arm(alloc, value))?;
         found.push(arm)?;
     }
+    found.shrink_to_fit();
     Ok(found)
 }
 

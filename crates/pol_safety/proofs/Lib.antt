@@ -10,6 +10,7 @@ pub mod Covering
 pub mod Activity
 pub mod Reporting
 pub mod Keeping
+pub mod Holds
 pub mod Advances
 pub mod Present
 pub mod Sound

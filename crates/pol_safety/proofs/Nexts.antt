@@ -84,7 +84,7 @@ broken_one step (sight.Is view) entry is = go (is_broken_state view.control.stat
     go false is = cc
 
 -- the first broken step is told with its name and its state
-broken_first : (seen : Sights) (steps : List PlainStep) (entry : LogEntry) → first_broken seen steps ≡ Some entry
+pub broken_first : (seen : Sights) (steps : List PlainStep) (entry : LogEntry) → first_broken seen steps ≡ Some entry
     → (name : List ℕ) × (state : State) × (entry ≡ Broke name state)
 broken_first seen [] entry is = cc
 broken_first seen (step ∷ steps) entry is = go (broken_step step (seen.view step.role step.service)) refl is

@@ -30,7 +30,8 @@ pub fn logs_follow_charts()
 {}
 
 /// An accepted advance is of an open batch that has a chart; and where the run of the chart goes on, it is answered by
-/// what comes next in that run.
+/// what comes next in that run. It is answered so only then, never while a step that was held is owed its Unhold; and a
+/// step is sent Hold at most once a freeze.
 #[tactic(auto, using(crate::proofs::Advances::advances_follow))]
 pub fn advances_follow_charts()
     ensures { AdvancesFollowCharts }

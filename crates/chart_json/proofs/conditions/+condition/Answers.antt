@@ -25,8 +25,8 @@ read_each-returns-in_err-condition t c =
 
 pub read_each-returns : goal.read_each-returns
 read_each-returns t c =
-    is_done formula_of
-    (map plain_condition c.loop-i.found.items) c.args.values.now c.loop-i.i _ c.loop-i-test.false c.loop-i.invariant
+    rw c.shrink_to_fit.ensures.items (is_done formula_of
+    (map plain_condition c.loop-i.found.items) c.args.values.now c.loop-i.i _ c.loop-i-test.false c.loop-i.invariant)
 
 pub read_all-read_each_under-requires : goal.read_all-read_each_under-requires
 read_all-read_each_under-requires t c =

@@ -24,8 +24,9 @@ read_each-returns-in_err-node t c =
     c.loop-i-test.true c.index-values-i.is c.read_inner.ensures c.in_err-node.ensures c.loop-i.invariant)
 
 pub read_each-returns : goal.read_each-returns
-read_each-returns t c = is_done tree_of (map plain_node c.loop-i.found.items) c.args.values.now c.loop-i.i _
-    c.loop-i-test.false c.loop-i.invariant
+read_each-returns t c =
+    rw c.shrink_to_fit.ensures.items (is_done tree_of
+    (map plain_node c.loop-i.found.items) c.args.values.now c.loop-i.i _ c.loop-i-test.false c.loop-i.invariant)
 
 pub read_each_arm-loop-i-preserved : goal.read_each_arm-loop-i-preserved
 read_each_arm-loop-i-preserved t c =
@@ -44,8 +45,8 @@ read_each_arm-returns-in_err-arm t c =
 
 pub read_each_arm-returns : goal.read_each_arm-returns
 read_each_arm-returns t c =
-    is_done (arm_of tree_of)
-    (map plain_arm c.loop-i.found.items) c.args.values.now c.loop-i.i _ c.loop-i-test.false c.loop-i.invariant
+    rw c.shrink_to_fit.ensures.items (is_done (arm_of tree_of)
+    (map plain_arm c.loop-i.found.items) c.args.values.now c.loop-i.i _ c.loop-i-test.false c.loop-i.invariant)
 
 pub read_seq-read_each_under-requires : goal.read_seq-read_each_under-requires
 read_seq-read_each_under-requires t c =
