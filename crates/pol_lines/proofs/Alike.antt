@@ -1,26 +1,25 @@
 -- What a line of a journal says it says under a policy and by version 1 too, but for commands of the desk and freezes.
-use Rattle.std.proofs.Common.{◌≡◌, ℕ, List, true, false, Option, Some, None, Ok, Err, refl, sym, ap, ◌∙◌, rules}
+use Rattle.std.proofs.Common.{◌≡◌, ℕ, List, true, false, None, Ok, Err, refl, ap, ◌∙◌, rules}
 use Rattle.std.specs.Prelude.{IfOk, IsTrue, Result, codes}
 use Rattle.serde_json.specs.Data.{Data}
 use Rattle.mtp_json.specs.Form.{object_here, required}
 use Rattle.mtp_json.specs.Leaf.{word}
 use Rattle.mtp_json.specs.Parse.{json_of}
 use Rattle.mtp_json.specs.ReadResult.{ReadResult, ◌>>=◌, here}
-use Rattle.chart_core.specs.declared.fault.ChartFault.{ChartFault}
 use Rattle.chart_json.proofs.Told.{any_before}
 use Rattle.pol_events.specs.declared.event.Event.{Event}
 use Rattle.pol_events.specs.Events.{PlainEvent, freeze, plain_event}
 use Rattle.pol_events.specs.Orderly.{is_orderly}
 use Rattle.event_json.specs.Forms.{desk_in, event_by, event_in, freeze_in}
 use Rattle.event_json.specs.Guarded.{PlainGuarded, guarded_by, guarded_in, guarded_of, is_desk, of_guarded}
-use Rattle.event_json.specs.Lines.{Tells, event_of, fault_within, of_line, read_of, unless_faulty}
+use Rattle.event_json.specs.Lines.{Tells, event_of, of_line, read_of}
 use Rattle.event_json.specs.Version1.{event_by_version_1, event_in_version_1, event_of_version_1}
 use Rattle.event_json.specs.Words.{kind_words}
 use Rattle.event_json.specs.declared.kind.EventKind.{EventKind}
 use Rattle.event_json.specs.declared.kind.EventKind.TheVariants.{Desk, Freeze}
 use Rattle.event_json.specs.declared.fault.LineRefusal.{LineRefusal}
 use Rattle.event_json.proofs.Orderly.{line_orderly}
-use Rattle.event_json.proofs.Versions.{line_alike}
+use Rattle.event_json.proofs.Versions.{line_alike, line_parts}
 use Rattle.pol_lines.specs.Versions.{is_freeze}
 
 -- ---- any form by kinds
@@ -40,23 +39,6 @@ by_text : {X Y : Type 0} (read : ReadResult Data) (form : Data → ReadResult X)
     → (read >>= form) ≡ Ok said → (read >>= other) ≡ Ok again
 by_text (Ok value) form other said again each says = each value says
 by_text (Err fault) form other said again each says = absurd cc
-
--- what was read without a fault: this event, whose chart has none
-record WasRead (read : ReadResult PlainEvent) (event : PlainEvent) : Type 0 where
-  is_read : read ≡ Ok event
-  faultless : fault_within event ≡ None
-
--- what a line says was read without a fault
-was_read : (read : ReadResult PlainEvent) (event : PlainEvent) → of_line read ≡ Ok event → WasRead read event
-was_read (Err fault) event says = absurd cc
-was_read (Ok found) event says = by_fault (fault_within found) refl says
-  where
-    by_fault : (fault : Option ChartFault) → fault_within found ≡ fault → unless_faulty found fault ≡ Ok event →
-        WasRead (Ok found) event
-    by_fault None none says =
-        let same : found ≡ event = cc in
-        record { is_read = ap Ok same; faultless = ap fault_within (sym same) ∙ none }
-    by_fault (Some fault) some says = absurd cc
 
 -- ---- under a policy
 
@@ -88,10 +70,10 @@ pub said_by_nobody : (line : List ℕ) (event : PlainEvent) → event_of line �
     guarded_of line ≡ Ok (of_nobody event)
 unfolding event_of guarded_of
 said_by_nobody line event says other =
-    let read = was_read (read_of line) event says in
+    let read = line_parts (read_of line) event says in
     ap of_guarded (by_text (here (json_of line)) event_in guarded_in event (of_nobody event)
-    (unnamed_value event other) read.is_read)
-    ∙ rw read.faultless refl
+    (unnamed_value event other) read.0)
+    ∙ rw read.1 refl
 
 -- ---- by version 1
 
@@ -119,10 +101,9 @@ pub said_in_version_1 : (line : List ℕ) (event : PlainEvent) → event_of line
     event_of_version_1 line ≡ Ok event
 unfolding event_of event_of_version_1
 said_in_version_1 line event says other =
-    let read = was_read (read_of line) event says in
-    ap of_line (by_text (here (json_of line)) event_in event_in_version_1 event event (first_value event other)
-    read.is_read)
-    ∙ rw read.faultless refl
+    let read = line_parts (read_of line) event says in
+    ap of_line (by_text (here (json_of line)) event_in event_in_version_1 event event (first_value event other) read.0)
+    ∙ rw read.1 refl
 
 -- an event that a line says by version 1 is orderly
 first_orderly : (line : List ℕ) (event : PlainEvent) → event_of_version_1 line ≡ Ok event → is_orderly event ≡ true

@@ -25,7 +25,7 @@ use Rattle.event_json.specs.declared.kind.EventKind.TheVariants.{Freeze, Thaw, S
 use Rattle.event_json.specs.declared.kind.EventKind.TheVariants.{ExchangeEnd, ExchangeCancel}
 use Rattle.event_json.specs.Forms.{batch_in, control_in, desk_in, event_by, event_in, exchange_cancel_in, report_in}
 use Rattle.event_json.specs.Forms.{tag_in, variable_in}
-use Rattle.event_json.specs.Guarded.{guarded_by, guarded_in, guarded_of}
+use Rattle.event_json.specs.Guarded.{PlainGuarded, guarded_by, guarded_desk_in, guarded_in, guarded_of}
 use Rattle.event_json.specs.Lines.{event_of}
 use Rattle.event_json.specs.Version1.{event_by_version_1, event_in_version_1, event_of_version_1}
 use Rattle.event_json.specs.Words.{kind_words, mode_words, origin_words}
@@ -33,7 +33,8 @@ use Rattle.pol_lines.specs.declared.parts.Part.{Part}
 use Rattle.pol_lines.specs.Faults.{IsFault}
 use Rattle.pol_lines.specs.Parts.{BeginsHeld, IsOfParts, parts_data, simple, simple_members}
 use Rattle.pol_lines.specs.Spots.{at_key, batch_judged, cancel_judged, desk_judged, fault_of, judged, judged_by}
-use Rattle.pol_lines.specs.Spots.{kind_judged, line_judged, report_judged, tag_judged, variable_judged}
+use Rattle.pol_lines.specs.Spots.{kind_judged, line_judged, named_desk_judged, report_judged, tag_judged}
+use Rattle.pol_lines.specs.Spots.{variable_judged}
 use Rattle.pol_lines.proofs.Keeping.{simple_get, simple_listed}
 use Rattle.pol_lines.proofs.Printed.{begins_all}
 
@@ -156,6 +157,18 @@ desk_kept found =
     let e5 = simple_listed (codes "ev at tag service CommandOp") found in
     rw (e1, e2, e3, e4, e5) refl
 
+-- an operator's command under a policy
+named_desk_kept : (found : Members) → guarded_desk_in (object (simple_members found)) ≡ guarded_desk_in (object found)
+unfolding guarded_desk_in
+named_desk_kept found =
+    let e1 = field_kept (count 0 greatest_u64) (keeps_count 0 greatest_u64) (codes "at") found in
+    let e2 = field_kept name keeps_name (codes "by") found in
+    let e3 = field_kept name keeps_name (codes "tag") found in
+    let e4 = field_kept name keeps_name (codes "service") found in
+    let e5 = field_kept (code command_codes) (keeps_code command_codes) (codes "CommandOp") found in
+    let e6 = simple_listed (codes "ev at by tag service CommandOp") found in
+    rw (e1, e2, e3, e4, e5, e6) refl
+
 -- the cancelling of an exchange
 cancel_kept : (found : Members)
     → exchange_cancel_in (object (simple_members found)) ≡ exchange_cancel_in (object found)
@@ -228,6 +241,21 @@ fault_of_four (Ok a) (Ok n) (Ok s) (Err first) only event fault is = let same : 
 fault_of_four (Ok a) (Ok n) (Ok s) (Ok l) (Err first) event fault is = let same : first ≡ fault = cc in ap Err same
 fault_of_four (Ok a) (Ok n) (Ok s) (Ok l) (Ok all) event fault is = absurd cc
 
+-- the same of five fields
+fault_of_five : {A B : Type 0} (at : ReadResult ℕ) (first second third : ReadResult (List ℕ)) (last : ReadResult A)
+    (only : ReadResult ⊤) (made : ℕ → List ℕ → List ℕ → List ℕ → A → B) (fault : JsonFault)
+    → (at >>= λ _. first >>= λ _. second >>= λ _. third >>= λ _. last >>= λ _. only) ≡ Err fault
+    → (at >>= λ a. first >>= λ f. second >>= λ s. third >>= λ t. last >>= λ l. only >>= λ _. Ok (made a f s t l))
+    ≡ Err fault
+fault_of_five (Err other) first second third last only made fault is = let same : other ≡ fault = cc in ap Err same
+fault_of_five (Ok a) (Err other) second third last only made fault is = let same : other ≡ fault = cc in ap Err same
+fault_of_five (Ok a) (Ok f) (Err other) third last only made fault is = let same : other ≡ fault = cc in ap Err same
+fault_of_five (Ok a) (Ok f) (Ok s) (Err other) last only made fault is = let same : other ≡ fault = cc in ap Err same
+fault_of_five (Ok a) (Ok f) (Ok s) (Ok t) (Err other) only made fault is = let same : other ≡ fault = cc in ap Err same
+fault_of_five (Ok a) (Ok f) (Ok s) (Ok t) (Ok l) (Err other) made fault is =
+    let same : other ≡ fault = cc in ap Err same
+fault_of_five (Ok a) (Ok f) (Ok s) (Ok t) (Ok l) (Ok all) made fault is = absurd cc
+
 -- the same of three fields and one of which only the fault is known
 fault_of_value : {A : Type 0} (at : ReadResult ℕ) (named second : ReadResult (List ℕ)) (last : ReadResult A)
     (only : ReadResult ⊤) (event : ℕ → List ℕ → List ℕ → A → PlainEvent) (fault : JsonFault)
@@ -274,6 +302,19 @@ desk_fault found fault is =
     ∙ fault_of_four (required (codes "at") (count 0 greatest_u64) value) (required (codes "tag") name value)
     (required (codes "service") name value) (required (codes "CommandOp") (code command_codes) value)
     (nothing_but (codes "ev at tag service CommandOp") value) desk fault is
+
+-- an operator's command under a policy
+named_desk_fault : (found : Members) (fault : JsonFault)
+    → named_desk_judged (object (simple_members found)) ≡ Err fault → guarded_desk_in (object found) ≡ Err fault
+unfolding guarded_desk_in
+named_desk_fault found fault is =
+    let value = object (simple_members found) in
+    sym (named_desk_kept found)
+    ∙ fault_of_five (required (codes "at") (count 0 greatest_u64) value) (required (codes "by") name value)
+    (required (codes "tag") name value) (required (codes "service") name value)
+    (required (codes "CommandOp") (code command_codes) value)
+    (nothing_but (codes "ev at by tag service CommandOp") value)
+    (λ at person tag service command. record { event = desk at tag service command; person = Some person }) fault is
 
 -- the cancelling of an exchange
 cancel_fault : (found : Members) (fault : JsonFault)
@@ -334,7 +375,7 @@ first_kind_fault kind found fault is = kind_fault kind found fault is
 -- and under a policy
 guarded_kind_fault : (kind : EventKind) (found : Members) (fault : JsonFault)
     → kind_judged true (object (simple_members found)) kind ≡ Err fault → guarded_by (object found) kind ≡ Err fault
-guarded_kind_fault Desk found fault is = absurd cc
+guarded_kind_fault Desk found fault is = named_desk_fault found fault is
 guarded_kind_fault kind found fault is = rw (kind_fault kind found fault is) refl
 
 -- the fault of a line by its kind, if it has one
@@ -446,3 +487,10 @@ pub no_object : (guarded : Bool) (line : List ℕ) → IsUtf8 line → BeginsHel
 no_object guarded line utf8 held =
     no_object_line guarded line held.value utf8 (begins_all 1 line held.value (omega arith) held.begins)
     (kept_no_object held.value held.keeps)
+
+-- ---- faults as they are told
+
+-- what is told of a fault is the fault
+pub fault_told : (guarded : Bool) (line : List ℕ) (told fault : JsonFault) → told ≡ fault
+    → IsFault guarded line (Json fault) → IsFault guarded line (Json told)
+fault_told guarded line told fault same is = subst (λ fault. IsFault guarded line (Json fault)) (sym same) is

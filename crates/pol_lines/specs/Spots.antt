@@ -119,9 +119,20 @@ judged_by value ExchangeBegin = tag_judged value
 judged_by value ExchangeEnd = Ok tt
 judged_by value ExchangeCancel = cancel_judged value
 
--- the same, where `guarded` says whether it stands under a policy: then none of a command of the desk
+-- that of an operator's command under a policy
+abbrev pub named_desk_judged : Data → ReadResult ⊤
+named_desk_judged value =
+    required (codes "at") (count 0 greatest_u64) value >>= λ _.
+    required (codes "by") name value >>= λ _.
+    required (codes "tag") name value >>= λ _.
+    required (codes "service") name value >>= λ _.
+    required (codes "CommandOp") (code command_codes) value >>= λ _.
+    nothing_but (codes "ev at by tag service CommandOp") value
+
+-- that of a flat line of a kind, under a policy where `guarded` says so
 abbrev pub kind_judged : Bool → Data → EventKind → ReadResult ⊤
-kind_judged guarded value kind = if guarded && is_desk_kind kind then Ok tt else judged_by value kind
+kind_judged guarded value kind =
+    if guarded && is_desk_kind kind then named_desk_judged value else judged_by value kind
 
 -- the first fault of a flat line
 abbrev pub line_judged : Bool → Data → ReadResult ⊤

@@ -71,13 +71,21 @@ fn other_spot(line: &[u8], guarded: bool) -> Option<Spot>
     })
 }
 
+fn line_spot(line: &[u8], guarded: bool) -> Option<Spot>
+    ensures { IfSome result (λ spot. IsFault guarded line.now (Json (fault_at spot))) }
+{
+    match line {
+        [b'{', ..] => object_spot(line, guarded),
+        _ => other_spot(line, guarded),
+    }
+}
+
+/// The fault of a compact line, under a policy where `guarded` says so.
+#[tactic(auto, using(crate::proofs::Judging::fault_told))]
 fn line_fault(alloc: Global, line: &[u8], guarded: bool) -> Option<LineFault>
     ensures { IfSome result (IsFault guarded line.now) }
 {
-    let spot = match line {
-        [b'{', ..] => object_spot(line, guarded)?,
-        _ => other_spot(line, guarded)?,
-    };
+    let spot = line_spot(line, guarded)?;
     let fault = fault_at(alloc, spot)?;
     Some(LineFault::Json(fault))
 }

@@ -4,6 +4,7 @@ ghost use Rattle.pol_events.specs.Events.{plain_event};
 ghost use Rattle.pol_events.specs.Orderly.{is_orderly};
 ghost use Rattle.event_json.specs.Guarded.{guarded_of, is_desk, plain_guarded};
 
+use crate::desk::read_desk;
 use crate::faults::read_guarded_fault;
 use crate::forms::LineForm;
 use crate::reading::read_quick;
@@ -15,6 +16,26 @@ fn is_desk(event: &Event) -> bool
     ensures { result ≡ is_desk (plain_event event.now) }
 {
     matches!(event, Event::Desk { .. })
+}
+
+/// The event of nobody that a compact line says; None for some lines that say one, and for each that says none.
+#[inline(always)]
+#[tactic(auto, using(crate::proofs::Alike::said_by_nobody))]
+fn read_unnamed(alloc: Global, line: &[u8]) -> Option<Guarded>
+    ensures says { IfSome result (λ said. guarded_of line.now ≡ Ok (plain_guarded said)) }
+    ensures orderly { IfSome result (λ said. IsTrue (is_orderly (plain_event said.event))) }
+{
+    let event = read_quick(alloc, line)?;
+    if is_desk(&event) {
+        return None;
+    }
+    Some(Guarded { event, by: None })
+}
+
+/// Whether a line says first of all that it is a command of the desk.
+#[inline(always)]
+fn begins_desk(line: &[u8]) -> bool {
+    matches!(line, [b'{', b'"', b'e', b'v', b'"', b':', b'"', b'd', ..])
 }
 
 /// The lines of a journal under a policy: each says an event, and for a command of the desk who gives it.
@@ -34,13 +55,14 @@ impl LineForm for GuardedLines {
     ghost said_of = { guarded_of };
 
     #[inline(always)]
-    #[tactic(auto, using(crate::proofs::Alike::said_by_nobody))]
     fn read_quickly(alloc: Global, line: &[u8]) -> Option<Guarded> {
-        let event = read_quick(alloc, line)?;
-        if is_desk(&event) {
-            return None;
+        if begins_desk(line) {
+            return read_desk(line);
         }
-        Some(Guarded { event, by: None })
+        match read_unnamed(alloc, line) {
+            Some(said) => Some(said),
+            None => read_desk(line),
+        }
     }
 
     fn fault_quickly(alloc: Global, line: &[u8]) -> Option<LineFault> {

@@ -13,6 +13,7 @@
 
 mod conditions;
 mod descriptions;
+mod desk;
 mod events;
 mod faults;
 mod fields;

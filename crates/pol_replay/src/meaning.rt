@@ -22,16 +22,28 @@ pub enum LineMeaning<T> {
 // Whether a line says first of all that it is a start. No start is read quickly, for its binds.
 #[inline(always)]
 fn is_start(line: &[u8]) -> bool {
-    matches!(line, [b'{', b'"', b'e', b'v', b'"', b':', b'"', b's', b't', b'a', ..])
+    matches!(
+        line,
+        [
+            b'{',
+            b'"',
+            b'e',
+            b'v',
+            b'"',
+            b':',
+            b'"',
+            b's',
+            b't',
+            b'a',
+            ..
+        ]
+    )
 }
 
 // What a line says, by the tree of its JSON. The large locals of such a reading stand here, so that the other lines
 // don't pay for them.
 #[inline(never)]
-fn read_slowly<F: LineForm>(
-    alloc: Global,
-    line: &[u8],
-) -> Result<LineMeaning<F::Said>, AllocError>
+fn read_slowly<F: LineForm>(alloc: Global, line: &[u8]) -> Result<LineMeaning<F::Said>, AllocError>
     ensures said { IfOk result (λ meaning. seen_meaning F.plain meaning ≡ meaning_from (F.said_of line.now)) }
     ensures orderly { IfOk result (IsOrderlyAs (λ said. F.event (F.plain said))) }
 {
