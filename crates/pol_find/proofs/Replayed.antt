@@ -1,14 +1,18 @@
 -- The work of a finder, line by line, gives its output.
-use Rattle.std.proofs.Common.{◌≡◌, ◌≤◌, ◌+◌, ℕ, suc, min, List, [], ◌∷◌, map, length, refl, ◌∙◌, arith}
+use Rattle.std.proofs.Common.{◌≡◌, ◌≤◌, ◌+◌, ℕ, suc, min, List, [], ◌∷◌, map, length, refl, sym, ◌∙◌, arith}
 use Rattle.std.specs.Prelude.{filter}
 use Rattle.mtp_codes.specs.Numbers.{greatest_u64}
 use Rattle.pol_io.specs.Pieces.{pieces, line_of}
+use Rattle.pol_events.specs.Events.{PlainEvent}
+use Rattle.event_json.specs.Lines.{event_of}
 use Rattle.pol_history.specs.Looking.{History}
 use Rattle.pol_history.specs.Runs.{entry_of, recorded, history_after}
-use Rattle.pol_record.specs.Lines.{LineMeaning, a_fault, an_event, as_input_line, events_in, history_of, input_line_of}
-use Rattle.pol_record.specs.Lines.{meaning_of, nothing}
+use Rattle.pol_record.specs.Lines.{as_input_line, events_in, history_of, input_line_of}
 use Rattle.pol_jobs.specs.LineWork.{after_all, line_met, output_by, replies}
-use Rattle.pol_replay.proofs.Spoken.{met_means}
+use Rattle.pol_replay.specs.declared.meaning.LineMeaning.{LineMeaning}
+use Rattle.pol_replay.specs.declared.meaning.LineMeaning.TheVariants.{Nothing, Fault, Said}
+use Rattle.pol_replay.specs.Meanings.{meaning_met}
+use Rattle.pol_replay.proofs.Spoken.{in_journal, met_means}
 use Rattle.pol_find.specs.Found.{IsFound}
 use Rattle.pol_find.specs.Finding.{Known, after_saying, bad_lines, find_work, found, is_at_fault, nothing_known}
 use Rattle.pol_find.specs.Finding.{one_more}
@@ -36,21 +40,21 @@ after_rows history bad [] few =
     let same : bad ≡ min (bad + 0) greatest_u64 = omega arith in
     λ i. record { history = history; bad = same i }
 after_rows history bad (piece ∷ parts) few =
-    rw (met_means (line_of piece))
-    (by_meaning (meaning_of (line_of piece)) (λ later count low. after_rows later count parts low))
+    rw (sym (met_means (line_of piece)))
+    (by_meaning (meaning_met event_of (line_met piece)) (λ later count low. after_rows later count parts low))
   where
-    by_meaning : (meaning : LineMeaning) →
+    by_meaning : (meaning : LineMeaning PlainEvent) →
         ((later : History) (count : ℕ) → count ≤ greatest_u64 →
         after_all find_work (record { history = later; bad = count }) parts ≡ known_after later count parts) →
         after_all find_work (after_saying (record { history = history; bad = bad }) meaning) parts
         ≡ record {
-          history = history_after history (events_in (as_input_line piece meaning ∷ map input_line_of parts));
+          history = history_after history (events_in (as_input_line piece (in_journal meaning) ∷ map input_line_of parts));
           bad = min
-              (bad + length (filter is_at_fault (as_input_line piece meaning ∷ map input_line_of parts))) greatest_u64;
+              (bad + length (filter is_at_fault (as_input_line piece (in_journal meaning) ∷ map input_line_of parts))) greatest_u64;
         }
-    by_meaning nothing rest = rest history bad few
-    by_meaning (an_event event) rest = rest (recorded (entry_of history event) history) bad few
-    by_meaning (a_fault fault) rest =
+    by_meaning Nothing rest = rest history bad few
+    by_meaning (Said event) rest = rest (recorded (entry_of history event) history) bad few
+    by_meaning (Fault fault) rest =
         let low : one_more bad ≤ greatest_u64 = omega arith in
         let same : min (one_more bad + faults_in parts) greatest_u64
         ≡ min (bad + suc (faults_in parts)) greatest_u64 = omega arith in

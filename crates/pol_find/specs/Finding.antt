@@ -2,11 +2,14 @@
 use Rattle.std.specs.Prelude.{ℕ, ◌+◌, min, Bool, true, false, List, [], length, filter}
 use Rattle.std.specs.declared.convert.Infallible.{Infallible}
 use Rattle.mtp_codes.specs.Numbers.{greatest_u64}
+use Rattle.pol_events.specs.Events.{PlainEvent}
+use Rattle.event_json.specs.Lines.{event_of}
 use Rattle.pol_history.specs.Looking.{History}
 use Rattle.pol_history.specs.Runs.{entry_of, recorded}
-use Rattle.pol_record.specs.Lines.{InputLine, LineMeaning, a_fault, an_event, blank, faulty, happening, history_of}
-use Rattle.pol_record.specs.Lines.{input_lines_of, nothing}
+use Rattle.pol_record.specs.Lines.{InputLine, blank, faulty, happening, history_of, input_lines_of}
 use Rattle.pol_jobs.specs.LineWork.{LineWork, Output}
+use Rattle.pol_replay.specs.declared.meaning.LineMeaning.{LineMeaning}
+use Rattle.pol_replay.specs.declared.meaning.LineMeaning.TheVariants.{Nothing, Fault, Said}
 use Rattle.pol_replay.specs.Meanings.{meaning_met}
 use Rattle.pol_core.specs.Plants.{plant_history}
 use Rattle.pol_find.specs.Found.{IsFound}
@@ -30,17 +33,17 @@ abbrev pub one_more : ℕ → ℕ
 one_more bad = min (bad + 1) greatest_u64
 
 -- what it knows after a line that says this
-abbrev pub after_saying : Known → LineMeaning → Known
-after_saying known nothing = known
-after_saying known (a_fault fault) = record known { bad = one_more known.bad }
-after_saying known (an_event event) = record known { history = recorded (entry_of known.history event) known.history }
+abbrev pub after_saying : Known → LineMeaning PlainEvent → Known
+after_saying known Nothing = known
+after_saying known (Fault fault) = record known { bad = one_more known.bad }
+after_saying known (Said event) = record known { history = recorded (entry_of known.history event) known.history }
 
 -- what it does with each line, and at the end: it replies nothing, and closes with what is found
 abbrev pub find_work : LineWork Known Infallible
 find_work =
     record {
       reply = λ known line. [];
-      after = λ known line. after_saying known (meaning_met line);
+      after = λ known line. after_saying known (meaning_met event_of line);
       Closing = λ known. IsFound known.history known.bad;
       Refuses = λ known line reason. ⊥;
       RefusesEnd = λ known reason. ⊥;

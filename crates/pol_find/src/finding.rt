@@ -11,6 +11,7 @@ use pol_core::Plant;
 use pol_events::Event;
 use pol_io::Sink;
 use pol_jobs::{InputLine, LineJob, PutFault, Stop};
+use pol_lines::JournalLines;
 use pol_replay::{LineMeaning, read_meaning};
 use std::alloc::{AllocError, Global};
 use std::convert::Infallible;
@@ -73,10 +74,10 @@ impl LineJob for Finding {
     ghost did_nothing = { λ _. tt };
 
     fn reply(&mut self, line: InputLine<'_>, _out: &mut Vec<u8>) -> Result<(), Stop<Infallible>> {
-        match read_meaning(self.alloc, line)? {
+        match read_meaning::<JournalLines>(self.alloc, line)? {
             LineMeaning::Nothing => {}
             LineMeaning::Fault(_) => self.bad = self.bad.saturating_add(1),
-            LineMeaning::Event(event) => apply(&mut self.plant, event)?,
+            LineMeaning::Said(event) => apply(&mut self.plant, event)?,
         }
         Ok(())
     }

@@ -1,5 +1,5 @@
 pub mod Tokens
-pub mod Quick
+pub mod Met
 pub mod Working
 pub mod Sound
 pub mod Refusing

@@ -3,7 +3,6 @@ use Rattle.std.proofs.Common.{◌≡◌, ◌⊎◌, inl, inr, ℕ, Bool, true, f
 use Rattle.std.proofs.Common.{Ok, Err, refl, sym, ap, subst, ◌∙◌}
 use Rattle.std.specs.Prelude.{is_some}
 use Rattle.std.specs.List.{Contains}
-use Rattle.std.specs.Option.{option_map}
 use Rattle.mtp_codes.specs.declared.command.Command.{Command}
 use Rattle.pol_jobs.specs.LineWork.{Line}
 use Rattle.chart_core.proofs.Lawful.{member_cases}
@@ -16,7 +15,7 @@ use Rattle.pol_policy.specs.declared.verdict.Verdict.TheVariants.{Allowed, Denie
 use Rattle.pol_events.specs.Events.{PlainEntry, PlainEvent, desk}
 use Rattle.pol_events.specs.Orderly.{is_orderly}
 use Rattle.pol_events.proofs.Lists.{member_first, member_later, no_member}
-use Rattle.event_json.specs.Guarded.{PlainGuarded, guarded_of}
+use Rattle.event_json.specs.Guarded.{PlainGuarded, guarded_of, is_desk}
 use Rattle.event_json.specs.declared.fault.LineFault.{LineFault}
 use Rattle.event_json.proofs.Named.{line_said}
 use Rattle.pol_history.specs.Looking.{History}
@@ -26,7 +25,7 @@ use Rattle.pol_removal.specs.Removal.{RemovalOfEvents}
 use Rattle.pol_guard.specs.Guarded.{admitted_in, admitted_under, guarded_lines, history_under, journal_of}
 use Rattle.pol_guard.specs.Laws.{GuardTheorem, IsAllowed, IsDenied, IsGuarded}
 use Rattle.pol_guard.specs.Lines.{GuardedLine, faulty, denied, admitted, asked_by, by_verdict, guarded_line}
-use Rattle.pol_guard.specs.Lines.{guarded_saying}
+use Rattle.pol_guard.specs.Lines.{guarded_saying, verdict_on}
 
 -- ---- one line
 
@@ -39,73 +38,92 @@ record IsAdmitted (policy : PlainPolicy) (line : Line) (event : PlainEvent) : Ty
   verdict : (request : Request) → asked_by event person ≡ Some request →
       (rule : List ℕ) × (verdict_of policy request ≡ Allowed rule)
 
+-- what an event asks, and the verdict on that
+record IsAsked (policy : PlainPolicy) (event : PlainEvent) (person : Option (List ℕ)) (verdict : Verdict) : Type 0 where
+  request : Request
+  asks : asked_by event person ≡ Some request
+  answers : verdict_of policy request ≡ verdict
+
+-- the verdict on an event that asks something is that on what it asks
+asked_verdict : (policy : PlainPolicy) (event : PlainEvent) (person : Option (List ℕ)) (request : Request) →
+    asked_by event person ≡ Some request → verdict_on policy event person ≡ Some (verdict_of policy request)
+asked_verdict policy (desk at tag service command) None request asks = absurd cc
+asked_verdict policy (desk at tag service command) (Some person) request asks =
+    let same : request_of person tag service command ≡ request = cc in
+    ap (λ request. Some (verdict_of policy request)) same
+asked_verdict policy event person request asks = absurd cc
+
+-- an event on which there is a verdict asks something, where a command of the desk names who gives it
+verdict_asked : (policy : PlainPolicy) (event : PlainEvent) (person : Option (List ℕ)) (verdict : Verdict) →
+    is_some person ≡ is_desk event → verdict_on policy event person ≡ Some verdict →
+    IsAsked policy event person verdict
+verdict_asked policy (desk at tag service command) None verdict named is = absurd cc
+verdict_asked policy (desk at tag service command) (Some person) verdict named is =
+    record { request = request_of person tag service command; asks = refl; answers = cc }
+verdict_asked policy event person verdict named is = absurd cc
+
 module _ (policy : PlainPolicy) (text : List ℕ) where
-  -- what a line says that isn't denied, by what is asked there
-  admitted_asked : (said : PlainGuarded) (event : PlainEvent) (asked : Option Request) → guarded_of text ≡ Ok said →
-      asked_by said.event said.person ≡ asked →
-      by_verdict said.event (option_map (verdict_of policy) asked) ≡ admitted event →
+  -- what a line says that isn't denied, by the verdict on it
+  admitted_by : (said : PlainGuarded) (event : PlainEvent) (verdict : Option Verdict) → guarded_of text ≡ Ok said →
+      verdict_on policy said.event said.person ≡ verdict → by_verdict said.event verdict ≡ admitted event →
       IsAdmitted policy (Some text) event
-  admitted_asked said event None says asks is =
+  admitted_by said event None says judged is =
       let same : said.event ≡ event = cc in
       subst (IsAdmitted policy (Some text)) same (record {
         text = text;
         is_text = refl;
         person = said.person;
         says = says;
-        verdict = λ request asked. absurd (none (sym asks ∙ asked));
+        verdict = λ request asked.
+            let both = sym judged ∙ asked_verdict policy said.event said.person request asked in absurd (none both);
       })
     where
-      none : {request : Request} → None ≡ Some request → ⊥
+      none : {verdict : Verdict} → None ≡ Some verdict → ⊥
       none same = cc
-  admitted_asked said event (Some request) says asks is = by_answer (verdict_of policy request) refl is
+  admitted_by said event (Some (Denied rule)) says judged is = absurd cc
+  admitted_by said event (Some (Allowed rule)) says judged is =
+      let same : said.event ≡ event = cc in
+      subst (IsAdmitted policy (Some text)) same (record {
+        text = text;
+        is_text = refl;
+        person = said.person;
+        says = says;
+        verdict = λ request asked.
+            (rule, one (sym judged ∙ asked_verdict policy said.event said.person request asked));
+      })
     where
-      by_answer : (verdict : Verdict) → verdict_of policy request ≡ verdict →
-          by_verdict said.event (Some verdict) ≡ admitted event → IsAdmitted policy (Some text) event
-      by_answer (Denied rule) answers is = absurd cc
-      by_answer (Allowed rule) answers is =
-          let same : said.event ≡ event = cc in
-          subst (IsAdmitted policy (Some text)) same (record {
-            text = text;
-            is_text = refl;
-            person = said.person;
-            says = says;
-            verdict = λ other asked.
-                let one : request ≡ other = cc in (rule, ap (verdict_of policy) (sym one) ∙ answers);
-          })
+      one : {verdict other : Verdict} → Some verdict ≡ Some other → other ≡ verdict
+      one same = cc
 
   -- by what it says
   admitted_said : (said : Result PlainGuarded LineFault) (event : PlainEvent) → guarded_of text ≡ said →
       guarded_saying policy said ≡ admitted event → IsAdmitted policy (Some text) event
   admitted_said (Err fault) event says is = absurd cc
   admitted_said (Ok said) event says is =
-      admitted_asked said event (asked_by said.event said.person) says refl is
+      admitted_by said event (verdict_on policy said.event said.person) says refl is
 
-  -- what is denied on a line, by what is asked there
-  denied_asked : VerdictsAreJudged → (said : PlainGuarded) (rule : Option (List ℕ)) (asked : Option Request) →
-      guarded_of text ≡ Ok said → asked_by said.event said.person ≡ asked →
-      by_verdict said.event (option_map (verdict_of policy) asked) ≡ denied rule →
-      IsDenied policy (Some text) rule
-  denied_asked judged said rule None says asks is = absurd cc
-  denied_asked judged said rule (Some request) says asks is = by_answer (verdict_of policy request) refl is
-    where
-      by_answer : (verdict : Verdict) → verdict_of policy request ≡ verdict →
-          by_verdict said.event (Some verdict) ≡ denied rule → IsDenied policy (Some text) rule
-      by_answer (Allowed other) answers is = absurd cc
-      by_answer (Denied other) answers is =
-          let same : other ≡ rule = cc in
-          record {
-            event = said.event;
-            request = request;
-            asks = record { text = text; is_text = refl; person = said.person; says = says; asks = asks };
-            judges = subst (Judges policy request) (answers ∙ ap Denied same) (judged policy request);
-          }
+  -- what is denied on a line, by the verdict on it
+  denied_by : VerdictsAreJudged → (said : PlainGuarded) (rule : Option (List ℕ)) (verdict : Option Verdict) →
+      guarded_of text ≡ Ok said → verdict_on policy said.event said.person ≡ verdict →
+      by_verdict said.event verdict ≡ denied rule → IsDenied policy (Some text) rule
+  denied_by judged said rule None says answers is = absurd cc
+  denied_by judged said rule (Some (Allowed other)) says answers is = absurd cc
+  denied_by judged said rule (Some (Denied other)) says answers is =
+      let same : other ≡ rule = cc in
+      let asked = verdict_asked policy said.event said.person (Denied other) (line_said text said says).named answers in
+      record {
+        event = said.event;
+        request = asked.request;
+        asks = record { text = text; is_text = refl; person = said.person; says = says; asks = asked.asks };
+        judges = subst (Judges policy asked.request) (asked.answers ∙ ap Denied same) (judged policy asked.request);
+      }
 
   -- by what it says
   denied_said : VerdictsAreJudged → (said : Result PlainGuarded LineFault) (rule : Option (List ℕ)) →
       guarded_of text ≡ said → guarded_saying policy said ≡ denied rule → IsDenied policy (Some text) rule
   denied_said judged (Err fault) rule says is = absurd cc
   denied_said judged (Ok said) rule says is =
-      denied_asked judged said rule (asked_by said.event said.person) says refl is
+      denied_by judged said rule (verdict_on policy said.event said.person) says refl is
 
 -- an event that isn't denied stands on its line, and the policy allows what it asks there
 admitted_line : (policy : PlainPolicy) (line : Line) (event : PlainEvent) →

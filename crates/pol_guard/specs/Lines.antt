@@ -18,13 +18,21 @@ abbrev pub asked_by : PlainEvent → Option (List ℕ) → Option Request
 asked_by (desk at tag service command) person = option_map (λ person. request_of person tag service command) person
 asked_by _ person = None
 
+-- the verdict of a policy on an event: on what it asks; a command of the desk of which nobody is known to ask is
+-- denied, by no rule; and on an event that asks nothing there is none
+abbrev pub verdict_on : PlainPolicy → PlainEvent → Option (List ℕ) → Option Verdict
+verdict_on policy (desk at tag service command) None = Some (Denied None)
+verdict_on policy (desk at tag service command) (Some person) =
+    Some (verdict_of policy (request_of person tag service command))
+verdict_on policy _ person = None
+
 -- what comes of a line that isn't blank: its fault, a denial, or an event that the plant answers
 pub data GuardedLine : Type 0 where
   faulty : (fault : LineFault) → GuardedLine
   denied : (rule : Option (List ℕ)) → GuardedLine
   admitted : (event : PlainEvent) → GuardedLine
 
--- an event is denied where the verdict on what it asks is so
+-- an event is denied where the verdict on it is so
 abbrev pub by_verdict : PlainEvent → Option Verdict → GuardedLine
 by_verdict event None = admitted event
 by_verdict event (Some (Allowed rule)) = admitted event
@@ -33,8 +41,7 @@ by_verdict event (Some (Denied rule)) = denied rule
 -- what comes of what a line says
 abbrev pub guarded_saying : PlainPolicy → Result PlainGuarded LineFault → GuardedLine
 guarded_saying policy (Err fault) = faulty fault
-guarded_saying policy (Ok said) =
-    by_verdict said.event (option_map (verdict_of policy) (asked_by said.event said.person))
+guarded_saying policy (Ok said) = by_verdict said.event (verdict_on policy said.event said.person)
 
 -- what comes of a line; one that is too long is at fault
 abbrev pub guarded_line : PlainPolicy → Line → GuardedLine

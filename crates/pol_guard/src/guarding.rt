@@ -108,11 +108,11 @@ impl LineJob for Guarding {
     ghost did_nothing = { λ _. tt };
 
     fn reply(&mut self, line: InputLine<'_>, out: &mut Vec<u8>) -> Result<(), Stop<JsonFault>> {
-        if !is_some_line(line) {
-            return Ok(());
-        }
         match &mut self.guard {
             Guard::Waiting => {
+                if !is_some_line(line) {
+                    return Ok(());
+                }
                 let policy = policy_said(self.alloc, line)?;
                 let plant = Plant::new(self.alloc);
                 self.guard = Guard::Begun { policy, plant };

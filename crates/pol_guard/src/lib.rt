@@ -15,7 +15,6 @@
 mod denials;
 mod guarding;
 mod laws;
-mod reading;
 mod replying;
 
 pub use guarding::Guarding;

@@ -1,43 +1,42 @@
 //! The reply to a line of a journal under a policy.
-ghost use Rattle.std.specs.Prelude.{◌≡◌, ◌++◌, IsTrue, Ok, OnOk, Some};
-ghost use Rattle.std.specs.Option.{option_map};
+ghost use Rattle.std.specs.Prelude.{◌≡◌, ◌++◌, [], IsTrue, Ok, OnOk, if◌then◌else◌};
 ghost use Rattle.pol_jobs.specs.InputLines.{plain_line};
-ghost use Rattle.pol_policy.specs.Deciding.{verdict_of};
 ghost use Rattle.pol_policy.specs.PlainPolicy.{plain_policy};
 ghost use Rattle.pol_events.specs.Events.{plain_event};
 ghost use Rattle.pol_events.specs.Orderly.{is_orderly};
 ghost use Rattle.event_json.specs.Guarded.{plain_guarded};
 ghost use Rattle.pol_core.specs.Plants.{plant_history};
-ghost use Rattle.pol_guard.specs.Lines.{asked_by, guarded_line, guarded_saying};
-ghost use Rattle.pol_guard.specs.Work.{history_with, text_after};
+ghost use Rattle.pol_replay.specs.Meanings.{IsOrderlyAs, is_some_line, seen_meaning};
+ghost use Rattle.pol_guard.specs.Lines.{guarded_line, guarded_saying, verdict_on};
+ghost use Rattle.pol_guard.specs.Work.{history_met, history_with, text_after, text_met};
 
 use crate::denials::put_denial_line;
-use crate::reading::read_line;
-use event_json::{Guarded, LineFault, LineRefusal};
+use event_json::Guarded;
 use pol_core::Plant;
 use pol_events::Event;
 use pol_jobs::InputLine;
+use pol_lines::GuardedLines;
 use pol_policy::{Policy, Verdict};
 use pol_record::put_fault_line;
-use pol_replay::answer_event;
+use pol_replay::{LineMeaning, answer_event, read_meaning};
 use std::alloc::{AllocError, Global};
 
-// The verdict of a policy on what an event asks; None where it asks nothing.
+// The verdict of a policy on an event; None where it asks nothing of a policy.
 fn verdict_on(policy: &Policy, said: &Guarded) -> Option<Verdict>
-    ensures { result ≡ option_map (verdict_of (plain_policy policy.now))
-        (asked_by (plain_event said.now.event) said.now.by) }
+    ensures { result ≡ verdict_on (plain_policy policy.now) (plain_event said.now.event) said.now.by }
 {
-    match (&said.event, said.by) {
-        (
-            Event::Desk {
-                tag,
-                service,
-                command,
-                ..
-            },
-            Some(by),
-        ) => Some(policy.judge(by, *tag, *service, *command)),
-        _ => None,
+    let Event::Desk {
+        tag,
+        service,
+        command,
+        ..
+    } = &said.event
+    else {
+        return None;
+    };
+    match said.by {
+        Some(by) => Some(policy.judge(by, *tag, *service, *command)),
+        None => Some(Verdict::Denied(None)),
     }
 }
 
@@ -62,28 +61,31 @@ fn judge_event(
     }
 }
 
-// Puts the line that comes of a line that isn't too long behind what a buffer holds.
-fn reply_to_text(
+// Puts the line that comes of what a line says behind what a buffer holds; nothing, where it says nothing.
+fn answer(
     alloc: Global,
     policy: &Policy,
     plant: &mut Plant,
-    text: &[u8],
+    meaning: LineMeaning<Guarded>,
     out: &mut Vec<u8>,
 ) -> Result<(), AllocError>
-    ensures line { OnOk result (out.new.items ≡ out.old.items ++ text_after (plant_history plant.old)
-        (guarded_line (plain_policy policy.now) (Some text.now))) }
-    ensures history { OnOk result (plant_history plant.new ≡ history_with (plant_history plant.old)
-        (guarded_line (plain_policy policy.now) (Some text.now))) }
+    requires { IsOrderlyAs (λ said. plain_event said.event) meaning }
+    ensures line { OnOk result (out.new.items ≡ out.old.items ++ text_met (plain_policy policy.now)
+        (plant_history plant.old) (seen_meaning plain_guarded meaning)) }
+    ensures history { OnOk result (plant_history plant.new ≡ history_met (plain_policy policy.now)
+        (plant_history plant.old) (seen_meaning plain_guarded meaning)) }
 {
-    match read_line(alloc, text) {
-        Ok(said) => judge_event(alloc, policy, plant, said, out),
-        Err(LineRefusal::Fault(fault)) => put_fault_line(alloc, out, &fault),
-        Err(LineRefusal::Memory) => Err(AllocError),
+    match meaning {
+        LineMeaning::Nothing => Ok(()),
+        LineMeaning::Fault(fault) => put_fault_line(alloc, out, &fault),
+        LineMeaning::Said(said) => judge_event(alloc, policy, plant, said, out),
     }
 }
 
-/// Puts the line that comes of a line that isn't blank behind what a buffer holds: of its fault, of the denial of what
-/// it asks, or of the plant's answer to its event. A line that is denied or at fault leaves the history as it was.
+/// Puts the line that comes of a line behind what a buffer holds: of its fault, of the denial of what it asks, or of
+/// the plant's answer to its event; nothing, where it is blank. A line that is denied or at fault leaves the history as
+/// it was.
+#[tactic(auto, using(crate::proofs::Met::text_read, crate::proofs::Met::history_read))]
 pub fn reply_to(
     alloc: Global,
     policy: &Policy,
@@ -91,13 +93,13 @@ pub fn reply_to(
     line: InputLine<'_>,
     out: &mut Vec<u8>,
 ) -> Result<(), AllocError>
-    ensures line { OnOk result (out.new.items ≡ out.old.items ++ text_after (plant_history plant.old)
-        (guarded_line (plain_policy policy.now) (plain_line line.entry))) }
-    ensures history { OnOk result (plant_history plant.new ≡ history_with (plant_history plant.old)
-        (guarded_line (plain_policy policy.now) (plain_line line.entry))) }
+    ensures line { OnOk result (out.new.items ≡ out.old.items ++ (if is_some_line (plain_line line.entry)
+        then text_after (plant_history plant.old) (guarded_line (plain_policy policy.now) (plain_line line.entry))
+        else [])) }
+    ensures history { OnOk result (plant_history plant.new ≡ (if is_some_line (plain_line line.entry)
+        then history_with (plant_history plant.old) (guarded_line (plain_policy policy.now) (plain_line line.entry))
+        else plant_history plant.old)) }
 {
-    match line {
-        InputLine::Text(text) => reply_to_text(alloc, policy, plant, text, out),
-        InputLine::TooLong => put_fault_line(alloc, out, &LineFault::TooLong),
-    }
+    let meaning = read_meaning::<GuardedLines>(alloc, line)?;
+    answer(alloc, policy, plant, meaning, out)
 }

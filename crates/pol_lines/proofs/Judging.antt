@@ -1,5 +1,6 @@
 -- A flat line is at fault where what is kept of it is.
-use Rattle.std.proofs.Common.{◌≡◌, ℕ, List, [], Option, Some, None, Ok, Err, refl, ap, sym, subst, ◌∙◌, arith, codes}
+use Rattle.std.proofs.Common.{◌≡◌, ℕ, List, [], Bool, true, false, Option, Some, None, Ok, Err, refl, ap}
+use Rattle.std.proofs.Common.{sym, subst, ◌∙◌, arith, codes}
 use Rattle.std.specs.Prelude.{option_map, ⊤}
 use Rattle.std.specs.Str.{IsUtf8}
 use Rattle.serde_json.specs.Data.{Data, Members, array, boolean, float, negative, null, number, object, string}
@@ -10,7 +11,7 @@ use Rattle.mtp_codes.specs.Codes.{command_codes, state_codes}
 use Rattle.mtp_codes.specs.Numbers.{greatest_u32, greatest_u64}
 use Rattle.mtp_json.specs.declared.fault.FaultKind.TheVariants.{WrongKind}
 use Rattle.mtp_json.specs.declared.fault.JsonFault.{JsonFault}
-use Rattle.mtp_json.specs.Form.{field, nothing_but, present, required}
+use Rattle.mtp_json.specs.Form.{field, nothing_but, object_here, present, required}
 use Rattle.mtp_json.specs.Leaf.{code, count, name, scalar, word}
 use Rattle.mtp_json.specs.Parse.{json_of}
 use Rattle.mtp_json.specs.ReadResult.{Finding, ReadResult, ◌>>=◌, here, under}
@@ -24,12 +25,16 @@ use Rattle.event_json.specs.declared.kind.EventKind.TheVariants.{Freeze, Thaw, S
 use Rattle.event_json.specs.declared.kind.EventKind.TheVariants.{ExchangeEnd, ExchangeCancel}
 use Rattle.event_json.specs.Forms.{batch_in, control_in, desk_in, event_by, event_in, exchange_cancel_in, report_in}
 use Rattle.event_json.specs.Forms.{tag_in, variable_in}
+use Rattle.event_json.specs.Guarded.{PlainGuarded, guarded_by, guarded_desk_in, guarded_in, guarded_of}
 use Rattle.event_json.specs.Lines.{event_of}
+use Rattle.event_json.specs.Version1.{event_by_version_1, event_in_version_1, event_of_version_1}
 use Rattle.event_json.specs.Words.{kind_words, mode_words, origin_words}
 use Rattle.pol_lines.specs.declared.parts.Part.{Part}
+use Rattle.pol_lines.specs.Faults.{IsFault}
 use Rattle.pol_lines.specs.Parts.{BeginsHeld, IsOfParts, parts_data, simple, simple_members}
 use Rattle.pol_lines.specs.Spots.{at_key, batch_judged, cancel_judged, desk_judged, fault_of, judged, judged_by}
-use Rattle.pol_lines.specs.Spots.{line_judged, report_judged, tag_judged, variable_judged}
+use Rattle.pol_lines.specs.Spots.{kind_judged, line_judged, named_desk_judged, report_judged, tag_judged}
+use Rattle.pol_lines.specs.Spots.{variable_judged}
 use Rattle.pol_lines.proofs.Keeping.{simple_get, simple_listed}
 use Rattle.pol_lines.proofs.Printed.{begins_all}
 
@@ -152,6 +157,18 @@ desk_kept found =
     let e5 = simple_listed (codes "ev at tag service CommandOp") found in
     rw (e1, e2, e3, e4, e5) refl
 
+-- an operator's command under a policy
+named_desk_kept : (found : Members) → guarded_desk_in (object (simple_members found)) ≡ guarded_desk_in (object found)
+unfolding guarded_desk_in
+named_desk_kept found =
+    let e1 = field_kept (count 0 greatest_u64) (keeps_count 0 greatest_u64) (codes "at") found in
+    let e2 = field_kept name keeps_name (codes "by") found in
+    let e3 = field_kept name keeps_name (codes "tag") found in
+    let e4 = field_kept name keeps_name (codes "service") found in
+    let e5 = field_kept (code command_codes) (keeps_code command_codes) (codes "CommandOp") found in
+    let e6 = simple_listed (codes "ev at by tag service CommandOp") found in
+    rw (e1, e2, e3, e4, e5, e6) refl
+
 -- the cancelling of an exchange
 cancel_kept : (found : Members)
     → exchange_cancel_in (object (simple_members found)) ≡ exchange_cancel_in (object found)
@@ -224,6 +241,21 @@ fault_of_four (Ok a) (Ok n) (Ok s) (Err first) only event fault is = let same : 
 fault_of_four (Ok a) (Ok n) (Ok s) (Ok l) (Err first) event fault is = let same : first ≡ fault = cc in ap Err same
 fault_of_four (Ok a) (Ok n) (Ok s) (Ok l) (Ok all) event fault is = absurd cc
 
+-- the same of five fields
+fault_of_five : {A B : Type 0} (at : ReadResult ℕ) (first second third : ReadResult (List ℕ)) (last : ReadResult A)
+    (only : ReadResult ⊤) (made : ℕ → List ℕ → List ℕ → List ℕ → A → B) (fault : JsonFault)
+    → (at >>= λ _. first >>= λ _. second >>= λ _. third >>= λ _. last >>= λ _. only) ≡ Err fault
+    → (at >>= λ a. first >>= λ f. second >>= λ s. third >>= λ t. last >>= λ l. only >>= λ _. Ok (made a f s t l))
+    ≡ Err fault
+fault_of_five (Err other) first second third last only made fault is = let same : other ≡ fault = cc in ap Err same
+fault_of_five (Ok a) (Err other) second third last only made fault is = let same : other ≡ fault = cc in ap Err same
+fault_of_five (Ok a) (Ok f) (Err other) third last only made fault is = let same : other ≡ fault = cc in ap Err same
+fault_of_five (Ok a) (Ok f) (Ok s) (Err other) last only made fault is = let same : other ≡ fault = cc in ap Err same
+fault_of_five (Ok a) (Ok f) (Ok s) (Ok t) (Err other) only made fault is = let same : other ≡ fault = cc in ap Err same
+fault_of_five (Ok a) (Ok f) (Ok s) (Ok t) (Ok l) (Err other) made fault is =
+    let same : other ≡ fault = cc in ap Err same
+fault_of_five (Ok a) (Ok f) (Ok s) (Ok t) (Ok l) (Ok all) made fault is = absurd cc
+
 -- the same of three fields and one of which only the fault is known
 fault_of_value : {A : Type 0} (at : ReadResult ℕ) (named second : ReadResult (List ℕ)) (last : ReadResult A)
     (only : ReadResult ⊤) (event : ℕ → List ℕ → List ℕ → A → PlainEvent) (fault : JsonFault)
@@ -270,6 +302,19 @@ desk_fault found fault is =
     ∙ fault_of_four (required (codes "at") (count 0 greatest_u64) value) (required (codes "tag") name value)
     (required (codes "service") name value) (required (codes "CommandOp") (code command_codes) value)
     (nothing_but (codes "ev at tag service CommandOp") value) desk fault is
+
+-- an operator's command under a policy
+named_desk_fault : (found : Members) (fault : JsonFault)
+    → named_desk_judged (object (simple_members found)) ≡ Err fault → guarded_desk_in (object found) ≡ Err fault
+unfolding guarded_desk_in
+named_desk_fault found fault is =
+    let value = object (simple_members found) in
+    sym (named_desk_kept found)
+    ∙ fault_of_five (required (codes "at") (count 0 greatest_u64) value) (required (codes "by") name value)
+    (required (codes "tag") name value) (required (codes "service") name value)
+    (required (codes "CommandOp") (code command_codes) value)
+    (nothing_but (codes "ev at by tag service CommandOp") value)
+    (λ at person tag service command. record { event = desk at tag service command; person = Some person }) fault is
 
 -- the cancelling of an exchange
 cancel_fault : (found : Members) (fault : JsonFault)
@@ -321,20 +366,56 @@ kind_fault ExchangeBegin found fault is = tag_fault exchange_begin found fault i
 kind_fault ExchangeEnd found fault is = absurd cc
 kind_fault ExchangeCancel found fault is = cancel_fault found fault is
 
+-- the same by version 1
+first_kind_fault : (kind : EventKind) (found : Members) (fault : JsonFault)
+    → judged_by (object (simple_members found)) kind ≡ Err fault → event_by_version_1 (object found) kind ≡ Err fault
+first_kind_fault Freeze found fault is = absurd cc
+first_kind_fault kind found fault is = kind_fault kind found fault is
+
+-- and under a policy
+guarded_kind_fault : (kind : EventKind) (found : Members) (fault : JsonFault)
+    → kind_judged true (object (simple_members found)) kind ≡ Err fault → guarded_by (object found) kind ≡ Err fault
+guarded_kind_fault Desk found fault is = named_desk_fault found fault is
+guarded_kind_fault kind found fault is = rw (kind_fault kind found fault is) refl
+
 -- the fault of a line by its kind, if it has one
-fault_by_kind : (kind : ReadResult EventKind) (found : Members) (fault : JsonFault)
-    → (kind >>= λ each. judged_by (object (simple_members found)) each) ≡ Err fault
-    → (kind >>= λ each. event_by (object found) each) ≡ Err fault
-fault_by_kind (Ok kind) found fault is = kind_fault kind found fault is
-fault_by_kind (Err first) found fault is = let same : first ≡ fault = cc in ap Err same
+fault_by_kind : {A : Type 0} (kind : ReadResult EventKind) (judge : EventKind → ReadResult ⊤)
+    (form : EventKind → ReadResult A) (fault : JsonFault)
+    → ((kind : EventKind) → judge kind ≡ Err fault → form kind ≡ Err fault)
+    → (kind >>= judge) ≡ Err fault → (kind >>= form) ≡ Err fault
+fault_by_kind (Ok kind) judge form fault each is = each kind is
+fault_by_kind (Err first) judge form fault each is = let same : first ≡ fault = cc in ap Err same
+
+-- the fault of the members of a flat line, by the kinds of its form
+members_fault : {A : Type 0} (guarded : Bool) (found : Members) (form : EventKind → ReadResult A) (fault : JsonFault)
+    → ((kind : EventKind) → kind_judged guarded (object (simple_members found)) kind ≡ Err fault
+    → form kind ≡ Err fault) → line_judged guarded (object (simple_members found)) ≡ Err fault
+    → (required (codes "ev") (word kind_words) (object found) >>= form) ≡ Err fault
+members_fault guarded found form fault each is =
+    let kind = field_kept (word kind_words) (keeps_word kind_words) (codes "ev") found in
+    fault_by_kind (required (codes "ev") (word kind_words) (object found))
+    (kind_judged guarded (object (simple_members found))) form fault each (rw kind at is)
 
 -- the fault of a flat line
-object_fault : (found : Members) (fault : JsonFault) → line_judged (object (simple_members found)) ≡ Err fault
+object_fault : (found : Members) (fault : JsonFault) → line_judged false (object (simple_members found)) ≡ Err fault
     → event_in (object found) ≡ Err fault
 unfolding event_in
 object_fault found fault is =
-    let kind = field_kept (word kind_words) (keeps_word kind_words) (codes "ev") found in
-    fault_by_kind (required (codes "ev") (word kind_words) (object found)) found fault (rw kind at is)
+    members_fault false found (event_by (object found)) fault (λ kind. kind_fault kind found fault) is
+
+-- the same by version 1
+first_object_fault : (found : Members) (fault : JsonFault)
+    → line_judged false (object (simple_members found)) ≡ Err fault → event_in_version_1 (object found) ≡ Err fault
+unfolding event_in_version_1
+first_object_fault found fault is =
+    members_fault false found (event_by_version_1 (object found)) fault (λ kind. first_kind_fault kind found fault) is
+
+-- and under a policy
+guarded_object_fault : (found : Members) (fault : JsonFault)
+    → line_judged true (object (simple_members found)) ≡ Err fault → guarded_in (object found) ≡ Err fault
+unfolding guarded_in
+guarded_object_fault found fault is =
+    members_fault true found (guarded_by (object found)) fault (λ kind. guarded_kind_fault kind found fault) is
 
 -- what reads as an object at fault is a line at fault
 faulty_line : (line : List ℕ) (value : Data) (fault : JsonFault) → IsUtf8 line → read line ≡ Some value
@@ -342,19 +423,44 @@ faulty_line : (line : List ℕ) (value : Data) (fault : JsonFault) → IsUtf8 li
 unfolding event_of json_of
 faulty_line line value fault utf8 is at_fault = rw (utf8_is line utf8, is, at_fault) refl
 
+-- the same by version 1
+first_faulty_line : (line : List ℕ) (value : Data) (fault : JsonFault) → IsUtf8 line → read line ≡ Some value
+    → event_in_version_1 value ≡ Err fault → event_of_version_1 line ≡ Err (Json fault)
+unfolding event_of_version_1 json_of
+first_faulty_line line value fault utf8 is at_fault = rw (utf8_is line utf8, is, at_fault) refl
+
+-- and under a policy
+guarded_faulty_line : (line : List ℕ) (value : Data) (fault : JsonFault) → IsUtf8 line → read line ≡ Some value
+    → guarded_in value ≡ Err fault → guarded_of line ≡ Err (Json fault)
+unfolding guarded_of json_of
+guarded_faulty_line line value fault utf8 is at_fault = rw (utf8_is line utf8, is, at_fault) refl
+
+-- a line that is read as an object, of which is kept what is at fault
+object_line : (guarded : Bool) (line : List ℕ) (found : Members) (fault : JsonFault) → IsUtf8 line
+    → read line ≡ Some (object found) → line_judged guarded (object (simple_members found)) ≡ Err fault
+    → IsFault guarded line (Json fault)
+object_line false line found fault utf8 reads is = (
+  faulty_line line (object found) fault utf8 reads (object_fault found fault is),
+  first_faulty_line line (object found) fault utf8 reads (first_object_fault found fault is),
+)
+object_line true line found fault utf8 reads is =
+    guarded_faulty_line line (object found) fault utf8 reads (guarded_object_fault found fault is)
+
 -- a line of which parts are kept that are at fault
-pub line_at_fault : (line : List ℕ) (parts : List Part) (fault : JsonFault) → IsUtf8 line → IsOfParts line parts []
-    → line_judged (parts_data parts) ≡ Err fault → event_of line ≡ Err (Json fault)
-line_at_fault line parts fault utf8 of_parts is =
-    faulty_line line (object of_parts.found) fault utf8
+pub line_at_fault : (guarded : Bool) (line : List ℕ) (parts : List Part) (fault : JsonFault) → IsUtf8 line
+    → IsOfParts line parts [] → line_judged guarded (parts_data parts) ≡ Err fault
+    → IsFault guarded line (Json fault)
+line_at_fault guarded line parts fault utf8 of_parts is =
+    object_line guarded line of_parts.found fault utf8
     (begins_all 2 line (object of_parts.found) (omega arith) of_parts.begins)
-    (object_fault of_parts.found fault
-    (subst (λ members. line_judged (object members) ≡ Err fault) (sym of_parts.keeps) is))
+    (subst (λ members. line_judged guarded (object members) ≡ Err fault) (sym of_parts.keeps) is)
+
+-- the fault of a value that is no object
+abbrev no_object_fault : JsonFault
+no_object_fault = record { kind = WrongKind; path = [] }
 
 -- a value of which nothing is kept is no object
-kept_no_object : (value : Data) → simple value ≡ null
-    → event_in value ≡ Err (record { kind = WrongKind; path = [] })
-unfolding event_in
+kept_no_object : (value : Data) → simple value ≡ null → object_here value ≡ Err no_object_fault
 kept_no_object null is = refl
 kept_no_object (boolean bit) is = absurd cc
 kept_no_object (number (unsigned n)) is = absurd cc
@@ -364,9 +470,27 @@ kept_no_object (string bytes) is = absurd cc
 kept_no_object (array values) is = refl
 kept_no_object (object found) is = absurd cc
 
+-- a line that is read as such a value
+no_object_line : (guarded : Bool) (line : List ℕ) (value : Data) → IsUtf8 line → read line ≡ Some value
+    → object_here value ≡ Err no_object_fault → IsFault guarded line (Json no_object_fault)
+unfolding event_in event_in_version_1 guarded_in
+no_object_line false line value utf8 reads none = (
+  faulty_line line value no_object_fault utf8 reads (rw none refl),
+  first_faulty_line line value no_object_fault utf8 reads (rw none refl),
+)
+no_object_line true line value utf8 reads none =
+    guarded_faulty_line line value no_object_fault utf8 reads (rw none refl)
+
 -- a line of such a value
-pub no_object : (line : List ℕ) → IsUtf8 line → BeginsHeld line null []
-    → event_of line ≡ Err (Json (record { kind = WrongKind; path = [] }))
-no_object line utf8 held =
-    faulty_line line held.value (record { kind = WrongKind; path = [] }) utf8
-    (begins_all 1 line held.value (omega arith) held.begins) (kept_no_object held.value held.keeps)
+pub no_object : (guarded : Bool) (line : List ℕ) → IsUtf8 line → BeginsHeld line null []
+    → IsFault guarded line (Json (record { kind = WrongKind; path = [] }))
+no_object guarded line utf8 held =
+    no_object_line guarded line held.value utf8 (begins_all 1 line held.value (omega arith) held.begins)
+    (kept_no_object held.value held.keeps)
+
+-- ---- faults as they are told
+
+-- what is told of a fault is the fault
+pub fault_told : (guarded : Bool) (line : List ℕ) (told fault : JsonFault) → told ≡ fault
+    → IsFault guarded line (Json fault) → IsFault guarded line (Json told)
+fault_told guarded line told fault same is = subst (λ fault. IsFault guarded line (Json fault)) (sym same) is

@@ -13,3 +13,4 @@ pub mod Noding
 pub mod Making
 pub mod Keeping
 pub mod Judging
+pub mod Alike

@@ -15,10 +15,10 @@ use Rattle.mtp_json.specs.Form.{all_listed, is_listed, only_keys}
 use Rattle.mtp_json.specs.Leaf.{meaning_of}
 use Rattle.pol_lines.specs.declared.flat.Member.{Member}
 use Rattle.pol_lines.specs.declared.key.Key.{Key}
-use Rattle.pol_lines.specs.declared.key.Key.TheVariants.{At, Ev, Tag, Name, Value, Service, Batch, Ticket, StateCur}
-use Rattle.pol_lines.specs.declared.key.Key.TheVariants.{CommandEn, CommandOp, Mode, Src, ProcedureCur, Role, TypeName}
-use Rattle.pol_lines.specs.declared.key.Key.TheVariants.{Version, Step, Procedure, Recipe, Kind, Min, Max, Number}
-use Rattle.pol_lines.specs.declared.key.Key.TheVariants.{IsDefault, SelfCompleting, Test, Op}
+use Rattle.pol_lines.specs.declared.key.Key.TheVariants.{At, Ev, Tag, Name, Value, Service, Batch, By, Ticket}
+use Rattle.pol_lines.specs.declared.key.Key.TheVariants.{StateCur, CommandEn, CommandOp, Mode, Src, ProcedureCur}
+use Rattle.pol_lines.specs.declared.key.Key.TheVariants.{Role, TypeName, Version, Step, Procedure, Recipe, Kind, Min, Max}
+use Rattle.pol_lines.specs.declared.key.Key.TheVariants.{Number, IsDefault, SelfCompleting, Test, Op}
 use Rattle.pol_lines.specs.Flat.{flat_data, put_all}
 use Rattle.pol_lines.specs.Keys.{IsNoKey, key_rows, key_text}
 use Rattle.pol_lines.specs.Leaves.{leaf_data}
@@ -34,6 +34,7 @@ key_by_text Name = refl
 key_by_text Value = refl
 key_by_text Service = refl
 key_by_text Batch = refl
+key_by_text By = refl
 key_by_text Ticket = refl
 key_by_text StateCur = refl
 key_by_text CommandEn = refl

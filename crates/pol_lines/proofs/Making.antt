@@ -26,6 +26,8 @@ use Rattle.pol_events.specs.Events.{PlainEvent, exchange_end, plain_event, plug,
 use Rattle.pol_events.specs.Orderly.{is_orderly}
 use Rattle.event_json.specs.declared.kind.EventKind.TheVariants.{ExchangeEnd, Plug, Recipe}
 use Rattle.event_json.specs.Forms.{event_in, exchange_end_in, plug_in, recipe_in}
+use Rattle.event_json.specs.declared.guarded.Guarded.{Guarded}
+use Rattle.event_json.specs.Guarded.{PlainGuarded, guarded_in, guarded_of, plain_guarded}
 use Rattle.event_json.specs.Lines.{event_of, fault_within}
 use Rattle.event_json.specs.Words.{kind_words}
 use Rattle.event_json.proofs.Again.{faultless}
@@ -96,6 +98,33 @@ line_of_flats line cut members None utf8 is ends says orderly = tt
 line_of_flats line cut members (Some event) utf8 is ends says orderly =
     line_of_object 0 line cut members [] (plain_event event) (omega arith) utf8 is ends
     (flat_makes event_in (plain_event event) members says) (faultless (plain_event event) orderly)
+
+-- a text that reads as what says a faultless event under a policy is its line
+guarded_line_says : (text : List ℕ) (value : Data) (said : PlainGuarded) → IsUtf8 text → read text ≡ Some value
+    → guarded_in value ≡ Ok said → fault_within said.event ≡ None → guarded_of text ≡ Ok said
+unfolding guarded_of json_of
+guarded_line_says text value said utf8 is again none = rw (utf8_is text utf8, is, again, none) refl
+
+-- so is one object of flat members with nothing behind it
+guarded_line_of_object : (line : List ℕ) (cut : Cut) (members : List Member) (said : PlainGuarded) → IsUtf8 line
+    → Stands 0 line members [] cut → IsEnd cut → guarded_in (flat_data members) ≡ Ok said
+    → fault_within said.event ≡ None → guarded_of line ≡ Ok said
+guarded_line_of_object line (More rest) members said utf8 is ends says none = absurd ends
+guarded_line_of_object line (End rest) members said utf8 is ends says none =
+    guarded_line_says line (object is.found) said utf8
+    (begins_all 1 line (object is.found) (omega arith)
+    (subst (λ s. Begins 1 line (object is.found) s) ends is.begins))
+    (flat_makes guarded_in said members says is.found is.among) none
+
+-- what flat members say under a policy, a line of nothing else says
+pub guarded_line_of_flats : (line : List ℕ) (cut : Cut) (members : List Member) (result : Option Guarded)
+    → IsUtf8 line → Stands 0 line members [] cut → IsEnd cut
+    → IfSome result (λ said. guarded_in (flat_data members) ≡ Ok (plain_guarded said))
+    → IfSome result (λ said. fault_within (plain_event said.event) ≡ None)
+    → IfSome result (λ said. guarded_of line ≡ Ok (plain_guarded said))
+guarded_line_of_flats line cut members None utf8 is ends says none = tt
+guarded_line_of_flats line cut members (Some said) utf8 is ends says none =
+    guarded_line_of_object line cut members (plain_guarded said) utf8 is ends says none
 
 -- ---- modules
 

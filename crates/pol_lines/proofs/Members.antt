@@ -50,6 +50,7 @@ key_printed key.Name = refl
 key_printed key.Value = refl
 key_printed key.Service = refl
 key_printed key.Batch = refl
+key_printed key.By = refl
 key_printed key.Ticket = refl
 key_printed key.StateCur = refl
 key_printed key.CommandEn = refl

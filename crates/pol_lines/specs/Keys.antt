@@ -2,10 +2,10 @@
 use Rattle.std.specs.Prelude.{◌≡◌, ℕ, List, [], ◌∷◌, ◌++◌, None, codes}
 use Rattle.mtp_json.specs.Leaf.{meaning_of}
 use Rattle.pol_lines.specs.declared.key.Key.{Key}
-use Rattle.pol_lines.specs.declared.key.Key.TheVariants.{At, Ev, Tag, Name, Value, Service, Batch, Ticket, StateCur}
-use Rattle.pol_lines.specs.declared.key.Key.TheVariants.{CommandEn, CommandOp, Mode, Src, ProcedureCur, Role, TypeName}
-use Rattle.pol_lines.specs.declared.key.Key.TheVariants.{Version, Step, Procedure, Recipe, Kind, Min, Max, Number}
-use Rattle.pol_lines.specs.declared.key.Key.TheVariants.{IsDefault, SelfCompleting, Test, Op}
+use Rattle.pol_lines.specs.declared.key.Key.TheVariants.{At, Ev, Tag, Name, Value, Service, Batch, By, Ticket}
+use Rattle.pol_lines.specs.declared.key.Key.TheVariants.{StateCur, CommandEn, CommandOp, Mode, Src, ProcedureCur}
+use Rattle.pol_lines.specs.declared.key.Key.TheVariants.{Role, TypeName, Version, Step, Procedure, Recipe, Kind, Min, Max}
+use Rattle.pol_lines.specs.declared.key.Key.TheVariants.{Number, IsDefault, SelfCompleting, Test, Op}
 
 -- the text of a key
 abbrev pub key_text : Key → List ℕ
@@ -16,6 +16,7 @@ key_text Name = codes "name"
 key_text Value = codes "value"
 key_text Service = codes "service"
 key_text Batch = codes "batch"
+key_text By = codes "by"
 key_text Ticket = codes "ticket"
 key_text StateCur = codes "StateCur"
 key_text CommandEn = codes "CommandEn"
@@ -50,7 +51,8 @@ key_piece key = quoted (key_text key)
 abbrev pub key_rows : List (List ℕ × Key)
 key_rows =
     (key_text At, At) ∷ (key_text Ev, Ev) ∷ (key_text Tag, Tag) ∷ (key_text Name, Name) ∷ (key_text Value, Value)
-    ∷ (key_text Service, Service) ∷ (key_text Batch, Batch) ∷ (key_text Ticket, Ticket) ∷ (key_text StateCur, StateCur)
+    ∷ (key_text Service, Service) ∷ (key_text Batch, Batch) ∷ (key_text By, By) ∷ (key_text Ticket, Ticket)
+    ∷ (key_text StateCur, StateCur)
     ∷ (key_text CommandEn, CommandEn) ∷ (key_text CommandOp, CommandOp) ∷ (key_text Mode, Mode) ∷ (key_text Src, Src)
     ∷ (key_text ProcedureCur, ProcedureCur) ∷ (key_text Role, Role) ∷ (key_text TypeName, TypeName) ∷
     (key_text Version, Version)

@@ -1,4 +1,5 @@
 pub mod Begins
+pub mod Faults
 pub mod Flat
 pub mod Keys
 pub mod Kinds
@@ -7,3 +8,4 @@ pub mod Objects
 pub mod Parts
 pub mod Spots
 pub mod Steps
+pub mod Versions

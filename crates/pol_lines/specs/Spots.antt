@@ -1,5 +1,6 @@
 -- Where a flat line is at fault.
-use Rattle.std.specs.Prelude.{ℕ, List, [], ◌∷◌, Option, None, Some, Result, Ok, Err, codes, ⊤}
+use Rattle.std.specs.Prelude.{ℕ, List, [], ◌∷◌, Bool, ◌&&◌, Option, None, Some, Result, Ok, Err, codes, ⊤}
+use Rattle.std.specs.Prelude.{if◌then◌else◌}
 use Rattle.serde_json.specs.Data.{Data}
 use Rattle.mtp_codes.specs.Codes.{command_codes}
 use Rattle.mtp_codes.specs.Numbers.{greatest_u32, greatest_u64}
@@ -15,6 +16,7 @@ use Rattle.event_json.specs.declared.kind.EventKind.TheVariants.{Plug, Unplug, R
 use Rattle.event_json.specs.declared.kind.EventKind.TheVariants.{Freeze, Thaw, Stop, Abandon, Desk, ExchangeBegin}
 use Rattle.event_json.specs.declared.kind.EventKind.TheVariants.{ExchangeEnd, ExchangeCancel}
 use Rattle.event_json.specs.Forms.{control_in}
+use Rattle.event_json.specs.Guarded.{is_desk_kind}
 use Rattle.event_json.specs.Words.{kind_words}
 use Rattle.pol_lines.specs.declared.key.Key.{Key}
 use Rattle.pol_lines.specs.declared.spots.Spot.{Spot}
@@ -117,8 +119,23 @@ judged_by value ExchangeBegin = tag_judged value
 judged_by value ExchangeEnd = Ok tt
 judged_by value ExchangeCancel = cancel_judged value
 
+-- that of an operator's command under a policy
+abbrev pub named_desk_judged : Data → ReadResult ⊤
+named_desk_judged value =
+    required (codes "at") (count 0 greatest_u64) value >>= λ _.
+    required (codes "by") name value >>= λ _.
+    required (codes "tag") name value >>= λ _.
+    required (codes "service") name value >>= λ _.
+    required (codes "CommandOp") (code command_codes) value >>= λ _.
+    nothing_but (codes "ev at by tag service CommandOp") value
+
+-- that of a flat line of a kind, under a policy where `guarded` says so
+abbrev pub kind_judged : Bool → Data → EventKind → ReadResult ⊤
+kind_judged guarded value kind =
+    if guarded && is_desk_kind kind then named_desk_judged value else judged_by value kind
+
 -- the first fault of a flat line
-abbrev pub line_judged : Data → ReadResult ⊤
-line_judged value =
+abbrev pub line_judged : Bool → Data → ReadResult ⊤
+line_judged guarded value =
     required (codes "ev") (word kind_words) value >>= λ kind.
-    judged_by value kind
+    kind_judged guarded value kind

@@ -1,8 +1,11 @@
 //! The faults of flat lines.
 ghost use Rattle.std.specs.Prelude.{◌≡◌, [], Err, IfSome, IsTrue};
 ghost use Rattle.std.specs.Str.{IsUtf8};
+ghost use Rattle.event_json.specs.Guarded.{guarded_of};
 ghost use Rattle.event_json.specs.Lines.{event_of};
+ghost use Rattle.event_json.specs.Version1.{event_of_version_1};
 ghost use Rattle.event_json.specs.declared.fault.LineFault.TheVariants.{Json};
+ghost use Rattle.pol_lines.specs.Faults.{IsFault};
 ghost use Rattle.pol_lines.specs.Spots.{fault_at};
 
 use crate::key::text_of;
@@ -39,24 +42,24 @@ fn is_whole(rest: &[u8], line: &[u8]) -> bool
     rest.is_empty() && is_text(line)
 }
 
-/// The spot at which a line of one flat object is at fault.
-fn object_spot(line: &[u8]) -> Option<Spot>
-    ensures { IfSome result (λ spot. event_of line.now ≡ Err (Json (fault_at spot))) }
+/// The spot at which a line of one flat object is at fault; under a policy, where `guarded` says so.
+fn object_spot(line: &[u8], guarded: bool) -> Option<Spot>
+    ensures { IfSome result (λ spot. IsFault guarded line.now (Json (fault_at spot))) }
 {
     let mut parts = ArrayVec::new();
     let rest = read_parts(line, &mut parts)?;
     if !is_whole(rest, line) {
         return None;
     }
-    match judge(parts.as_slice()) {
+    match judge(parts.as_slice(), guarded) {
         Ok(()) => None,
         Err(spot) => Some(spot),
     }
 }
 
 /// The spot at which a line is at fault that is no object.
-fn other_spot(line: &[u8]) -> Option<Spot>
-    ensures { IfSome result (λ spot. event_of line.now ≡ Err (Json (fault_at spot))) }
+fn other_spot(line: &[u8], guarded: bool) -> Option<Spot>
+    ensures { IfSome result (λ spot. IsFault guarded line.now (Json (fault_at spot))) }
 {
     let rest = read_other(line)?;
     if !is_whole(rest, line) {
@@ -68,22 +71,39 @@ fn other_spot(line: &[u8]) -> Option<Spot>
     })
 }
 
-fn line_spot(line: &[u8]) -> Option<Spot>
-    ensures { IfSome result (λ spot. event_of line.now ≡ Err (Json (fault_at spot))) }
+fn line_spot(line: &[u8], guarded: bool) -> Option<Spot>
+    ensures { IfSome result (λ spot. IsFault guarded line.now (Json (fault_at spot))) }
 {
     match line {
-        [b'{', ..] => object_spot(line),
-        _ => other_spot(line),
+        [b'{', ..] => object_spot(line, guarded),
+        _ => other_spot(line, guarded),
     }
 }
 
-/// The fault of a compact line that says no event; None for some such lines, and for each that says one. It is read
-/// without a tree: a flat object, in which lists and null may stand too, or a list.
-#[inline(never)]
-pub fn read_fault(alloc: Global, line: &[u8]) -> Option<LineFault>
-    ensures { IfSome result (λ fault. event_of line.now ≡ Err fault) }
+/// The fault of a compact line, under a policy where `guarded` says so.
+#[tactic(auto, using(crate::proofs::Judging::fault_told))]
+fn line_fault(alloc: Global, line: &[u8], guarded: bool) -> Option<LineFault>
+    ensures { IfSome result (IsFault guarded line.now) }
 {
-    let spot = line_spot(line)?;
+    let spot = line_spot(line, guarded)?;
     let fault = fault_at(alloc, spot)?;
     Some(LineFault::Json(fault))
+}
+
+/// The fault of a compact line that says no event, in a journal of either version; None for some such lines, and for
+/// each that says one. It is read without a tree: a flat object, in which lists and null may stand too, or a list.
+#[inline(never)]
+pub fn read_fault(alloc: Global, line: &[u8]) -> Option<LineFault>
+    ensures journal { IfSome result (λ fault. event_of line.now ≡ Err fault) }
+    ensures version_1 { IfSome result (λ fault. event_of_version_1 line.now ≡ Err fault) }
+{
+    line_fault(alloc, line, false)
+}
+
+/// The same of a journal under a policy.
+#[inline(never)]
+pub fn read_guarded_fault(alloc: Global, line: &[u8]) -> Option<LineFault>
+    ensures { IfSome result (λ fault. guarded_of line.now ≡ Err fault) }
+{
+    line_fault(alloc, line, true)
 }

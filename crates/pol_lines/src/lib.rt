@@ -13,10 +13,14 @@
 
 mod conditions;
 mod descriptions;
+mod desk;
 mod events;
 mod faults;
 mod fields;
 mod flat;
+mod forms;
+mod guarded;
+mod journal;
 mod key;
 mod kinds;
 mod leaf;
@@ -33,6 +37,11 @@ mod roles;
 mod services;
 mod spots;
 mod steps;
+mod version_1;
 
 pub use faults::read_fault;
+pub use forms::LineForm;
+pub use guarded::GuardedLines;
+pub use journal::JournalLines;
 pub use reading::{read_line, read_quick};
+pub use version_1::LinesOfVersion1;

@@ -14,7 +14,8 @@ ghost use Rattle.event_json.specs.Words.{kind_words, mode_words, origin_words};
 ghost use Rattle.pol_lines.specs.Keys.{key_text};
 ghost use Rattle.pol_lines.specs.Parts.{held_data, parts_data};
 ghost use Rattle.pol_lines.specs.Spots.{batch_judged, cancel_judged, desk_judged, fault_of, judged, judged_by};
-ghost use Rattle.pol_lines.specs.Spots.{line_judged, report_judged, tag_judged, told, variable_judged};
+ghost use Rattle.pol_lines.specs.Spots.{kind_judged, line_judged, named_desk_judged, report_judged, tag_judged};
+ghost use Rattle.pol_lines.specs.Spots.{told, variable_judged};
 
 use crate::fields::{kind_of, mode_of, origin_of};
 use crate::key::{Key, text_of};
@@ -292,10 +293,32 @@ fn judge_kind(parts: &[Part], kind: EventKind) -> Result<(), Spot>
     }
 }
 
-/// The spot at which a flat line is at fault; Ok for some lines at fault, and for each that says an event.
-pub fn judge(parts: &[Part]) -> Result<(), Spot>
-    ensures { told result ≡ line_judged (parts_data parts.now) }
+fn judge_named_desk(parts: &[Part]) -> Result<(), Spot>
+    ensures { told result ≡ named_desk_judged (parts_data parts.now) }
+{
+    ask_count(parts, Key::At, u64::MAX)?;
+    ask_name(parts, Key::By)?;
+    ask_name(parts, Key::Tag)?;
+    ask_name(parts, Key::Service)?;
+    keyed(Key::CommandOp, get_command(parts, Key::CommandOp))?;
+    nothing_but(parts, "ev at by tag service CommandOp")
+}
+
+/// What is wrong with a line of a kind, under a policy where `guarded` says so.
+fn judge_guarded(parts: &[Part], kind: EventKind, guarded: bool) -> Result<(), Spot>
+    ensures { told result ≡ kind_judged guarded (parts_data parts.now) kind }
+{
+    match kind {
+        EventKind::Desk if guarded => judge_named_desk(parts),
+        _ => judge_kind(parts, kind),
+    }
+}
+
+/// The spot at which a flat line is at fault, under a policy where `guarded` says so; Ok for some lines at fault, and
+/// for each that says an event.
+pub fn judge(parts: &[Part], guarded: bool) -> Result<(), Spot>
+    ensures { told result ≡ line_judged guarded (parts_data parts.now) }
 {
     let kind = keyed(Key::Ev, get_kind(parts, Key::Ev))?;
-    judge_kind(parts, kind)
+    judge_guarded(parts, kind, guarded)
 }

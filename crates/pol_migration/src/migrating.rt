@@ -1,12 +1,16 @@
 //! The job that migrates a journal of version 1.
 ghost use Rattle.std.specs.Prelude.{◌≡◌, ◌++◌, OnOk};
 ghost use Rattle.pol_events.specs.Events.{plain_event};
-ghost use Rattle.pol_migration.specs.Migration.{migrated_event, migrated_line, short_meaning_of_version_1};
+ghost use Rattle.pol_jobs.specs.InputLines.{plain_line};
+ghost use Rattle.pol_migration.specs.Job.{migrated_met};
+ghost use Rattle.pol_migration.specs.Migration.{migrated_event};
 
-use event_json::{LineRefusal, event_value, is_blank, read_event_of_version_1};
+use event_json::event_value;
 use pol_events::Event;
 use pol_io::Sink;
 use pol_jobs::{InputLine, LineJob, PutFault, Stop};
+use pol_lines::LinesOfVersion1;
+use pol_replay::{LineMeaning, read_meaning};
 use std::alloc::{AllocError, Global};
 use std::convert::Infallible;
 
@@ -26,17 +30,16 @@ fn put_event(alloc: Global, line: &[u8], event: &Event, out: &mut Vec<u8>) -> Re
 }
 
 // Puts what a line becomes behind what a buffer holds.
-fn put_line(alloc: Global, line: &[u8], out: &mut Vec<u8>) -> Result<(), AllocError>
-    ensures { OnOk result (out.new.items
-        ≡ out.old.items ++ migrated_line line.now (short_meaning_of_version_1 line.now)) }
+#[tactic(auto, using(crate::proofs::Met::line_read))]
+fn put_line(alloc: Global, line: InputLine<'_>, out: &mut Vec<u8>) -> Result<(), AllocError>
+    ensures { OnOk result (out.new.items ≡ out.old.items ++ migrated_met (plain_line line.entry)) }
 {
-    if is_blank(line) {
+    let InputLine::Text(text) = line else {
         return Ok(());
-    }
-    match read_event_of_version_1(alloc, line) {
-        Ok(event) => put_event(alloc, line, &event, out),
-        Err(LineRefusal::Fault(_)) => Ok(()),
-        Err(LineRefusal::Memory) => Err(AllocError),
+    };
+    match read_meaning::<LinesOfVersion1>(alloc, line)? {
+        LineMeaning::Said(event) => put_event(alloc, text, &event, out),
+        LineMeaning::Nothing | LineMeaning::Fault(_) => Ok(()),
     }
 }
 
@@ -78,9 +81,7 @@ impl LineJob for Migrating {
     ghost did_nothing = { λ _. tt };
 
     fn reply(&mut self, line: InputLine<'_>, out: &mut Vec<u8>) -> Result<(), Stop<Infallible>> {
-        if let InputLine::Text(text) = line {
-            put_line(self.alloc, text, out)?;
-        }
+        put_line(self.alloc, line, out)?;
         Ok(())
     }
 

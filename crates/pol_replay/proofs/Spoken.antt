@@ -1,6 +1,6 @@
 -- What a line says, by how it was read and met.
 use Rattle.std.proofs.Common.{ℕ, ◌≡◌, ◌∙◌, List, Bool, length, true, false, ap, refl, if◌then◌else◌}
-use Rattle.std.specs.Prelude.{Ok, Err, Some, None, nat_lt}
+use Rattle.std.specs.Prelude.{Ok, Err, Result, Some, None, nat_lt}
 use Rattle.std.specs.List.{list_all}
 use Rattle.pol_io.specs.declared.limits.TheConstants.{LONGEST_LINE}
 use Rattle.pol_jobs.specs.LineWork.{met}
@@ -10,28 +10,44 @@ use Rattle.event_json.specs.Lines.{event_of, is_blank_byte}
 use Rattle.event_json.specs.declared.fault.LineFault.{LineFault}
 use Rattle.event_json.specs.declared.fault.LineFault.TheVariants.{TooLong}
 use Rattle.pol_record.specs.Lines as lines
-use Rattle.pol_replay.specs.Meanings.{meaning_met}
+use Rattle.pol_replay.specs.declared.meaning.LineMeaning.{LineMeaning}
+use Rattle.pol_replay.specs.declared.meaning.LineMeaning.TheVariants.{Nothing, Fault, Said}
+use Rattle.pol_replay.specs.Meanings.{meaning_from, meaning_met}
 
 -- a line of blanks says nothing
-pub says_nothing : (line : List ℕ) → list_all is_blank_byte line ≡ true → lines.nothing ≡ lines.short_meaning line
-says_nothing line blank = rw blank refl
+pub says_nothing : {P : Type 0} (said_of : List ℕ → Result P LineFault) (line : List ℕ) →
+    list_all is_blank_byte line ≡ true → Nothing ≡ meaning_met said_of (Some line)
+says_nothing said_of line blank = rw blank refl
 
--- another one says its event
-pub says_event : (line : List ℕ) (event : PlainEvent) → list_all is_blank_byte line ≡ false →
-    event_of line ≡ Ok event → lines.an_event event ≡ lines.short_meaning line
-says_event line event some is = rw (some, is) refl
+-- another one says what its form gives
+pub says_some : {P : Type 0} (said_of : List ℕ → Result P LineFault) (line : List ℕ) →
+    list_all is_blank_byte line ≡ false → meaning_from (said_of line) ≡ meaning_met said_of (Some line)
+says_some said_of line some = rw some refl
 
--- or is at fault
-pub says_fault : (line : List ℕ) (fault : LineFault) → list_all is_blank_byte line ≡ false →
-    event_of line ≡ Err fault → lines.a_fault fault ≡ lines.short_meaning line
-says_fault line fault some is = rw (some, is) refl
+-- what a line of a journal says, as the definition of the output has it
+abbrev pub in_journal : LineMeaning PlainEvent → lines.LineMeaning
+in_journal Nothing = lines.nothing
+in_journal (Fault fault) = lines.a_fault fault
+in_journal (Said event) = lines.an_event event
+
+-- the same, of what is said or at fault
+in_journal_from : (said : Result PlainEvent LineFault) → in_journal (meaning_from said) ≡ lines.meaning_from said
+in_journal_from (Ok event) = refl
+in_journal_from (Err fault) = refl
 
 -- a line says what it says as it is met
-pub met_means : (line : List ℕ) → meaning_met (met line) ≡ lines.meaning_of line
+pub met_means : (line : List ℕ) → in_journal (meaning_met event_of (met line)) ≡ lines.meaning_of line
 unfolding lines.meaning_of
-met_means line = ap meaning_met (met_by_length line) ∙ by_length (nat_lt LONGEST_LINE (length line))
+met_means line =
+    ap (λ line. in_journal (meaning_met event_of line)) (met_by_length line)
+    ∙ by_length (nat_lt LONGEST_LINE (length line))
   where
-    by_length : (long : Bool) → meaning_met (if long then None else Some line)
+    by_blank : (blank : Bool) → in_journal (if blank then Nothing else meaning_from (event_of line))
+        ≡ (if blank then lines.nothing else lines.meaning_from (event_of line))
+    by_blank true = refl
+    by_blank false = in_journal_from (event_of line)
+
+    by_length : (long : Bool) → in_journal (meaning_met event_of (if long then None else Some line))
         ≡ (if long then lines.a_fault TooLong else lines.short_meaning line)
     by_length true = refl
-    by_length false = refl
+    by_length false = by_blank (list_all is_blank_byte line)

@@ -1,24 +1,20 @@
 //! The replay of a journal.
-ghost use Rattle.std.specs.Prelude.{◌≡◌, ◌++◌, [], false, IsTrue, OnOk};
-ghost use Rattle.std.specs.List.{list_all};
-ghost use Rattle.pol_jobs.specs.InputLines.{plain_line};
+ghost use Rattle.std.specs.Prelude.{◌≡◌, ◌++◌, [], IsTrue, OnOk};
 ghost use Rattle.pol_events.specs.Events.{plain_event};
 ghost use Rattle.pol_events.specs.Orderly.{is_orderly};
-ghost use Rattle.event_json.specs.Lines.{is_blank_byte};
 ghost use Rattle.pol_history.specs.Answers.{answer_of};
 ghost use Rattle.pol_history.specs.Runs.{entry_of, recorded};
-ghost use Rattle.pol_record.specs.Lines.{short_meaning};
 ghost use Rattle.pol_record.specs.Texts.{answer_text};
 ghost use Rattle.pol_core.specs.Plants.{plant_history};
-ghost use Rattle.pol_replay.specs.Meanings.{meaning_met, reply_text, after_meaning};
+ghost use Rattle.pol_replay.specs.Meanings.{IsOrderly, plain_meaning, reply_text, after_meaning};
 
 use crate::closing::close;
-use event_json::{LineFault, LineRefusal, is_blank, read_event};
+use crate::meaning::{LineMeaning, read_meaning};
 use pol_core::Plant;
 use pol_events::Event;
 use pol_io::Sink;
 use pol_jobs::{InputLine, LineJob, PutFault, Stop};
-use pol_lines::{read_fault, read_quick};
+use pol_lines::JournalLines;
 use pol_record::{put_answer_line, put_fault_line};
 use std::alloc::{AllocError, Global};
 use std::convert::Infallible;
@@ -43,54 +39,24 @@ pub fn answer_event(
     }
 }
 
-// Puts the line that answers a line behind what a buffer holds, where the line isn't blank and wasn't read quickly. Its
-// large locals stand here, so that the other lines don't pay for them.
-#[inline(never)]
-#[tactic(auto, using(crate::proofs::Spoken::says_event, crate::proofs::Spoken::says_fault))]
-fn answer_slowly(
-    alloc: Global,
-    plant: &mut Plant,
-    text: &[u8],
-    out: &mut Vec<u8>,
-) -> Result<(), AllocError>
-    requires { list_all is_blank_byte text.now ≡ false }
-    ensures line { OnOk result (out.new.items
-        ≡ out.old.items ++ reply_text (plant_history plant.old) (short_meaning text.now)) }
-    ensures history { OnOk result (
-        plant_history plant.new ≡ after_meaning (plant_history plant.old) (short_meaning text.now)) }
-{
-    if let Some(fault) = read_fault(alloc, text) {
-        return put_fault_line(alloc, out, &fault);
-    }
-    match read_event(alloc, text) {
-        Ok(event) => answer_event(alloc, plant, event, out),
-        Err(LineRefusal::Fault(fault)) => put_fault_line(alloc, out, &fault),
-        Err(LineRefusal::Memory) => Err(AllocError),
-    }
-}
-
-// Puts the line that answers a line behind what a buffer holds; nothing, where the line says nothing.
-#[tactic(auto, using(crate::proofs::Spoken::says_nothing, crate::proofs::Spoken::says_event))]
+// Puts the line that answers what a line says behind what a buffer holds; nothing, where it says nothing.
+#[inline(always)]
 fn answer(
     alloc: Global,
     plant: &mut Plant,
-    line: InputLine<'_>,
+    meaning: LineMeaning<Event>,
     out: &mut Vec<u8>,
 ) -> Result<(), AllocError>
+    requires { IsOrderly meaning }
     ensures line { OnOk result (out.new.items
-        ≡ out.old.items ++ reply_text (plant_history plant.old) (meaning_met (plain_line line.entry))) }
-    ensures history { OnOk result (plant_history plant.new
-        ≡ after_meaning (plant_history plant.old) (meaning_met (plain_line line.entry))) }
+        ≡ out.old.items ++ reply_text (plant_history plant.old) (plain_meaning meaning)) }
+    ensures history { OnOk result (
+        plant_history plant.new ≡ after_meaning (plant_history plant.old) (plain_meaning meaning)) }
 {
-    let InputLine::Text(text) = line else {
-        return put_fault_line(alloc, out, &LineFault::TooLong);
-    };
-    if is_blank(text) {
-        return Ok(());
-    }
-    match read_quick(alloc, text) {
-        Some(event) => answer_event(alloc, plant, event, out),
-        None => answer_slowly(alloc, plant, text, out),
+    match meaning {
+        LineMeaning::Nothing => Ok(()),
+        LineMeaning::Fault(fault) => put_fault_line(alloc, out, &fault),
+        LineMeaning::Said(event) => answer_event(alloc, plant, event, out),
     }
 }
 
@@ -140,7 +106,8 @@ impl LineJob for Replay {
     ghost did_nothing = { λ _. tt };
 
     fn reply(&mut self, line: InputLine<'_>, out: &mut Vec<u8>) -> Result<(), Stop<Infallible>> {
-        answer(self.alloc, &mut self.plant, line, out)?;
+        let meaning = read_meaning::<JournalLines>(self.alloc, line)?;
+        answer(self.alloc, &mut self.plant, meaning, out)?;
         Ok(())
     }
 
