@@ -38,8 +38,8 @@ behind_nothing : {E : Type 0} (result : Result (Unit {0}) E) (out old reply : Li
 behind_nothing (Ok done) out old reply empty is = is ∙ ap (λ old. old ++ reply) empty
 behind_nothing (Err stop) out old reply empty is = tt
 
-module _ {State Reason Job : Type 0} (work : LineWork State Reason) (Did : Deeds Job) (job job' : Job)
-    (before now : Moment State) (made : Result (Unit {0}) (Stop Reason)) (old out : List ℕ) (empty : old ≡ []) where
+module _ {State Reason Failure Job : Type 0} (work : LineWork State Reason) (Did : Deeds Job) (job job' : Job)
+    (before now : Moment State) (made : Result (Unit {0}) (Stop Reason Failure)) (old out : List ℕ) (empty : old ≡ []) where
   -- a line that was met so
   met_as : (text : List ℕ) (one : Line) → met text ≡ one →
       OnOk made (out ≡ old ++ work.reply before.state one) → OnOk made (now.state ≡ work.after before.state one) →

@@ -17,7 +17,7 @@ returns-in_err-end-clause-leaves g c =
 pub returns-in_err-close-clause-leaves : goal.returns-in_err-close-clause-leaves
 returns-in_err-close-clause-leaves g c =
     let fault = err_from_is_err_and c.from_residual-in_err-close.result c.from_residual-in_err-close.ensures.1 in
-    rw (fault.1, fault.2) (unclosed g.J.LineJob.work _ _ _ _ _ _ _ _
+    rw (fault.1, fault.2) (unclosed g.J.LineJob.work _ _ _ _ _ _ _ _ _
     (rw c.in_ok-end.ensures.kept c.in_ok-reply_to_all.ensures.replied) c.in_err-close.ensures.part)
 
 pub returns-in_err-lines-clause-did_some : goal.returns-in_err-lines-clause-did_some
